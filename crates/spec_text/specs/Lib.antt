@@ -1,0 +1,7 @@
+-- What a text is.
+pub mod Bytes
+pub mod Lexemes
+pub mod Places
+pub mod Trees
+pub mod Faults
+pub mod Examples
