@@ -1,0 +1,1 @@
+-- The definitions that the private parts speak in.

@@ -1,0 +1,5 @@
+//! Judges an Alethe proof against an SMT-LIB script.
+#![tactic(auto)]
+
+mod resolution;
+mod terms;

@@ -1,0 +1,1 @@
+//! Resolution by unit propagation.

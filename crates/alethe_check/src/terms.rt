@@ -1,0 +1,1 @@
+//! The table of terms: each term once, by its number.

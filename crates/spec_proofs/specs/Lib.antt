@@ -1,0 +1,3 @@
+-- What a proof is.
+pub mod Resolution
+pub mod Clauses

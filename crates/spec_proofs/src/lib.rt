@@ -1,0 +1,2 @@
+//! Definitions about proofs: clauses, resolution, right steps, accepted proofs and the first fault.
+#![tactic(auto)]

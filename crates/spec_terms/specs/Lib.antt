@@ -1,0 +1,6 @@
+-- What terms are and mean.
+pub mod Fractions
+pub mod Terms
+pub mod Values
+pub mod Meaning
+pub mod Reading

@@ -1,0 +1,67 @@
+-- Values, and interpretations of declared symbols. Source: SMT-LIB 2.6, section 5.3; the finite tables are own.
+use Rattle.std.specs.Prelude.{◌≡◌, ℕ, Bool, true, false, not, ◌&&◌, List, [], ◌∷◌, nat_eq, if◌then◌else◌, All}
+use Rattle.std.specs.Str.{bytes_eq}
+use Rattle.spec_text.specs.Bytes.{Name}
+use Rattle.spec_terms.specs.Fractions.{Fraction, same_fraction}
+use Rattle.spec_terms.specs.Terms.{Sort, Truth, Number, Declared, same_sort, Symbol}
+
+-- A truth value, a fraction, or an element of a declared sort by its number, from 0.
+pub data Value : Type 0 where
+  truth : Bool → Value
+  number : Fraction → Value
+  element : Name → ℕ → Value
+
+abbrev pub same_value : Value → Value → Bool
+same_value (truth true) (truth b) = b
+same_value (truth false) (truth b) = not b
+same_value (number p) (number q) = same_fraction p q
+same_value (element s k) (element t m) = bytes_eq s t && nat_eq k m
+same_value _ _ = false
+
+abbrev pub same_values : List Value → List Value → Bool
+same_values [] [] = true
+same_values (v ∷ vs) (w ∷ ws) = same_value v w && same_values vs ws
+same_values _ _ = false
+
+abbrev pub sort_of_value : Value → Sort
+sort_of_value (truth b) = Truth
+sort_of_value (number q) = Number
+sort_of_value (element s k) = Declared s
+
+-- Arguments, and the value there.
+pub record Row : Type 0 where
+  pub arguments : List Value
+  pub value : Value
+
+-- A finite list of rows, and what holds everywhere else.
+pub record Table : Type 0 where
+  pub rows : List Row
+  pub default : Value
+
+-- the first row that fits counts, else the default
+abbrev pub first_fit : List Row → Value → List Value → Value
+first_fit [] default vs = default
+first_fit (r ∷ rs) default vs = if same_values r.arguments vs then r.value else first_fit rs default vs
+
+-- A table for each name.
+pub record Interpretation : Type 0 where
+  pub table : Name → Table
+
+abbrev pub table_value : Interpretation → Name → List Value → Value
+table_value i n vs = first_fit (i.table n).rows (i.table n).default vs
+
+-- values of these sorts, in order
+abbrev pub fits : List Sort → List Value → Bool
+fits [] [] = true
+fits (s ∷ ss) (v ∷ vs) = same_sort s (sort_of_value v) && fits ss vs
+fits _ _ = false
+
+-- the table of a symbol: rows and default of the right sorts, and no rows without parameters
+pub record IsTableOf (s : Symbol) (t : Table) : Type 0 where
+  pub default : same_sort s.result (sort_of_value t.default) ≡ true
+  pub rows : All (λ r. (fits s.parameters r.arguments ≡ true) × (same_sort s.result (sort_of_value r.value) ≡ true)) t.rows
+  pub bare : s.parameters ≡ [] → t.rows ≡ []
+
+-- each of the symbols has its table
+abbrev pub Interprets : Interpretation → List Symbol → Type 0
+Interprets i symbols = All (λ s. IsTableOf s (i.table s.name)) symbols
