@@ -1,1 +1,2 @@
 -- The definitions that the private parts speak in.
+pub mod Tables
