@@ -1,3 +1,6 @@
 -- What a proof is.
 pub mod Resolution
 pub mod Clauses
+pub mod Commands
+pub mod Faults
+pub mod Accepted

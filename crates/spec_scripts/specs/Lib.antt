@@ -1,0 +1,4 @@
+-- What a script is.
+pub mod Commands
+pub mod Stack
+pub mod Plain

@@ -1,0 +1,97 @@
+-- What stands after commands, what is current at a check, and what makes it true. Source: SMT-LIB 2.6, section 4.1.4.
+use Rattle.std.specs.Prelude.{◌≡◌, ℕ, zero, suc, Bool, true, false, not, ◌&&◌, List, [], ◌∷◌, ◌++◌, map, All, Option, Some, None, codes}
+use Rattle.spec_text.specs.declared.Kind.{Kind}
+use Rattle.spec_text.specs.declared.Kind.TheVariants.{Simple}
+use Rattle.spec_text.specs.Bytes.{Name, one_of, among}
+use Rattle.spec_text.specs.Trees.{Tree, Trees, none, more, IsRead}
+use Rattle.spec_terms.specs.Terms.{Symbol, constant, Term}
+use Rattle.spec_terms.specs.Values.{truth, Interpretation}
+use Rattle.spec_terms.specs.Meaning.{value_under}
+use Rattle.spec_terms.specs.Reading.{term_of}
+use Rattle.spec_scripts.specs.Commands.{Command, PrintNoSuccess, DeclareConst, Assert, CheckSat, command_of, only_if}
+
+-- An asserted expression: its text, and the term that it is read as.
+pub record Assertion : Type 0 where
+  pub text : Tree
+  pub term : Term
+
+-- What commands leave: the declared symbols and the assertions, oldest first.
+pub record Stack : Type 0 where
+  pub symbols : List Symbol
+  pub assertions : List Assertion
+
+abbrev pub empty_stack : Stack
+empty_stack = record { symbols = []; assertions = [] }
+
+abbrev pub names_of : List Symbol → List Name
+names_of ss = map (λ (s : Symbol). s.name) ss
+
+-- the names that the theories have
+abbrev pub theory_names : List Name
+theory_names = codes "true" ∷ codes "false" ∷ codes "not" ∷ codes "and" ∷ codes "or" ∷ codes "xor" ∷ codes "=>" ∷ codes "=" ∷ codes "distinct" ∷ codes "ite" ∷ codes "-" ∷ codes "+" ∷ codes "*" ∷ codes "/" ∷ codes "<" ∷ codes "<=" ∷ codes ">" ∷ codes ">=" ∷ []
+
+-- names that begin so are kept for solvers
+abbrev pub is_kept_name : Name → Bool
+is_kept_name [] = false
+is_kept_name (b ∷ bs) = one_of (codes "@.") b
+
+abbrev pub is_simple : Kind → Bool
+is_simple Simple = true
+is_simple _ = false
+
+-- a name that may be declared: a simple symbol, no theory's, not kept, and new
+abbrev pub may_declare : List Symbol → Kind → Name → Bool
+may_declare ss k n = ((is_simple k && not (among theory_names n)) && not (is_kept_name n)) && not (among (names_of ss) n)
+
+abbrev pub with_symbol : Stack → Symbol → Stack
+with_symbol s c = record { symbols = s.symbols ++ c ∷ []; assertions = s.assertions }
+
+abbrev pub with_assertion : Stack → Tree → Term → Stack
+with_assertion s t u = record { symbols = s.symbols; assertions = s.assertions ++ (record { text = t; term = u }) ∷ [] }
+
+abbrev pub asserted_by : Stack → Tree → Option Term → Option Stack
+asserted_by s t (Some u) = Some (with_assertion s t u)
+asserted_by s t None = None
+
+-- what a command leaves, where it is taken
+abbrev pub performed : Stack → Command → Option Stack
+performed s PrintNoSuccess = Some s
+performed s (DeclareConst k n sort) = only_if (may_declare s.symbols k n) (with_symbol s (constant n sort))
+performed s (Assert t) = asserted_by s t (term_of s.symbols t)
+performed s CheckSat = Some s
+
+abbrev pub or_else : {A : Type 0} → Option A → A → A
+or_else (Some a) b = a
+or_else None b = b
+
+-- what a tree leaves; one that is no command, or is refused, changes nothing
+abbrev pub after : Stack → Option Command → Stack
+after s (Some c) = or_else (performed s c) s
+after s None = s
+
+-- at a check, the first number of checks still to come being counted down, else what the rest gives
+abbrev pub at_check : Stack → ℕ → Option Command → (Stack → ℕ → Option Stack) → Option Stack
+at_check s (suc zero) (Some CheckSat) rest = Some s
+at_check s (suc (suc k)) (Some CheckSat) rest = rest s (suc k)
+at_check s k c rest = rest (after s c) k
+
+-- the stack at the k-th check, from 1; what follows isn't looked at
+unfoldable pub stack_at : Stack → ℕ → Trees → Option Stack
+stack_at s k none = None
+stack_at s k (more t ts) = at_check s k (command_of t) (λ next n. stack_at next n ts)
+
+-- what is current at the k-th check of a text
+pub record IsCurrent (text : List ℕ) (k : ℕ) (s : Stack) : Type 0 where
+  pub commands : Trees
+  pub read : IsRead text commands
+  pub here : stack_at empty_stack k commands ≡ Some s
+
+-- every current expression has the value true
+pub record MakesTrue (i : Interpretation) (text : List ℕ) (k : ℕ) : Type 0 where
+  pub stack : Stack
+  pub current : IsCurrent text k stack
+  pub each : All (λ (a : Assertion). value_under i a.text ≡ truth true) stack.assertions
+
+-- no interpretation, of whatever tables, makes them true
+abbrev pub HasNoModel : List ℕ → ℕ → Type 0
+HasNoModel text k = (i : Interpretation) → MakesTrue i text k → ⊥

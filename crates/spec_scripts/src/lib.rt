@@ -1,0 +1,2 @@
+//! Definitions about scripts: commands, what stands at a check, and what makes it true.
+#![tactic(auto)]
