@@ -1,2 +1,4 @@
 -- The definitions that the private parts speak in.
 pub mod Tables
+pub mod Items
+pub mod Views

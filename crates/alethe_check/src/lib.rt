@@ -2,4 +2,6 @@
 #![tactic(auto)]
 
 mod resolution;
+mod sexpr;
+mod shapes;
 mod terms;

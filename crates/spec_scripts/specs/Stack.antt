@@ -1,14 +1,13 @@
 -- What stands after commands, what is current at a check, and what makes it true. Source: SMT-LIB 2.6, section 4.1.4.
 use Rattle.std.specs.Prelude.{◌≡◌, ℕ, zero, suc, Bool, true, false, not, ◌&&◌, List, [], ◌∷◌, ◌++◌, map, All, Option, Some, None, codes}
-use Rattle.spec_text.specs.declared.Kind.{Kind}
-use Rattle.spec_text.specs.declared.Kind.TheVariants.{Simple}
 use Rattle.spec_text.specs.Bytes.{Name, one_of, among}
+use Rattle.spec_text.specs.Shapes.{Word, only_if, is_simple}
 use Rattle.spec_text.specs.Trees.{Tree, Trees, none, more, IsRead}
 use Rattle.spec_terms.specs.Terms.{Symbol, constant, Term}
 use Rattle.spec_terms.specs.Values.{truth, Interpretation}
 use Rattle.spec_terms.specs.Meaning.{value_under}
 use Rattle.spec_terms.specs.Reading.{term_of}
-use Rattle.spec_scripts.specs.Commands.{Command, PrintNoSuccess, DeclareConst, Assert, CheckSat, command_of, only_if}
+use Rattle.spec_scripts.specs.Commands.{Command, PrintNoSuccess, DeclareConst, Assert, CheckSat, command_of}
 
 -- An asserted expression: its text, and the term that it is read as.
 pub record Assertion : Type 0 where
@@ -35,13 +34,9 @@ abbrev pub is_kept_name : Name → Bool
 is_kept_name [] = false
 is_kept_name (b ∷ bs) = one_of (codes "@.") b
 
-abbrev pub is_simple : Kind → Bool
-is_simple Simple = true
-is_simple _ = false
-
 -- a name that may be declared: a simple symbol, no theory's, not kept, and new
-abbrev pub may_declare : List Symbol → Kind → Name → Bool
-may_declare ss k n = ((is_simple k && not (among theory_names n)) && not (is_kept_name n)) && not (among (names_of ss) n)
+abbrev pub may_declare : List Symbol → Word → Bool
+may_declare ss w = ((is_simple w.kind && not (among theory_names w.bytes)) && not (is_kept_name w.bytes)) && not (among (names_of ss) w.bytes)
 
 abbrev pub with_symbol : Stack → Symbol → Stack
 with_symbol s c = record { symbols = s.symbols ++ c ∷ []; assertions = s.assertions }
@@ -56,7 +51,7 @@ asserted_by s t None = None
 -- what a command leaves, where it is taken
 abbrev pub performed : Stack → Command → Option Stack
 performed s PrintNoSuccess = Some s
-performed s (DeclareConst k n sort) = only_if (may_declare s.symbols k n) (with_symbol s (constant n sort))
+performed s (DeclareConst w sort) = only_if (may_declare s.symbols w) (with_symbol s (constant w.bytes sort))
 performed s (Assert t) = asserted_by s t (term_of s.symbols t)
 performed s CheckSat = Some s
 

@@ -1,18 +1,13 @@
 -- The value of a text, by cases on its tree. Source: SMT-LIB 2.6, section 5.3 and theory Core.
-use Rattle.std.specs.Prelude.{Bool, true, false, not, List, [], ◌∷◌, Option, Some, None, codes, if◌then◌else◌}
+use Rattle.std.specs.Prelude.{Bool, false, not, List, [], ◌∷◌, Option, Some, None, codes, if◌then◌else◌}
 use Rattle.std.specs.Str.{bytes_eq}
 use Rattle.spec_text.specs.declared.Kind.{Kind}
-use Rattle.spec_text.specs.declared.Kind.TheVariants.{Simple, Quoted}
 use Rattle.spec_text.specs.Bytes.{Name}
+use Rattle.spec_text.specs.Shapes.{is_symbol}
 use Rattle.spec_text.specs.Trees.{Tree, Trees, atom, list, none, more}
 use Rattle.spec_terms.specs.Values.{Value, truth, Interpretation, table_value}
 
--- a symbol, with bars or without
-abbrev pub is_symbol : Kind → Bool
-is_symbol Simple = true
-is_symbol Quoted = true
-is_symbol _ = false
-
+-- what a list of pairs has for a name
 abbrev pub look_up : {A : Type 0} → List (Name × A) → Name → Option A
 look_up [] n = None
 look_up (e ∷ es) n = if bytes_eq e.0 n then Some e.1 else look_up es n

@@ -1,11 +1,11 @@
 -- The term as read of a text: a declared constant, or the negation of such a term. Source: SMT-LIB 2.6, section 3.6.
-use Rattle.std.specs.Prelude.{Bool, ◌&&◌, List, [], ◌∷◌, Option, Some, None, option_map, codes, if◌then◌else◌}
+use Rattle.std.specs.Prelude.{Bool, List, [], ◌∷◌, Option, Some, None, option_map, codes, if◌then◌else◌}
 use Rattle.std.specs.Str.{bytes_eq}
 use Rattle.spec_text.specs.declared.Kind.{Kind}
 use Rattle.spec_text.specs.Bytes.{Name}
+use Rattle.spec_text.specs.Shapes.{is_symbol, is_word}
 use Rattle.spec_text.specs.Trees.{Tree, atom, list, none, more}
 use Rattle.spec_terms.specs.Terms.{Symbol, Apply, Term, of, negated}
-use Rattle.spec_terms.specs.Meaning.{is_symbol}
 
 -- the symbol of that name
 abbrev pub symbol_named : List Symbol → Name → Option Symbol
@@ -18,15 +18,11 @@ constant_term s = of (Apply s) []
 abbrev pub constant_of : List Symbol → Kind → Name → Option Term
 constant_of ss k n = if is_symbol k then option_map constant_term (symbol_named ss n) else None
 
--- whether an atom is this symbol
-abbrev pub is_word : Name → Kind → Name → Bool
-is_word w k n = is_symbol k && bytes_eq n w
-
 abbrev pub negation_by : Bool → Option Term → Option Term
 negation_by is_not t = if is_not then option_map negated t else None
 
 -- the term of a tree under the declared constants
 unfoldable pub term_of : List Symbol → Tree → Option Term
 term_of ss (atom at k n) = constant_of ss k n
-term_of ss (list at (more (atom a k h) (more t none)) end) = negation_by (is_word (codes "not") k h) (term_of ss t)
+term_of ss (list at (more (atom a k h) (more t none)) end) = negation_by (is_word (codes "not") (record { kind = k; bytes = h })) (term_of ss t)
 term_of ss (list at ts end) = None

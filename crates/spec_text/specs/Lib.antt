@@ -5,3 +5,4 @@ pub mod Places
 pub mod Trees
 pub mod Faults
 pub mod Examples
+pub mod Shapes
