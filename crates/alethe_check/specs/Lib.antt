@@ -2,3 +2,4 @@
 pub mod Tables
 pub mod Items
 pub mod Views
+pub mod Scripts

@@ -45,7 +45,7 @@ pub struct Word<'a> {
 }
 
 /// Whether two lists of bytes are equal.
-fn same_bytes(a: &[u8], b: &[u8]) -> bool
+pub fn same_bytes(a: &[u8], b: &[u8]) -> bool
     ensures { result ≡ bytes_eq a.now b.now }
 {
     a == b
