@@ -1,5 +1,5 @@
 -- What a table of terms holds.
-use Rattle.std.specs.Prelude.{◌≡◌, ℕ, ◌<◌, ◌++◌, List, [], length, map, All, slice_index_or}
+use Rattle.std.specs.Prelude.{◌≡◌, ℕ, ◌<◌, ◌++◌, List, [], length, map, All, Contains, slice_index_or}
 use Rattle.spec_text.specs.Bytes.{Name}
 use Rattle.spec_terms.specs.Terms.{Truth, Symbol, constant, Term, negated}
 use Rattle.spec_terms.specs.Reading.{constant_term}
@@ -61,3 +61,8 @@ pub record Extends (old new : TableView) : Type 0 where
   pub constants : new.constants ≡ old.constants ++ more_constants
   pub more_terms : List Term
   pub terms : new.terms ≡ old.terms ++ more_terms
+
+-- two lists have the same members
+pub record HaveSameMembers (xs ys : List TermId) : Type 0 where
+  pub there : (id : TermId) → Contains xs id → Contains ys id
+  pub back : (id : TermId) → Contains ys id → Contains xs id

@@ -1,6 +1,7 @@
 //! Judges an Alethe proof against an SMT-LIB script.
 #![tactic(auto)]
 
+mod asserted;
 mod commands;
 mod resolution;
 mod sexpr;

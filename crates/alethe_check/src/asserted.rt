@@ -1,0 +1,60 @@
+//! The asserted terms, in order, with a look-up by hash.
+
+ghost use Rattle.std.specs.Prelude.{◌≡◌, ◌++◌, [], ◌∷◌, Contains, MatchBool, OnOk};
+
+use crate::terms::TermId;
+use indexmap::IndexSet;
+use std::alloc::{AllocError, Global};
+use std::marker::Model;
+
+/// Terms by their numbers, in the order in which they were asserted.
+#[derive(Drop)]
+pub struct Asserted {
+    list: Vec<TermId>,
+    set: IndexSet<TermId>,
+}
+
+impl Model for Asserted {
+    ghost use Rattle.std.specs.Prelude.{List};
+    ghost use Rattle.alethe_check.specs.declared.terms.TermId.{TermId};
+    ghost use Rattle.alethe_check.specs.Tables.{HaveSameMembers};
+
+    ghost Value = { List TermId };
+
+    ghost view = { λ a. a.list.items };
+
+    ghost invariant = { λ a. HaveSameMembers a.list.items a.set.keys };
+}
+
+impl Asserted {
+    /// Makes the list of no terms.
+    pub fn new(alloc: Global) -> Asserted
+        ensures { result ≡ [] }
+    {
+        Asserted {
+            list: Vec::new(alloc),
+            set: IndexSet::new(alloc),
+        }
+    }
+
+    /// Tells whether a term is asserted.
+    pub fn contains(&self, id: TermId) -> bool
+        ensures { MatchBool result (Contains self.now id) (Contains self.now id → ⊥) }
+    {
+        self.set.contains(&id)
+    }
+
+    /// Puts a term last.
+    pub fn add(&mut self, id: TermId) -> Result<(), AllocError>
+        ensures { OnOk result (self.new ≡ self.old ++ id ∷ []) }
+    {
+        self.list.reserve(1)?;
+        match self.set.insert(id) {
+            Ok(_) => {
+                self.list.push_reserved(id);
+                Ok(())
+            }
+            Err(_) => Err(AllocError),
+        }
+    }
+}
