@@ -1,0 +1,6 @@
+-- Lemmas on runs, places, strings, pieces and the lexemes of a text.
+pub mod Runs
+pub mod Steps
+pub mod Strings
+pub mod Fronts
+pub mod Reading

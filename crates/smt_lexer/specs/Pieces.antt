@@ -1,0 +1,48 @@
+-- What stands at the front of bytes, as the code has it.
+use Rattle.std.specs.Prelude.{◌≡◌, ◌<◌, ◌≤◌, ℕ, List, length, take, Option, Some, None, ◌==◌, if◌then◌else◌}
+use Rattle.spec_text.specs.Bytes.{is_blank, is_digit, is_symbol_byte}
+use Rattle.spec_text.specs.Lexemes.{Lexeme, blank, opens, closes, word, wrong, Piece, piece, string_body}
+use Rattle.smt_lexer.specs.declared.pieces.What.{What}
+use Rattle.smt_lexer.specs.declared.pieces.What.TheVariants as whats
+use Rattle.smt_lexer.specs.declared.pieces.Found.{Found}
+use Rattle.smt_lexer.specs.declared.pieces.Head.{Head}
+use Rattle.smt_lexer.specs.declared.pieces.Head.TheVariants as heads
+
+-- the lexeme that it stands for
+abbrev pub lexeme_of : What → Lexeme
+lexeme_of whats.Blank = blank
+lexeme_of whats.Open = opens
+lexeme_of whats.Close = closes
+lexeme_of (whats.Word k bytes) = word k bytes.now
+lexeme_of (whats.Wrong f) = wrong f
+
+abbrev pub piece_of : Found → Piece
+piece_of f = piece (lexeme_of f.what) f.size
+
+-- what a first byte says
+abbrev pub head_at : ℕ → Head
+head_at b =
+    if is_blank b then heads.Blank
+    else if b == 59 then heads.Semicolon
+    else if b == 40 then heads.Open
+    else if b == 41 then heads.Close
+    else if b == 48 then heads.Zero
+    else if is_digit b then heads.Digit
+    else if b == 34 then heads.Quote
+    else if b == 124 then heads.Bar
+    else if b == 58 then heads.Colon
+    else if is_symbol_byte b then heads.Symbol
+    else heads.Stranger
+
+-- how long a string's body is
+abbrev pub IsBody : List ℕ → Option ℕ → Type 0
+IsBody bytes None = string_body bytes ≡ None
+IsBody bytes (Some n) = (n < length bytes) × (string_body bytes ≡ Some (take n bytes))
+
+-- it has one byte at least and not more than so many; as many at most stand before a fault
+abbrev pub IsWithin : What → ℕ → ℕ → Type 0
+IsWithin (whats.Wrong f) size n = size ≤ n
+IsWithin whats.Blank size n = (0 < size) × (size ≤ n)
+IsWithin whats.Open size n = (0 < size) × (size ≤ n)
+IsWithin whats.Close size n = (0 < size) × (size ≤ n)
+IsWithin (whats.Word k bytes) size n = (0 < size) × (size ≤ n)

@@ -1,0 +1,33 @@
+-- What the next token says of the lexemes from an offset on.
+use Rattle.std.specs.Prelude.{◌≡◌, ◌<◌, ◌≤◌, ℕ, List, [], ◌∷◌, length, Result, Ok, Err}
+use Rattle.spec_text.specs.declared.Place.{Place}
+use Rattle.spec_text.specs.Places.{IsPlaceOf}
+use Rattle.spec_text.specs.Lexemes.{Lexeme, opens, closes, word, wrong, lexemes_from}
+use Rattle.smt_lexer.specs.declared.TokenKind.{TokenKind}
+use Rattle.smt_lexer.specs.declared.TokenKind.TheVariants.{Open, Close, Word, End}
+use Rattle.smt_lexer.specs.declared.Token.{Token}
+use Rattle.smt_lexer.specs.declared.Refusal.{Refusal}
+
+-- the first lexeme from an offset on stands at a place, and the others stand from another place on
+pub record Stands (text : List ℕ) (from : ℕ) (place after : Place) (x : Lexeme) : Type 0 where
+  pub first : lexemes_from text from ≡ (place.offset, x) ∷ lexemes_from text after.offset
+  pub behind : from ≤ place.offset
+  pub longer : place.offset < after.offset
+
+-- no lexeme stands from an offset on, and the place is the end of the text
+pub record Ends (text : List ℕ) (from : ℕ) (place after : Place) : Type 0 where
+  pub nothing : lexemes_from text from ≡ []
+  pub place_end : place.offset ≡ length text
+  pub after_end : after ≡ place
+
+-- the token that begins at a place, up to another, is the next from an offset on
+abbrev pub IsToken : List ℕ → ℕ → Place → Place → TokenKind → Type 0
+IsToken text from place after Open = Stands text from place after opens
+IsToken text from place after Close = Stands text from place after closes
+IsToken text from place after (Word k bytes) = Stands text from place after (word k bytes.now)
+IsToken text from place after End = Ends text from place after
+
+-- the next token from a place on with the place behind it, or the fault that stands there before any token
+abbrev pub IsNext : List ℕ → Place → Result (Token × Place) Refusal → Type 0
+IsNext text at (Ok r) = IsToken text at.offset r.0.place r.1 r.0.lexeme × IsPlaceOf text r.0.place × IsPlaceOf text r.1
+IsNext text at (Err r) = (lexemes_from text at.offset ≡ (r.place.offset, wrong r.fault) ∷ []) × IsPlaceOf text r.place

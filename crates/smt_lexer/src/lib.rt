@@ -1,0 +1,124 @@
+//! Reads the tokens of a script, one after the other, from its bytes.
+//!
+//! `next` passes over white space and comments and reads one parenthesis or word as long as it can be. It takes no
+//! memory, and no more time than the bytes that it passes have.
+#![tactic(auto)]
+
+ghost use Rattle.std.specs.Prelude.{◌≡◌};
+ghost use Rattle.spec_text.specs.Places.{IsPlaceOf};
+ghost use Rattle.smt_lexer.specs.Tokens.{IsNext};
+ghost use Rattle.smt_lexer.specs.declared.Refused.TheVariants as reasons;
+
+use std::alloc::{AllocError, AllocFailed};
+use thiserror::Error;
+
+mod bytes;
+mod pieces;
+mod places;
+#[cfg(test)]
+mod tests;
+mod words;
+
+use pieces::{What, piece_at};
+pub use places::{place_after, place_at, start};
+pub use spec_text::{Fault, Kind, Place};
+
+/// A fault with its place.
+#[derive(Clone, Copy, Debug, PartialEq, Eq)]
+pub struct Refusal {
+    /// Where the fault stands.
+    pub place: Place,
+    /// Which fault it is.
+    pub fault: Fault,
+}
+
+/// Why reading stopped.
+#[derive(Debug, Drop, Error, PartialEq, Eq)]
+pub enum Refused {
+    /// The text has a fault.
+    #[error("{0:?}")]
+    Fault(Refusal),
+    /// No memory was left.
+    #[error("out of memory")]
+    Memory,
+}
+
+impl From<AllocError> for Refused {
+    ghost from_gives = { λ _ r. r ≡ reasons.Memory };
+
+    fn from(_error: AllocError) -> Refused {
+        Refused::Memory
+    }
+}
+
+impl<T: Drop> From<AllocFailed<T>> for Refused {
+    ghost from_gives = { λ _ r. r ≡ reasons.Memory };
+
+    fn from(_error: AllocFailed<T>) -> Refused {
+        Refused::Memory
+    }
+}
+
+impl From<Refusal> for Refused {
+    ghost from_gives = { λ f r. r ≡ reasons.Fault f };
+
+    fn from(refusal: Refusal) -> Refused {
+        Refused::Fault(refusal)
+    }
+}
+
+/// What a token is.
+#[derive(Clone, Copy, Debug)]
+pub enum TokenKind<'a> {
+    /// `(`
+    Open,
+    /// `)`
+    Close,
+    /// A word by its kind, and its bytes as written, but without quotes, bars or colon.
+    Word(Kind, &'a [u8]),
+    /// The end of the text.
+    End,
+}
+
+/// A token with the place of its first byte.
+#[derive(Clone, Copy, Debug)]
+pub struct Token<'a> {
+    /// The place of its first byte, or the end of the text.
+    pub place: Place,
+    /// What it is.
+    pub lexeme: TokenKind<'a>,
+}
+
+/// Reads the next token at a place of the bytes, past white space and comments, and gives it with the place right
+/// behind it. Behind the last token that is the end of the bytes, again and again. An `Err` has the first lexical
+/// fault behind the place, where no token stands before it: a byte that begins no token or cannot follow one
+/// (`BadChar`), a string (`UnclosedString`) or a quoted symbol (`UnclosedQuote`) that does not end.
+/// Source: SMT-LIB 2.6, section 3.1; the faults are own.
+pub fn next<'a>(bytes: &'a [u8], at: Place) -> Result<(Token<'a>, Place), Refusal>
+    requires { IsPlaceOf bytes.now at }
+    ensures { IsNext bytes.now at result }
+{
+    let mut place = at;
+    while place.offset < bytes.len() as u64 {
+        let found = piece_at(bytes, place.offset as usize);
+        let after = place_after(bytes, place, found.size);
+        let lexeme = match found.what {
+            What::Blank => {
+                place = after;
+                continue;
+            }
+            What::Wrong(fault) => {
+                return Err(Refusal {
+                    place: after,
+                    fault,
+                });
+            }
+            What::Open => TokenKind::Open,
+            What::Close => TokenKind::Close,
+            What::Word(kind, name) => TokenKind::Word(kind, name),
+        };
+        return Ok((Token { place, lexeme }, after));
+    }
+    let lexeme = TokenKind::End;
+    Ok((Token { place, lexeme }, place))
+}

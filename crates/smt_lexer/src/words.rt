@@ -1,0 +1,71 @@
+//! Reserved words.
+
+ghost use Rattle.std.specs.Prelude.{◌≡◌};
+ghost use Rattle.spec_text.specs.Bytes.{among, reserved_words};
+ghost use Rattle.smt_lexer.specs.Classes.{texts_of};
+
+/// The words that are no symbols without bars.
+const RESERVED: [&[u8]; 43] = [
+    b"!",
+    b"_",
+    b"as",
+    b"BINARY",
+    b"DECIMAL",
+    b"exists",
+    b"HEXADECIMAL",
+    b"forall",
+    b"let",
+    b"match",
+    b"NUMERAL",
+    b"par",
+    b"STRING",
+    b"assert",
+    b"check-sat",
+    b"check-sat-assuming",
+    b"declare-const",
+    b"declare-datatype",
+    b"declare-datatypes",
+    b"declare-fun",
+    b"declare-sort",
+    b"define-fun",
+    b"define-fun-rec",
+    b"define-funs-rec",
+    b"define-sort",
+    b"echo",
+    b"exit",
+    b"get-assertions",
+    b"get-assignment",
+    b"get-info",
+    b"get-model",
+    b"get-option",
+    b"get-proof",
+    b"get-unsat-assumptions",
+    b"get-unsat-core",
+    b"get-value",
+    b"pop",
+    b"push",
+    b"reset",
+    b"reset-assertions",
+    b"set-info",
+    b"set-logic",
+    b"set-option",
+];
+
+/// Says whether a name is one of these words. Source: own.
+fn is_one_of(words: &[&[u8]], name: &[u8]) -> bool
+    ensures { result ≡ among (texts_of words.now) name.now }
+{
+    for word in words {
+        if *word == name {
+            return true;
+        }
+    }
+    false
+}
+
+/// Says whether a name is a reserved word. Source: SMT-LIB 2.6, section 3.1 and appendix B.
+pub fn is_reserved(name: &[u8]) -> bool
+    ensures { result ≡ among reserved_words name.now }
+{
+    is_one_of(&RESERVED, name)
+}
