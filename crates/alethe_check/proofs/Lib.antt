@@ -1,0 +1,6 @@
+-- The lemmas of this crate.
+pub mod ResolutionLiterals
+pub mod ResolutionStart
+pub mod Looked
+pub mod Rounds
+pub mod Transport

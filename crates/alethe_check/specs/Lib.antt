@@ -1,2 +1,3 @@
 -- The definitions that the private parts speak in.
 pub mod Tables
+pub mod Findings
