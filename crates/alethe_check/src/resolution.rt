@@ -182,3 +182,71 @@ pub fn resolves(alloc: Global, premises: &[Vec<Lit>], clause: &[Lit]) -> Result<
         }
     }
 }
+
+#[cfg(test)]
+mod tests {
+    use super::*;
+    use crate::terms::TermId;
+    use std::test::Fail;
+
+    /// Reads a letter: a capital one is the complement.
+    fn literal(b: u8) -> Lit {
+        Lit {
+            term: TermId(b.to_ascii_lowercase() as u64),
+            positive: b.is_ascii_lowercase(),
+        }
+    }
+
+    /// Reads a clause.
+    fn clause_of(alloc: Global, text: &str) -> Result<Vec<Lit>, AllocError> {
+        let mut clause = Vec::new(alloc);
+        for b in text.as_bytes() {
+            clause.push(literal(*b))?;
+        }
+        Ok(clause)
+    }
+
+    /// Reads clauses, each of which ends with a semicolon.
+    fn clauses_of(alloc: Global, text: &str) -> Result<Vec<Vec<Lit>>, AllocError> {
+        let mut clauses = Vec::new(alloc);
+        let mut clause = Vec::new(alloc);
+        for b in text.as_bytes() {
+            if *b == b';' {
+                clauses.push(clause)?;
+                clause = Vec::new(alloc);
+            } else {
+                clause.push(literal(*b))?;
+            }
+        }
+        Ok(clauses)
+    }
+
+    #[test]
+    fn resolves_literals(rt: HostRuntime) -> Result<(), Fail> {
+        let alloc = rt.alloc();
+        for (premises, clause, wanted) in [
+            ("", "pP", true),
+            ("", "", false),
+            ("", "p", false),
+            ("p;", "p", true),
+            ("p;", "pq", true),
+            ("pq;", "p", false),
+            ("pr;", "pq", false),
+            ("pp;Pq;", "q", true),
+            ("pq;pq;Pq;", "q", true),
+            ("pq;rs;Pq;", "q", true),
+            ("ab;Ac;Cd;E;", "b", false),
+            ("ab;Ac;Cd;De;E;", "b", true),
+            ("E;De;Cd;Ac;ab;", "b", true),
+            ("Cd;ab;E;Ac;De;", "b", true),
+            ("pq;;", "", true),
+            (";", "r", true),
+            ("pq;pQ;Pq;PQ;", "", false),
+        ] {
+            let premises = clauses_of(alloc, premises)?;
+            let clause = clause_of(alloc, clause)?;
+            assert!(rt; resolves(alloc, &premises, &clause)? == wanted);
+        }
+        Ok(())
+    }
+}
