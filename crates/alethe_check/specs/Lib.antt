@@ -3,3 +3,4 @@ pub mod Tables
 pub mod Items
 pub mod Views
 pub mod Scripts
+pub mod Findings

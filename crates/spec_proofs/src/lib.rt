@@ -1,6 +1,8 @@
 //! Definitions about proofs: clauses, resolution, right steps, accepted proofs and the first fault.
 #![tactic(auto)]
 
+pub mod laws;
+
 ghost use Rattle.std.specs.Prelude.{◌≡◌};
 ghost use Rattle.spec_proofs.specs.Faults.{fault_name};
 
