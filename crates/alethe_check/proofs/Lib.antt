@@ -7,3 +7,5 @@ pub mod ResolutionStart
 pub mod Looked
 pub mod Rounds
 pub mod Transport
+pub mod Contexts
+pub mod Words

@@ -4,3 +4,5 @@ pub mod Items
 pub mod Views
 pub mod Scripts
 pub mod Findings
+pub mod Open
+pub mod Reads

@@ -3,6 +3,7 @@
 
 mod asserted;
 mod commands;
+mod reader;
 mod resolution;
 mod sexpr;
 mod shapes;
