@@ -1,12 +1,12 @@
 -- What an item more does to what was read so far.
-use Rattle.std.proofs.Common.{◌≡◌, ℕ, ◌-◌, ◌+◌, ◌<◌, List, [], ◌∷◌, ◌++◌, length, set, get_or, sym, ap, ◌∙◌, refl, append_assoc, length-append, append-nil, arith}
+use Rattle.std.proofs.Common.{◌≡◌, ℕ, ◌-◌, List, [], ◌∷◌, ◌++◌, length, set, get_or, sym, ap, ◌∙◌, refl, append_assoc, length-append, append-nil, arith}
 use Rattle.std.proofs.lemmas.List.{set_at, get_or_at}
 use Rattle.spec_text.specs.declared.Kind.{Kind}
-use Rattle.spec_text.specs.Lexemes.{Lexeme, opens, closes, word}
+use Rattle.spec_text.specs.Lexemes.{opens}
 use Rattle.spec_text.specs.Trees.{Tree, Trees, atom, list, none, more, spelled, spelled_all}
 use Rattle.alethe_check.specs.declared.sexpr.Item.{Item}
 use Rattle.alethe_check.specs.declared.sexpr.Item.TheVariants.{Atom, List as Group}
-use Rattle.alethe_check.specs.Open.{Context, top, inside, add, push, closed, flat, flat_all, spelled_in, flat_in, open_in, IsUnfinished, Holds}
+use Rattle.alethe_check.specs.Open.{Context, top, inside, add, push, closed, flat, flat_all, spelled_in, flat_in, open_in, Holds}
 
 flat_add : (ts : Trees) (t : Tree) → flat_all (add ts t) ≡ flat_all ts ++ flat t
 flat_add none t = append-nil (flat t)
@@ -51,11 +51,14 @@ begun_at (inside outer at rows) its places place d h =
     let s = snoc_same places (open_in outer) place (length (flat_in outer)) h.open_are in
     let here : length (flat_in outer) ≡ place = sym s.1 in
     let was : get_or its place d ≡ Group at 0 0 = rw h.items_are (get_or_at (flat_in outer) (Group at 0 0) (flat_all rows) d place here) in
-    let behind : length its - place - 1 ≡ length (flat_all rows) = omega (arith, ap length h.items_are, length-append (flat_in outer) (Group at 0 0 ∷ flat_all rows), here) in
-    (at, was, λ end. record {
-      items_are = rw (behind, h.items_are, set_at (flat_in outer) (Group at 0 0) (flat_all rows) (Group at end (length (flat_all rows))) place here) (sym (flat_push outer (list at rows end)));
-      open_are = s.0 ∙ sym (open_push outer (list at rows end));
-    })
+    let behind : length its - place - 1 ≡ length (flat_all rows) = omega (arith, ap length h.items_are, length-append (flat_in outer) (Group at 0 0 ∷ flat_all rows), here) in (
+      at,
+      was,
+      λ end. record {
+        items_are = rw (behind, h.items_are, set_at (flat_in outer) (Group at 0 0) (flat_all rows) (Group at end (length (flat_all rows))) place here) (sym (flat_push outer (list at rows end)));
+        open_are = s.0 ∙ sym (open_push outer (list at rows end));
+      },
+    )
 
 group_begin : {a e n b f m : ℕ} → Group a e n ≡ Group b f m → a ≡ b
 group_begin e = cc

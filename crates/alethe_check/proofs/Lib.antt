@@ -9,3 +9,4 @@ pub mod Rounds
 pub mod Transport
 pub mod Contexts
 pub mod Words
+pub mod Reading

@@ -3,9 +3,8 @@ use Rattle.std.proofs.Common.{◌≡◌, ℕ, zero, suc, ◌+◌, ◌-◌, ◌==
 use Rattle.std.specs.Prelude.{option_map, ⊤}
 use Rattle.std.proofs.lemmas.List.{take_at, drop-drop, take-append-drop}
 use Rattle.std.proofs.lemmas.Bool.{eqb-true}
-use Rattle.spec_text.specs.declared.Kind.{Kind}
-use Rattle.spec_text.specs.declared.Kind.TheVariants.{Numeral, Decimal, Text, Simple, Quoted, Reserved, Keyword}
-use Rattle.spec_text.specs.Bytes.{is_blank, is_in_comment, is_digit, is_symbol_byte, is_in_bars, among, front, reserved_words}
+use Rattle.spec_text.specs.declared.Kind.TheVariants.{Numeral, Decimal, Simple, Reserved}
+use Rattle.spec_text.specs.Bytes.{is_blank, is_digit, is_symbol_byte, is_in_bars, among, front, reserved_words}
 use Rattle.spec_text.specs.Lexemes.{Lexeme, blank, opens, closes, word, wrong, Piece, piece, ended, decimal, number, string_body, after_quote, string, quoted, keyword, symbol, first_piece, before, lexemes}
 use Rattle.alethe_check.specs.Items.{marks, bytes_at}
 
@@ -71,6 +70,7 @@ after_by b c cs body s false q rec e = let same : [] ≡ body = some_is e in rw 
 
 mutual
   unfolding string_body after_quote
+
   body_taken : (bs body : List ℕ) → string_body bs ≡ Some body → body ≡ take (length body) bs
   body_taken [] body e = cc
   body_taken (b ∷ bs) body e = body_by b bs body (b == 34) refl (λ rest. body_taken bs rest) (λ s rest. after_taken b bs rest s) e
@@ -78,7 +78,6 @@ mutual
   after_taken : (b : ℕ) (bs body : List ℕ) → b ≡ 34 → after_quote bs ≡ Some body → body ≡ take (length body) (b ∷ bs)
   after_taken b [] body s e = let same : [] ≡ body = some_is e in rw (← same) refl
   after_taken b (c ∷ cs) body s e = after_by b c cs body s (c == 34) refl (λ rest. body_taken cs rest) e
-
 
 string_spelt : (b : ℕ) (bs : List ℕ) → IsSpelt (b ∷ bs) (string (string_body bs))
 string_spelt b bs = go (string_body bs) (λ body. body_taken bs body)

@@ -1,6 +1,5 @@
 -- What was read so far of an s-expression: the lists that are open, and what stands in each.
-use Rattle.std.specs.Prelude.{◌≡◌, ℕ, List, [], ◌∷◌, ◌++◌, length, take, drop, ⊤}
-use Rattle.spec_text.specs.declared.Kind.{Kind}
+use Rattle.std.specs.Prelude.{◌≡◌, ℕ, List, [], ◌∷◌, ◌++◌, length, ⊤}
 use Rattle.spec_text.specs.Lexemes.{Lexeme, opens}
 use Rattle.spec_text.specs.Trees.{Tree, Trees, atom, list, none, more, spelled_all}
 use Rattle.alethe_check.specs.declared.sexpr.Item.{Item}

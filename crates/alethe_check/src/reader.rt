@@ -5,6 +5,7 @@ ghost use Rattle.spec_text.specs.Places.{IsPlaceOf};
 ghost use Rattle.spec_text.specs.Trees.{atom, none};
 ghost use Rattle.alethe_check.specs.Open.{Context, inside, push, closed, Holds};
 ghost use Rattle.alethe_check.specs.Reads.{ReadsOne};
+ghost use Rattle.smt_lexer.specs.declared.Refused.TheVariants as refused;
 
 use crate::sexpr::Item;
 use smt_lexer::{Fault, Place, Refusal, Refused, TokenKind, next};
@@ -41,12 +42,12 @@ fn add_word(items: &mut Vec<Item>, at: u64, kind: Kind, bytes: &[u8]) -> Result<
 }
 
 /// Begins a list.
-fn begin_list(items: &mut Vec<Item>, open: &mut Vec<usize>, at: u64) -> Result<(), AllocError>
-    ensures holds { OnOk result ((context : Context) → Holds context items.old.items open.old.items → Holds (inside context at none) items.new.items open.new.items) }
-    ensures depth { OnOk result (vec_len open.new ≡ vec_len open.old + 1) }
+fn begin_list(items: &mut Vec<Item>, opened: &mut Vec<usize>, at: u64) -> Result<(), AllocError>
+    ensures holds { OnOk result ((context : Context) → Holds context items.old.items opened.old.items → Holds (inside context at none) items.new.items opened.new.items) }
+    ensures depth { OnOk result (vec_len opened.new ≡ vec_len opened.old + 1) }
 {
     let at = narrow(at)?;
-    open.push(items.len())?;
+    opened.push(items.len())?;
     items.push(Item::List(at, 0, 0))?;
     Ok(())
 }
@@ -63,4 +64,59 @@ fn end_list(items: &mut Vec<Item>, place: usize, end: u64) -> Result<(), AllocEr
         }
     }
     Ok(())
+}
+
+/// A refusal at a place.
+fn refused(place: Place, fault: Fault) -> Refused
+    ensures { result ≡ refused.Fault (record { place = place; fault = fault }) }
+{
+    Refused::Fault(Refusal { place, fault })
+}
+
+/// Reads the next s-expression at a place of the text, and gives it with the place right behind it, or nothing where only
+/// white space and comments are left. An `Err` has the first fault behind the place, E1 to E6, or is out of memory; an
+/// s-expression of more than 2^32 bytes is out of memory, too. Source: SMT-LIB 2.6, section 3.2; the faults are own.
+pub fn read_one(alloc: Global, text: &[u8], at: Place) -> Result<Option<(Sexpr, Place)>, Refused>
+    requires { IsPlaceOf text.now at }
+    ensures { ReadsOne text.now at result }
+{
+    let mut items = Vec::new(alloc);
+    let mut opened: Vec<usize> = Vec::new(alloc);
+    let mut place = at;
+    'tokens: loop {
+        let (token, after) = match next(text, place) {
+            Ok(read) => read,
+            Err(refusal) => return Err(Refused::Fault(refusal)),
+        };
+        match token.lexeme {
+            TokenKind::End => {
+                if opened.is_empty() {
+                    return Ok(None);
+                }
+                return Err(refused(token.place, Fault::UnclosedList));
+            }
+            TokenKind::Open => {
+                if opened.len() >= NESTING_LIMIT {
+                    return Err(refused(token.place, Fault::TooDeep));
+                }
+                begin_list(&mut items, &mut opened, token.place.offset)?;
+            }
+            TokenKind::Close => {
+                let Some(list) = opened.pop() else {
+                    return Err(refused(token.place, Fault::StrayClose));
+                };
+                end_list(&mut items, list, token.place.offset)?;
+                if opened.is_empty() {
+                    return Ok(Some((Sexpr { items }, after)));
+                }
+            }
+            TokenKind::Word(kind, bytes) => {
+                add_word(&mut items, token.place.offset, kind, bytes)?;
+                if opened.is_empty() {
+                    return Ok(Some((Sexpr { items }, after)));
+                }
+            }
+        }
+        place = after;
+    }
 }

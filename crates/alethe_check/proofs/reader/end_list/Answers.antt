@@ -1,4 +1,4 @@
-use Rattle.std.proofs.Common.{arith, ◌∙◌, sym}
+use Rattle.std.proofs.Common.{arith}
 use Rattle.alethe_check.proofs.Contexts.{holds_ended}
 use Rattle.alethe_check.proofs.reader.end_list.Goals as goal
 
