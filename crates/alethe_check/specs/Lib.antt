@@ -1,2 +1,4 @@
 -- The definitions that the private parts speak in.
+pub mod NameLists
+pub mod TermCodes
 pub mod Tables
