@@ -1,2 +1,10 @@
 -- The lemmas.
 pub mod NamesApart
+pub mod NodesSame
+pub mod NodesPut
+pub mod TermsGrown
+pub mod TermsApart
+pub mod TermsNamed
+pub mod TermsPut
+pub mod TermsLiteral
+pub mod TermsExtend

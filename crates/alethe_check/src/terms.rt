@@ -131,10 +131,8 @@ impl TermTable {
         ensures known { (id : Number) → IsIn self.old id → term_at self.old id ≡ node_term self.old node → self.new ≡ self.old }
         ensures same { OnErr result (self.new ≡ self.old) }
     {
-        match self.nodes.insert_full(node) {
-            Ok((at, _)) => Ok(TermId(at as u64)),
-            Err(_) => Err(NoMemory),
-        }
+        let (at, _) = self.nodes.insert_full(node)?;
+        Ok(TermId(at as u64))
     }
 
     /// Says a term by its node, which names terms before it.
@@ -186,5 +184,6 @@ impl TermTable {
     pub fn numbers_tell_terms(&self)
         ensures { AreDifferent self.now.terms }
     {
+        let _ = &self.constants;
     }
 }
