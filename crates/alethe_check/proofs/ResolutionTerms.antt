@@ -1,6 +1,6 @@
 -- Literals of terms by number: resolution of the numbers is that of the terms.
-use Rattle.std.proofs.Common.{◌≡◌, ℕ, ◌+◌, ◌<◌, Bool, true, false, List, [], ◌∷◌, ◌++◌, map, length, get_or, take, All, Contains, sym, ap, ◌∙◌, subst, refl}
-use Rattle.std.specs.Prelude.{Vec, MatchBool, MatchResult, ◌↔◌, Result}
+use Rattle.std.proofs.Common.{◌≡◌, ℕ, ◌+◌, ◌<◌, Bool, List, [], ◌∷◌, ◌++◌, map, length, get_or, take, All, sym, ap, ◌∙◌, subst, refl}
+use Rattle.std.specs.Prelude.{Vec}
 use Rattle.std.specs.declared.alloc.Global.{Global}
 use Rattle.std.proofs.lemmas.List.{map-append, map_more}
 use Rattle.std.proofs.lemmas.List.Elements.{All-contains, All-push}
@@ -24,7 +24,7 @@ module _ (t : TableView) (differ : AreDifferent t.terms) (ps : List (List Lit)) 
   pub right_there : Resolves lit_complement ps c → IsResolvent premises clause
   right_there r = subst (λ (qs : List (List Literal)). Resolves complement qs (literals_of clause)) each.same
       (subst (λ (d : List Literal). Resolves complement (map (map (literal_at t)) ps) d) one.same
-        (resolves_there lit_complement complement (literal_at t) (λ l. refl) ps c r))
+      (resolves_there lit_complement complement (literal_at t) (λ l. refl) ps c r))
 
   -- and the other way round
   pub right_back : IsResolvent premises clause → Resolves lit_complement ps c
@@ -32,7 +32,7 @@ module _ (t : TableView) (differ : AreDifferent t.terms) (ps : List (List Lit)) 
       (λ d d_in l l_in. All-contains (λ m. IsIn t m.term) d l (All-contains (AreOf t) ps d each.there d_in) l_in)
       (λ l l_in. All-contains (λ m. IsIn t m.term) c l one.there l_in)
       (subst (λ (qs : List (List Literal)). Resolves complement qs (map (literal_at t) c)) (sym each.same)
-        (subst (λ (d : List Literal). Resolves complement (map literals_of premises) d) (sym one.same) r))
+      (subst (λ (d : List Literal). Resolves complement (map literals_of premises) d) (sym one.same) r))
 
 -- a clause with one more literal
 pub means_more : (t : TableView) (ids : List TermId) (i : ℕ) (d : TermId) (ls new : List Lit) (l : Lit) → i < length ids → new ≡ ls ++ l ∷ []

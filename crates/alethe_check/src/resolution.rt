@@ -206,11 +206,7 @@ impl From<AllocError> for RuleStop {
 }
 
 /// Gives the literal of each term.
-fn literals_of(
-    alloc: Global,
-    table: &TermTable,
-    clause: &[TermId],
-) -> Result<Vec<Lit>, AllocError>
+fn literals_of(alloc: Global, table: &TermTable, clause: &[TermId]) -> Result<Vec<Lit>, AllocError>
     requires { AreIn table.now clause.now }
     ensures { IfOk result (λ v. Means table.now v.items (clause_at table.now clause.now)) }
 {

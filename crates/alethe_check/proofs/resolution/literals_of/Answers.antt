@@ -1,5 +1,4 @@
 -- That the literals are those of the whole clause.
-use Rattle.std.proofs.Common.{false}
 use Rattle.std.proofs.lemmas.List.{take_all}
 use Rattle.alethe_check.proofs.ResolutionTerms.{means_more}
 use Rattle.alethe_check.proofs.resolution.literals_of.Goals as goal
