@@ -1,6 +1,5 @@
 -- Names by their numbers.
-use Rattle.std.proofs.Common.{◌≡◌, ℕ, zero, suc, ◌+◌, ◌<◌, Bool, true, false, ◌||◌, cond, if◌then◌else◌, List, [], ◌∷◌, ◌++◌, length, map, take, Option, Some, None, get_or, refl, sym, ap, ◌∙◌, subst, true≢false, arith, rules, length-append}
-use Rattle.std.specs.Bool.{Decides}
+use Rattle.std.proofs.Common.{◌≡◌, ℕ, ◌<◌, true, false, ◌||◌, if◌then◌else◌, List, [], ◌∷◌, ◌++◌, length, map, take, Some, get_or, refl, sym, ap, ◌∙◌, subst, true≢false, arith}
 use Rattle.std.specs.List.{list_any, position}
 use Rattle.std.specs.Str.{bytes_eq}
 use Rattle.std.proofs.lemmas.Bool.Decides.{same_from_decides, Decides-like}
@@ -58,6 +57,6 @@ module _ {V : Type 0} (items : V → List ℕ) where
       → new ≡ insert_key (λ u v. bytes_eq (items u) (items v)) old copy → map items new ≡ map items old ++ n ∷ []
   pushed old new copy n absent is keys =
       let none : list_any (λ v. bytes_eq (items copy) (items v)) old ≡ false =
-          ap (λ m. list_any (λ v. bytes_eq m (items v)) old) is ∙ sym (among-any items old n) ∙ absent in
+      ap (λ m. list_any (λ v. bytes_eq m (items v)) old) is ∙ sym (among-any items old n) ∙ absent in
       let last : new ≡ old ++ copy ∷ [] = keys ∙ ap (λ b. if b then old else old ++ copy ∷ []) none in
       ap (map items) last ∙ map-append items old (copy ∷ []) ∙ ap (λ m. map items old ++ m ∷ []) is

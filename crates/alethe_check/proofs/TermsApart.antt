@@ -1,13 +1,11 @@
 -- Different numbers name different terms.
-use Rattle.std.proofs.Common.{◌≡◌, ℕ, zero, suc, ◌+◌, ◌<◌, ◌≤◌, List, [], ◌∷◌, ◌++◌, length, get_or, refl, sym, ap, ◌∙◌, subst, arith, rules}
+use Rattle.std.proofs.Common.{◌≡◌, ℕ, zero, suc, ◌<◌, List, [], length, get_or, refl, sym, ap, ◌∙◌, subst, arith}
 use Rattle.spec_text.specs.Bytes.{Name}
-use Rattle.spec_terms.specs.Terms.{Symbol, Head, Not as not_head, Apply, Term, Terms, app, nil, cons, negated, constant, Truth}
-use Rattle.spec_terms.specs.Reading.{constant_term}
-use Rattle.alethe_check.specs.declared.terms.TermId.{TermId}
+use Rattle.spec_terms.specs.Terms.{Not as not_head, Apply, Term, app, nil, cons}
 use Rattle.alethe_check.specs.declared.terms.Node.{Node}
 use Rattle.alethe_check.specs.declared.terms.Node.TheVariants.{Constant, Not}
-use Rattle.alethe_check.specs.NameLists.{AreApart, HaveNoTwice}
-use Rattle.alethe_check.specs.Tables.{TableView, no_term, symbol_of, node_term, term_at, IsBefore, AreBefore, AreDifferent, grown, IsWhole}
+use Rattle.alethe_check.specs.NameLists.{HaveNoTwice}
+use Rattle.alethe_check.specs.Tables.{no_term, node_term, IsBefore, AreDifferent, grown, IsWhole}
 use Rattle.alethe_check.proofs.TermsGrown.{view, grown-at, terms-length, AreBefore-at, IsBefore-more}
 
 abbrev name_of : Term → Name
@@ -48,9 +46,9 @@ module _ (names : List Name) (nodes : List Node) (whole : IsWhole names nodes) w
       let before_i = AreBefore-at names 0 nodes i i whole.before within_i (omega arith) in
       let before_j = AreBefore-at names 0 nodes j j whole.before within_j (omega arith) in
       whole.nodes_apart i j within_i within_j
-          (one_node names terms i (get_or nodes i (Constant 0)) (get_or nodes j (Constant 0)) whole.names_apart
-              (λ a b la lb s. below k a b (omega (arith, la, lt)) (omega (arith, la, in_i)) lb s)
-              before_i (IsBefore-more names j (length terms) (get_or nodes j (Constant 0)) (omega (arith, in_j)) before_j) (sym here ∙ e ∙ there))
+      (one_node names terms i (get_or nodes i (Constant 0)) (get_or nodes j (Constant 0)) whole.names_apart
+      (λ a b la lb s. below k a b (omega (arith, la, lt)) (omega (arith, la, in_i)) lb s)
+      before_i (IsBefore-more names j (length terms) (get_or nodes j (Constant 0)) (omega (arith, in_j)) before_j) (sym here ∙ e ∙ there))
 
   pub terms_apart : AreDifferent terms
   terms_apart i j in_i in_j e = below (suc i) i j (omega arith) in_i in_j e

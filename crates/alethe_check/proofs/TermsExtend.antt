@@ -1,13 +1,11 @@
 -- A table that grows keeps its terms by their numbers.
-use Rattle.std.proofs.Common.{◌≡◌, ℕ, suc, ◌<◌, ◌≤◌, List, [], ◌∷◌, ◌++◌, length, map, get_or, All, refl, sym, ◌∙◌, ap, subst, arith, rules, append_assoc, length-append}
+use Rattle.std.proofs.Common.{◌≡◌, suc, ◌<◌, List, [], ◌∷◌, ◌++◌, length, get_or, refl, sym, ◌∙◌, ap, subst, arith, append_assoc, length-append}
 use Rattle.std.proofs.lemmas.List.{append-nil, get_or_append_left}
-use Rattle.std.proofs.lemmas.Grind.{common_steps}
-use Rattle.spec_proofs.specs.Clauses.{Literal}
 use Rattle.alethe_check.specs.declared.terms.TermId.{TermId}
 use Rattle.alethe_check.specs.declared.terms.Lit.{Lit}
 use Rattle.alethe_check.specs.declared.terms.Node.{Node}
 use Rattle.alethe_check.specs.declared.terms.Node.TheVariants.{Constant, Not}
-use Rattle.alethe_check.specs.Tables.{TableView, no_term, term_at, IsIn, AreIn, clause_at, literal_at, IsPlaced, node_term, Extends}
+use Rattle.alethe_check.specs.Tables.{TableView, no_term, term_at, IsIn, AreIn, clause_at, literal_at, IsPlaced, Extends}
 
 pub Extends-self : (t : TableView) → Extends t t
 Extends-self t = record { more_constants = []; constants = sym (append-nil t.constants); more_terms = []; terms = sym (append-nil t.terms) }
@@ -17,7 +15,7 @@ Extends-trans s t u a b = record {
   more_constants = a.more_constants ++ b.more_constants;
   constants = b.constants ∙ ap (λ l. l ++ b.more_constants) a.constants ∙ append_assoc s.constants a.more_constants b.more_constants;
   more_terms = a.more_terms ++ b.more_terms;
-  terms = b.terms ∙ ap (λ l. l ++ b.more_terms) a.terms ∙ append_assoc s.terms a.more_terms b.more_terms
+  terms = b.terms ∙ ap (λ l. l ++ b.more_terms) a.terms ∙ append_assoc s.terms a.more_terms b.more_terms;
 }
 
 module _ (old new : TableView) (grows : Extends old new) where

@@ -7,7 +7,7 @@ use Rattle.spec_text.specs.Bytes.{Name}
 use Rattle.spec_terms.specs.Terms.{Term, negated}
 use Rattle.alethe_check.specs.declared.terms.Node.{Node}
 use Rattle.alethe_check.specs.declared.terms.Node.TheVariants.{Constant, Not}
-use Rattle.alethe_check.specs.Tables.{TableView, no_term, symbol_of, node_term, IsBefore, AreBefore, NamesBelow, grown}
+use Rattle.alethe_check.specs.Tables.{TableView, no_term, node_term, IsBefore, AreBefore, NamesBelow, grown}
 
 -- a table of these
 abbrev pub view : List Name → List Term → TableView

@@ -1,5 +1,5 @@
 -- The literal of a term.
-use Rattle.std.proofs.Common.{◌≡◌, Bool, true, false, not, cond, if◌then◌else◌, refl, ap, sym, ◌∙◌}
+use Rattle.std.proofs.Common.{◌≡◌, Bool, true, false, not, if◌then◌else◌, refl, ap, sym, ◌∙◌}
 use Rattle.spec_terms.specs.Terms.{Symbol, Term, negated}
 use Rattle.spec_terms.specs.Reading.{constant_term}
 use Rattle.spec_proofs.specs.Clauses.{Literal, complement, literal_of}

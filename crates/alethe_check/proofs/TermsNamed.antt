@@ -1,8 +1,7 @@
 -- Constants by their names.
-use Rattle.std.proofs.Common.{◌≡◌, ℕ, zero, suc, ◌<◌, Bool, true, false, ◌||◌, cond, if◌then◌else◌, List, [], ◌∷◌, length, map, Option, Some, None, get_or, refl, sym, ap, ◌∙◌, subst, true≢false, MatchOption, arith, rules}
+use Rattle.std.proofs.Common.{◌≡◌, ℕ, zero, suc, ◌<◌, Bool, true, false, ◌||◌, if◌then◌else◌, List, [], ◌∷◌, length, map, Option, Some, None, get_or, refl, sym, ap, ◌∙◌, true≢false, MatchOption, arith}
 use Rattle.std.specs.Str.{bytes_eq}
 use Rattle.spec_text.specs.Bytes.{Name, among}
-use Rattle.spec_terms.specs.Terms.{Symbol}
 use Rattle.spec_terms.specs.Reading.{symbol_named}
 use Rattle.alethe_check.specs.Tables.{symbol_of}
 use Rattle.alethe_check.proofs.NamesApart.{same_bytes, bytes_same}

@@ -1,17 +1,15 @@
 -- What an insert leaves of a table.
-use Rattle.std.proofs.Common.{◌≡◌, ℕ, ◌+◌, ◌<◌, ◌≤◌, inl, inr, List, [], ◌∷◌, ◌++◌, length, get_or, refl, sym, ◌∙◌, ap, subst, arith, rules, length-append, false, Result, Ok, Err, OnOk, OnErr}
-use Rattle.std.proofs.lemmas.List.{append-nil, get_or_append_left}
+use Rattle.std.proofs.Common.{◌≡◌, ℕ, ◌<◌, inl, inr, List, [], ◌∷◌, ◌++◌, length, get_or, refl, sym, ◌∙◌, ap, subst, arith, length-append, false, Result, Ok, Err, OnOk, OnErr}
+use Rattle.std.proofs.lemmas.List.{append-nil}
 use Rattle.std.proofs.Math.Seq.{get_or-append_seam}
 use Rattle.spec_text.specs.Bytes.{Name, among}
-use Rattle.spec_terms.specs.Terms.{Term}
 use Rattle.alethe_check.specs.declared.terms.TermId.{TermId}
 use Rattle.alethe_check.specs.declared.terms.Node.{Node}
-use Rattle.alethe_check.specs.declared.terms.Node.TheVariants.{Constant, Not}
-use Rattle.alethe_check.specs.NameLists.{AreApart}
-use Rattle.alethe_check.specs.Tables.{TableView, no_term, node_term, term_at, IsIn, IsPlaced, IsBefore, AreBefore, grown, table_of, IsWhole, Extends}
+use Rattle.alethe_check.specs.declared.terms.Node.TheVariants.{Constant}
+use Rattle.alethe_check.specs.Tables.{TableView, no_term, node_term, term_at, IsIn, IsPlaced, grown, table_of, IsWhole, Extends}
 use Rattle.alethe_check.proofs.NamesApart.{AreApart-push, HaveNoTwice-push}
 use Rattle.alethe_check.proofs.NodesPut.{Puts}
-use Rattle.alethe_check.proofs.TermsGrown.{view, grown-at, terms-length, grown-push, AreBefore-at, AreBefore-push, AreBefore-names, grown-names, IsBefore-more}
+use Rattle.alethe_check.proofs.TermsGrown.{grown-at, terms-length, grown-push, AreBefore-at, AreBefore-push, AreBefore-names, grown-names, IsBefore-more}
 use Rattle.alethe_check.proofs.TermsApart.{one_node, terms_apart}
 
 abbrev pub number : ℕ → TermId
@@ -33,31 +31,32 @@ module _ (names : List Name) (old : List Node) (node : Node) (at : ℕ) (whole :
   puts_whole new (inr p) = subst (IsWhole names) (sym p.0) (record {
     names_apart = whole.names_apart;
     nodes_apart = AreApart-push (Constant 0) old node whole.nodes_apart p.2;
-    before = AreBefore-push names 0 old node (length before.terms) (long ∙ omega arith) whole.before placed
+    before = AreBefore-push names 0 old node (length before.terms) (long ∙ omega arith) whole.before placed;
   })
 
   pub puts_there : (new : List Node) → Puts old node at new → IsIn (table_of names new) (number at) × (term_at (table_of names new) (number at) ≡ node_term before node)
   puts_there new (inl p) =
       subst (λ ns. IsIn (table_of names ns) (number at) × (term_at (table_of names ns) (number at) ≡ node_term before node)) (sym p.0)
-          (omega (arith, long, p.1), grown-at names [] 0 old at at refl whole.before p.1 (omega arith) ∙ ap (node_term before) p.2)
+      (omega (arith, long, p.1), grown-at names [] 0 old at at refl whole.before p.1 (omega arith) ∙ ap (node_term before) p.2)
   puts_there new (inr p) =
       let t = node_term before node in
-      subst (λ ts. (at < length ts) × (get_or ts at no_term ≡ t)) (sym (grows new p.0))
-          (omega (arith, p.1, long, length-append before.terms (t ∷ [])),
-           ap (λ k. get_or (before.terms ++ t ∷ []) k no_term) (p.1 ∙ sym long) ∙ get_or-append_seam before.terms t [] no_term)
+      subst (λ ts. (at < length ts) × (get_or ts at no_term ≡ t)) (sym (grows new p.0)) (
+        omega (arith, p.1, long, length-append before.terms (t ∷ [])),
+        ap (λ k. get_or (before.terms ++ t ∷ []) k no_term) (p.1 ∙ sym long) ∙ get_or-append_seam before.terms t [] no_term,
+      )
 
   pub puts_kept : (new : List Node) → Puts old node at new → Extends before (table_of names new)
   puts_kept new (inl p) = record {
     more_constants = [];
     constants = sym (append-nil names);
     more_terms = [];
-    terms = ap (grown names []) p.0 ∙ sym (append-nil before.terms)
+    terms = ap (grown names []) p.0 ∙ sym (append-nil before.terms);
   }
   puts_kept new (inr p) = record {
     more_constants = [];
     constants = sym (append-nil names);
     more_terms = node_term before node ∷ [];
-    terms = grows new p.0
+    terms = grows new p.0;
   }
 
   pub puts_once : (new : List Node) → Puts old node at new → IsIn before (number at) → table_of names new ≡ before
@@ -70,18 +69,18 @@ module _ (names : List Name) (old : List Node) (node : Node) (at : ℕ) (whole :
       let within : id.0 < length old = subst (λ k. id.0 < k) long is_in in
       let here = grown-at names [] 0 old id.0 id.0 refl whole.before within (omega arith) in
       let placed_there = IsBefore-more names id.0 (length before.terms) (get_or old id.0 (Constant 0)) (omega (arith, is_in))
-          (AreBefore-at names 0 old id.0 id.0 whole.before within (omega arith)) in
+      (AreBefore-at names 0 old id.0 id.0 whole.before within (omega arith)) in
       absurd (p.2 id.0 within (one_node names before.terms (length before.terms) (get_or old id.0 (Constant 0)) node whole.names_apart
-          (λ i j in_i in_j s. terms_apart names old whole i j in_i in_j s) placed_there placed (sym here ∙ e)))
+      (λ i j in_i in_j s. terms_apart names old whole i j in_i in_j s) placed_there placed (sym here ∙ e)))
 
 -- a new name, or none, leaves a table whole
 pub declared_whole : {A E : Type 0} (r : Result A E) (names new : List Name) (n : Name) (nodes : List Node) → OnOk r (new ≡ names ++ n ∷ []) → OnErr r (new ≡ names)
     → among names n ≡ false → IsWhole names nodes → IsWhole new nodes
 declared_whole (Ok x) names new n nodes ok err absent whole = subst (λ ns. IsWhole ns nodes) (sym ok) (record {
-    names_apart = HaveNoTwice-push names n whole.names_apart absent;
-    nodes_apart = whole.nodes_apart;
-    before = AreBefore-names names (n ∷ []) 0 nodes whole.before
-  })
+  names_apart = HaveNoTwice-push names n whole.names_apart absent;
+  nodes_apart = whole.nodes_apart;
+  before = AreBefore-names names (n ∷ []) 0 nodes whole.before;
+})
 declared_whole (Err x) names new n nodes ok err absent whole = subst (λ ns. IsWhole ns nodes) (sym err) whole
 
 pub declared_terms : {A E : Type 0} (r : Result A E) (names new : List Name) (n : Name) (nodes : List Node) → OnOk r (new ≡ names ++ n ∷ []) → IsWhole names nodes

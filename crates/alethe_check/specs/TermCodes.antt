@@ -1,8 +1,8 @@
 -- Codes by which a proof tells terms apart: trees of numbers, each of one term.
-use Rattle.std.specs.Prelude.{◌≡◌, ◌⊎◌, ℕ, List, refl}
+use Rattle.std.specs.Prelude.{◌≡◌, ◌⊎◌, List, refl}
 use Rattle.std.proofs.Common.{inl, inr, sym, ap, subst}
 use Rattle.std.specs.Coded.{Coded, code_by, coded_ℕ, coded_list, coded×, coded⊎}
-use base.Stored.{Gv, gnil, gnum, gcons, coded_unit}
+use base.Stored.{Gv, gnil, gcons, coded_unit}
 use Rattle.spec_text.specs.Bytes.{Name}
 use Rattle.spec_terms.specs.Terms.{Sort, Truth, Number, Declared, Symbol, Head, Not, Apply, Term, Terms, app, nil, cons}
 
@@ -67,6 +67,7 @@ IsPair _ = ⊥
 
 mutual
   unfolding term_tree terms_tree
+
   one_term : (t u : Term) → term_tree t ≡ term_tree u → t ≡ u
   one_term (app h ts) (app g us) e = λ i. app (head_code.inj h g (ap first e) i) (one_list ts us (ap rest e) i)
 

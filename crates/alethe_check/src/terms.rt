@@ -187,3 +187,55 @@ impl TermTable {
         let _ = &self.constants;
     }
 }
+
+#[cfg(test)]
+mod tests {
+    use super::*;
+    use std::test::Fail;
+
+    #[test]
+    fn puts_each_term_once(rt: HostRuntime) -> Result<(), Fail> {
+        let mut table = TermTable::new(rt.alloc());
+        assert!(rt; table.len() == 0);
+        assert!(rt; table.constant(b"p") == None);
+        assert!(rt; table.declare(b"p").is_ok());
+        if table.constant(b"q") == None {
+            assert!(rt; table.declare(b"q").is_ok());
+        }
+        assert!(rt; table.constant(b"p") == Some(0));
+        assert!(rt; table.constant(b"q") == Some(1));
+        let (q, p) = (Node::Constant(1), Node::Constant(0));
+        assert!(rt; table.put(q) == Ok(TermId(0)));
+        assert!(rt; table.put(p) == Ok(TermId(1)));
+        assert!(rt; table.put(q) == Ok(TermId(0)));
+        // The term that is negated, and the number that its negation gets.
+        let rows = [(1, 2), (2, 3), (1, 2), (3, 4), (2, 3)];
+        for (inner, number) in rows.iter() {
+            assert!(rt; *inner < table.len());
+            assert!(rt; table.put(Node::Not(TermId(*inner))) == Ok(TermId(*number)));
+        }
+        assert!(rt; table.len() == 5);
+        table.numbers_tell_terms();
+        // A term, and its literal.
+        let rows = [
+            (0, 0, true),
+            (1, 1, true),
+            (2, 1, false),
+            (3, 1, true),
+            (4, 1, false),
+        ];
+        for (number, atom, positive) in rows.iter() {
+            assert!(rt; *number < table.len());
+            assert!(rt; table.sort(TermId(*number)) == Sort::Bool);
+            let literal = table.literal(TermId(*number));
+            assert!(rt; literal.term == TermId(*atom) && literal.positive == *positive);
+        }
+        assert!(rt; 2 <= table.len());
+        table.cut(2);
+        assert!(rt; table.len() == 2);
+        assert!(rt; table.put(Node::Not(TermId(0))) == Ok(TermId(2)));
+        assert!(rt; 2 < table.len());
+        assert!(rt; *table.node(TermId(2)) == Node::Not(TermId(0)));
+        Ok(())
+    }
+}

@@ -1,5 +1,5 @@
 -- What the set's look-up found is the name's number.
-use Rattle.std.proofs.Common.{◌≡◌, ℕ, false, ◌<◌, [], List, MatchOption, Vec, Global, length, map, slice_index_or, is_some, sym, ap, ◌∙◌, subst}
+use Rattle.std.proofs.Common.{◌≡◌, ℕ, false, ◌<◌, [], List, Vec, Global, length, map, slice_index_or, sym, ap, ◌∙◌, subst}
 use Rattle.spec_text.specs.Bytes.{among}
 use Rattle.alethe_check.proofs.NamesApart.{among-any, found}
 use Rattle.alethe_check.proofs.names.Names.find.Goals as goal

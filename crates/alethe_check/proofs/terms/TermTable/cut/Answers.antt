@@ -1,28 +1,17 @@
 -- The first terms are those of the first nodes.
-use Rattle.std.proofs.Common.{◌≡◌, ℕ, ◌+◌, ◌-◌, ◌*◌, ◌<◌, ◌≤◌, [], ◌∷◌, ◌++◌, List, length, take, map, None, Some, slice_index_or, get_or, false, refl, sym, ap, ◌∙◌, subst, arith, rules, MatchOption, OnOk, inl, inr}
-use Rattle.spec_text.specs.Bytes.{among, Name}
-use Rattle.spec_terms.specs.Reading.{symbol_named}
-use Rattle.spec_proofs.specs.Clauses.{literal_of}
-use Rattle.alethe_check.specs.NameLists.{AreApart, HaveNoTwice}
-use Rattle.alethe_check.specs.Tables.{TableView, no_term, symbol_of, symbols_of, term_at, IsIn, literal_at, IsPlaced, node_term, AreDifferent, Extends, sort_of, sort_meant, NamesBelow, IsBefore, IsWhole, table_of, grown}
-use Rattle.alethe_check.specs.declared.terms.TermId.{TermId as Number}
-use Rattle.alethe_check.specs.declared.terms.Node.TheVariants.{Constant, Not}
-use Rattle.alethe_check.proofs.NamesApart.{AreApart-take, HaveNoTwice-push}
-use Rattle.alethe_check.proofs.TermsGrown.{view, grown-at, terms-length, NamesBelow-before, grown-push, grown-take, grown-names, AreBefore-at, AreBefore-push, AreBefore-names, AreBefore-take, IsBefore-more}
-use Rattle.alethe_check.proofs.TermsApart.{one_node, terms_apart}
-use Rattle.alethe_check.proofs.TermsNamed.{symbol_by}
-use Rattle.alethe_check.proofs.TermsExtend.{Extends-self}
-use Rattle.alethe_check.proofs.TermsLiteral.{less, ends}
-use Rattle.alethe_check.proofs.NodesPut.{puts, Puts}
-use Rattle.alethe_check.proofs.TermsPut.{puts_whole, puts_there, puts_kept, puts_once, puts_known, declared_whole, declared_terms, number}
+use Rattle.std.proofs.Common.{◌≤◌, [], length, take, sym, ap, ◌∙◌, subst}
+use Rattle.alethe_check.specs.Tables.{IsWhole, grown}
+use Rattle.alethe_check.specs.declared.terms.Node.TheVariants.{Constant}
+use Rattle.alethe_check.proofs.NamesApart.{AreApart-take}
+use Rattle.alethe_check.proofs.TermsGrown.{terms-length, grown-take, AreBefore-take}
 use Rattle.alethe_check.proofs.terms.TermTable.cut.Goals as goal
 
 pub invariant_of-self : goal.invariant_of-self
 invariant_of-self c = subst (IsWhole _) (sym c.truncate.ensures.keys) (record {
-    names_apart = c.self.invariant.names_apart;
-    nodes_apart = AreApart-take (Constant 0) _ c.args.len c.self.invariant.nodes_apart;
-    before = AreBefore-take _ 0 _ c.args.len c.self.invariant.before
-  })
+  names_apart = c.self.invariant.names_apart;
+  nodes_apart = AreApart-take (Constant 0) _ c.args.len c.self.invariant.nodes_apart;
+  before = AreBefore-take _ 0 _ c.args.len c.self.invariant.before;
+})
 
 pub returns-clause-terms : goal.returns-clause-terms
 returns-clause-terms c =

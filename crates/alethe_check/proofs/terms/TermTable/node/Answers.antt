@@ -1,20 +1,8 @@
 -- A number's term is that of its node.
-use Rattle.std.proofs.Common.{◌≡◌, ℕ, ◌+◌, ◌-◌, ◌*◌, ◌<◌, ◌≤◌, [], ◌∷◌, ◌++◌, List, length, take, map, None, Some, slice_index_or, get_or, false, refl, sym, ap, ◌∙◌, subst, arith, rules, MatchOption, OnOk, inl, inr}
-use Rattle.spec_text.specs.Bytes.{among, Name}
-use Rattle.spec_terms.specs.Reading.{symbol_named}
-use Rattle.spec_proofs.specs.Clauses.{literal_of}
-use Rattle.alethe_check.specs.NameLists.{AreApart, HaveNoTwice}
-use Rattle.alethe_check.specs.Tables.{TableView, no_term, symbol_of, symbols_of, term_at, IsIn, literal_at, IsPlaced, node_term, AreDifferent, Extends, sort_of, sort_meant, NamesBelow, IsBefore, IsWhole, table_of, grown}
-use Rattle.alethe_check.specs.declared.terms.TermId.{TermId as Number}
-use Rattle.alethe_check.specs.declared.terms.Node.TheVariants.{Constant, Not}
-use Rattle.alethe_check.proofs.NamesApart.{AreApart-take, HaveNoTwice-push}
-use Rattle.alethe_check.proofs.TermsGrown.{view, grown-at, terms-length, NamesBelow-before, grown-push, grown-take, grown-names, AreBefore-at, AreBefore-push, AreBefore-names, AreBefore-take, IsBefore-more}
-use Rattle.alethe_check.proofs.TermsApart.{one_node, terms_apart}
-use Rattle.alethe_check.proofs.TermsNamed.{symbol_by}
-use Rattle.alethe_check.proofs.TermsExtend.{Extends-self}
-use Rattle.alethe_check.proofs.TermsLiteral.{less, ends}
-use Rattle.alethe_check.proofs.NodesPut.{puts, Puts}
-use Rattle.alethe_check.proofs.TermsPut.{puts_whole, puts_there, puts_kept, puts_once, puts_known, declared_whole, declared_terms, number}
+use Rattle.std.proofs.Common.{◌≡◌, ◌<◌, ◌≤◌, [], length, get_or, refl, sym, ap, ◌∙◌, subst, arith}
+use Rattle.alethe_check.specs.Tables.{term_at, IsPlaced, node_term, IsBefore, table_of}
+use Rattle.alethe_check.specs.declared.terms.Node.TheVariants.{Constant}
+use Rattle.alethe_check.proofs.TermsGrown.{grown-at, terms-length, NamesBelow-before, AreBefore-at, IsBefore-more}
 use Rattle.alethe_check.proofs.terms.TermTable.node.Goals as goal
 
 within : (c : goal.After-as_slice) → c.args.id.0 < length c.self.inside.nodes.keys
@@ -33,8 +21,8 @@ offset_bounds-as_slice-id c = omega (arith, bounds-as_slice-id c, c.as_slice.typ
 pub returns-clause-means : goal.returns-clause-means
 returns-clause-means c =
     subst (λ t. term_at t c.args.id ≡ node_term t (get_or c.as_slice.result.now c.args.id.0 (Constant 0))) c.self.view_is
-        (grown-at c.self.inside.constants [] 0 c.self.inside.nodes.keys c.args.id.0 c.args.id.0 refl c.self.invariant.before (within c) (omega arith)
-        ∙ ap (λ l. node_term (table_of c.self.inside.constants c.self.inside.nodes.keys) (get_or l c.args.id.0 (Constant 0))) (sym c.as_slice.ensures.keys))
+    (grown-at c.self.inside.constants [] 0 c.self.inside.nodes.keys c.args.id.0 c.args.id.0 refl c.self.invariant.before (within c) (omega arith)
+    ∙ ap (λ l. node_term (table_of c.self.inside.constants c.self.inside.nodes.keys) (get_or l c.args.id.0 (Constant 0))) (sym c.as_slice.ensures.keys))
 
 pub returns-clause-placed : goal.returns-clause-placed
 returns-clause-placed c = subst (λ t. IsPlaced t (get_or c.as_slice.result.now c.args.id.0 (Constant 0))) c.self.view_is

@@ -1,20 +1,10 @@
 -- A node's term is there by its number, and the rest stays.
-use Rattle.std.proofs.Common.{◌≡◌, ℕ, ◌+◌, ◌-◌, ◌*◌, ◌<◌, ◌≤◌, [], ◌∷◌, ◌++◌, List, length, take, map, None, Some, slice_index_or, get_or, false, refl, sym, ap, ◌∙◌, subst, arith, rules, MatchOption, OnOk, inl, inr}
-use Rattle.spec_text.specs.Bytes.{among, Name}
-use Rattle.spec_terms.specs.Reading.{symbol_named}
-use Rattle.spec_proofs.specs.Clauses.{literal_of}
-use Rattle.alethe_check.specs.NameLists.{AreApart, HaveNoTwice}
-use Rattle.alethe_check.specs.Tables.{TableView, no_term, symbol_of, symbols_of, term_at, IsIn, literal_at, IsPlaced, node_term, AreDifferent, Extends, sort_of, sort_meant, NamesBelow, IsBefore, IsWhole, table_of, grown}
+use Rattle.std.proofs.Common.{◌≡◌, sym, ap, ◌∙◌, subst}
+use Rattle.alethe_check.specs.Tables.{TableView, term_at, IsIn, IsPlaced, node_term, Extends, table_of}
 use Rattle.alethe_check.specs.declared.terms.TermId.{TermId as Number}
-use Rattle.alethe_check.specs.declared.terms.Node.TheVariants.{Constant, Not}
-use Rattle.alethe_check.proofs.NamesApart.{AreApart-take, HaveNoTwice-push}
-use Rattle.alethe_check.proofs.TermsGrown.{view, grown-at, terms-length, NamesBelow-before, grown-push, grown-take, grown-names, AreBefore-at, AreBefore-push, AreBefore-names, AreBefore-take, IsBefore-more}
-use Rattle.alethe_check.proofs.TermsApart.{one_node, terms_apart}
-use Rattle.alethe_check.proofs.TermsNamed.{symbol_by}
 use Rattle.alethe_check.proofs.TermsExtend.{Extends-self}
-use Rattle.alethe_check.proofs.TermsLiteral.{less, ends}
 use Rattle.alethe_check.proofs.NodesPut.{puts, Puts}
-use Rattle.alethe_check.proofs.TermsPut.{puts_whole, puts_there, puts_kept, puts_once, puts_known, declared_whole, declared_terms, number}
+use Rattle.alethe_check.proofs.TermsPut.{puts_whole, puts_there, puts_kept, puts_once, puts_known, number}
 use Rattle.alethe_check.proofs.terms.TermTable.put.Goals as goal
 
 placed : (c : goal.In_ok-at) → IsPlaced (table_of c.self.inside.constants c.self.inside.nodes.keys) c.args.node
@@ -37,20 +27,21 @@ invariant_of-self-2 c = puts_whole c.self.inside.constants c.self.inside.nodes.k
 pub returns-clause-there : goal.returns-clause-there
 returns-clause-there c =
     subst (λ t. IsIn (new c) (number c.in_ok-at.at) × (term_at (new c) (number c.in_ok-at.at) ≡ node_term t c.args.node)) c.self.view_is
-        (puts_there c.self.inside.constants c.self.inside.nodes.keys c.args.node c.in_ok-at.at c.self.invariant (placed c) c.insert_full.new.self.keys (here c))
+    (puts_there c.self.inside.constants c.self.inside.nodes.keys c.args.node c.in_ok-at.at c.self.invariant (placed c) c.insert_full.new.self.keys (here c))
 
 pub returns-clause-kept : goal.returns-clause-kept
-returns-clause-kept c =
-    (subst (λ t. Extends t (new c)) c.self.view_is
-        (puts_kept c.self.inside.constants c.self.inside.nodes.keys c.args.node c.in_ok-at.at c.self.invariant (placed c) c.insert_full.new.self.keys (here c)),
-     ap (λ t. t.constants) c.self.view_is)
+returns-clause-kept c = (
+  subst (λ t. Extends t (new c)) c.self.view_is
+      (puts_kept c.self.inside.constants c.self.inside.nodes.keys c.args.node c.in_ok-at.at c.self.invariant (placed c) c.insert_full.new.self.keys (here c)),
+  ap (λ t. t.constants) c.self.view_is,
+)
 
 pub returns-clause-once : goal.returns-clause-once
 returns-clause-once c =
     subst (λ t. IsIn t (number c.in_ok-at.at) → new c ≡ t) c.self.view_is
-        (puts_once c.self.inside.constants c.self.inside.nodes.keys c.args.node c.in_ok-at.at c.self.invariant (placed c) c.insert_full.new.self.keys (here c))
+    (puts_once c.self.inside.constants c.self.inside.nodes.keys c.args.node c.in_ok-at.at c.self.invariant (placed c) c.insert_full.new.self.keys (here c))
 
 pub returns-clause-known : goal.returns-clause-known
 returns-clause-known c =
     subst (λ t. (id : Number) → IsIn t id → term_at t id ≡ node_term t c.args.node → new c ≡ t) c.self.view_is
-        (puts_known c.self.inside.constants c.self.inside.nodes.keys c.args.node c.in_ok-at.at c.self.invariant (placed c) c.insert_full.new.self.keys (here c))
+    (puts_known c.self.inside.constants c.self.inside.nodes.keys c.args.node c.in_ok-at.at c.self.invariant (placed c) c.insert_full.new.self.keys (here c))
