@@ -1,4 +1,6 @@
 -- The definitions that the private parts speak in.
+pub mod NameLists
+pub mod TermCodes
 pub mod Tables
 pub mod Items
 pub mod Views

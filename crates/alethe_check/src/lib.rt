@@ -4,6 +4,7 @@
 mod asserted;
 mod commands;
 mod reader;
+mod names;
 mod resolution;
 mod sexpr;
 mod shapes;
