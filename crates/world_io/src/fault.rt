@@ -1,6 +1,8 @@
 //! Faults of reading and writing, and how they are counted.
 
+ghost use Rattle.std.specs.Prelude.{◌≡◌};
 ghost use Rattle.world_io.specs.Outside.{Rose};
+ghost use Rattle.world_io.specs.Memory.{next_number};
 
 use thiserror::Error;
 
@@ -12,11 +14,23 @@ use thiserror::Error;
 #[error("the outside failed")]
 pub struct Failed;
 
-/// Counts one more. At the greatest number the count stays.
+/// Gives the next number. The greatest number stays.
 ///
 /// Source: own.
-pub(crate) fn one_more(count: u64) -> u64
-    ensures { Rose count result }
+pub(crate) fn one_more(number: u64) -> u64
+    ensures rose { Rose number result }
+    ensures next { result ≡ next_number number }
 {
-    count.saturating_add(1)
+    number.saturating_add(1)
+}
+
+/// Counts a fault.
+///
+/// Source: own.
+pub(crate) fn counted(faults: &mut u64) -> Failed
+    ensures rose { Rose faults.old faults.new }
+    ensures next { faults.new ≡ next_number faults.old }
+{
+    *faults = one_more(*faults);
+    Failed
 }

@@ -2,7 +2,7 @@
 
 ghost use Rattle.std.specs.Prelude.{◌≡◌, None};
 
-use crate::fault::one_more;
+use crate::fault::counted;
 use crate::{Failed, Shelf, Sink};
 use std::fs;
 use std::io::{self, Read, Write};
@@ -69,10 +69,7 @@ impl<'a, R: Files + Input> Shelf for HostShelf<'a, R> {
                 self.source = Source::Text(file);
                 Ok(())
             }
-            Err(_) => {
-                self.faults = one_more(self.faults);
-                Err(Failed)
-            }
+            Err(_) => Err(counted(&mut self.faults)),
         }
     }
 
@@ -84,10 +81,7 @@ impl<'a, R: Files + Input> Shelf for HostShelf<'a, R> {
         };
         match outcome {
             Ok(n) => Ok(n),
-            Err(_) => {
-                self.faults = one_more(self.faults);
-                Err(Failed)
-            }
+            Err(_) => Err(counted(&mut self.faults)),
         }
     }
 }
@@ -133,7 +127,6 @@ impl<'a, R: Print> Sink for HostSink<'a, R> {
                 return Ok(n);
             }
         }
-        self.faults = one_more(self.faults);
-        Err(Failed)
+        Err(counted(&mut self.faults))
     }
 }

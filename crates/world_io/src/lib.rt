@@ -11,9 +11,8 @@ mod memory;
 mod read;
 mod shelf;
 mod sink;
-
 #[cfg(test)]
-mod tests {}
+mod tests;
 
 pub use bytes::{Bytes, NoMemory};
 pub use fault::Failed;

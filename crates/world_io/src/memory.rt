@@ -1,9 +1,9 @@
 //! A shelf and a sink in memory, which can be told to fail.
 
-ghost use Rattle.std.specs.Prelude.{◌≡◌, ◌≢◌, ℕ, ◌+◌, ◌-◌, ◌^◌, ◌≤◌, ◌<◌, ◌++◌, ◌⊎◌, List, [], length, map, min, take, drop, Bool, true, false, Some, None, MatchOption, IfOk, IsOk, vec_len, vec_capacity};
-ghost use Rattle.world_io.specs.Memory.{text_of, text_named, text_at, ShelfState, SinkState};
+ghost use Rattle.std.specs.Prelude.{◌≡◌, ◌≢◌, ℕ, ◌+◌, ◌-◌, ◌^◌, ◌≤◌, ◌<◌, ◌++◌, ◌⊎◌, List, [], length, map, min, take, drop, Some, None, MatchBool, MatchOption, Contains, IfOk, IsOk, vec_len, vec_capacity};
+ghost use Rattle.world_io.specs.Memory.{text_of, text_named, text_at, ShelfState, SinkState, next_number, Begins, Reads, Writes};
 
-use crate::fault::one_more;
+use crate::fault::{counted, one_more};
 use crate::{Bytes, Failed, NoMemory, Shelf, Sink};
 use std::alloc::Global;
 use std::marker::Model;
@@ -29,13 +29,14 @@ impl Model for MemShelf {
 
     ghost Value = { ShelfState };
 
-    ghost view = { λ s. record
-        { texts = map text_of s.texts.items;
-          left = drop s.offset (text_at (map text_of s.texts.items) s.current);
-          most = s.most;
-          failing = s.failing.items;
-          calls = s.calls;
-          faults = s.faults } };
+    ghost view = { λ s. record {
+      texts = map text_of s.texts.items;
+      left = drop s.offset (text_at (map text_of s.texts.items) s.current);
+      most = s.most;
+      failing = s.failing.items;
+      calls = s.calls;
+      faults = s.faults;
+    } };
 }
 
 impl MemShelf {
@@ -74,26 +75,26 @@ impl Shelf for MemShelf {
 
     ghost is_sound = { λ s. (s.failing ≡ []) × (0 < s.most) };
 
-    fn begin(&mut self, name: &str) -> Result<(), Failed> {
-        let number = self.calls;
-        self.calls = number.saturating_add(1);
-        if !is_among(&self.failing, number) {
-            if let Some(place) = place_of(&self.texts, name) {
-                self.current = place;
-                self.offset = 0;
-                return Ok(());
-            }
+    fn begin(&mut self, name: &str) -> Result<(), Failed>
+        ensures exact { Begins self.old name.now result self.new }
+    {
+        if is_to_fail(&self.failing, &mut self.calls) {
+            return Err(counted(&mut self.faults));
         }
-        self.faults = one_more(self.faults);
-        Err(Failed)
+        let Some(place) = place_of(&self.texts, name) else {
+            return Err(counted(&mut self.faults));
+        };
+        self.current = place;
+        self.offset = 0;
+        Ok(())
     }
 
-    fn read(&mut self, buf: &mut [u8]) -> Result<usize, Failed> {
-        let number = self.calls;
-        self.calls = number.saturating_add(1);
-        if is_among(&self.failing, number) || self.most == 0 {
-            self.faults = one_more(self.faults);
-            return Err(Failed);
+    fn read(&mut self, buf: &mut [u8]) -> Result<usize, Failed>
+        requires { 0 < length buf.old }
+        ensures exact { Reads self.old (length buf.old) buf.new result self.new }
+    {
+        if is_to_fail(&self.failing, &mut self.calls) || self.most == 0 {
+            return Err(counted(&mut self.faults));
         }
         let text = bytes_at(&self.texts, self.current);
         let n = copy_from(text, self.offset, self.most as usize, buf);
@@ -121,13 +122,14 @@ impl Model for MemSink {
 
     ghost Value = { SinkState };
 
-    ghost view = { λ s. record
-        { written = s.bytes.items;
-          room = s.room;
-          most = s.most;
-          failing = s.failing.items;
-          calls = s.calls;
-          faults = s.faults } };
+    ghost view = { λ s. record {
+      written = s.bytes.items;
+      room = s.room;
+      most = s.most;
+      failing = s.failing.items;
+      calls = s.calls;
+      faults = s.faults;
+    } };
 
     ghost invariant = { λ s. vec_len s.bytes + s.room ≤ vec_capacity s.bytes };
 }
@@ -137,12 +139,7 @@ impl MemSink {
     ///
     /// A write takes at most `most` bytes. The writes with the numbers in `failing` fail.
     /// `NoMemory` comes where the memory for the room was refused. Source: own.
-    pub fn new(
-        alloc: Global,
-        room: u64,
-        most: u64,
-        failing: Vec<u64>,
-    ) -> Result<MemSink, NoMemory>
+    pub fn new(alloc: Global, room: u64, most: u64, failing: Vec<u64>) -> Result<MemSink, NoMemory>
         ensures state { IfOk result (λ s. s ≡ record { written = []; room = room; most = most; failing = failing.items; calls = 0; faults = 0 }) }
         ensures made { room ≡ 0 → IsOk result }
     {
@@ -174,13 +171,15 @@ impl Sink for MemSink {
 
     ghost has_room = { λ s n. (s.failing ≡ []) × (0 < s.most) × (n ≤ s.room) };
 
-    fn write(&mut self, buf: &[u8]) -> Result<usize, Failed> {
-        let number = self.calls;
-        self.calls = number.saturating_add(1);
+    fn write(&mut self, buf: &[u8]) -> Result<usize, Failed>
+        ensures exact { Writes self.old buf.now result self.new }
+    {
+        if is_to_fail(&self.failing, &mut self.calls) {
+            return Err(counted(&mut self.faults));
+        }
         let n = buf.len().min(self.most as usize).min(self.room);
-        if is_among(&self.failing, number) || (n == 0 && !buf.is_empty()) {
-            self.faults = one_more(self.faults);
-            return Err(Failed);
+        if n == 0 && !buf.is_empty() {
+            return Err(counted(&mut self.faults));
         }
         append_reserved(&mut self.bytes, &buf[..n]);
         self.room -= n;
@@ -188,13 +187,16 @@ impl Sink for MemSink {
     }
 }
 
-/// Tells whether a number is in a list.
+/// Numbers a call, and tells whether it is one of those that are to fail.
 ///
 /// Source: own.
-fn is_among(numbers: &[u64], number: u64) -> bool
-    ensures none { numbers.now ≡ [] → result ≡ false }
+fn is_to_fail(failing: &[u64], calls: &mut u64) -> bool
+    ensures among { MatchBool result (Contains failing.now calls.old) (Contains failing.now calls.old → ⊥) }
+    ensures next { calls.new ≡ next_number calls.old }
 {
-    numbers.contains(&number)
+    let number = *calls;
+    *calls = one_more(number);
+    failing.contains(&number)
 }
 
 /// Finds the index of the first text of a name.
@@ -239,7 +241,8 @@ fn copy_from(text: &[u8], offset: usize, most: usize, buf: &mut [u8]) -> usize
     requires { 0 < length buf.old }
     ensures length { result ≤ length buf.old }
     ensures moved { drop offset text.now ≡ take result buf.new ++ drop (offset + result) text.now }
-    ensures end { 0 < most → result ≡ 0 → drop offset text.now ≡ [] }
+    ensures size { result ≡ min (min (length (drop offset text.now)) (length buf.old)) most }
+    ensures front { take result buf.new ≡ take result (drop offset text.now) }
     ensures fits { (result ≡ 0) ⊎ (offset + result ≤ length text.now) }
 {
     let left = rest_of(text, offset);

@@ -1,0 +1,186 @@
+//! What no clause says: which calls fail, and that real files and standard output are reached.
+
+use crate::{
+    Bytes, Failed, HostShelf, HostSink, MemShelf, MemSink, NoMemory, ReadEnd, ReadStop, Shelf,
+    Sink, read_all, write_all, write_pieces,
+};
+use std::alloc::Global;
+use std::fs;
+use std::test::Fail;
+
+const FOLDER: &str = "world_io_test";
+
+const FILE: &str = "world_io_test/abc.txt";
+
+/// Makes a shelf with one text `abcdef` under the name `a`, and an empty one under the empty name.
+fn shelf_of(alloc: Global, most: u64, failing: &[u64]) -> Result<MemShelf, NoMemory> {
+    let mut texts = Vec::new(alloc);
+    let text = Vec::from_slice(alloc, b"abcdef")?;
+    texts.push((String::from_str(alloc, "a")?, Bytes::from(text)))?;
+    texts.push((String::from_str(alloc, "")?, Bytes::from(Vec::new(alloc))))?;
+    MemShelf::new(alloc, texts, most, Vec::from_slice(alloc, failing)?)
+}
+
+#[test]
+fn bytes_come_back(rt: HostRuntime) -> Result<(), Fail> {
+    let bytes = Bytes::from(Vec::from_slice(rt.alloc(), b"xyz")?);
+    assert_eq!(rt; bytes.as_slice(), b"xyz".as_slice());
+    assert_eq!(rt; bytes.len(), 3);
+    assert_eq!(rt; bytes.into_vec().as_slice(), b"xyz".as_slice());
+    Ok(())
+}
+
+#[test]
+fn a_shelf_is_read_up_to_the_limit(rt: HostRuntime) -> Result<(), Fail> {
+    let cases: [(u64, u64, bool, &[u8]); 9] = [
+        (0, 64, false, b""),
+        (5, 64, false, b"abcde"),
+        (6, 64, true, b"abcdef"),
+        (7, 64, true, b"abcdef"),
+        (u64::MAX, 64, true, b"abcdef"),
+        (0, 1, false, b""),
+        (5, 1, false, b"abcde"),
+        (6, 1, true, b"abcdef"),
+        (7, 1, true, b"abcdef"),
+    ];
+    for (limit, most, whole, want) in cases {
+        let mut shelf = shelf_of(rt.alloc(), most, &[])?;
+        assert_eq!(rt; shelf.begin("a"), Ok(()));
+        match read_all(rt.alloc(), &mut shelf, limit) {
+            Ok(ReadEnd::Whole(bytes)) => {
+                assert!(rt; whole, "whole at {limit}, {most}");
+                assert_eq!(rt; bytes.as_slice(), want, "at {limit}, {most}");
+            }
+            Ok(ReadEnd::Cut(bytes)) => {
+                assert!(rt; !whole, "cut at {limit}, {most}");
+                assert_eq!(rt; bytes.as_slice(), want, "at {limit}, {most}");
+            }
+            Err(stop) => assert!(rt; false, "{stop:?} at {limit}, {most}"),
+        }
+    }
+    Ok(())
+}
+
+#[test]
+fn calls_of_a_shelf_fail_by_number(rt: HostRuntime) -> Result<(), Fail> {
+    // Call 0 is `begin`; a read of at most 4 bytes gives 4, 2 and 0.
+    let cases: [(&[u64], &str, Option<usize>); 8] = [
+        (&[], "a", None),
+        (&[9], "a", None),
+        (&[0], "a", Some(0)),
+        (&[1], "a", Some(1)),
+        (&[3, 2], "a", Some(2)),
+        (&[3], "a", Some(3)),
+        (&[], "b", Some(0)),
+        (&[], "", None),
+    ];
+    for (failing, name, want) in cases {
+        let mut shelf = shelf_of(rt.alloc(), 4, failing)?;
+        let mut first = None;
+        for call in 0..4usize {
+            let mut buf = [0u8; 8];
+            let failed = if call == 0 {
+                shelf.begin(name).is_err()
+            } else {
+                shelf.read(&mut buf).is_err()
+            };
+            if failed && first.is_none() {
+                first = Some(call);
+            }
+        }
+        assert_eq!(rt; first, want, "name {name:?}");
+    }
+    Ok(())
+}
+
+#[test]
+fn a_read_that_fails_is_answered(rt: HostRuntime) -> Result<(), Fail> {
+    for (failing, most, want) in [
+        (1, 4, ReadStop::Failed),
+        (3, 4, ReadStop::Failed),
+        (9, 0, ReadStop::Failed),
+    ] {
+        let mut shelf = shelf_of(rt.alloc(), most, &[failing])?;
+        assert_eq!(rt; shelf.begin("a"), Ok(()));
+        let got = read_all(rt.alloc(), &mut shelf, 100);
+        assert!(rt;
+            matches!(got, Err(stop) if stop == want),
+            "failing {failing}"
+        );
+    }
+    let mut shelf = shelf_of(rt.alloc(), 4, &[])?;
+    assert!(rt;
+        matches!(read_all(rt.alloc(), &mut shelf, 100), Ok(ReadEnd::Whole(b)) if b.len() == 0)
+    );
+    Ok(())
+}
+
+#[test]
+fn a_sink_takes_what_it_has_room_for(rt: HostRuntime) -> Result<(), Fail> {
+    let cases: [(u64, u64, &[u64], bool, &[u8]); 9] = [
+        (8, 64, &[], true, b"abcdef"),
+        (6, 64, &[], true, b"abcdef"),
+        (5, 64, &[], false, b"abcde"),
+        (0, 64, &[], false, b""),
+        (6, 1, &[], true, b"abcdef"),
+        (6, 0, &[], false, b""),
+        (6, 64, &[0], false, b""),
+        (6, 2, &[2], false, b"abc"),
+        (6, 64, &[1], false, b"abc"),
+    ];
+    for (room, most, failing, whole, want) in cases {
+        let failing = Vec::from_slice(rt.alloc(), failing)?;
+        let mut sink = MemSink::new(rt.alloc(), room, most, failing)?;
+        let got = write_pieces(&mut sink, &[b"abc", b"", b"def"]);
+        assert_eq!(rt; got.is_ok(), whole, "room {room}, most {most}");
+        assert_eq!(rt; sink.written(), want, "room {room}, most {most}");
+    }
+    let mut sink = MemSink::new(rt.alloc(), 3, 64, Vec::new(rt.alloc()))?;
+    assert_eq!(rt; write_all(&mut sink, b"abcd"), Err(Failed));
+    assert_eq!(rt; sink.written(), b"abc".as_slice());
+    assert_eq!(rt; sink.write(b""), Ok(0));
+    assert_eq!(rt; sink.write(b"d"), Err(Failed));
+    Ok(())
+}
+
+#[test]
+fn a_sink_without_memory_is_refused(rt: HostRuntime) -> Result<(), Fail> {
+    let got = MemSink::new(rt.alloc(), u64::MAX, 1, Vec::new(rt.alloc()));
+    assert!(rt; matches!(got, Err(NoMemory)));
+    Ok(())
+}
+
+#[test]
+fn files_are_read(rt: HostRuntime) -> Result<(), Fail> {
+    let _ = fs::remove_dir_all(&rt, FOLDER);
+    fs::create_dir(&rt, FOLDER)?;
+    fs::write(&rt, FILE, b"abc".as_slice())?;
+    let mut shelf = HostShelf::new(&rt);
+    let mut buf = [0u8; 2];
+    assert_eq!(rt; shelf.read(&mut buf), Ok(0));
+    assert_eq!(rt; shelf.begin(FILE), Ok(()));
+    assert_eq!(rt; shelf.read(&mut buf), Ok(2));
+    assert_eq!(rt; shelf.begin("world_io_test/absent"), Err(Failed));
+    assert!(rt;
+        matches!(read_all(rt.alloc(), &mut shelf, 9), Ok(ReadEnd::Whole(b)) if b.as_slice() == b"c".as_slice())
+    );
+    assert_eq!(rt; shelf.begin(FILE), Ok(()));
+    assert!(rt;
+        matches!(read_all(rt.alloc(), &mut shelf, 2), Ok(ReadEnd::Cut(b)) if b.as_slice() == b"ab".as_slice())
+    );
+    let folder = shelf.begin(FOLDER).is_err() || shelf.read(&mut buf).is_err();
+    assert!(rt; folder);
+    fs::remove_dir_all(&rt, FOLDER)?;
+    Ok(())
+}
+
+#[test]
+fn standard_output_takes_bytes(rt: HostRuntime) -> Result<(), Fail> {
+    let mut sink = HostSink::new(&rt);
+    assert_eq!(rt; sink.write(b""), Ok(0));
+    assert_eq!(rt;
+        write_pieces(&mut sink, &[b"written", b" by world_io", b"\n"]),
+        Ok(())
+    );
+    Ok(())
+}
