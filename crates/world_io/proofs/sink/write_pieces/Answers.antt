@@ -1,6 +1,5 @@
 -- A front of one more piece is a front of all of them, and room for all is room for one more.
-use Rattle.std.proofs.Common.{◌-◌, ℕ, length, take, arith, subst}
-use Rattle.std.specs.Prelude.{flat_map}
+use Rattle.std.proofs.Common.{ℕ, arith, subst}
 use Rattle.std.proofs.lemmas.Bool.{false≢true}
 use Rattle.world_io.proofs.Pieces.{appends_both, pieces_up_to, pieces_front, on_err_of, room_for_piece, room_after_piece}
 use Rattle.world_io.proofs.sink.write_pieces.Goals as goal
