@@ -26,7 +26,7 @@ pub trait Shelf {
     /// Begins the text of a name, so that all of it is left.
     ///
     /// `Failed` comes only where the count of faults rose in this call; what is left is then as before.
-    /// It takes no memory that the trait knows of. Source: own.
+    /// Source: own.
     fn begin(&mut self, name: &str) -> Result<(), Failed>
         ensures begun { OnOk result (left self.new ≡ holds self.old name.now) }
         ensures kept { OnErr result (Keeps (left self.old) (left self.new)) }

@@ -1,5 +1,9 @@
 //! What no clause says: which calls fail, and that real files and standard output are reached.
 
+ghost use Rattle.std.specs.Prelude.{◌≡◌, ◌≢◌, ◌<◌, ◌≤◌, ◌++◌, [], length, IfOk, IfSome, IsOk, IsSome};
+ghost use Rattle.world_io.specs.Ends.{IsReadTo};
+ghost use Rattle.world_io.specs.Memory.{text_named};
+
 use crate::{
     Bytes, Failed, HostShelf, HostSink, MemShelf, MemSink, NoMemory, ReadEnd, ReadStop, Shelf,
     Sink, read_all, write_all, write_pieces,
@@ -23,24 +27,47 @@ fn shelf_of(alloc: Global, most: u64, failing: &[u64]) -> Result<MemShelf, NoMem
     MemShelf::new(alloc, texts, most, Vec::from_slice(alloc, failing)?)
 }
 
-fn is_whole(got: &Result<ReadEnd, ReadStop>, want: &[u8]) -> bool {
-    match got {
-        Ok(ReadEnd::Whole(bytes)) => bytes.as_slice() == want,
-        _ => false,
+/// Reads a text in memory: no fault comes where none is asked for.
+fn read_named(
+    alloc: Global,
+    shelf: &mut MemShelf,
+    name: &str,
+    limit: u64,
+) -> Result<ReadEnd, ReadStop>
+    ensures sound { shelf.old.failing ≡ [] → 0 < shelf.old.most → IsSome (text_named shelf.old.texts name.now) → result ≢ Err ReadStop.Failed }
+    ensures end { IfOk result (λ end. IfSome (text_named shelf.old.texts name.now) (IsReadTo limit end)) }
+{
+    shelf.begin(name)?;
+    read_all(alloc, shelf, limit)
+}
+
+/// Writes to a sink in memory: no fault comes where none is asked for and there is room.
+fn write_within(out: &mut MemSink, bytes: &[u8]) -> Result<(), Failed>
+    ensures sound { out.old.failing ≡ [] → 0 < out.old.most → length bytes.now ≤ out.old.room → IsOk result × (out.new.written ≡ out.old.written ++ bytes.now) }
+{
+    write_all(out, bytes)
+}
+
+fn is_whole(end: &ReadEnd, want: &[u8]) -> bool {
+    match end {
+        ReadEnd::Whole(bytes) => bytes.as_slice() == want,
+        ReadEnd::Cut(_) => false,
     }
 }
 
-fn is_cut(got: &Result<ReadEnd, ReadStop>, want: &[u8]) -> bool {
-    match got {
-        Ok(ReadEnd::Cut(bytes)) => bytes.as_slice() == want,
-        _ => false,
+fn is_cut(end: &ReadEnd, want: &[u8]) -> bool {
+    match end {
+        ReadEnd::Cut(bytes) => bytes.as_slice() == want,
+        ReadEnd::Whole(_) => false,
     }
 }
 
-fn is_failed(got: &Result<ReadEnd, ReadStop>) -> bool {
+/// Tells whether reading failed, but for want of memory.
+fn is_failed(got: &Result<ReadEnd, ReadStop>) -> Result<bool, NoMemory> {
     match got {
-        Err(stop) => *stop == ReadStop::Failed,
-        Ok(_) => false,
+        Ok(_) => Ok(false),
+        Err(ReadStop::Failed) => Ok(true),
+        Err(ReadStop::Memory) => Err(NoMemory),
     }
 }
 
@@ -68,12 +95,11 @@ fn a_shelf_is_read_up_to_the_limit(rt: HostRuntime) -> Result<(), Fail> {
     ];
     for (limit, most, whole, want) in cases {
         let mut shelf = shelf_of(rt.alloc(), most, &[])?;
-        assert_eq!(rt; shelf.begin("a"), Ok(()));
-        let got = read_all(rt.alloc(), &mut shelf, limit);
+        let end = read_named(rt.alloc(), &mut shelf, "a", limit)?;
         let right = if whole {
-            is_whole(&got, want)
+            is_whole(&end, want)
         } else {
-            is_cut(&got, want)
+            is_cut(&end, want)
         };
         assert!(rt; right, "limit {limit}, most {most}");
     }
@@ -118,11 +144,11 @@ fn a_read_that_fails_is_answered(rt: HostRuntime) -> Result<(), Fail> {
         let mut shelf = shelf_of(rt.alloc(), most, &[failing])?;
         assert_eq!(rt; shelf.begin("a"), Ok(()));
         let got = read_all(rt.alloc(), &mut shelf, 100);
-        assert!(rt; is_failed(&got), "call {failing}, most {most}");
+        assert!(rt; is_failed(&got)?, "call {failing}, most {most}");
     }
     let mut shelf = shelf_of(rt.alloc(), 4, &[])?;
-    let got = read_all(rt.alloc(), &mut shelf, 100);
-    assert!(rt; is_whole(&got, b""), "nothing was begun");
+    let end = read_all(rt.alloc(), &mut shelf, 100)?;
+    assert!(rt; is_whole(&end, b""), "nothing was begun");
     Ok(())
 }
 
@@ -147,7 +173,7 @@ fn a_sink_takes_what_it_has_room_for(rt: HostRuntime) -> Result<(), Fail> {
         assert_eq!(rt; sink.written(), want, "room {room}, most {most}");
     }
     let mut sink = MemSink::new(rt.alloc(), 3, 64, Vec::new(rt.alloc()))?;
-    assert_eq!(rt; write_all(&mut sink, b"abcd"), Err(Failed));
+    assert_eq!(rt; write_within(&mut sink, b"abcd"), Err(Failed));
     assert_eq!(rt; sink.written(), b"abc".as_slice());
     assert_eq!(rt; sink.write(b""), Ok(0));
     assert_eq!(rt; sink.write(b"d"), Err(Failed));
@@ -172,11 +198,11 @@ fn files_are_read(rt: HostRuntime) -> Result<(), Fail> {
     assert_eq!(rt; shelf.begin(FILE), Ok(()));
     assert_eq!(rt; shelf.read(&mut buf), Ok(2));
     assert_eq!(rt; shelf.begin(ABSENT), Err(Failed));
-    let got = read_all(rt.alloc(), &mut shelf, 9);
-    assert!(rt; is_whole(&got, b"c"), "what was left stays");
+    let end = read_all(rt.alloc(), &mut shelf, 9)?;
+    assert!(rt; is_whole(&end, b"c"), "what was left stays");
     assert_eq!(rt; shelf.begin(FILE), Ok(()));
-    let got = read_all(rt.alloc(), &mut shelf, 2);
-    assert!(rt; is_cut(&got, b"ab"));
+    let end = read_all(rt.alloc(), &mut shelf, 2)?;
+    assert!(rt; is_cut(&end, b"ab"));
     let refused = shelf.begin(FOLDER).is_err() || shelf.read(&mut buf).is_err();
     assert!(rt; refused, "a folder is no text");
     fs::remove_dir_all(&rt, FOLDER)?;
