@@ -1,2 +1,4 @@
 -- The lemmas of this crate.
 pub mod Resolution
+pub mod Values
+pub mod Judging

@@ -12,7 +12,7 @@ abbrev one_true : Truths → List Literal → Bool
 one_true v ls = list_any (literal_true v) ls
 
 -- a complement's truth is the other one
-complement_true : (v : Truths) (l : Literal) → literal_true v (complement l) ≡ not (literal_true v l)
+pub complement_true : (v : Truths) (l : Literal) → literal_true v (complement l) ≡ not (literal_true v l)
 complement_true v l = go l.positive (v l.atom)
   where
     go : (p b : Bool) → cond (not p) b (not b) ≡ not (cond p b (not b))

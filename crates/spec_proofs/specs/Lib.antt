@@ -4,3 +4,4 @@ pub mod Clauses
 pub mod Commands
 pub mod Faults
 pub mod Accepted
+pub mod Models

@@ -1,7 +1,12 @@
-//! What the definitions imply. Each law is a function with an empty body, whose contract is the law.
+//! What the definitions imply. Each law is a function whose contract is the law; it computes nothing.
 
-ghost use Rattle.std.specs.Prelude.{◌≡◌, List, All, true};
+ghost use Rattle.std.specs.Prelude.{◌≡◌, ℕ, List, All, Option, None, true, length};
+ghost use Rattle.spec_text.specs.Trees.{Trees};
+ghost use Rattle.spec_scripts.specs.Stack.{Stack, HasNoModel};
 ghost use Rattle.spec_proofs.specs.Clauses.{Clause, IsResolvent, Truths, clause_true};
+ghost use Rattle.spec_proofs.specs.Commands.{Known, known_at};
+ghost use Rattle.spec_proofs.specs.Faults.{Fault, FirstFault};
+ghost use Rattle.spec_proofs.specs.Accepted.{IsAccepted, IsPlain, IsVerdict};
 
 /// States that a resolvent of clauses that are true is true, under the same truths.
 /// Source: own.
@@ -9,3 +14,47 @@ pub fn resolution_is_sound()
     ensures { (premises : List Clause) (clause : Clause) (v : Truths) → All (λ c. clause_true v c ≡ true) premises
         → IsResolvent premises clause → clause_true v clause ≡ true }
 {}
+
+/// States that no interpretation makes true what is current at a check of which a proof is accepted.
+/// Source: own.
+pub fn acceptance_is_sound()
+    ensures { (script proof : List ℕ) (k : ℕ) → IsAccepted script k proof → HasNoModel script k }
+{
+    resolution_is_sound();
+    spec_scripts::laws::checks_have_one_stack();
+    spec_scripts::laws::assertions_have_their_texts_value();
+}
+
+/// States that a plain proof without a fault is accepted, as one of the script's first check. Source: own.
+pub fn plain_proofs_are_accepted()
+    ensures { (script proof : List ℕ) (s : Stack) (ts : Trees) → IsPlain script proof s ts
+        → FirstFault (known_at s) (length proof) ts None → IsAccepted script 1 proof }
+{
+    spec_scripts::laws::plain_scripts_have_one_check();
+}
+
+/// States that a plain proof which is accepted has no fault. Source: own.
+pub fn accepted_proofs_have_no_fault()
+    ensures { (script proof : List ℕ) (s : Stack) (ts : Trees) → IsPlain script proof s ts → IsAccepted script 1 proof
+        → FirstFault (known_at s) (length proof) ts None }
+{
+    spec_scripts::laws::plain_scripts_have_one_check();
+    spec_scripts::laws::checks_have_one_stack();
+    spec_scripts::laws::texts_have_one_reading();
+}
+
+/// States that commands have at most one first fault. Source: own.
+pub fn first_fault_is_one()
+    ensures { (k : Known) (end : ℕ) (ts : Trees) (a b : Option Fault) → FirstFault k end ts a → FirstFault k end ts b
+        → a ≡ b }
+{}
+
+/// States that a script and a proof have at most one verdict. Source: own.
+pub fn verdict_is_one()
+    ensures { (script proof : List ℕ) (a b : Option Fault) → IsVerdict script proof a → IsVerdict script proof b → a ≡ b }
+{
+    first_fault_is_one();
+    spec_scripts::laws::plain_scripts_have_one_check();
+    spec_scripts::laws::checks_have_one_stack();
+    spec_scripts::laws::texts_have_one_reading();
+}

@@ -4,3 +4,4 @@ pub mod Terms
 pub mod Values
 pub mod Meaning
 pub mod Reading
+pub mod Agreement

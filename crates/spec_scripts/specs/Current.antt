@@ -1,0 +1,24 @@
+-- What holds of the symbols and assertions that are current. Source: own.
+use Rattle.std.specs.Prelude.{◌≡◌, false, List, All, Some}
+use Rattle.spec_text.specs.Bytes.{among}
+use Rattle.spec_terms.specs.Terms.{Symbol, constant, Truth}
+use Rattle.spec_terms.specs.Reading.{term_of}
+use Rattle.spec_scripts.specs.Stack.{Assertion, Stack, theory_names, is_kept_name}
+
+-- a constant of sort Bool, with a name that may be declared
+pub record IsDeclared (s : Symbol) : Type 0 where
+  pub own : among theory_names s.name ≡ false
+  pub not_kept : is_kept_name s.name ≡ false
+  pub sorted : s ≡ constant s.name Truth
+
+abbrev pub AreDeclared : List Symbol → Type 0
+AreDeclared symbols = All IsDeclared symbols
+
+-- the assertion's term is that of its text
+abbrev pub IsReadUnder : List Symbol → Assertion → Type 0
+IsReadUnder symbols a = term_of symbols a.text ≡ Some a.term
+
+-- the symbols are declared, and the terms of the assertions those of their texts under all of them
+pub record IsReadStack (s : Stack) : Type 0 where
+  pub symbols : AreDeclared s.symbols
+  pub assertions : All (IsReadUnder s.symbols) s.assertions
