@@ -8,3 +8,4 @@ pub mod Scripts
 pub mod Findings
 pub mod Open
 pub mod Reads
+pub mod Verdicts

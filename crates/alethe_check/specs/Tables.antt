@@ -1,6 +1,5 @@
 -- What a table of terms holds.
-use Rattle.std.specs.Prelude.{◌≡◌, ℕ, ◌<◌, ◌++◌, List, [], length, map, All, Contains, slice_index_or}
-use Rattle.std.specs.Prelude.{◌≡◌, ℕ, suc, ◌<◌, ◌++◌, ◌∷◌, List, [], length, map, All, slice_index_or, refl}
+use Rattle.std.specs.Prelude.{◌≡◌, ℕ, suc, ◌<◌, ◌++◌, ◌∷◌, List, [], length, map, All, Contains, slice_index_or, refl}
 use Rattle.std.specs.Coded.{Coded, code_by, coded×, coded_list}
 use Rattle.spec_text.specs.Bytes.{Name}
 use Rattle.spec_terms.specs.Terms.{Sort, Truth, Symbol, constant, Term, app, Not as not_head, Apply, negated}
@@ -72,6 +71,7 @@ pub record Extends (old new : TableView) : Type 0 where
 pub record HaveSameMembers (xs ys : List TermId) : Type 0 where
   pub there : (id : TermId) → Contains xs id → Contains ys id
   pub back : (id : TermId) → Contains ys id → Contains xs id
+
 -- a table is told apart by its constants and its terms
 abbrev pub table_code : Coded TableView
 table_code = code_by (List Name × List Term) (coded× (coded_list name_code) (coded_list term_code)) (λ t. (t.constants, t.terms)) (λ p. record { constants = p.0; terms = p.1 }) (λ _. refl)
