@@ -20,3 +20,5 @@ pub mod Transport
 pub mod Contexts
 pub mod Words
 pub mod Reading
+pub mod TermReading
+pub mod Stacks
