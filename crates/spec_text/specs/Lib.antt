@@ -4,4 +4,5 @@ pub mod Lexemes
 pub mod Places
 pub mod Trees
 pub mod Faults
+pub mod Lexicon
 pub mod Examples
