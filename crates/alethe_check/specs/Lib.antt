@@ -10,3 +10,4 @@ pub mod Open
 pub mod Reads
 pub mod Verdicts
 pub mod Loads
+pub mod Knowing

@@ -7,6 +7,7 @@ ghost use Rattle.alethe_check.specs.Verdicts.{Answers};
 
 mod asserted;
 mod commands;
+mod held;
 mod load;
 mod names;
 mod reader;
