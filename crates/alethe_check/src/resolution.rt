@@ -268,6 +268,7 @@ pub fn resolution(
 #[cfg(test)]
 mod tests {
     use super::*;
+    use crate::terms::{NoMemory, Node};
     use std::test::Fail;
 
     /// Reads a letter: a capital one is the complement.
@@ -327,6 +328,80 @@ mod tests {
             let premises = clauses_of(alloc, premises)?;
             let clause = clause_of(alloc, clause)?;
             assert!(rt; resolves(alloc, &premises, &clause)? == wanted);
+        }
+        Ok(())
+    }
+
+    /// Makes a table of the constants a to d, their negations, and the negations of these.
+    fn letters(alloc: Global) -> Result<TermTable, NoMemory> {
+        let mut table = TermTable::new(alloc);
+        table.declare(b"a")?;
+        table.declare(b"b")?;
+        table.declare(b"c")?;
+        table.declare(b"d")?;
+        for k in 0..4 {
+            table.put(Node::Constant(k))?;
+        }
+        for k in 0..8 {
+            if k < table.len() {
+                table.put(Node::Not(TermId(k)))?;
+            }
+        }
+        Ok(table)
+    }
+
+    /// Reads a clause of that table: a digit is a letter negated twice.
+    fn terms_of(alloc: Global, table: &TermTable, text: &str) -> Result<Vec<TermId>, AllocError>
+        ensures { IfOk result (λ v. AreIn table.now v.items) }
+    {
+        let mut clause = Vec::new(alloc);
+        for b in text.as_bytes() {
+            if let Some(k) = b"abcdABCD1234".iter().position(|letter| letter == b) {
+                if (k as u64) < table.len() {
+                    clause.push(TermId(k as u64))?;
+                }
+            }
+        }
+        Ok(clause)
+    }
+
+    /// Reads clauses of that table, each of which ends with a semicolon.
+    fn lists_of(
+        alloc: Global,
+        table: &TermTable,
+        text: &str,
+    ) -> Result<Vec<Vec<TermId>>, AllocError>
+        ensures { IfOk result (λ v. All (λ p. AreIn table.now p.items) v.items) }
+    {
+        let mut clauses = Vec::new(alloc);
+        for part in text.split_terminator(';') {
+            clauses.push(terms_of(alloc, table, part)?)?;
+        }
+        Ok(clauses)
+    }
+
+    #[test]
+    fn resolves_terms(rt: HostRuntime) -> Result<(), Fail> {
+        let alloc = rt.alloc();
+        let Ok(table) = letters(alloc) else {
+            return Err(Fail::from(AllocError));
+        };
+        for (premises, clause, wanted) in [
+            ("", "aA", Ok(())),
+            ("", "1A", Ok(())),
+            ("", "a", Err(RuleStop::Fails)),
+            ("aa;Ab;", "b", Ok(())),
+            ("a1;Ab;", "b", Ok(())),
+            ("ab;ab;Ab;", "b", Ok(())),
+            ("ab;cd;Ab;", "b", Ok(())),
+            ("ab;", "b", Err(RuleStop::Fails)),
+            ("ab;Ac;Cd;2B;D;", "2", Ok(())),
+            ("Cd;ab;D;Ac;b2;", "b", Ok(())),
+            ("ab;;", "", Ok(())),
+        ] {
+            let premises = lists_of(alloc, &table, premises)?;
+            let clause = terms_of(alloc, &table, clause)?;
+            assert!(rt; resolution(alloc, &table, &premises, &clause) == wanted);
         }
         Ok(())
     }
