@@ -1,7 +1,6 @@
 //! Resolution by unit propagation.
 
-ghost use Rattle.std.specs.Prelude.{◌≡◌, ◌≢◌, ◌++◌, ◌∷◌, ◌↔◌, [], List, map, Contains, IfOk, OnOk, MatchBool, MatchOption};
-ghost use Rattle.std.specs.Prelude.{All, MatchResult};
+ghost use Rattle.std.specs.Prelude.{◌≡◌, ◌≢◌, ◌++◌, ◌∷◌, ◌↔◌, [], List, map, Contains, IfOk, OnOk, All, MatchBool, MatchOption, MatchResult};
 ghost use Rattle.spec_proofs.specs.Resolution.{Resolves};
 ghost use Rattle.spec_proofs.specs.Clauses.{IsResolvent};
 ghost use Rattle.alethe_check.specs.Tables.{AreIn, clause_at};
@@ -233,18 +232,14 @@ fn premises_of(
     Ok(found)
 }
 
-/// Judges a step of resolution: whether the clause follows from the premises by unit propagation, negations aside.
+/// Judges a step of resolution: whether unit propagation over the premises refutes the clause, with negations taken off.
 ///
-/// The numbers are those of the table. A clause is taken as the set of its literals, whatever their order; premises may come
-/// in any order, more than once, or for nothing. A clause with a literal and its complement needs no premise. The time is in
-/// proportion to the literals of the premises for each pass, and a chain in the order of its resolutions takes one.
+/// Premises and clause give their terms by number, from 0, in the table. A clause counts as the set of its literals; premises may
+/// come in any order, more than once, or for nothing. A clause with a literal and its complement needs no premise. Each pass takes
+/// time in proportion to the premises' literals, and a chain in the order of its resolutions takes one pass.
 ///
-/// # Errors
-///
-/// - `Fails` exactly where propagation reaches no conflict.
-/// - `Memory` where memory runs out, which tells nothing of the step.
-///
-/// The table stays as it was. Source: Alethe specification, rule `resolution`; own, that every such step passes.
+/// `Fails` comes exactly where propagation reaches no conflict; `Memory` where memory runs out, which tells nothing of the step.
+/// The table stays as it was. Source: Alethe specification, rule `resolution`; unit propagation is own.
 pub fn resolution(
     alloc: Global,
     table: &TermTable,
@@ -291,14 +286,8 @@ mod tests {
     /// Reads clauses, each of which ends with a semicolon.
     fn clauses_of(alloc: Global, text: &str) -> Result<Vec<Vec<Lit>>, AllocError> {
         let mut clauses = Vec::new(alloc);
-        let mut clause = Vec::new(alloc);
-        for b in text.as_bytes() {
-            if *b == b';' {
-                clauses.push(clause)?;
-                clause = Vec::new(alloc);
-            } else {
-                clause.push(literal(*b))?;
-            }
+        for part in text.split_terminator(';') {
+            clauses.push(clause_of(alloc, part)?)?;
         }
         Ok(clauses)
     }
