@@ -26,3 +26,7 @@ pub mod Loading
 pub mod Entries
 pub mod Listing
 pub mod Clauses
+pub mod Steps
+pub mod Empties
+pub mod Offsets
+pub mod Verdicts

@@ -28,7 +28,7 @@ some_lexeme (list at ts end) rest e = cc
 pub not_nothing : (text : List ℕ) (from after : Place) (s : Sexpr) → Reads text from s after → lexemes_from text from.offset ≢ []
 not_nothing text from after s r e = some_lexeme r.tree (lexemes_from text after.offset) (sym r.first ∙ e)
 
-no_lexemes_no_fault : (text : List ℕ) (at : ℕ) → lexemes_from text at ≡ [] → fault_from text at ≡ None
+pub no_lexemes_no_fault : (text : List ℕ) (at : ℕ) → lexemes_from text at ≡ [] → fault_from text at ≡ None
 unfolding first_fault
 no_lexemes_no_fault text at e = ap (first_fault nesting_limit (length text) 0) e
 

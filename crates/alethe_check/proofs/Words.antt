@@ -132,7 +132,7 @@ module _ (text : List ℕ) where
       go (word k w) h = (h ∙ ap (λ xs. take (length w) (drop (marks k) xs)) (sym here) ∙ ap (take (length w)) (drop-drop (marks k) at text), more)
       go (wrong f) h = tt
 
-  next_here : (at b : ℕ) (bs : List ℕ) → drop at text ≡ b ∷ bs → drop (at + 1) text ≡ bs
+  pub next_here : (at b : ℕ) (bs : List ℕ) → drop at text ≡ b ∷ bs → drop (at + 1) text ≡ bs
   next_here at b bs e = sym (drop-drop 1 at text) ∙ ap (drop 1) e
 
   words_from : (n at : ℕ) (bs : List ℕ) → drop at text ≡ bs → AreWordsOf text (lexemes n at bs)

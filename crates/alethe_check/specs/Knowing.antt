@@ -1,5 +1,5 @@
 -- What is known of a proof while it is judged.
-use Rattle.std.specs.Prelude.{◌≡◌, ℕ, List, [], ◌∷◌, length, map, All, Vec}
+use Rattle.std.specs.Prelude.{◌≡◌, ℕ, List, [], ◌∷◌, length, map, All, Vec, Bool, true, false, ◌==◌, if◌then◌else◌}
 use Rattle.std.specs.declared.alloc.Global.{Global}
 use Rattle.spec_text.specs.Bytes.{Name}
 use Rattle.spec_proofs.specs.Clauses.{Clause}
@@ -23,3 +23,8 @@ pub record IsSound (h : Held) : Type 0 where
   pub paired : length h.names ≡ length (lists h.clauses.items)
   pub asserted : AreIn h.table h.asserted
   pub clauses : All (λ c. AreIn h.table c) (lists h.clauses.items)
+
+-- whether one of the clauses is empty
+abbrev pub some_empty : List (List TermId) → Bool
+some_empty [] = false
+some_empty (c ∷ cs) = if length c == 0 then true else some_empty cs

@@ -11,3 +11,4 @@ pub mod Reads
 pub mod Verdicts
 pub mod Loads
 pub mod Knowing
+pub mod Judging

@@ -16,3 +16,13 @@ abbrev pub Answers : List ℕ → List ℕ → Result (Unit {0}) ProofStop → T
 Answers script proof (Ok u) = IsVerdict script proof None
 Answers script proof (Err (stops.Fault f)) = IsVerdict script proof (Some (fault_view f)) × IsPlaceOf proof f.place
 Answers script proof (Err stops.Memory) = Unit {0}
+
+-- the fault and its place in the proof
+abbrev pub Refuses : List ℕ → Option Fault → ProofStop → Type 0
+Refuses proof found (stops.Fault f) = (found ≡ Some (fault_view f)) × IsPlaceOf proof f.place
+Refuses proof found stops.Memory = ⊥
+
+-- what is said of a first fault, or of none
+abbrev pub Says : List ℕ → Option Fault → Result (Unit {0}) ProofStop → Type 0
+Says proof found (Ok u) = found ≡ None
+Says proof found (Err stop) = Refuses proof found stop

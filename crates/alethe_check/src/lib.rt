@@ -1,15 +1,19 @@
 //! Judges an Alethe proof against an SMT-LIB script.
 #![tactic(auto)]
 
-ghost use Rattle.std.specs.Prelude.{◌≡◌, OnOk};
+ghost use Rattle.std.specs.Prelude.{◌≡◌, ℕ, ◌≤◌, List, length, Some, option_map, IfSome, OnOk};
 ghost use Rattle.spec_scripts.specs.Stack.{HasNoModel};
-ghost use Rattle.alethe_check.specs.Verdicts.{Answers};
+ghost use Rattle.spec_proofs.specs.Accepted.{not_yet};
+ghost use Rattle.alethe_check.specs.Judging.{found_view};
+ghost use Rattle.alethe_check.specs.Verdicts.{Answers, Refuses, Says};
 
 mod asserted;
 mod commands;
 mod held;
+mod judge;
 mod load;
 mod names;
+mod proof;
 mod reader;
 mod resolution;
 mod script;
@@ -19,6 +23,11 @@ mod terms;
 
 pub use spec_proofs::ProofKind;
 pub use spec_text::Place;
+use held::at_check;
+use judge::{Found, judge};
+use load::read_script;
+use shapes::Unread;
+use smt_lexer::{place_at, start};
 use std::alloc::Global;
 
 /// Why a proof is not accepted, and where: a place of the proof.
@@ -44,5 +53,46 @@ pub fn check(alloc: Global, script: &[u8], at: u64, proof: &[u8]) -> Result<(), 
     ensures verdict { Answers script.now proof.now result }
     ensures sound { OnOk result (HasNoModel script.now 1) }
 {
-    Err(ProofStop::Memory)
+    spec_proofs::laws::valid_proofs_leave_no_model();
+    judge_texts(alloc, script, proof)
+}
+
+/// The fault of texts that are not of the forms that are taken so far: it stands at the start.
+fn not_yet() -> ProofStop
+    ensures { (proof : List ℕ) → Refuses proof (Some not_yet) result }
+{
+    ProofStop::Fault(ProofFault {
+        place: start(),
+        kind: ProofKind::NotYet,
+    })
+}
+
+/// The verdict by the first fault that was found, or none.
+fn verdict(proof: &[u8], found: Option<Found>) -> Result<(), ProofStop>
+    requires { IfSome found (λ f. f.offset ≤ length proof.now) }
+    ensures { Says proof.now (option_map found_view found) result }
+{
+    match found {
+        None => Ok(()),
+        Some(f) => Err(ProofStop::Fault(ProofFault {
+            place: place_at(proof, f.offset as usize),
+            kind: f.kind,
+        })),
+    }
+}
+
+/// Judges the two texts: the verdict on them.
+fn judge_texts(alloc: Global, script: &[u8], proof: &[u8]) -> Result<(), ProofStop>
+    ensures { Answers script.now proof.now result }
+{
+    let stated = match read_script(alloc, script) {
+        Ok(stated) => stated,
+        Err(Unread::NotPlain) => return Err(not_yet()),
+        Err(Unread::Memory) => return Err(ProofStop::Memory),
+    };
+    match judge(alloc, proof, at_check(alloc, stated)) {
+        Ok(found) => verdict(proof, found),
+        Err(Unread::NotPlain) => Err(not_yet()),
+        Err(Unread::Memory) => Err(ProofStop::Memory),
+    }
 }
