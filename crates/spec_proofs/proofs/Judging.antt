@@ -1,19 +1,18 @@
 -- One command after the other.
-use Rattle.std.proofs.Common.{◌≡◌, ℕ, zero, Bool, true, false, ◌||◌, List, [], ◌∷◌, ◌++◌, map, Option, Some, None, codes, cond, All, Any, ◌⊎◌, inl, inr, refl, sym, ap, ◌∙◌, subst}
+use Rattle.std.proofs.Common.{◌≡◌, ℕ, Bool, true, false, ◌||◌, List, [], ◌∷◌, Option, Some, None, codes, cond, All, inl, inr, refl, sym, ap, ◌∙◌, subst}
 use Rattle.std.specs.Str.{bytes_eq}
 use Rattle.std.specs.Prelude.{⊤}
 use Rattle.std.proofs.lemmas.Bool.{false≢true}
-use Rattle.std.proofs.lemmas.List.Elements.{All-head, All-tail, All-cons, All-nil, All-push, All-contains, All-get_or}
+use Rattle.std.proofs.lemmas.List.Elements.{All-head, All-tail, All-cons, All-nil, All-push, All-contains}
 use Rattle.spec_text.specs.Bytes.{Name}
-use Rattle.spec_text.specs.Shapes.{◌>>=◌, Word, only_if, first_word, first_list, only_tree, no_tree, inside_of, is_symbol, is_word, wanted, wanted_keyword, each}
-use Rattle.spec_text.specs.Trees.{Tree, Trees, atom, list, none, more, offset_of}
+use Rattle.spec_text.specs.Shapes.{◌>>=◌, first_word, first_list, only_tree, no_tree, inside_of, is_symbol, is_word, wanted, wanted_keyword, each}
+use Rattle.spec_text.specs.Trees.{Tree, Trees, atom, list, none, more}
 use Rattle.spec_terms.specs.Terms.{Term}
 use Rattle.spec_terms.specs.Reading.{term_of}
-use Rattle.spec_proofs.specs.declared.Rule.{Rule}
 use Rattle.spec_proofs.specs.declared.Rule.TheVariants.{Resolution}
 use Rattle.spec_proofs.specs.Clauses.{Clause, IsResolvent, Truths, term_true, clause_true}
-use Rattle.spec_proofs.specs.Commands.{Known, Entry, Command, Assume, Step, clause_of, new_name, premise_of, premises_of, terms_of, assume_of, step_of, command_by, command_of}
-use Rattle.spec_proofs.specs.Faults.{Fault, IsRight, with_entry, with_command, IsRightAfter, fault_of, HasEmptyClause, EndsBy, FaultBy, FirstFault}
+use Rattle.spec_proofs.specs.Commands.{Known, Entry, Command, Assume, Step, clause_of, new_name, premise_of, premises_of, terms_of, assume_of, step_of, command_of}
+use Rattle.spec_proofs.specs.Faults.{Fault, with_command, IsRightAfter, HasEmptyClause, EndsBy, FaultBy, FirstFault}
 
 bind_some : {A B : Type 0} (o : Option A) (f : A → Option B) (y : B) → (o >>= f) ≡ Some y → (x : A) × (o ≡ Some x) × (f x ≡ Some y)
 bind_some (Some x) f y e = (x, refl, e)

@@ -2,8 +2,9 @@
 
 ghost use Rattle.std.specs.Prelude.{◌≡◌, ℕ, List, All, Option, None, true, length};
 ghost use Rattle.spec_text.specs.Trees.{Trees};
-ghost use Rattle.spec_scripts.specs.Stack.{Stack, HasNoModel};
-ghost use Rattle.spec_proofs.specs.Clauses.{Clause, IsResolvent, Truths, clause_true};
+ghost use Rattle.spec_terms.specs.Values.{Interpretation, Interprets};
+ghost use Rattle.spec_scripts.specs.Stack.{Assertion, Stack, IsCurrent, MakesTrue, HasNoModel};
+ghost use Rattle.spec_proofs.specs.Clauses.{Clause, IsResolvent, Truths, term_true, clause_true};
 ghost use Rattle.spec_proofs.specs.Commands.{Known, known_at};
 ghost use Rattle.spec_proofs.specs.Faults.{Fault, FirstFault};
 ghost use Rattle.spec_proofs.specs.Accepted.{IsAccepted, IsPlain, IsVerdict};
@@ -57,4 +58,15 @@ pub fn verdict_is_one()
     spec_scripts::laws::plain_scripts_have_one_check();
     spec_scripts::laws::checks_have_one_stack();
     spec_scripts::laws::texts_have_one_reading();
+}
+
+/// States that the definition of models is met where it should be: truths that make the terms of all current assertions
+/// true give an interpretation of the current symbols, which makes the current expressions true. Source: own.
+pub fn satisfied_scripts_have_a_model()
+    ensures { (script : List ℕ) (k : ℕ) (s : Stack) (v : Truths) → IsCurrent script k s
+        → All (λ (a : Assertion). term_true v a.term ≡ true) s.assertions
+        → (i : Interpretation) × Interprets i s.symbols × MakesTrue i script k }
+{
+    spec_scripts::laws::assertions_are_read();
+    spec_scripts::laws::assertions_have_their_texts_value();
 }

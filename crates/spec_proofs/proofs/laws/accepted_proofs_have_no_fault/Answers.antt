@@ -1,5 +1,5 @@
 -- That an accepted proof has no fault.
-use Rattle.std.proofs.Common.{◌≡◌, List, length, None, subst}
+use Rattle.std.proofs.Common.{length, None, subst}
 use Rattle.spec_proofs.specs.Commands.{known_at}
 use Rattle.spec_proofs.specs.Faults.{FirstFault}
 use Rattle.spec_proofs.proofs.laws.accepted_proofs_have_no_fault.Goals as goal

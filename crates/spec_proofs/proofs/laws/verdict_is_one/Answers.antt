@@ -1,10 +1,10 @@
 -- That there is one verdict.
-use Rattle.std.proofs.Common.{◌≡◌, ℕ, List, length, Option, Some, None, ◌⊎◌, inl, inr, sym, ◌∙◌, subst}
+use Rattle.std.proofs.Common.{◌≡◌, ℕ, List, length, Option, inl, inr, sym, ◌∙◌, subst}
 use Rattle.spec_text.specs.Trees.{Trees}
 use Rattle.spec_scripts.specs.Stack.{Stack}
 use Rattle.spec_proofs.specs.Commands.{known_at}
 use Rattle.spec_proofs.specs.Faults.{Fault, FirstFault}
-use Rattle.spec_proofs.specs.Accepted.{IsPlain, IsVerdict}
+use Rattle.spec_proofs.specs.Accepted.{IsVerdict}
 use Rattle.spec_proofs.proofs.laws.verdict_is_one.Goals as goal
 
 pub returns : goal.returns
