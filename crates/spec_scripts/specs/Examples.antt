@@ -77,7 +77,7 @@ without_option_asserts = refl
 abbrev pub nothing_asserted : List ℕ
 nothing_asserted = codes "(check-sat)"
 
-pub nothing_asserted_asserts : asserted_in nothing_asserted ≡ Some ([])
+pub nothing_asserted_asserts : asserted_in nothing_asserted ≡ Some []
 unfolding lexemes first_piece built set_option declare_const command_of term_of plain_stack
 nothing_asserted_asserts = refl
 
@@ -117,7 +117,7 @@ sort_name_asserts = refl
 abbrev pub late_option : List ℕ
 late_option = codes "(declare-const p Bool)(set-option :print-success false)(check-sat)"
 
-pub late_option_asserts : asserted_in late_option ≡ Some ([])
+pub late_option_asserts : asserted_in late_option ≡ Some []
 unfolding lexemes first_piece built set_option declare_const command_of term_of plain_stack
 late_option_asserts = refl
 

@@ -1,0 +1,222 @@
+-- Proofs that are plain, and proofs that are not. Each is one of the script `contradiction`: a constant p, and p and (not p) asserted.
+use Rattle.std.specs.Prelude.{◌≡◌, refl, ℕ, false, List, [], ◌∷◌, length, codes}
+use Rattle.std.proofs.Common.{arith}
+use Rattle.spec_text.specs.Lexemes.{lexemes, first_piece}
+use Rattle.spec_text.specs.Faults.{first_fault}
+use Rattle.spec_text.specs.Places.{line_of, column_of}
+use Rattle.spec_text.specs.Shapes.{each}
+use Rattle.spec_text.specs.Trees.{IsRead}
+use Rattle.spec_terms.specs.Reading.{term_of}
+use Rattle.spec_scripts.specs.Commands as scripts
+use Rattle.spec_scripts.specs.Commands.{set_option, declare_const}
+use Rattle.spec_scripts.specs.Plain.{plain_stack}
+use Rattle.spec_scripts.specs.Examples.{built, trees_in, stack_in, contradiction, contradiction_is_plain}
+use Rattle.spec_proofs.specs.Commands.{assume_of, step_of, command_of, known_at}
+use Rattle.spec_proofs.specs.Accepted.{IsPlain, is_plain}
+
+-- the proof is plain
+abbrev pub IsPlainProof : List ℕ → Type 0
+IsPlainProof proof = IsPlain contradiction proof (stack_in contradiction) (trees_in proof)
+
+-- the proof is read, but some command isn't
+pub record IsNoPlainProof (proof : List ℕ) : Type 0 where
+  pub read : IsRead proof (trees_in proof)
+  pub refused : is_plain (known_at (stack_in contradiction)) (trees_in proof) ≡ false
+
+-- the offset's place
+abbrev pub IsAt : List ℕ → ℕ → ℕ → ℕ → Type 0
+IsAt text offset line column = (line_of text offset ≡ line) × (column_of text offset ≡ column)
+
+-- two assumptions and a resolution
+abbrev pub refutation : List ℕ
+refutation = codes "(assume h1 p)\n(assume h2 (not p))\n(step t1 (cl) :rule resolution :premises (h1 h2))\n"
+
+pub refutation_is_plain : IsPlainProof refutation
+unfolding lexemes first_piece first_fault built set_option declare_const command_of assume_of step_of each term_of plain_stack is_plain scripts.command_of
+refutation_is_plain = record { plain_script = contradiction_is_plain; limits = record { short = omega arith; unbroken = refl }; read = refl; plain = refl }
+
+-- a premise is missing; the step stands at 3:1
+abbrev pub one_premise : List ℕ
+one_premise = codes "(assume h1 p)\n(assume h2 (not p))\n(step t1 (cl) :rule resolution :premises (h1))\n"
+
+pub one_premise_is_plain : IsPlainProof one_premise
+unfolding lexemes first_piece first_fault built set_option declare_const command_of assume_of step_of each term_of plain_stack is_plain scripts.command_of
+one_premise_is_plain = record { plain_script = contradiction_is_plain; limits = record { short = omega arith; unbroken = refl }; read = refl; plain = refl }
+
+pub one_premise_place : IsAt one_premise 34 3 1
+one_premise_place = (refl, refl)
+
+-- no assertion is (not (not p)); the term stands at 2:12
+abbrev pub not_asserted : List ℕ
+not_asserted = codes "(assume h1 p)\n(assume h2 (not (not p)))\n(step t1 (cl) :rule resolution :premises (h1 h2))\n"
+
+pub not_asserted_is_plain : IsPlainProof not_asserted
+unfolding lexemes first_piece first_fault built set_option declare_const command_of assume_of step_of each term_of plain_stack is_plain scripts.command_of
+not_asserted_is_plain = record { plain_script = contradiction_is_plain; limits = record { short = omega arith; unbroken = refl }; read = refl; plain = refl }
+
+pub not_asserted_place : IsAt not_asserted 25 2 12
+not_asserted_place = (refl, refl)
+
+-- no step is empty; the text ends at 2:1
+abbrev pub assumption : List ℕ
+assumption = codes "(assume h1 p)\n"
+
+pub assumption_is_plain : IsPlainProof assumption
+unfolding lexemes first_piece first_fault built set_option declare_const command_of assume_of step_of each term_of plain_stack is_plain scripts.command_of
+assumption_is_plain = record { plain_script = contradiction_is_plain; limits = record { short = omega arith; unbroken = refl }; read = refl; plain = refl }
+
+pub assumption_place : IsAt assumption 14 2 1
+assumption_place = (refl, refl)
+
+-- nothing at all
+abbrev pub nothing : List ℕ
+nothing = codes ""
+
+pub nothing_is_plain : IsPlainProof nothing
+unfolding lexemes first_piece first_fault built set_option declare_const command_of assume_of step_of each term_of plain_stack is_plain scripts.command_of
+nothing_is_plain = record { plain_script = contradiction_is_plain; limits = record { short = omega arith; unbroken = refl }; read = refl; plain = refl }
+
+-- a clause with a literal and its complement follows from nothing
+abbrev pub tautology : List ℕ
+tautology = codes "(step t1 (cl p (not p)) :rule resolution :premises ())"
+
+pub tautology_is_plain : IsPlainProof tautology
+unfolding lexemes first_piece first_fault built set_option declare_const command_of assume_of step_of each term_of plain_stack is_plain scripts.command_of
+tautology_is_plain = record { plain_script = contradiction_is_plain; limits = record { short = omega arith; unbroken = refl }; read = refl; plain = refl }
+
+-- literals may stand twice, and assumptions behind steps
+abbrev pub same_literals : List ℕ
+same_literals = codes "(assume h1 p)(step t1 (cl p p) :rule resolution :premises (h1))(assume h2 (not p))(step t2 (cl) :rule resolution :premises (t1 h2))"
+
+pub same_literals_is_plain : IsPlainProof same_literals
+unfolding lexemes first_piece first_fault built set_option declare_const command_of assume_of step_of each term_of plain_stack is_plain scripts.command_of
+same_literals_is_plain = record { plain_script = contradiction_is_plain; limits = record { short = omega arith; unbroken = refl }; read = refl; plain = refl }
+
+-- (not (not p)) and p are one literal
+abbrev pub double_negation : List ℕ
+double_negation = codes "(assume h1 p)(step t1 (cl (not (not p))) :rule resolution :premises (h1))(assume h2 (not p))(step t2 (cl) :rule resolution :premises (t1 h2))"
+
+pub double_negation_is_plain : IsPlainProof double_negation
+unfolding lexemes first_piece first_fault built set_option declare_const command_of assume_of step_of each term_of plain_stack is_plain scripts.command_of
+double_negation_is_plain = record { plain_script = contradiction_is_plain; limits = record { short = omega arith; unbroken = refl }; read = refl; plain = refl }
+
+-- words and names that are known may stand between bars
+abbrev pub words_in_bars : List ℕ
+words_in_bars = codes "(|assume| h1 p)(assume h2 (|not| |p|))(|step| t1 (|cl|) :rule |resolution| :premises (|h1| h2))"
+
+pub words_in_bars_is_plain : IsPlainProof words_in_bars
+unfolding lexemes first_piece first_fault built set_option declare_const command_of assume_of step_of each term_of plain_stack is_plain scripts.command_of
+words_in_bars_is_plain = record { plain_script = contradiction_is_plain; limits = record { short = omega arith; unbroken = refl }; read = refl; plain = refl }
+
+-- white space and comments may stand between lexemes
+abbrev pub spaced : List ℕ
+spaced = codes " ( assume\th1 ; a note )\n p)(assume h2(not p))\r\n(step t1(cl):rule resolution:premises(h1 h2));\""
+
+pub spaced_is_plain : IsPlainProof spaced
+unfolding lexemes first_piece first_fault built set_option declare_const command_of assume_of step_of each term_of plain_stack is_plain scripts.command_of
+spaced_is_plain = record { plain_script = contradiction_is_plain; limits = record { short = omega arith; unbroken = refl }; read = refl; plain = refl }
+
+-- the names of steps are their own
+abbrev pub odd_names : List ℕ
+odd_names = codes "(assume p p)(assume cl (not p))(assume .x p)(step @y (cl) :rule resolution :premises (p cl))"
+
+pub odd_names_is_plain : IsPlainProof odd_names
+unfolding lexemes first_piece first_fault built set_option declare_const command_of assume_of step_of each term_of plain_stack is_plain scripts.command_of
+odd_names_is_plain = record { plain_script = contradiction_is_plain; limits = record { short = omega arith; unbroken = refl }; read = refl; plain = refl }
+
+-- a rule that isn't taken so far
+abbrev pub other_rule : List ℕ
+other_rule = codes "(assume h1 p)\n(assume h2 (not p))\n(step t1 (cl) :rule hole :premises (h1 h2))\n"
+
+pub other_rule_refused : IsNoPlainProof other_rule
+unfolding lexemes first_piece first_fault built set_option declare_const command_of assume_of step_of each term_of plain_stack is_plain scripts.command_of
+other_rule_refused = record { read = refl; refused = refl }
+
+-- a premise is the name of an earlier command
+abbrev pub later_premise : List ℕ
+later_premise = codes "(step t1 (cl) :rule resolution :premises (h1 h2))\n(assume h1 p)\n(assume h2 (not p))\n"
+
+pub later_premise_refused : IsNoPlainProof later_premise
+unfolding lexemes first_piece first_fault built set_option declare_const command_of assume_of step_of each term_of plain_stack is_plain scripts.command_of
+later_premise_refused = record { read = refl; refused = refl }
+
+abbrev pub own_premise : List ℕ
+own_premise = codes "(assume h1 p)\n(assume h2 (not p))\n(step t1 (cl) :rule resolution :premises (t1))"
+
+pub own_premise_refused : IsNoPlainProof own_premise
+unfolding lexemes first_piece first_fault built set_option declare_const command_of assume_of step_of each term_of plain_stack is_plain scripts.command_of
+own_premise_refused = record { read = refl; refused = refl }
+
+-- names are new, and stand without bars
+abbrev pub same_name : List ℕ
+same_name = codes "(assume h1 p)(assume h1 p)"
+
+pub same_name_refused : IsNoPlainProof same_name
+unfolding lexemes first_piece first_fault built set_option declare_const command_of assume_of step_of each term_of plain_stack is_plain scripts.command_of
+same_name_refused = record { read = refl; refused = refl }
+
+abbrev pub name_in_bars : List ℕ
+name_in_bars = codes "(assume |h1| p)"
+
+pub name_in_bars_refused : IsNoPlainProof name_in_bars
+unfolding lexemes first_piece first_fault built set_option declare_const command_of assume_of step_of each term_of plain_stack is_plain scripts.command_of
+name_in_bars_refused = record { read = refl; refused = refl }
+
+abbrev pub reserved_name : List ℕ
+reserved_name = codes "(assume let p)"
+
+pub reserved_name_refused : IsNoPlainProof reserved_name
+unfolding lexemes first_piece first_fault built set_option declare_const command_of assume_of step_of each term_of plain_stack is_plain scripts.command_of
+reserved_name_refused = record { read = refl; refused = refl }
+
+-- a term is one of the script's
+abbrev pub unknown_symbol : List ℕ
+unknown_symbol = codes "(assume h1 q)"
+
+pub unknown_symbol_refused : IsNoPlainProof unknown_symbol
+unfolding lexemes first_piece first_fault built set_option declare_const command_of assume_of step_of each term_of plain_stack is_plain scripts.command_of
+unknown_symbol_refused = record { read = refl; refused = refl }
+
+-- the parts of a step stand in their order, and none is missing
+abbrev pub premises_in_front : List ℕ
+premises_in_front = codes "(assume h1 p)(step t1 (cl p) :premises (h1) :rule resolution)"
+
+pub premises_in_front_refused : IsNoPlainProof premises_in_front
+unfolding lexemes first_piece first_fault built set_option declare_const command_of assume_of step_of each term_of plain_stack is_plain scripts.command_of
+premises_in_front_refused = record { read = refl; refused = refl }
+
+abbrev pub no_premises : List ℕ
+no_premises = codes "(step t1 (cl p (not p)) :rule resolution)"
+
+pub no_premises_refused : IsNoPlainProof no_premises
+unfolding lexemes first_piece first_fault built set_option declare_const command_of assume_of step_of each term_of plain_stack is_plain scripts.command_of
+no_premises_refused = record { read = refl; refused = refl }
+
+abbrev pub no_clause : List ℕ
+no_clause = codes "(step t1 () :rule resolution :premises ())"
+
+pub no_clause_refused : IsNoPlainProof no_clause
+unfolding lexemes first_piece first_fault built set_option declare_const command_of assume_of step_of each term_of plain_stack is_plain scripts.command_of
+no_clause_refused = record { read = refl; refused = refl }
+
+abbrev pub with_arguments : List ℕ
+with_arguments = codes "(step t1 (cl p (not p)) :rule resolution :premises () :args ())"
+
+pub with_arguments_refused : IsNoPlainProof with_arguments
+unfolding lexemes first_piece first_fault built set_option declare_const command_of assume_of step_of each term_of plain_stack is_plain scripts.command_of
+with_arguments_refused = record { read = refl; refused = refl }
+
+-- other commands aren't taken so far
+abbrev pub other_command : List ℕ
+other_command = codes "(anchor :step t1)"
+
+pub other_command_refused : IsNoPlainProof other_command
+unfolding lexemes first_piece first_fault built set_option declare_const command_of assume_of step_of each term_of plain_stack is_plain scripts.command_of
+other_command_refused = record { read = refl; refused = refl }
+
+abbrev pub answer_in_front : List ℕ
+answer_in_front = codes "unsat\n(assume h1 p)\n(assume h2 (not p))\n"
+
+pub answer_in_front_refused : IsNoPlainProof answer_in_front
+unfolding lexemes first_piece first_fault built set_option declare_const command_of assume_of step_of each term_of plain_stack is_plain scripts.command_of
+answer_in_front_refused = record { read = refl; refused = refl }
