@@ -2,3 +2,4 @@
 pub mod Resolution
 pub mod Values
 pub mod Judging
+pub mod Verdicts

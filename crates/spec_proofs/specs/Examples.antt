@@ -1,17 +1,20 @@
 -- Proofs that are plain, and proofs that are not. Each is one of the script `contradiction`: a constant p, and p and (not p) asserted.
-use Rattle.std.specs.Prelude.{◌≡◌, refl, ℕ, false, List, [], ◌∷◌, length, codes}
+use Rattle.std.specs.Prelude.{◌≡◌, refl, ℕ, false, List, [], ◌∷◌, Option, Some, codes}
 use Rattle.std.proofs.Common.{arith}
 use Rattle.spec_text.specs.Lexemes.{lexemes, first_piece}
 use Rattle.spec_text.specs.Faults.{first_fault}
 use Rattle.spec_text.specs.Places.{line_of, column_of}
-use Rattle.spec_text.specs.Shapes.{each}
-use Rattle.spec_text.specs.Trees.{IsRead}
+use Rattle.spec_text.specs.Shapes.{◌>>=◌, each}
+use Rattle.spec_text.specs.Trees.{Trees, none, more, IsRead}
+use Rattle.spec_terms.specs.Terms.{Truth, constant, negated}
 use Rattle.spec_terms.specs.Reading.{term_of}
 use Rattle.spec_scripts.specs.Commands as scripts
 use Rattle.spec_scripts.specs.Commands.{set_option, declare_const}
 use Rattle.spec_scripts.specs.Plain.{plain_stack}
-use Rattle.spec_scripts.specs.Examples.{built, trees_in, stack_in, contradiction, contradiction_is_plain}
-use Rattle.spec_proofs.specs.Commands.{assume_of, step_of, command_of, known_at}
+use Rattle.spec_scripts.specs.Examples.{built, trees_in, stack_in, p, contradiction, contradiction_is_plain, without_option, without_option_is_plain}
+use Rattle.spec_proofs.specs.Commands.{Known, Command, Assume, Step, assume_of, step_of, command_of, known_at}
+use Rattle.spec_proofs.specs.declared.Rule.TheVariants.{Resolution}
+use Rattle.spec_proofs.specs.Faults.{with_command}
 use Rattle.spec_proofs.specs.Accepted.{IsPlain, is_plain}
 
 -- the proof is plain
@@ -22,6 +25,23 @@ IsPlainProof proof = IsPlain contradiction proof (stack_in contradiction) (trees
 pub record IsNoPlainProof (proof : List ℕ) : Type 0 where
   pub read : IsRead proof (trees_in proof)
   pub refused : is_plain (known_at (stack_in contradiction)) (trees_in proof) ≡ false
+
+-- what the script makes known
+abbrev pub known : Known
+known = record { symbols = constant (codes "p") Truth ∷ []; asserted = p ∷ negated p ∷ []; entries = [] }
+
+pub contradiction_makes_known : known_at (stack_in contradiction) ≡ known
+unfolding lexemes first_piece built set_option declare_const scripts.command_of term_of plain_stack
+contradiction_makes_known = refl
+
+pub without_option_makes_known : known_at (stack_in without_option) ≡ known
+unfolding lexemes first_piece built set_option declare_const scripts.command_of term_of plain_stack
+without_option_makes_known = refl
+
+-- the commands that trees are, each under the names before it
+unfoldable pub commands_in : Known → Trees → Option (List Command)
+commands_in k none = Some []
+commands_in k (more t ts) = command_of k t >>= λ c. commands_in (with_command k c) ts >>= λ cs. Some (c ∷ cs)
 
 -- the offset's place
 abbrev pub IsAt : List ℕ → ℕ → ℕ → ℕ → Type 0
@@ -35,6 +55,14 @@ pub refutation_is_plain : IsPlainProof refutation
 unfolding lexemes first_piece first_fault built set_option declare_const command_of assume_of step_of each term_of plain_stack is_plain scripts.command_of
 refutation_is_plain = record { plain_script = contradiction_is_plain; limits = record { short = omega arith; unbroken = refl }; read = refl; plain = refl }
 
+pub refutation_commands : commands_in known (trees_in refutation) ≡ Some (Assume 11 (codes "h1") p ∷ Assume 25 (codes "h2") (negated p) ∷ Step 34 (codes "t1") [] Resolution ((p ∷ []) ∷ (negated p ∷ []) ∷ []) ∷ [])
+unfolding lexemes first_piece built set_option declare_const command_of assume_of step_of each term_of plain_stack scripts.command_of commands_in
+refutation_commands = refl
+
+pub refutation_without_option : IsPlain without_option refutation (stack_in without_option) (trees_in refutation)
+unfolding lexemes first_piece first_fault built set_option declare_const command_of assume_of step_of each term_of plain_stack is_plain scripts.command_of
+refutation_without_option = record { plain_script = without_option_is_plain; limits = record { short = omega arith; unbroken = refl }; read = refl; plain = refl }
+
 -- a premise is missing; the step stands at 3:1
 abbrev pub one_premise : List ℕ
 one_premise = codes "(assume h1 p)\n(assume h2 (not p))\n(step t1 (cl) :rule resolution :premises (h1))\n"
@@ -42,6 +70,10 @@ one_premise = codes "(assume h1 p)\n(assume h2 (not p))\n(step t1 (cl) :rule res
 pub one_premise_is_plain : IsPlainProof one_premise
 unfolding lexemes first_piece first_fault built set_option declare_const command_of assume_of step_of each term_of plain_stack is_plain scripts.command_of
 one_premise_is_plain = record { plain_script = contradiction_is_plain; limits = record { short = omega arith; unbroken = refl }; read = refl; plain = refl }
+
+pub one_premise_commands : commands_in known (trees_in one_premise) ≡ Some (Assume 11 (codes "h1") p ∷ Assume 25 (codes "h2") (negated p) ∷ Step 34 (codes "t1") [] Resolution ((p ∷ []) ∷ []) ∷ [])
+unfolding lexemes first_piece built set_option declare_const command_of assume_of step_of each term_of plain_stack scripts.command_of commands_in
+one_premise_commands = refl
 
 pub one_premise_place : IsAt one_premise 34 3 1
 one_premise_place = (refl, refl)
@@ -54,6 +86,10 @@ pub not_asserted_is_plain : IsPlainProof not_asserted
 unfolding lexemes first_piece first_fault built set_option declare_const command_of assume_of step_of each term_of plain_stack is_plain scripts.command_of
 not_asserted_is_plain = record { plain_script = contradiction_is_plain; limits = record { short = omega arith; unbroken = refl }; read = refl; plain = refl }
 
+pub not_asserted_commands : commands_in known (trees_in not_asserted) ≡ Some (Assume 11 (codes "h1") p ∷ Assume 25 (codes "h2") (negated (negated p)) ∷ Step 40 (codes "t1") [] Resolution ((p ∷ []) ∷ (negated (negated p) ∷ []) ∷ []) ∷ [])
+unfolding lexemes first_piece built set_option declare_const command_of assume_of step_of each term_of plain_stack scripts.command_of commands_in
+not_asserted_commands = refl
+
 pub not_asserted_place : IsAt not_asserted 25 2 12
 not_asserted_place = (refl, refl)
 
@@ -64,6 +100,10 @@ assumption = codes "(assume h1 p)\n"
 pub assumption_is_plain : IsPlainProof assumption
 unfolding lexemes first_piece first_fault built set_option declare_const command_of assume_of step_of each term_of plain_stack is_plain scripts.command_of
 assumption_is_plain = record { plain_script = contradiction_is_plain; limits = record { short = omega arith; unbroken = refl }; read = refl; plain = refl }
+
+pub assumption_commands : commands_in known (trees_in assumption) ≡ Some (Assume 11 (codes "h1") p ∷ [])
+unfolding lexemes first_piece built set_option declare_const command_of assume_of step_of each term_of plain_stack scripts.command_of commands_in
+assumption_commands = refl
 
 pub assumption_place : IsAt assumption 14 2 1
 assumption_place = (refl, refl)
@@ -76,6 +116,10 @@ pub nothing_is_plain : IsPlainProof nothing
 unfolding lexemes first_piece first_fault built set_option declare_const command_of assume_of step_of each term_of plain_stack is_plain scripts.command_of
 nothing_is_plain = record { plain_script = contradiction_is_plain; limits = record { short = omega arith; unbroken = refl }; read = refl; plain = refl }
 
+pub nothing_commands : commands_in known (trees_in nothing) ≡ Some []
+unfolding lexemes first_piece built set_option declare_const command_of assume_of step_of each term_of plain_stack scripts.command_of commands_in
+nothing_commands = refl
+
 -- a clause with a literal and its complement follows from nothing
 abbrev pub tautology : List ℕ
 tautology = codes "(step t1 (cl p (not p)) :rule resolution :premises ())"
@@ -83,6 +127,10 @@ tautology = codes "(step t1 (cl p (not p)) :rule resolution :premises ())"
 pub tautology_is_plain : IsPlainProof tautology
 unfolding lexemes first_piece first_fault built set_option declare_const command_of assume_of step_of each term_of plain_stack is_plain scripts.command_of
 tautology_is_plain = record { plain_script = contradiction_is_plain; limits = record { short = omega arith; unbroken = refl }; read = refl; plain = refl }
+
+pub tautology_commands : commands_in known (trees_in tautology) ≡ Some (Step 0 (codes "t1") (p ∷ negated p ∷ []) Resolution [] ∷ [])
+unfolding lexemes first_piece built set_option declare_const command_of assume_of step_of each term_of plain_stack scripts.command_of commands_in
+tautology_commands = refl
 
 -- literals may stand twice, and assumptions behind steps
 abbrev pub same_literals : List ℕ
@@ -92,6 +140,10 @@ pub same_literals_is_plain : IsPlainProof same_literals
 unfolding lexemes first_piece first_fault built set_option declare_const command_of assume_of step_of each term_of plain_stack is_plain scripts.command_of
 same_literals_is_plain = record { plain_script = contradiction_is_plain; limits = record { short = omega arith; unbroken = refl }; read = refl; plain = refl }
 
+pub same_literals_commands : commands_in known (trees_in same_literals) ≡ Some (Assume 11 (codes "h1") p ∷ Step 13 (codes "t1") (p ∷ p ∷ []) Resolution ((p ∷ []) ∷ []) ∷ Assume 74 (codes "h2") (negated p) ∷ Step 82 (codes "t2") [] Resolution ((p ∷ p ∷ []) ∷ (negated p ∷ []) ∷ []) ∷ [])
+unfolding lexemes first_piece built set_option declare_const command_of assume_of step_of each term_of plain_stack scripts.command_of commands_in
+same_literals_commands = refl
+
 -- (not (not p)) and p are one literal
 abbrev pub double_negation : List ℕ
 double_negation = codes "(assume h1 p)(step t1 (cl (not (not p))) :rule resolution :premises (h1))(assume h2 (not p))(step t2 (cl) :rule resolution :premises (t1 h2))"
@@ -99,6 +151,10 @@ double_negation = codes "(assume h1 p)(step t1 (cl (not (not p))) :rule resoluti
 pub double_negation_is_plain : IsPlainProof double_negation
 unfolding lexemes first_piece first_fault built set_option declare_const command_of assume_of step_of each term_of plain_stack is_plain scripts.command_of
 double_negation_is_plain = record { plain_script = contradiction_is_plain; limits = record { short = omega arith; unbroken = refl }; read = refl; plain = refl }
+
+pub double_negation_commands : commands_in known (trees_in double_negation) ≡ Some (Assume 11 (codes "h1") p ∷ Step 13 (codes "t1") (negated (negated p) ∷ []) Resolution ((p ∷ []) ∷ []) ∷ Assume 84 (codes "h2") (negated p) ∷ Step 92 (codes "t2") [] Resolution ((negated (negated p) ∷ []) ∷ (negated p ∷ []) ∷ []) ∷ [])
+unfolding lexemes first_piece built set_option declare_const command_of assume_of step_of each term_of plain_stack scripts.command_of commands_in
+double_negation_commands = refl
 
 -- words and names that are known may stand between bars
 abbrev pub words_in_bars : List ℕ

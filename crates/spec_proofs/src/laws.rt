@@ -1,13 +1,14 @@
 //! What the definitions imply. Each law is a function whose contract is the law; it computes nothing.
 
-ghost use Rattle.std.specs.Prelude.{◌≡◌, ℕ, List, All, Option, None, true, length};
-ghost use Rattle.spec_text.specs.Trees.{Trees};
+ghost use Rattle.std.specs.Prelude.{◌≡◌, ℕ, List, All, Option, Some, None, true, false, length};
+ghost use Rattle.spec_text.specs.Trees.{Trees, IsRead};
 ghost use Rattle.spec_terms.specs.Values.{Interpretation, Interprets};
-ghost use Rattle.spec_scripts.specs.Stack.{Assertion, Stack, IsCurrent, MakesTrue, HasNoModel};
+ghost use Rattle.spec_scripts.specs.Stack.{Assertion, Stack, empty_stack, IsCurrent, MakesTrue, HasNoModel};
+ghost use Rattle.spec_scripts.specs.Plain.{IsPlainScript, plain_stack};
 ghost use Rattle.spec_proofs.specs.Clauses.{Clause, IsResolvent, Truths, term_true, clause_true};
 ghost use Rattle.spec_proofs.specs.Commands.{Known, known_at};
 ghost use Rattle.spec_proofs.specs.Faults.{Fault, FirstFault};
-ghost use Rattle.spec_proofs.specs.Accepted.{IsAccepted, IsPlain, IsVerdict};
+ghost use Rattle.spec_proofs.specs.Accepted.{IsAccepted, IsPlain, is_plain, not_yet, IsVerdict};
 
 /// States that a resolvent of clauses that are true is true, under the same truths.
 /// Source: own.
@@ -69,4 +70,22 @@ pub fn satisfied_scripts_have_a_model()
 {
     spec_scripts::laws::assertions_are_read();
     spec_scripts::laws::assertions_have_their_texts_value();
+}
+
+/// States that of a script which is read, but is not plain, the verdict is that it is not yet taken. Source: own.
+pub fn other_scripts_are_not_yet_taken()
+    ensures { (script proof : List ℕ) (ts : Trees) → IsRead script ts → plain_stack empty_stack ts ≡ None
+        → IsVerdict script proof (Some not_yet) }
+{
+    spec_scripts::laws::texts_have_one_reading();
+}
+
+/// States that of a proof which is read, but is not plain, the verdict is that it is not yet taken. Source: own.
+pub fn other_proofs_are_not_yet_taken()
+    ensures { (script proof : List ℕ) (s : Stack) (ts : Trees) → IsPlainScript script s → IsRead proof ts
+        → is_plain (known_at s) ts ≡ false → IsVerdict script proof (Some not_yet) }
+{
+    spec_scripts::laws::texts_have_one_reading();
+    spec_scripts::laws::plain_scripts_have_one_check();
+    spec_scripts::laws::checks_have_one_stack();
 }

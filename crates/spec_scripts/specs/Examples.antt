@@ -73,6 +73,10 @@ pub without_option_asserts : asserted_in without_option ≡ Some (p ∷ negated 
 unfolding lexemes first_piece built set_option declare_const command_of term_of plain_stack
 without_option_asserts = refl
 
+pub without_option_is_plain : IsPlainScript without_option (stack_in without_option)
+unfolding lexemes first_piece first_fault built set_option declare_const command_of term_of plain_stack
+without_option_is_plain = record { limits = record { short = omega arith; unbroken = refl }; commands = trees_in without_option; read = refl; plain = refl }
+
 -- so may be all but the check
 abbrev pub nothing_asserted : List ℕ
 nothing_asserted = codes "(check-sat)"
