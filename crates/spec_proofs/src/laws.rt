@@ -1,14 +1,15 @@
 //! What the definitions imply. Each law is a function whose contract is the law; it computes nothing.
 
-ghost use Rattle.std.specs.Prelude.{◌≡◌, ℕ, List, All, Option, Some, None, true, false, length};
+ghost use Rattle.std.specs.Prelude.{◌≡◌, ◌≢◌, ℕ, List, All, Option, Some, None, true, false, length};
 ghost use Rattle.spec_text.specs.Trees.{Trees, IsRead};
 ghost use Rattle.spec_terms.specs.Values.{Interpretation, Interprets};
 ghost use Rattle.spec_scripts.specs.Stack.{Assertion, Stack, empty_stack, IsCurrent, MakesTrue, HasNoModel};
 ghost use Rattle.spec_scripts.specs.Plain.{IsPlainScript, plain_stack};
 ghost use Rattle.spec_proofs.specs.Clauses.{Clause, IsResolvent, Truths, term_true, clause_true};
+ghost use Rattle.spec_proofs.specs.declared.ProofKind.TheVariants.{NotYet};
 ghost use Rattle.spec_proofs.specs.Commands.{Known, known_at};
 ghost use Rattle.spec_proofs.specs.Faults.{Fault, FirstFault};
-ghost use Rattle.spec_proofs.specs.Accepted.{IsAccepted, IsPlain, is_plain, not_yet, IsVerdict};
+ghost use Rattle.spec_proofs.specs.Accepted.{IsAccepted, ArePlain, IsPlain, is_plain, not_yet, IsVerdict};
 
 /// States that a resolvent of clauses that are true is true, under the same truths.
 /// Source: own.
@@ -89,3 +90,17 @@ pub fn other_proofs_are_not_yet_taken()
     spec_scripts::laws::plain_scripts_have_one_check();
     spec_scripts::laws::checks_have_one_stack();
 }
+
+/// States that no interpretation makes true what a plain script asserts, where its proof has no fault: the whole of what
+/// the verdict without a fault promises. Source: own.
+pub fn valid_proofs_leave_no_model()
+    ensures { (script proof : List ℕ) → IsVerdict script proof None → HasNoModel script 1 }
+{
+    plain_proofs_are_accepted();
+    acceptance_is_sound();
+}
+
+/// States that of plain texts it is never said that they are not yet taken. Source: own.
+pub fn plain_texts_are_taken()
+    ensures { (script proof : List ℕ) (f : Fault) → ArePlain script proof → IsVerdict script proof (Some f) → f.kind ≢ NotYet }
+{}
