@@ -1,10 +1,10 @@
 -- What a flat list of items means, item by item.
-use Rattle.std.proofs.Common.{◌≡◌, ℕ, zero, suc, ◌+◌, ◌≤◌, List, [], ◌∷◌, ◌++◌, length, take, drop, Some, None, refl, sym, ap, ◌∙◌, ◌⊎◌, inl, inr, arith}
+use Rattle.std.proofs.Common.{◌≡◌, ℕ, zero, suc, ◌+◌, ◌≤◌, List, [], ◌∷◌, length, take, drop, Some, None, refl, sym, ap, ◌∙◌, ◌⊎◌, inl, inr, arith}
 use Rattle.std.specs.Prelude.{min}
 use Rattle.std.proofs.lemmas.List.{drop_all, take_min}
 use Rattle.spec_text.specs.declared.Kind.{Kind}
 use Rattle.spec_text.specs.declared.Kind.TheVariants.{Numeral}
-use Rattle.spec_text.specs.Trees.{Tree, Trees, atom, list, none, more}
+use Rattle.spec_text.specs.Trees.{atom, list, none, more}
 use Rattle.alethe_check.specs.declared.sexpr.Item.{Item}
 use Rattle.alethe_check.specs.declared.sexpr.Item.TheVariants.{Atom, List as Group}
 use Rattle.alethe_check.specs.Items.{trees_within, trees_in, tree_in, first_of, split_first, count_first, bytes_at}

@@ -2,8 +2,23 @@ pub mod Flat
 pub mod Spelling
 pub mod Members
 -- The lemmas of this crate.
+pub mod NamesApart
+pub mod NodesSame
+pub mod NodesPut
+pub mod TermsGrown
+pub mod TermsApart
+pub mod TermsNamed
+pub mod TermsPut
+pub mod TermsLiteral
+pub mod TermsExtend
 pub mod ResolutionLiterals
 pub mod ResolutionStart
+pub mod ResolutionTerms
 pub mod Looked
 pub mod Rounds
 pub mod Transport
+pub mod Contexts
+pub mod Words
+pub mod Reading
+pub mod TermReading
+pub mod Stacks

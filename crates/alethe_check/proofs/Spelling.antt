@@ -1,7 +1,6 @@
 -- What the lexemes of a text say of its trees: at most one reading.
 use Rattle.std.proofs.Common.{◌≡◌, ℕ, List, [], ◌∷◌, ◌++◌, refl, sym, ap, ◌∙◌, append_assoc}
-use Rattle.spec_text.specs.declared.Kind.{Kind}
-use Rattle.spec_text.specs.Lexemes.{Lexeme, opens, closes, word}
+use Rattle.spec_text.specs.Lexemes.{Lexeme, closes}
 use Rattle.spec_text.specs.Trees.{Tree, Trees, atom, list, none, more, spelled, spelled_all}
 
 -- equal lists begin alike

@@ -1,11 +1,16 @@
 -- What propagation finds in clauses, under the literals that it holds.
-use Rattle.std.specs.Prelude.{◌≡◌, ◌≢◌, ◌⊎◌, ◌<◌, ℕ, zero, suc, nat_eq, Bool, not, ◌&&◌, if◌then◌else◌, List, [], ◌∷◌, Contains, Vec, map}
+use Rattle.std.specs.Prelude.{◌≡◌, ◌≢◌, ◌⊎◌, ◌<◌, ℕ, zero, suc, nat_eq, Bool, not, ◌&&◌, if◌then◌else◌, List, [], ◌∷◌, Contains, Vec, map, All, ⊤}
 use Rattle.std.specs.declared.alloc.Global.{Global}
 use Rattle.std.specs.List.{list_any}
 use Rattle.spec_proofs.specs.Resolution.{Derives, Conflicts}
+use Rattle.spec_proofs.specs.Clauses.{Clause, literals_of}
+use Rattle.alethe_check.specs.declared.terms.TermId.{TermId}
 use Rattle.alethe_check.specs.declared.terms.Lit.{Lit}
+use Rattle.alethe_check.specs.Tables.{TableView, IsIn, literal_at, clause_at}
 use Rattle.alethe_check.specs.declared.resolution.Finding.{Finding}
 use Rattle.alethe_check.specs.declared.resolution.Finding.TheVariants.{False, Unit as Open, Settled}
+use Rattle.alethe_check.specs.declared.resolution.RuleStop.{RuleStop}
+use Rattle.alethe_check.specs.declared.resolution.RuleStop.TheVariants.{Fails, Memory}
 use Rattle.alethe_check.specs.declared.resolution.Pass.{Pass}
 use Rattle.alethe_check.specs.declared.resolution.Pass.TheVariants.{Conflict, Added, Same}
 
@@ -82,3 +87,26 @@ abbrev pub Moves : List (List Lit) → List (List Lit) → List Lit → List Lit
 Moves premises seen old new Conflict = (start : List Lit) → Keeps premises start old → Conflicts lit_complement premises start
 Moves premises seen old new Added = Advances premises old new
 Moves premises seen old new Same = (new ≡ old) × ((c : List Lit) → Contains seen c → IsSettled new c)
+
+-- each number is one of the table's
+abbrev pub AreOf : TableView → List Lit → Type 0
+AreOf table ls = All (λ l. IsIn table l.term) ls
+
+-- the literals are those of the clause
+pub record Means (table : TableView) (literals : List Lit) (clause : Clause) : Type 0 where
+  pub same : map (literal_at table) literals ≡ literals_of clause
+  pub there : AreOf table literals
+
+-- the lists of literals are those of the clauses, in order
+pub record MeansEach (table : TableView) (literals : List (List Lit)) (clauses : List Clause) : Type 0 where
+  pub same : map (map (literal_at table)) literals ≡ map literals_of clauses
+  pub there : All (AreOf table) literals
+
+-- the clauses of the vectors of numbers
+abbrev pub clauses_at : TableView → List (Vec TermId Global) → List Clause
+clauses_at table premises = map (λ p. clause_at table p.items) premises
+
+-- a step fails where it isn't right; want of memory tells nothing
+abbrev pub Stops : RuleStop → Type 0 → Type 0
+Stops Fails IsRight = IsRight → ⊥
+Stops Memory IsRight = ⊤

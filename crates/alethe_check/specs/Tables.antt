@@ -1,13 +1,18 @@
 -- What a table of terms holds.
-use Rattle.std.specs.Prelude.{◌≡◌, ℕ, ◌<◌, ◌++◌, List, [], length, map, All, Contains, slice_index_or}
+use Rattle.std.specs.Prelude.{◌≡◌, ℕ, suc, ◌<◌, ◌++◌, ◌∷◌, List, [], length, map, All, Contains, slice_index_or, refl}
+use Rattle.std.specs.Coded.{Coded, code_by, coded×, coded_list}
 use Rattle.spec_text.specs.Bytes.{Name}
-use Rattle.spec_terms.specs.Terms.{Truth, Symbol, constant, Term, negated}
+use Rattle.spec_terms.specs.Terms.{Sort, Truth, Symbol, constant, Term, app, Not as not_head, Apply, negated}
 use Rattle.spec_terms.specs.Reading.{constant_term}
 use Rattle.spec_proofs.specs.Clauses.{Clause, Literal}
 use Rattle.alethe_check.specs.declared.terms.TermId.{TermId}
 use Rattle.alethe_check.specs.declared.terms.Lit.{Lit}
+use Rattle.alethe_check.specs.declared.terms.Sort.{Sort as TableSort}
+use Rattle.alethe_check.specs.declared.terms.Sort.TheVariants.{Bool}
 use Rattle.alethe_check.specs.declared.terms.Node.{Node}
 use Rattle.alethe_check.specs.declared.terms.Node.TheVariants.{Constant, Not}
+use Rattle.alethe_check.specs.TermCodes.{name_code, term_code}
+use Rattle.alethe_check.specs.NameLists.{AreApart, HaveNoTwice}
 
 -- The declared constants, all of sort Bool, and the terms, each as it is read.
 pub record TableView : Type 0 where
@@ -66,3 +71,46 @@ pub record Extends (old new : TableView) : Type 0 where
 pub record HaveSameMembers (xs ys : List TermId) : Type 0 where
   pub there : (id : TermId) → Contains xs id → Contains ys id
   pub back : (id : TermId) → Contains ys id → Contains xs id
+
+-- a table is told apart by its constants and its terms
+abbrev pub table_code : Coded TableView
+table_code = code_by (List Name × List Term) (coded× (coded_list name_code) (coded_list term_code)) (λ t. (t.constants, t.terms)) (λ p. record { constants = p.0; terms = p.1 }) (λ _. refl)
+
+-- the sort of a term as read
+abbrev pub sort_of : Term → Sort
+sort_of (app not_head ts) = Truth
+sort_of (app (Apply s) ts) = s.result
+
+-- the sort that the code's word means
+abbrev pub sort_meant : TableSort → Sort
+sort_meant Bool = Truth
+
+-- the numbers of the terms that a node names are below n
+abbrev pub NamesBelow : ℕ → Node → Type 0
+NamesBelow n (Constant k) = Unit {0}
+NamesBelow n (Not id) = id.0 < n
+
+-- what a node names is one of these constants, or one of the first n terms
+abbrev pub IsBefore : List Name → ℕ → Node → Type 0
+IsBefore names n (Constant k) = k < length names
+IsBefore names n (Not id) = id.0 < n
+
+-- each node names what stands before it; the first has the number n
+abbrev pub AreBefore : List Name → ℕ → List Node → Type 0
+AreBefore names n [] = Unit {0}
+AreBefore names n (node ∷ nodes) = IsBefore names n node × AreBefore names (suc n) nodes
+
+-- the terms so far, and after them each node's
+abbrev pub grown : List Name → List Term → List Node → List Term
+grown names done [] = done
+grown names done (node ∷ nodes) = grown names (done ++ node_term (record { constants = names; terms = done }) node ∷ []) nodes
+
+-- the constants and the terms of nodes
+abbrev pub table_of : List Name → List Node → TableView
+table_of names nodes = record { constants = names; terms = grown names [] nodes }
+
+-- Names and nodes that stand for a table: no name and no node twice, each node after what it names.
+pub record IsWhole (names : List Name) (nodes : List Node) : Type 0 where
+  pub names_apart : HaveNoTwice names
+  pub nodes_apart : AreApart (Constant 0) nodes
+  pub before : AreBefore names 0 nodes

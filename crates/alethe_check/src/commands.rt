@@ -8,7 +8,10 @@ ghost use Rattle.alethe_check.specs.Views.{Gives};
 ghost use Rattle.alethe_check.specs.Scripts.{command_view};
 
 use crate::sexpr::Item;
-use crate::shapes::{Unread, Word, is_reserved, list_inside, same_bytes, tree_alone, want, want_end, want_keyword, word_first};
+use crate::shapes::{
+    Unread, Word, is_reserved, list_inside, same_bytes, tree_alone, want, want_end, want_keyword,
+    word_first,
+};
 
 /// A command of a script.
 pub enum ScriptCommand<'a> {
@@ -59,11 +62,7 @@ fn check_sat<'a>(text: &'a [u8], items: &'a [Item]) -> Result<ScriptCommand<'a>,
     Ok(ScriptCommand::CheckSat)
 }
 
-fn by_word<'a>(
-    text: &'a [u8],
-    word: &[u8],
-    items: &'a [Item],
-) -> Result<ScriptCommand<'a>, Unread>
+fn by_word<'a>(text: &'a [u8], word: &[u8], items: &'a [Item]) -> Result<ScriptCommand<'a>, Unread>
     ensures { Gives (command_view text.now) result (command_by word.now (trees_in text.now items.now)) }
 {
     if same_bytes(word, b"set-option") {

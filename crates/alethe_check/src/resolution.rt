@@ -1,10 +1,13 @@
 //! Resolution by unit propagation.
 
 ghost use Rattle.std.specs.Prelude.{◌≡◌, ◌≢◌, ◌++◌, ◌∷◌, ◌↔◌, [], List, map, Contains, IfOk, OnOk, MatchBool, MatchOption};
+ghost use Rattle.std.specs.Prelude.{All, MatchResult};
 ghost use Rattle.spec_proofs.specs.Resolution.{Resolves};
-ghost use Rattle.alethe_check.specs.Findings.{lit_complement, lists, Adds, Finds, TakesUp, Moves, IsConsistent};
+ghost use Rattle.spec_proofs.specs.Clauses.{IsResolvent};
+ghost use Rattle.alethe_check.specs.Tables.{AreIn, clause_at};
+ghost use Rattle.alethe_check.specs.Findings.{lit_complement, lists, Adds, Finds, TakesUp, Moves, IsConsistent, Means, MeansEach, clauses_at, Stops};
 
-use crate::terms::Lit;
+use crate::terms::{Lit, TermId, TermTable};
 use indexmap::IndexSet;
 use std::alloc::{AllocError, Global};
 use std::marker::Model;
@@ -183,10 +186,88 @@ pub fn resolves(alloc: Global, premises: &[Vec<Lit>], clause: &[Lit]) -> Result<
     }
 }
 
+/// Why a step is not taken.
+#[derive(Clone, Copy, Debug, PartialEq, Eq)]
+pub enum RuleStop {
+    /// The rule does not give the clause.
+    Fails,
+    /// Memory ran out.
+    Memory,
+}
+
+impl From<AllocError> for RuleStop {
+    ghost use Rattle.alethe_check.specs.declared.resolution.RuleStop.TheVariants as stops;
+
+    ghost from_gives = { λ _ r. r ≡ stops.Memory };
+
+    fn from(_error: AllocError) -> RuleStop {
+        RuleStop::Memory
+    }
+}
+
+/// Gives the literal of each term.
+fn literals_of(alloc: Global, table: &TermTable, clause: &[TermId]) -> Result<Vec<Lit>, AllocError>
+    requires { AreIn table.now clause.now }
+    ensures { IfOk result (λ v. Means table.now v.items (clause_at table.now clause.now)) }
+{
+    let mut literals = Vec::new(alloc);
+    for id in clause {
+        literals.push(table.literal(*id))?;
+    }
+    Ok(literals)
+}
+
+/// Gives the literals of each premise.
+fn premises_of(
+    alloc: Global,
+    table: &TermTable,
+    premises: &[Vec<TermId>],
+) -> Result<Vec<Vec<Lit>>, AllocError>
+    requires { All (λ p. AreIn table.now p.items) premises.now }
+    ensures { IfOk result (λ v. MeansEach table.now (lists v.items) (clauses_at table.now premises.now)) }
+{
+    let mut found = Vec::new(alloc);
+    for premise in premises {
+        found.push(literals_of(alloc, table, premise)?)?;
+    }
+    Ok(found)
+}
+
+/// Judges a step of resolution: whether the clause follows from the premises by unit propagation, negations aside.
+///
+/// The numbers are those of the table. A clause is taken as the set of its literals, whatever their order; premises may come
+/// in any order, more than once, or for nothing. A clause with a literal and its complement needs no premise. The time is in
+/// proportion to the literals of the premises for each pass, and a chain in the order of its resolutions takes one.
+///
+/// # Errors
+///
+/// - `Fails` exactly where propagation reaches no conflict.
+/// - `Memory` where memory runs out, which tells nothing of the step.
+///
+/// The table stays as it was. Source: Alethe specification, rule `resolution`; own, that every such step passes.
+pub fn resolution(
+    alloc: Global,
+    table: &TermTable,
+    premises: &[Vec<TermId>],
+    clause: &[TermId],
+) -> Result<(), RuleStop>
+    requires premises { All (λ p. AreIn table.now p.items) premises.now }
+    requires clause { AreIn table.now clause.now }
+    ensures { MatchResult result (λ _. IsResolvent (clauses_at table.now premises.now) (clause_at table.now clause.now))
+        (λ stop. Stops stop (IsResolvent (clauses_at table.now premises.now) (clause_at table.now clause.now))) }
+{
+    let found = premises_of(alloc, table, premises)?;
+    let wanted = literals_of(alloc, table, clause)?;
+    table.numbers_tell_terms();
+    if resolves(alloc, &found, &wanted)? {
+        return Ok(());
+    }
+    Err(RuleStop::Fails)
+}
+
 #[cfg(test)]
 mod tests {
     use super::*;
-    use crate::terms::TermId;
     use std::test::Fail;
 
     /// Reads a letter: a capital one is the complement.

@@ -118,10 +118,7 @@ pub fn want_keyword(name: &[u8], word: Word<'_>) -> Result<(), Unread>
 }
 
 /// The atom in front, and the items behind it.
-pub fn word_first<'a>(
-    text: &'a [u8],
-    items: &'a [Item],
-) -> Result<(Word<'a>, &'a [Item]), Unread>
+pub fn word_first<'a>(text: &'a [u8], items: &'a [Item]) -> Result<(Word<'a>, &'a [Item]), Unread>
     ensures gives { Gives (word_rest text.now) result (first_word (trees_in text.now items.now)) }
     ensures less { IfOk result (λ x. length x.1.now < length items.now) }
 {
@@ -135,10 +132,7 @@ pub fn word_first<'a>(
 }
 
 /// The items in the list in front, and the items behind it.
-pub fn list_first<'a>(
-    text: &'a [u8],
-    items: &'a [Item],
-) -> Result<(&'a [Item], &'a [Item]), Unread>
+pub fn list_first<'a>(text: &'a [u8], items: &'a [Item]) -> Result<(&'a [Item], &'a [Item]), Unread>
     ensures { Gives (list_rest text.now) result (first_list (trees_in text.now items.now)) }
 {
     let Some((first, rest)) = split(items) else {

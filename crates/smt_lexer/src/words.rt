@@ -52,7 +52,7 @@ const RESERVED: [&[u8]; 43] = [
 ];
 
 /// Says whether a name is one of these words. Source: own.
-fn is_one_of(words: &[&[u8]], name: &[u8]) -> bool
+pub fn is_one_of(words: &[&[u8]], name: &[u8]) -> bool
     ensures { result ≡ among (texts_of words.now) name.now }
 {
     for word in words {

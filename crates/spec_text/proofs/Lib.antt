@@ -1,0 +1,3 @@
+-- Lemmas on nesting: trees from lexemes, and the faults of trees.
+pub mod Nesting
+pub mod Blanks

@@ -7,6 +7,8 @@
 ghost use Rattle.std.specs.Prelude.{◌≡◌};
 ghost use Rattle.spec_text.specs.Places.{number_of, name_of};
 
+pub mod laws;
+
 /// What a word is, by its first bytes. Source: SMT-LIB 2.6, section 3.1.
 #[derive(Clone, Copy, Debug, PartialEq, Eq, Hash)]
 pub enum Kind {

@@ -1,0 +1,3 @@
+-- Lemmas on bytes that come and go.
+pub mod Pieces
+pub mod Places

@@ -1,0 +1,4 @@
+-- The definitions that contracts cite.
+pub mod Outside
+pub mod Ends
+pub mod Memory

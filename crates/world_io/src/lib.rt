@@ -1,0 +1,23 @@
+//! The outside: bytes come in from a shelf of named texts and go out to a sink.
+//!
+//! Both are traits, so that what reads and writes is proved over any of them, also over those that fail.
+//! A fault is counted where it happens, and a call answers `Failed` only where the count rose in that call.
+#![tactic(auto)]
+
+mod bytes;
+mod fault;
+mod host;
+mod memory;
+mod read;
+mod shelf;
+mod sink;
+#[cfg(test)]
+mod tests;
+
+pub use bytes::{Bytes, NoMemory};
+pub use fault::Failed;
+pub use host::{HostShelf, HostSink};
+pub use memory::{MemShelf, MemSink};
+pub use read::{ReadEnd, ReadStop, read_all};
+pub use shelf::Shelf;
+pub use sink::{Sink, write_all, write_pieces};

@@ -1,0 +1,81 @@
+//! Reads a whole text, as far as a limit allows.
+
+ghost use Rattle.std.specs.Prelude.{◌≡◌, ◌≢◌, ℕ, ◌≤◌, List, IfOk, IfSome, IsErrOf};
+ghost use Rattle.world_io.specs.Outside.{Rose, TakesFront};
+ghost use Rattle.world_io.specs.Ends.{IsReadTo, IsTakenWhole};
+ghost use Rattle.world_io.specs.declared.read.ReadStop.TheVariants as stops;
+
+use crate::{Bytes, Failed, Shelf};
+use std::alloc::{AllocError, Global};
+use thiserror::Error;
+
+/// The most bytes that one read asks for.
+const PIECE: usize = 1 << 16;
+
+/// Holds a text as far as the limit allows.
+///
+/// Source: own.
+#[derive(Drop)]
+pub enum ReadEnd {
+    /// The whole text. It has at most as many bytes as the limit says.
+    Whole(Bytes),
+    /// The front of a text that has more bytes than the limit says, as many as the limit says.
+    Cut(Bytes),
+}
+
+/// Says why reading stopped.
+///
+/// Source: own.
+#[derive(Clone, Copy, Debug, PartialEq, Eq, Error)]
+pub enum ReadStop {
+    /// The shelf failed.
+    #[error("the outside failed")]
+    Failed,
+    /// An allocation was refused.
+    #[error("out of memory")]
+    Memory,
+}
+
+impl From<AllocError> for ReadStop {
+    ghost from_gives = { λ _ e. e ≡ stops.Memory };
+
+    fn from(_error: AllocError) -> ReadStop {
+        ReadStop::Memory
+    }
+}
+
+impl From<Failed> for ReadStop {
+    ghost from_gives = { λ _ e. e ≡ stops.Failed };
+
+    fn from(_error: Failed) -> ReadStop {
+        ReadStop::Failed
+    }
+}
+
+/// Reads all that is left of the text that was begun, up to `limit` bytes.
+///
+/// `Whole` comes where at most `limit` bytes were left, with all of them; then nothing is left.
+/// `Cut` comes where more were left, with the first `limit` of them; then some of the others may be taken too.
+/// `Failed` comes only where the shelf's count of faults rose in this call, `Memory` where an allocation was refused;
+/// a front of what was left may then be taken. Source: own.
+pub fn read_all<F: Shelf>(alloc: Global, shelf: &mut F, limit: u64) -> Result<ReadEnd, ReadStop>
+    ensures end { IfOk result (λ end. (text : List ℕ) × IsReadTo limit end text × IfSome (F.left shelf.old) (λ t. t ≡ text)) }
+    ensures front { TakesFront (F.left shelf.old) (F.left shelf.new) }
+    ensures whole { IfOk result (λ end. IsTakenWhole end (F.left shelf.old) (F.left shelf.new)) }
+    ensures same { (n : List ℕ) → F.holds shelf.new n ≡ F.holds shelf.old n }
+    ensures count { F.faults shelf.old ≤ F.faults shelf.new }
+    ensures failed { IsErrOf result ReadStop.Failed → Rose (F.faults shelf.old) (F.faults shelf.new) }
+    ensures sound { F.is_sound shelf.old → F.is_sound shelf.new × (result ≢ Err ReadStop.Failed) }
+{
+    let mut text = Vec::new(alloc);
+    let mut piece = [0u8; PIECE];
+    'turns: while text.len() as u64 <= limit {
+        let n = shelf.read(&mut piece)?;
+        if n == 0 {
+            return Ok(ReadEnd::Whole(Bytes::from(text)));
+        }
+        text.extend_from_slice(&piece[..n])?;
+    }
+    text.truncate(limit as usize);
+    Ok(ReadEnd::Cut(Bytes::from(text)))
+}
