@@ -196,6 +196,7 @@ pub later_premise_refused : IsNoPlainProof later_premise
 unfolding lexemes first_piece first_fault built set_option declare_const command_of assume_of step_of each term_of plain_stack is_plain scripts.command_of
 later_premise_refused = record { read = refl; refused = refl }
 
+-- and not of the step itself
 abbrev pub own_premise : List ℕ
 own_premise = codes "(assume h1 p)\n(assume h2 (not p))\n(step t1 (cl) :rule resolution :premises (t1))"
 
@@ -211,6 +212,7 @@ pub same_name_refused : IsNoPlainProof same_name
 unfolding lexemes first_piece first_fault built set_option declare_const command_of assume_of step_of each term_of plain_stack is_plain scripts.command_of
 same_name_refused = record { read = refl; refused = refl }
 
+-- bars round a new name
 abbrev pub name_in_bars : List ℕ
 name_in_bars = codes "(assume |h1| p)"
 
@@ -218,6 +220,7 @@ pub name_in_bars_refused : IsNoPlainProof name_in_bars
 unfolding lexemes first_piece first_fault built set_option declare_const command_of assume_of step_of each term_of plain_stack is_plain scripts.command_of
 name_in_bars_refused = record { read = refl; refused = refl }
 
+-- a reserved word
 abbrev pub reserved_name : List ℕ
 reserved_name = codes "(assume let p)"
 
@@ -241,6 +244,7 @@ pub premises_in_front_refused : IsNoPlainProof premises_in_front
 unfolding lexemes first_piece first_fault built set_option declare_const command_of assume_of step_of each term_of plain_stack is_plain scripts.command_of
 premises_in_front_refused = record { read = refl; refused = refl }
 
+-- premises are missing
 abbrev pub no_premises : List ℕ
 no_premises = codes "(step t1 (cl p (not p)) :rule resolution)"
 
@@ -248,6 +252,7 @@ pub no_premises_refused : IsNoPlainProof no_premises
 unfolding lexemes first_piece first_fault built set_option declare_const command_of assume_of step_of each term_of plain_stack is_plain scripts.command_of
 no_premises_refused = record { read = refl; refused = refl }
 
+-- the clause's word is missing
 abbrev pub no_clause : List ℕ
 no_clause = codes "(step t1 () :rule resolution :premises ())"
 
@@ -255,6 +260,7 @@ pub no_clause_refused : IsNoPlainProof no_clause
 unfolding lexemes first_piece first_fault built set_option declare_const command_of assume_of step_of each term_of plain_stack is_plain scripts.command_of
 no_clause_refused = record { read = refl; refused = refl }
 
+-- there are no others
 abbrev pub with_arguments : List ℕ
 with_arguments = codes "(step t1 (cl p (not p)) :rule resolution :premises () :args ())"
 
@@ -270,6 +276,7 @@ pub other_command_refused : IsNoPlainProof other_command
 unfolding lexemes first_piece first_fault built set_option declare_const command_of assume_of step_of each term_of plain_stack is_plain scripts.command_of
 other_command_refused = record { read = refl; refused = refl }
 
+-- nor is a word in front of the proof
 abbrev pub answer_in_front : List ℕ
 answer_in_front = codes "unsat\n(assume h1 p)\n(assume h2 (not p))\n"
 

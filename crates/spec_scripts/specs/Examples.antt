@@ -15,16 +15,19 @@ pub record Built : Type 0 where
   pub here : Trees
   pub around : List (ℕ × Trees)
 
+-- a list of the trees before its closing parenthesis
 abbrev pub with_list : ℕ → Trees → List (ℕ × Trees) → Built
 with_list at us [] = record { here = none; around = [] }
 with_list at us ((end, ts) ∷ rest) = record { here = more (list at us end) ts; around = rest }
 
+-- a lexeme before what stands behind it
 abbrev pub with_lexeme : ℕ → Lexeme → Built → Built
 with_lexeme at (word k bytes) b = record { here = more (atom at k bytes) b.here; around = b.around }
 with_lexeme at closes b = record { here = none; around = (at, b.here) ∷ b.around }
 with_lexeme at opens b = with_list at b.here b.around
 with_lexeme at _ b = b
 
+-- lexemes, from the last one to the first
 unfoldable pub built : List (ℕ × Lexeme) → Built
 built [] = record { here = none; around = [] }
 built ((at, x) ∷ xs) = with_lexeme at x (built xs)
@@ -50,6 +53,7 @@ pub record IsNoPlainScript (text : List ℕ) : Type 0 where
 abbrev pub p : Term
 p = constant_term (constant (codes "p") Truth)
 
+-- a second one
 abbrev pub q : Term
 q = constant_term (constant (codes "q") Truth)
 
@@ -149,6 +153,7 @@ pub no_check_refused : IsNoPlainScript no_check
 unfolding lexemes first_piece built set_option declare_const command_of term_of plain_stack
 no_check_refused = record { read = refl; refused = refl }
 
+-- as it doesn't in an empty text
 abbrev pub nothing : List ℕ
 nothing = codes ""
 
@@ -172,6 +177,7 @@ pub theory_name_refused : IsNoPlainScript theory_name
 unfolding lexemes first_piece built set_option declare_const command_of term_of plain_stack
 theory_name_refused = record { read = refl; refused = refl }
 
+-- a point in front
 abbrev pub point_in_front : List ℕ
 point_in_front = codes "(declare-const .x Bool)(check-sat)"
 
@@ -179,6 +185,7 @@ pub point_in_front_refused : IsNoPlainScript point_in_front
 unfolding lexemes first_piece built set_option declare_const command_of term_of plain_stack
 point_in_front_refused = record { read = refl; refused = refl }
 
+-- an at sign in front
 abbrev pub at_in_front : List ℕ
 at_in_front = codes "(declare-const @x Bool)(check-sat)"
 
@@ -186,6 +193,7 @@ pub at_in_front_refused : IsNoPlainScript at_in_front
 unfolding lexemes first_piece built set_option declare_const command_of term_of plain_stack
 at_in_front_refused = record { read = refl; refused = refl }
 
+-- a reserved word
 abbrev pub reserved_name : List ℕ
 reserved_name = codes "(declare-const let Bool)(check-sat)"
 
@@ -193,6 +201,7 @@ pub reserved_name_refused : IsNoPlainScript reserved_name
 unfolding lexemes first_piece built set_option declare_const command_of term_of plain_stack
 reserved_name_refused = record { read = refl; refused = refl }
 
+-- a name that isn't new
 abbrev pub same_name : List ℕ
 same_name = codes "(declare-const p Bool)(declare-const p Bool)(check-sat)"
 
@@ -208,6 +217,7 @@ pub unknown_symbol_refused : IsNoPlainScript unknown_symbol
 unfolding lexemes first_piece built set_option declare_const command_of term_of plain_stack
 unknown_symbol_refused = record { read = refl; refused = refl }
 
+-- which is declared before it
 abbrev pub declared_later : List ℕ
 declared_later = codes "(assert p)(declare-const p Bool)(check-sat)"
 
@@ -215,6 +225,7 @@ pub declared_later_refused : IsNoPlainScript declared_later
 unfolding lexemes first_piece built set_option declare_const command_of term_of plain_stack
 declared_later_refused = record { read = refl; refused = refl }
 
+-- no name of a theory but not
 abbrev pub true_asserted : List ℕ
 true_asserted = codes "(assert true)(check-sat)"
 
@@ -222,6 +233,7 @@ pub true_asserted_refused : IsNoPlainScript true_asserted
 unfolding lexemes first_piece built set_option declare_const command_of term_of plain_stack
 true_asserted_refused = record { read = refl; refused = refl }
 
+-- which has an argument
 abbrev pub not_alone : List ℕ
 not_alone = codes "(assert not)(check-sat)"
 
@@ -229,6 +241,7 @@ pub not_alone_refused : IsNoPlainScript not_alone
 unfolding lexemes first_piece built set_option declare_const command_of term_of plain_stack
 not_alone_refused = record { read = refl; refused = refl }
 
+-- and one alone
 abbrev pub not_of_two : List ℕ
 not_of_two = codes "(declare-const p Bool)(assert (not p p))(check-sat)"
 
@@ -236,6 +249,7 @@ pub not_of_two_refused : IsNoPlainScript not_of_two
 unfolding lexemes first_piece built set_option declare_const command_of term_of plain_stack
 not_of_two_refused = record { read = refl; refused = refl }
 
+-- a constant has no parentheses
 abbrev pub constant_in_list : List ℕ
 constant_in_list = codes "(declare-const p Bool)(assert (p))(check-sat)"
 
@@ -251,6 +265,7 @@ pub two_asserted_refused : IsNoPlainScript two_asserted
 unfolding lexemes first_piece built set_option declare_const command_of term_of plain_stack
 two_asserted_refused = record { read = refl; refused = refl }
 
+-- one value of the option
 abbrev pub option_true : List ℕ
 option_true = codes "(set-option :print-success true)(check-sat)"
 
@@ -258,6 +273,7 @@ pub option_true_refused : IsNoPlainScript option_true
 unfolding lexemes first_piece built set_option declare_const command_of term_of plain_stack
 option_true_refused = record { read = refl; refused = refl }
 
+-- one sort
 abbrev pub other_sort : List ℕ
 other_sort = codes "(declare-const x Real)(check-sat)"
 
@@ -265,6 +281,7 @@ pub other_sort_refused : IsNoPlainScript other_sort
 unfolding lexemes first_piece built set_option declare_const command_of term_of plain_stack
 other_sort_refused = record { read = refl; refused = refl }
 
+-- no other commands
 abbrev pub other_command : List ℕ
 other_command = codes "(set-logic QF_UF)(check-sat)"
 
@@ -272,6 +289,7 @@ pub other_command_refused : IsNoPlainScript other_command
 unfolding lexemes first_piece built set_option declare_const command_of term_of plain_stack
 other_command_refused = record { read = refl; refused = refl }
 
+-- a command's word has no bars
 abbrev pub bars_in_command : List ℕ
 bars_in_command = codes "(|check-sat|)"
 
@@ -279,6 +297,7 @@ pub bars_in_command_refused : IsNoPlainScript bars_in_command
 unfolding lexemes first_piece built set_option declare_const command_of term_of plain_stack
 bars_in_command_refused = record { read = refl; refused = refl }
 
+-- and a command is a list
 abbrev pub no_list : List ℕ
 no_list = codes "check-sat"
 
