@@ -22,3 +22,4 @@ pub mod Words
 pub mod Reading
 pub mod TermReading
 pub mod Stacks
+pub mod Loading

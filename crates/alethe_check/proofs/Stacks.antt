@@ -1,26 +1,20 @@
 -- What a script states, command by command.
-use Rattle.std.proofs.Common.{◌≡◌, ℕ, ◌<◌, Bool, true, false, not, ◌&&◌, cond, ◌||◌, List, [], ◌∷◌, ◌++◌, map, length, All, Option, Some, None, refl, sym, ap, ◌∙◌, subst, arith}
-use Rattle.std.specs.Prelude.{Result, Ok, Err, OnOk, MatchOption, slice_index_or}
+use Rattle.std.proofs.Common.{◌≡◌, ◌<◌, Bool, true, false, not, ◌&&◌, cond, ◌||◌, List, [], ◌∷◌, ◌++◌, map, length, All, Some, None, refl, sym, ap, ◌∙◌, subst}
+use Rattle.std.specs.Prelude.{slice_index_or}
 use Rattle.std.specs.Str.{bytes_eq}
 use Rattle.std.proofs.lemmas.Bool.{false≢true}
 use Rattle.std.proofs.lemmas.List.{map-append}
 use Rattle.std.proofs.lemmas.List.Elements.{All-push}
 use Rattle.spec_text.specs.Bytes.{Name, among}
-use Rattle.spec_text.specs.Trees.{Tree, Trees}
-use Rattle.spec_text.specs.Shapes.{Word, only_if}
+use Rattle.spec_text.specs.Trees.{Tree}
+use Rattle.spec_text.specs.Shapes.{Word}
 use Rattle.spec_terms.specs.Terms.{Truth, Symbol, constant, Term}
 use Rattle.spec_terms.specs.Reading.{symbol_named, term_of}
-use Rattle.spec_scripts.specs.Commands.{Command, PrintNoSuccess, DeclareConst, Assert, CheckSat}
-use Rattle.spec_scripts.specs.Stack.{Stack, Assertion, names_of, may_declare, with_symbol, with_assertion, performed, asserted_by}
-use Rattle.spec_scripts.specs.Plain.{plain_by, then_by}
+use Rattle.spec_scripts.specs.Stack.{Stack, Assertion, names_of, may_declare, with_symbol, with_assertion}
 use Rattle.alethe_check.specs.declared.terms.TermId.{TermId}
 use Rattle.alethe_check.specs.declared.script.Script.{Script}
-use Rattle.alethe_check.specs.declared.shapes.Unread.{Unread}
-use Rattle.alethe_check.specs.declared.shapes.Unread.TheVariants as unread
-use Rattle.alethe_check.specs.declared.script.Took.TheVariants as took
-use Rattle.alethe_check.specs.Tables.{TableView, no_term, symbol_of, symbols_of, term_at, IsIn, AreIn, clause_at, Extends}
-use Rattle.alethe_check.specs.Scripts.{IsStack, Declares, Asserts, Takes}
-use Rattle.alethe_check.specs.Views.{Fails}
+use Rattle.alethe_check.specs.Tables.{TableView, no_term, symbol_of, symbols_of, term_at, IsIn, AreIn, Extends}
+use Rattle.alethe_check.specs.Scripts.{IsStack}
 use Rattle.alethe_check.proofs.TermsExtend.{AreIn-kept, clause_at-kept}
 
 -- the names of constants as symbols
@@ -66,9 +60,12 @@ declared_more old new s w cs ts ids h =
 pub asserted_more : (old new : Script) (id : TermId) (s : Stack) (tree : Tree) → Extends old.table new.table → new.table.constants ≡ old.table.constants → IsIn new.table id → term_of (symbols_of old.table) tree ≡ Some (term_at new.table id) → new.asserted ≡ old.asserted ++ id ∷ [] → IsStack old s
     → (u : Term) × (term_of s.symbols tree ≡ Some u) × IsStack new (with_assertion s tree u)
 asserted_more old new id s tree grows cs there reads ids h =
-    let to_term : Assertion → Term = λ a. a.term in
-    (term_at new.table id, ap (λ ss. term_of ss tree) h.symbols ∙ reads, record {
-      symbols = h.symbols ∙ ap (map symbol_of) (sym cs);
-      terms = map-append to_term s.assertions ((record { text = tree; term = term_at new.table id }) ∷ []) ∙ ap (λ ts. ts ++ term_at new.table id ∷ []) (h.terms ∙ sym (clause_at-kept old.table new.table grows old.asserted h.inside)) ∙ sym (ap (map (term_at new.table)) ids ∙ map-append (term_at new.table) old.asserted (id ∷ []));
-      inside = subst (λ xs. AreIn new.table xs) (sym ids) (All-push (λ x. IsIn new.table x) old.asserted id (AreIn-kept old.table new.table grows old.asserted h.inside) there);
-    })
+    let to_term : Assertion → Term = λ a. a.term in (
+      term_at new.table id,
+      ap (λ ss. term_of ss tree) h.symbols ∙ reads,
+      record {
+        symbols = h.symbols ∙ ap (map symbol_of) (sym cs);
+        terms = map-append to_term s.assertions ((record { text = tree; term = term_at new.table id }) ∷ []) ∙ ap (λ ts. ts ++ term_at new.table id ∷ []) (h.terms ∙ sym (clause_at-kept old.table new.table grows old.asserted h.inside)) ∙ sym (ap (map (term_at new.table)) ids ∙ map-append (term_at new.table) old.asserted (id ∷ []));
+        inside = subst (λ xs. AreIn new.table xs) (sym ids) (All-push (λ x. IsIn new.table x) old.asserted id (AreIn-kept old.table new.table grows old.asserted h.inside) there);
+      },
+    )

@@ -3,9 +3,9 @@ use Rattle.std.proofs.Common.{◌≡◌, ℕ, zero, suc, ◌+◌, Bool, true, fa
 use Rattle.std.specs.Prelude.{option_map, codes, Err}
 use Rattle.spec_text.specs.declared.Kind.{Kind}
 use Rattle.spec_text.specs.Trees.{Tree, Trees, atom, list, none, more}
-use Rattle.spec_text.specs.Shapes.{◌>>=◌, Word, is_word}
+use Rattle.spec_text.specs.Shapes.{◌>>=◌, is_word}
 use Rattle.spec_terms.specs.Terms.{Symbol, Term, negated}
-use Rattle.spec_terms.specs.Reading.{term_of, constant_of, negation_by}
+use Rattle.spec_terms.specs.Reading.{term_of, constant_of}
 use Rattle.alethe_check.specs.declared.shapes.Unread.{Unread}
 use Rattle.alethe_check.specs.declared.shapes.Unread.TheVariants as unread
 use Rattle.alethe_check.specs.Views.{Fails}

@@ -59,9 +59,11 @@ pub record Keeps (premises : List (List Lit)) (start held : List Lit) : Type 0 w
   pub started : (l : Lit) → Contains start l → Contains held l
   pub consistent : IsConsistent held
 
+-- whether two literals are one
 abbrev pub same_lit : Lit → Lit → Bool
 same_lit a b = nat_eq a.term.0 b.term.0 && (if a.positive then b.positive else not b.positive)
 
+-- whether a literal is held
 abbrev pub has : List Lit → Lit → Bool
 has held m = list_any (λ h. same_lit h m) held
 
@@ -88,7 +90,7 @@ Moves premises seen old new Conflict = (start : List Lit) → Keeps premises sta
 Moves premises seen old new Added = Advances premises old new
 Moves premises seen old new Same = (new ≡ old) × ((c : List Lit) → Contains seen c → IsSettled new c)
 
--- each number is one of the table's
+-- each literal's term is one of the table's
 abbrev pub AreOf : TableView → List Lit → Type 0
 AreOf table ls = All (λ l. IsIn table l.term) ls
 

@@ -9,3 +9,5 @@ pub mod Findings
 pub mod Open
 pub mod Reads
 pub mod Verdicts
+pub mod Loads
+pub mod Knowing

@@ -7,6 +7,8 @@ ghost use Rattle.alethe_check.specs.Verdicts.{Answers};
 
 mod asserted;
 mod commands;
+mod held;
+mod load;
 mod names;
 mod reader;
 mod resolution;
@@ -17,7 +19,6 @@ mod terms;
 
 pub use spec_proofs::ProofKind;
 pub use spec_text::Place;
-
 use std::alloc::Global;
 
 /// Why a proof is not accepted, and where: a place of the proof.

@@ -2,6 +2,7 @@
 
 ghost use Rattle.std.specs.Prelude.{◌≡◌, false, ◌<◌, [], ◌∷◌, ◌++◌, length, slice_index_or, MatchOption, OnErr, OnOk};
 ghost use Rattle.spec_text.specs.Bytes.{among};
+ghost use Rattle.alethe_check.specs.NameLists.{HaveNoTwice};
 
 use crate::terms::NoMemory;
 use indexmap::IndexSet;
@@ -53,6 +54,13 @@ impl Names {
     {
         let number = self.set.get_index_of(name)?;
         Some(number as u64)
+    }
+
+    /// States that no name stands twice.
+    pub fn no_name_twice(&self)
+        ensures { HaveNoTwice self.now }
+    {
+        let _ = &self.set;
     }
 
     /// Puts a new name last, by a copy of its bytes.

@@ -1,7 +1,6 @@
 //! Resolution by unit propagation.
 
-ghost use Rattle.std.specs.Prelude.{◌≡◌, ◌≢◌, ◌++◌, ◌∷◌, ◌↔◌, [], List, map, Contains, IfOk, OnOk, MatchBool, MatchOption};
-ghost use Rattle.std.specs.Prelude.{All, MatchResult};
+ghost use Rattle.std.specs.Prelude.{◌≡◌, ◌≢◌, ◌++◌, ◌∷◌, ◌↔◌, [], List, map, Contains, IfOk, OnOk, All, MatchBool, MatchOption, MatchResult};
 ghost use Rattle.spec_proofs.specs.Resolution.{Resolves};
 ghost use Rattle.spec_proofs.specs.Clauses.{IsResolvent};
 ghost use Rattle.alethe_check.specs.Tables.{AreIn, clause_at};
@@ -233,18 +232,14 @@ fn premises_of(
     Ok(found)
 }
 
-/// Judges a step of resolution: whether the clause follows from the premises by unit propagation, negations aside.
+/// Judges a step of resolution: whether unit propagation over the premises refutes the clause, with negations taken off.
 ///
-/// The numbers are those of the table. A clause is taken as the set of its literals, whatever their order; premises may come
-/// in any order, more than once, or for nothing. A clause with a literal and its complement needs no premise. The time is in
-/// proportion to the literals of the premises for each pass, and a chain in the order of its resolutions takes one.
+/// Premises and clause give their terms by number, from 0, in the table. A clause counts as the set of its literals; premises may
+/// come in any order, more than once, or for nothing. A clause with a literal and its complement needs no premise. Each pass takes
+/// time in proportion to the premises' literals, and a chain in the order of its resolutions takes one pass.
 ///
-/// # Errors
-///
-/// - `Fails` exactly where propagation reaches no conflict.
-/// - `Memory` where memory runs out, which tells nothing of the step.
-///
-/// The table stays as it was. Source: Alethe specification, rule `resolution`; own, that every such step passes.
+/// `Fails` comes exactly where propagation reaches no conflict; `Memory` where memory runs out, which tells nothing of the step.
+/// The table stays as it was. Source: Alethe specification, rule `resolution`; unit propagation is own.
 pub fn resolution(
     alloc: Global,
     table: &TermTable,
@@ -268,6 +263,7 @@ pub fn resolution(
 #[cfg(test)]
 mod tests {
     use super::*;
+    use crate::terms::{NoMemory, Node};
     use std::test::Fail;
 
     /// Reads a letter: a capital one is the complement.
@@ -290,14 +286,8 @@ mod tests {
     /// Reads clauses, each of which ends with a semicolon.
     fn clauses_of(alloc: Global, text: &str) -> Result<Vec<Vec<Lit>>, AllocError> {
         let mut clauses = Vec::new(alloc);
-        let mut clause = Vec::new(alloc);
-        for b in text.as_bytes() {
-            if *b == b';' {
-                clauses.push(clause)?;
-                clause = Vec::new(alloc);
-            } else {
-                clause.push(literal(*b))?;
-            }
+        for part in text.split_terminator(';') {
+            clauses.push(clause_of(alloc, part)?)?;
         }
         Ok(clauses)
     }
@@ -327,6 +317,80 @@ mod tests {
             let premises = clauses_of(alloc, premises)?;
             let clause = clause_of(alloc, clause)?;
             assert!(rt; resolves(alloc, &premises, &clause)? == wanted);
+        }
+        Ok(())
+    }
+
+    /// Makes a table of the constants a to d, their negations, and the negations of these.
+    fn letters(alloc: Global) -> Result<TermTable, NoMemory> {
+        let mut table = TermTable::new(alloc);
+        table.declare(b"a")?;
+        table.declare(b"b")?;
+        table.declare(b"c")?;
+        table.declare(b"d")?;
+        for k in 0..4 {
+            table.put(Node::Constant(k))?;
+        }
+        for k in 0..8 {
+            if k < table.len() {
+                table.put(Node::Not(TermId(k)))?;
+            }
+        }
+        Ok(table)
+    }
+
+    /// Reads a clause of that table: a digit is a letter negated twice.
+    fn terms_of(alloc: Global, table: &TermTable, text: &str) -> Result<Vec<TermId>, AllocError>
+        ensures { IfOk result (λ v. AreIn table.now v.items) }
+    {
+        let mut clause = Vec::new(alloc);
+        for b in text.as_bytes() {
+            if let Some(k) = b"abcdABCD1234".iter().position(|letter| letter == b) {
+                if (k as u64) < table.len() {
+                    clause.push(TermId(k as u64))?;
+                }
+            }
+        }
+        Ok(clause)
+    }
+
+    /// Reads clauses of that table, each of which ends with a semicolon.
+    fn lists_of(
+        alloc: Global,
+        table: &TermTable,
+        text: &str,
+    ) -> Result<Vec<Vec<TermId>>, AllocError>
+        ensures { IfOk result (λ v. All (λ p. AreIn table.now p.items) v.items) }
+    {
+        let mut clauses = Vec::new(alloc);
+        for part in text.split_terminator(';') {
+            clauses.push(terms_of(alloc, table, part)?)?;
+        }
+        Ok(clauses)
+    }
+
+    #[test]
+    fn resolves_terms(rt: HostRuntime) -> Result<(), Fail> {
+        let alloc = rt.alloc();
+        let Ok(table) = letters(alloc) else {
+            return Err(Fail::from(AllocError));
+        };
+        for (premises, clause, wanted) in [
+            ("", "aA", Ok(())),
+            ("", "1A", Ok(())),
+            ("", "a", Err(RuleStop::Fails)),
+            ("aa;Ab;", "b", Ok(())),
+            ("a1;Ab;", "b", Ok(())),
+            ("ab;ab;Ab;", "b", Ok(())),
+            ("ab;cd;Ab;", "b", Ok(())),
+            ("ab;", "b", Err(RuleStop::Fails)),
+            ("ab;Ac;Cd;2B;D;", "2", Ok(())),
+            ("Cd;ab;D;Ac;b2;", "b", Ok(())),
+            ("ab;;", "", Ok(())),
+        ] {
+            let premises = lists_of(alloc, &table, premises)?;
+            let clause = terms_of(alloc, &table, clause)?;
+            assert!(rt; resolution(alloc, &table, &premises, &clause) == wanted);
         }
         Ok(())
     }

@@ -1,3 +1,6 @@
 -- Lemmas on nesting: trees from lexemes, and the faults of trees.
 pub mod Nesting
 pub mod Blanks
+pub mod Tests
+pub mod Spelling
+pub mod Longest

@@ -39,6 +39,10 @@ pub no_quote : lexical_fault (codes "(a \"b") ≡ located 3 UnclosedString
 unfolding lexemes first_piece first_fault string_body after_quote
 no_quote = refl
 
+pub quotes_that_close_nothing : lexical_fault (codes "(\"a\"\"") ≡ located 1 UnclosedString
+unfolding lexemes first_piece first_fault string_body after_quote
+quotes_that_close_nothing = refl
+
 pub unclosed : lexical_fault (codes "(a (b)") ≡ located 6 UnclosedList
 unfolding lexemes first_piece first_fault
 unclosed = refl

@@ -4,5 +4,6 @@ pub mod Lexemes
 pub mod Places
 pub mod Trees
 pub mod Faults
+pub mod Lexicon
 pub mod Examples
 pub mod Shapes

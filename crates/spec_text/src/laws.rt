@@ -1,6 +1,8 @@
 //! Laws of texts, lexemes and trees: functions with empty bodies, whose clauses are proved of the definitions.
 
-ghost use Rattle.std.specs.Prelude.{◌≡◌, ℕ, List, None, IfSome};
+ghost use Rattle.std.specs.Prelude.{◌≡◌, ℕ, List, ◌∷◌, None, IfSome};
+ghost use Rattle.spec_text.specs.Lexemes.{Lexeme, first_piece};
+ghost use Rattle.spec_text.specs.Lexicon.{Spells, IsFirst};
 ghost use Rattle.spec_text.specs.Trees.{Trees, IsRead};
 ghost use Rattle.spec_text.specs.Faults.{lexical_fault};
 ghost use Rattle.spec_text.specs.declared.Fault.TheVariants.{TooDeep};
@@ -18,4 +20,15 @@ pub fn a_text_without_fault_is_read()
 /// Says that a text with a reading has no lexical fault but lists nested too deep. Source: own.
 pub fn a_read_text_has_no_fault_but_depth()
     ensures { (text : List ℕ) (ts : Trees) → IsRead text ts → IfSome (lexical_fault text) (λ f. f.fault ≡ TooDeep) }
+{}
+
+/// Says that the first lexeme of a text is the longest front that the lexicon's table has, and that a text whose first
+/// lexeme is a fault begins with none. Source: SMT-LIB 2.6, section 3.1.
+pub fn lexemes_are_longest()
+    ensures { (b : ℕ) (bs : List ℕ) → IsFirst (b ∷ bs) (first_piece b bs).lexeme (first_piece b bs).size }
+{}
+
+/// Says that no bytes are two lexemes. Source: SMT-LIB 2.6, section 3.1.
+pub fn spelling_is_unique()
+    ensures { (bytes : List ℕ) (x y : Lexeme) → Spells bytes x → Spells bytes y → x ≡ y }
 {}

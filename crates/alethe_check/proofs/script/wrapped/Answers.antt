@@ -1,5 +1,5 @@
 -- One negation more.
-use Rattle.std.proofs.Common.{refl, ap, sym, ◌∙◌, add-one, arith}
+use Rattle.std.proofs.Common.{refl, ap, ◌∙◌, add-one}
 use Rattle.spec_terms.specs.Terms.{negated}
 use Rattle.alethe_check.proofs.TermsExtend.{Extends-self, Extends-trans}
 use Rattle.alethe_check.proofs.script.wrapped.Goals as goal

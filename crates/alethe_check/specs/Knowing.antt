@@ -1,0 +1,29 @@
+-- What is known of a proof while it is judged.
+use Rattle.std.specs.Prelude.{◌≡◌, ℕ, List, [], ◌∷◌, length, map, All, Vec}
+use Rattle.std.specs.declared.alloc.Global.{Global}
+use Rattle.spec_text.specs.Bytes.{Name}
+use Rattle.spec_proofs.specs.Clauses.{Clause}
+use Rattle.spec_proofs.specs.Commands.{Entry, Known}
+use Rattle.alethe_check.specs.declared.terms.TermId.{TermId}
+use Rattle.alethe_check.specs.declared.held.Held.{Held}
+use Rattle.alethe_check.specs.Tables.{TableView, symbols_of, term_at, clause_at, AreIn}
+use Rattle.alethe_check.specs.Findings.{lists}
+
+-- names with their clauses, in order
+abbrev pub entries_of : TableView → List Name → List (List TermId) → List Entry
+entries_of t (n ∷ ns) (c ∷ cs) = (record { name = n; clause = clause_at t c }) ∷ entries_of t ns cs
+entries_of t _ _ = []
+
+-- what is known, in the words of the definitions
+abbrev pub known_view : Held → Known
+known_view h = record { symbols = symbols_of h.table; asserted = map (term_at h.table) h.asserted; entries = entries_of h.table h.names (lists h.clauses.items) }
+
+-- each name has its clause, and all terms are there
+pub record IsSound (h : Held) : Type 0 where
+  pub paired : length h.names ≡ length (lists h.clauses.items)
+  pub asserted : AreIn h.table h.asserted
+  pub clauses : All (λ c. AreIn h.table c) (lists h.clauses.items)
+
+-- the clauses of vectors of terms
+abbrev pub clauses_at : TableView → List (Vec TermId Global) → List Clause
+clauses_at t vs = map (λ v. clause_at t v.items) vs
