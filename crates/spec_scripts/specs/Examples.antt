@@ -7,7 +7,7 @@ use Rattle.spec_text.specs.Trees.{Trees, atom, list, none, more, IsRead}
 use Rattle.spec_terms.specs.Terms.{Term, Truth, constant, negated}
 use Rattle.spec_terms.specs.Reading.{constant_term, term_of}
 use Rattle.spec_scripts.specs.Commands.{set_option, declare_const, command_of}
-use Rattle.spec_scripts.specs.Stack.{Assertion, Stack, empty_stack, or_else, stack_at}
+use Rattle.spec_scripts.specs.Stack.{Assertion, Stack, empty_stack, stack_at}
 use Rattle.spec_scripts.specs.Plain.{IsPlainScript, plain_stack}
 
 -- The trees behind a lexeme up to the end of its list, and behind the closing parentheses of the lists around it.
@@ -35,6 +35,11 @@ built ((at, x) ∷ xs) = with_lexeme at x (built xs)
 -- the trees of a text without a lexical fault
 abbrev pub trees_in : List ℕ → Trees
 trees_in text = (built (lexemes 0 0 text)).here
+
+-- what is there, or else this
+abbrev pub or_else : {A : Type 0} → Option A → A → A
+or_else (Some a) b = a
+or_else None b = b
 
 -- what stands at the check of a plain text
 abbrev pub stack_in : List ℕ → Stack
@@ -305,15 +310,47 @@ pub no_list_refused : IsNoPlainScript no_list
 unfolding lexemes first_piece built set_option declare_const command_of term_of plain_stack
 no_list_refused = record { read = refl; refused = refl }
 
--- apart from plain texts, refused commands and those behind the check count for nothing
-pub first_of_two : option_map (λ (s : Stack). map (λ (a : Assertion). a.term) s.assertions) (stack_at empty_stack 1 (trees_in (codes "(declare-const p Bool)(assert q)(assert p)(exit)(check-sat)(assert (not p))(check-sat)"))) ≡ Some (p ∷ [])
+-- the terms that stand at a check of a text
+abbrev pub asserted_at : ℕ → List ℕ → Option (List Term)
+asserted_at k text = option_map (λ (s : Stack). map (λ (a : Assertion). a.term) s.assertions) (stack_at empty_stack k (trees_in text))
+
+-- apart from plain texts, each check has its stack
+abbrev pub two_stacks : List ℕ
+two_stacks = codes "(declare-const p Bool)(assert p)(check-sat)(assert (not p))(check-sat)"
+
+pub first_of_two : asserted_at 1 two_stacks ≡ Some (p ∷ [])
 unfolding lexemes first_piece built set_option declare_const command_of term_of stack_at
 first_of_two = refl
 
-pub second_of_two : option_map (λ (s : Stack). map (λ (a : Assertion). a.term) s.assertions) (stack_at empty_stack 2 (trees_in (codes "(declare-const p Bool)(assert q)(assert p)(exit)(check-sat)(assert (not p))(check-sat)"))) ≡ Some (p ∷ negated p ∷ [])
+pub second_of_two : asserted_at 2 two_stacks ≡ Some (p ∷ negated p ∷ [])
 unfolding lexemes first_piece built set_option declare_const command_of term_of stack_at
 second_of_two = refl
 
-pub no_third : stack_at empty_stack 3 (trees_in two_checks) ≡ None
+pub no_third : asserted_at 3 two_stacks ≡ None
 unfolding lexemes first_piece built set_option declare_const command_of term_of stack_at
 no_third = refl
+
+-- and what stands behind a check counts for nothing there
+pub first_before_others : asserted_at 1 (codes "(declare-const p Bool)(assert p)(check-sat)(pop 1)(check-sat)") ≡ Some (p ∷ [])
+unfolding lexemes first_piece built set_option declare_const command_of term_of stack_at
+first_before_others = refl
+
+-- behind commands that aren't taken so far, nothing is current
+pub none_behind_others : asserted_at 2 (codes "(declare-const p Bool)(assert p)(check-sat)(pop 1)(check-sat)") ≡ None
+unfolding lexemes first_piece built set_option declare_const command_of term_of stack_at
+none_behind_others = refl
+
+-- as an assertion may have been taken back
+pub none_behind_push : asserted_at 1 (codes "(declare-const p Bool)(push 1)(assert (not p))(pop 1)(assert p)(check-sat)") ≡ None
+unfolding lexemes first_piece built set_option declare_const command_of term_of stack_at
+none_behind_push = refl
+
+-- or the script may have ended
+pub none_behind_exit : asserted_at 1 (codes "(exit)(check-sat)") ≡ None
+unfolding lexemes first_piece built set_option declare_const command_of term_of stack_at
+none_behind_exit = refl
+
+-- nor is anything behind commands that are refused
+pub none_behind_refused : asserted_at 1 (codes "(declare-const p Bool)(assert q)(assert p)(check-sat)") ≡ None
+unfolding lexemes first_piece built set_option declare_const command_of term_of stack_at
+none_behind_refused = refl
