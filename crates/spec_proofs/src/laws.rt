@@ -43,7 +43,7 @@ pub fn accepted_proofs_have_no_fault()
 {
     spec_scripts::laws::plain_scripts_have_one_check();
     spec_scripts::laws::checks_have_one_stack();
-    spec_scripts::laws::texts_have_one_reading();
+    spec_text::laws::trees_are_unique();
 }
 
 /// States that commands have at most one first fault. Source: own.
@@ -59,7 +59,7 @@ pub fn verdict_is_one()
     first_fault_is_one();
     spec_scripts::laws::plain_scripts_have_one_check();
     spec_scripts::laws::checks_have_one_stack();
-    spec_scripts::laws::texts_have_one_reading();
+    spec_text::laws::trees_are_unique();
 }
 
 /// States that the definition of models is met where it should be: truths that make the terms of all current assertions
@@ -78,7 +78,7 @@ pub fn other_scripts_are_not_yet_taken()
     ensures { (script proof : List ℕ) (ts : Trees) → IsRead script ts → plain_stack empty_stack ts ≡ None
         → IsVerdict script proof (Some not_yet) }
 {
-    spec_scripts::laws::texts_have_one_reading();
+    spec_text::laws::trees_are_unique();
 }
 
 /// States that of a proof which is read, but is not plain, the verdict is that it is not yet taken. Source: own.
@@ -86,7 +86,7 @@ pub fn other_proofs_are_not_yet_taken()
     ensures { (script proof : List ℕ) (s : Stack) (ts : Trees) → IsPlainScript script s → IsRead proof ts
         → is_plain (known_at s) ts ≡ false → IsVerdict script proof (Some not_yet) }
 {
-    spec_scripts::laws::texts_have_one_reading();
+    spec_text::laws::trees_are_unique();
     spec_scripts::laws::plain_scripts_have_one_check();
     spec_scripts::laws::checks_have_one_stack();
 }

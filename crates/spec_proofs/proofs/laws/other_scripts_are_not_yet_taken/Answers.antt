@@ -8,7 +8,7 @@ pub returns : goal.returns
 returns c = λ script proof ts read refused. inr (
   λ are.
       let plain = are.2.plain_script in
-      let trees = c.texts_have_one_reading.ensures script plain.commands ts plain.read read in
+      let trees = c.trees_are_unique.ensures script plain.commands ts plain.read read in
       let both : Some are.0 ≡ None = sym plain.plain ∙ ap (plain_stack empty_stack) trees ∙ refused in
       cc,
   refl,
