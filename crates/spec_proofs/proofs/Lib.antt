@@ -3,3 +3,4 @@ pub mod Resolution
 pub mod Values
 pub mod Judging
 pub mod Verdicts
+pub mod Chains

@@ -1,6 +1,6 @@
 -- Proofs that are plain, and proofs that are not. Each is one of the script `contradiction`: a constant p, and p and (not p) asserted.
-use Rattle.std.specs.Prelude.{◌≡◌, refl, ℕ, false, List, [], ◌∷◌, Option, Some, codes}
-use Rattle.std.proofs.Common.{arith}
+use Rattle.std.specs.Prelude.{◌≡◌, refl, ℕ, zero, suc, false, List, [], ◌∷◌, ◌⊎◌, map, Contains, Option, Some, codes}
+use Rattle.std.proofs.Common.{arith, sym, inl, inr}
 use Rattle.spec_text.specs.Lexemes.{lexemes, first_piece}
 use Rattle.spec_text.specs.Faults.{first_fault}
 use Rattle.spec_text.specs.Places.{line_of, column_of}
@@ -11,7 +11,9 @@ use Rattle.spec_terms.specs.Reading.{term_of}
 use Rattle.spec_scripts.specs.Commands as scripts
 use Rattle.spec_scripts.specs.Commands.{set_option, declare_const}
 use Rattle.spec_scripts.specs.Plain.{plain_stack}
-use Rattle.spec_scripts.specs.Examples.{built, trees_in, stack_in, p, contradiction, contradiction_is_plain, without_option, without_option_is_plain}
+use Rattle.spec_scripts.specs.Examples.{built, trees_in, stack_in, p, q, contradiction, contradiction_is_plain, without_option, without_option_is_plain}
+use Rattle.spec_proofs.specs.Resolution.{IsChain}
+use Rattle.spec_proofs.specs.Clauses.{Literal, complement, literal_of, literals_of}
 use Rattle.spec_proofs.specs.Commands.{Known, Command, Assume, Step, assume_of, step_of, command_of, known_at}
 use Rattle.spec_proofs.specs.declared.Rule.TheVariants.{Resolution}
 use Rattle.spec_proofs.specs.Faults.{with_command}
@@ -283,3 +285,37 @@ answer_in_front = codes "unsat\n(assume h1 p)\n(assume h2 (not p))\n"
 pub answer_in_front_refused : IsNoPlainProof answer_in_front
 unfolding lexemes first_piece first_fault built set_option declare_const command_of assume_of step_of each term_of plain_stack is_plain scripts.command_of
 answer_in_front_refused = record { read = refl; refused = refl }
+
+-- the one literal of a clause
+pub only : (l m : Literal) → Contains (l ∷ []) m → m ≡ l
+only l m (zero, lt, e) = sym e
+only l m (suc k, lt, e) = absurd (omega (arith, lt))
+
+-- one of two
+pub either : (l n m : Literal) → Contains (l ∷ n ∷ []) m → (m ≡ l) ⊎ (m ≡ n)
+either l n m (zero, lt, e) = inl (sym e)
+either l n m (suc zero, lt, e) = inr (sym e)
+either l n m (suc (suc k), lt, e) = absurd (omega (arith, lt))
+
+-- a chain of two binary resolutions: (cl p q) with (cl (not p)) gives (cl q), and that with (cl (not q)) the empty clause
+pub chain_of_two : IsChain complement (literals_of (p ∷ q ∷ [])) (map literals_of ((negated p ∷ []) ∷ (negated q ∷ []) ∷ [])) []
+unfolding literal_of
+chain_of_two = (
+  literal_of q ∷ [],
+  record {
+    pivot = literal_of p;
+    in_one = (0, omega arith, refl);
+    in_other = (0, omega arith, refl);
+    rest_of_one = λ l l_in. elim (either (literal_of p) (literal_of q) l l_in) [ inl e ↦ inl e | inr e ↦ inr (0, omega arith, sym e) ];
+    rest_of_other = λ l l_in. inl (only (complement (literal_of p)) l l_in);
+  },
+  ([],
+  record {
+    pivot = literal_of q;
+    in_one = (0, omega arith, refl);
+    in_other = (0, omega arith, refl);
+    rest_of_one = λ l l_in. inl (only (literal_of q) l l_in);
+    rest_of_other = λ l l_in. inl (only (complement (literal_of q)) l l_in);
+  },
+  λ l l_in. l_in),
+)

@@ -1,11 +1,12 @@
 //! What the definitions imply. Each law is a function whose contract is the law; it computes nothing.
 
-ghost use Rattle.std.specs.Prelude.{◌≡◌, ◌≢◌, ℕ, List, All, Option, Some, None, true, false, length};
+ghost use Rattle.std.specs.Prelude.{◌≡◌, ◌≢◌, ℕ, List, ◌∷◌, map, All, Option, Some, None, true, false, length};
 ghost use Rattle.spec_text.specs.Trees.{Trees, IsRead};
 ghost use Rattle.spec_terms.specs.Values.{Interpretation, Interprets};
 ghost use Rattle.spec_scripts.specs.Stack.{Assertion, Stack, empty_stack, IsCurrent, MakesTrue, HasNoModel};
 ghost use Rattle.spec_scripts.specs.Plain.{IsPlainScript, plain_stack};
-ghost use Rattle.spec_proofs.specs.Clauses.{Clause, IsResolvent, Truths, term_true, clause_true};
+ghost use Rattle.spec_proofs.specs.Resolution.{IsWithin, IsChain};
+ghost use Rattle.spec_proofs.specs.Clauses.{Clause, complement, literals_of, IsResolvent, Truths, term_true, clause_true};
 ghost use Rattle.spec_proofs.specs.declared.ProofKind.TheVariants.{NotYet};
 ghost use Rattle.spec_proofs.specs.Commands.{Known, known_at};
 ghost use Rattle.spec_proofs.specs.Faults.{Fault, FirstFault};
@@ -16,6 +17,18 @@ ghost use Rattle.spec_proofs.specs.Accepted.{IsAccepted, ArePlain, IsPlain, is_p
 pub fn resolution_is_sound()
     ensures { (premises : List Clause) (clause : Clause) (v : Truths) → All (λ c. clause_true v c ≡ true) premises
         → IsResolvent premises clause → clause_true v clause ≡ true }
+{}
+
+/// States that each chain of binary resolutions passes, where each resolves the clause so far with a premise: premises
+/// may be used in any order and as often as wanted, and so in the order in which they stand. Source: own.
+pub fn chains_are_resolvents()
+    ensures any { (premises : List Clause) (first : Clause) (rest : List Clause) (clause : Clause)
+        → IsWithin (first ∷ rest) premises
+        → IsChain complement (literals_of first) (map literals_of rest) (literals_of clause)
+        → IsResolvent premises clause }
+    ensures in_order { (first : Clause) (rest : List Clause) (clause : Clause)
+        → IsChain complement (literals_of first) (map literals_of rest) (literals_of clause)
+        → IsResolvent (first ∷ rest) clause }
 {}
 
 /// States that no interpretation makes true what is current at a check of which a proof is accepted.
