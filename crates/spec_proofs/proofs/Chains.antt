@@ -1,6 +1,6 @@
 -- Unit propagation passes each chain of binary resolutions.
 use Rattle.std.proofs.Common.{◌≡◌, ◌≢◌, ◌<◌, ℕ, zero, suc, List, [], ◌∷◌, map, length, get_or, Contains, ◌⊎◌, inl, inr, refl, sym, ap, arith, subst}
-use Rattle.spec_proofs.specs.Resolution.{Derives, given, unit, Conflicts, false_clause, Resolves, IsWithin, IsBinary, IsChain}
+use Rattle.spec_proofs.specs.Resolution.{Derives, given, unit, false_clause, Resolves, IsWithin, IsChain}
 
 -- what is behind the front of a list
 pub behind : {X : Type 0} (x y : X) (xs : List X) → Contains xs y → Contains (x ∷ xs) y

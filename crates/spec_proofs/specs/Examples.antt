@@ -309,13 +309,15 @@ chain_of_two = (
     rest_of_one = λ l l_in. elim (either (literal_of p) (literal_of q) l l_in) [ inl e ↦ inl e | inr e ↦ inr (0, omega arith, sym e) ];
     rest_of_other = λ l l_in. inl (only (complement (literal_of p)) l l_in);
   },
-  ([],
-  record {
-    pivot = literal_of q;
-    in_one = (0, omega arith, refl);
-    in_other = (0, omega arith, refl);
-    rest_of_one = λ l l_in. inl (only (literal_of q) l l_in);
-    rest_of_other = λ l l_in. inl (only (complement (literal_of q)) l l_in);
-  },
-  λ l l_in. l_in),
+  (
+    [],
+    record {
+      pivot = literal_of q;
+      in_one = (0, omega arith, refl);
+      in_other = (0, omega arith, refl);
+      rest_of_one = λ l l_in. inl (only (literal_of q) l l_in);
+      rest_of_other = λ l l_in. inl (only (complement (literal_of q)) l l_in);
+    },
+    λ l l_in. l_in,
+  ),
 )
