@@ -1,19 +1,20 @@
 -- One command after the other.
-use Rattle.std.proofs.Common.{◌≡◌, ℕ, zero, Bool, true, false, ◌||◌, List, [], ◌∷◌, ◌++◌, map, Option, Some, None, codes, cond, All, Any, ◌⊎◌, inl, inr, refl, sym, ap, ◌∙◌, subst}
+use Rattle.std.proofs.Common.{◌≡◌, ◌≢◌, ℕ, Bool, true, false, ◌||◌, List, [], ◌∷◌, Option, Some, None, codes, cond, All, inl, inr, refl, sym, ap, ◌∙◌, subst}
 use Rattle.std.specs.Str.{bytes_eq}
 use Rattle.std.specs.Prelude.{⊤}
 use Rattle.std.proofs.lemmas.Bool.{false≢true}
-use Rattle.std.proofs.lemmas.List.Elements.{All-head, All-tail, All-cons, All-nil, All-push, All-contains, All-get_or}
+use Rattle.std.proofs.lemmas.List.Elements.{All-head, All-tail, All-cons, All-nil, All-push, All-contains}
 use Rattle.spec_text.specs.Bytes.{Name}
-use Rattle.spec_text.specs.Shapes.{◌>>=◌, Word, only_if, first_word, first_list, only_tree, no_tree, inside_of, is_symbol, is_word, wanted, wanted_keyword, each}
-use Rattle.spec_text.specs.Trees.{Tree, Trees, atom, list, none, more, offset_of}
+use Rattle.spec_text.specs.Shapes.{◌>>=◌, first_word, first_list, only_tree, no_tree, inside_of, is_symbol, is_word, wanted, wanted_keyword, each}
+use Rattle.spec_text.specs.Trees.{Tree, Trees, atom, list, none, more}
 use Rattle.spec_terms.specs.Terms.{Term}
 use Rattle.spec_terms.specs.Reading.{term_of}
-use Rattle.spec_proofs.specs.declared.Rule.{Rule}
 use Rattle.spec_proofs.specs.declared.Rule.TheVariants.{Resolution}
+use Rattle.spec_proofs.specs.declared.ProofKind.{ProofKind}
+use Rattle.spec_proofs.specs.declared.ProofKind.TheVariants.{NotYet, NotAsserted, RuleFails, NoEmptyClause}
 use Rattle.spec_proofs.specs.Clauses.{Clause, IsResolvent, Truths, term_true, clause_true}
-use Rattle.spec_proofs.specs.Commands.{Known, Entry, Command, Assume, Step, clause_of, new_name, premise_of, premises_of, terms_of, assume_of, step_of, command_by, command_of}
-use Rattle.spec_proofs.specs.Faults.{Fault, IsRight, with_entry, with_command, IsRightAfter, fault_of, HasEmptyClause, EndsBy, FaultBy, FirstFault}
+use Rattle.spec_proofs.specs.Commands.{Known, Entry, Command, Assume, Step, clause_of, new_name, premise_of, premises_of, terms_of, assume_of, step_of, command_of}
+use Rattle.spec_proofs.specs.Faults.{Fault, with_command, IsRightAfter, HasEmptyClause, EndsBy, FaultBy, FirstFault, fault_at, fault_of}
 
 bind_some : {A B : Type 0} (o : Option A) (f : A → Option B) (y : B) → (o >>= f) ≡ Some y → (x : A) × (o ≡ Some x) × (f x ≡ Some y)
 bind_some (Some x) f y e = (x, refl, e)
@@ -137,3 +138,21 @@ fault_one k end (more t ts) a b x y = go (command_of k t) x y (λ next. fault_on
     go (Some c) (inl p) (inr q) rec = absurd (q.0 p.0)
     go (Some c) (inr p) (inl q) rec = absurd (p.0 q.0)
     go (Some c) (inr p) (inr q) rec = p.1 ∙ sym q.1
+
+late : (f : Fault) (kind : ProofKind) (at : ℕ) → f ≡ fault_at at kind → kind ≢ NotYet → f.kind ≢ NotYet
+late f kind at e other same = other (sym (ap (λ (g : Fault). g.kind) e) ∙ same)
+
+-- the first fault of commands is not that they aren't taken
+pub fault_is_late : (k : Known) (end : ℕ) (ts : Trees) (f : Fault) → FirstFault k end ts (Some f) → f.kind ≢ NotYet
+unfolding FirstFault
+fault_is_late k end none f x = late f NoEmptyClause end x.1 (λ e. cc)
+fault_is_late k end (more t ts) f x = go (command_of k t) x (λ next. fault_is_late next end ts f)
+  where
+    by_command : (c : Command) → Some f ≡ Some (fault_of c) → f.kind ≢ NotYet
+    by_command (Assume at n t) e = let same : f ≡ fault_at at NotAsserted = cc in late f NotAsserted at same (λ e. cc)
+    by_command (Step at n c r ps) e = let same : f ≡ fault_at at RuleFails = cc in late f RuleFails at same (λ e. cc)
+
+    go : (o : Option Command) → FaultBy k o (λ next. FirstFault next end ts (Some f)) (Some f) → ((next : Known) → FirstFault next end ts (Some f) → f.kind ≢ NotYet) → f.kind ≢ NotYet
+    go None x rec = absurd x
+    go (Some c) (inl x) rec = rec (with_command k c) x.1
+    go (Some c) (inr x) rec = by_command c x.1

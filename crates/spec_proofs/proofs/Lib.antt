@@ -2,3 +2,5 @@
 pub mod Resolution
 pub mod Values
 pub mod Judging
+pub mod Verdicts
+pub mod Chains

@@ -63,7 +63,7 @@ assume_of k ts = do
   u ← term_of k.symbols t
   Some (Assume (offset_of t) n u)
 
--- i (cl t ..) :rule resolution :premises (p ..), behind (step
+-- i (cl t ..) :rule resolution :premises (p ..), behind (step; own: an empty :premises () is taken, and the keyword may not be left out so far
 unfoldable pub step_of : Known → ℕ → Trees → Option Command
 step_of k at ts = do
   i ← first_word ts

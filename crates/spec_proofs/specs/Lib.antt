@@ -5,3 +5,4 @@ pub mod Commands
 pub mod Faults
 pub mod Accepted
 pub mod Models
+pub mod Examples

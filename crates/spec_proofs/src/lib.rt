@@ -1,6 +1,7 @@
 //! Definitions about proofs: clauses, resolution, right steps, accepted proofs and the first fault.
 #![tactic(auto)]
 
+pub mod examples;
 pub mod laws;
 
 ghost use Rattle.std.specs.Prelude.{◌≡◌};

@@ -1,5 +1,5 @@
 -- What commands keep, up to a check.
-use Rattle.std.proofs.Common.{◌≡◌, ℕ, zero, suc, Bool, true, false, not, ◌&&◌, List, [], ◌∷◌, ◌++◌, Option, Some, None, option_map, codes, cond, All, ◌⊎◌, inl, inr, refl, sym, ap, ◌∙◌, subst}
+use Rattle.std.proofs.Common.{◌≡◌, ℕ, zero, suc, Bool, true, false, not, ◌&&◌, List, [], ◌∷◌, ◌++◌, Option, Some, None, option_map, codes, cond, All, refl, sym, ap, ◌∙◌, subst}
 use Rattle.std.specs.Str.{bytes_eq}
 use Rattle.std.specs.Prelude.{⊤}
 use Rattle.std.proofs.lemmas.Bool.{false≢true}
@@ -14,8 +14,8 @@ use Rattle.spec_terms.specs.Meaning.{negation_of}
 use Rattle.spec_terms.specs.Agreement.{HasOwnName}
 use Rattle.spec_terms.specs.Reading.{symbol_named, constant_term, constant_of, negation_by, term_of}
 use Rattle.spec_scripts.specs.Commands.{Command, PrintNoSuccess, DeclareConst, Assert, CheckSat, set_option, declare_const, assertion, check_sat, command_by, command_of}
-use Rattle.spec_scripts.specs.Stack.{Stack, Assertion, empty_stack, names_of, theory_names, is_kept_name, may_declare, with_symbol, with_assertion, asserted_by, performed, or_else, after, at_check, stack_at}
-use Rattle.spec_scripts.specs.Plain.{if_last, then_by, plain_by, plain_stack}
+use Rattle.spec_scripts.specs.Stack.{Stack, Assertion, empty_stack, names_of, theory_names, is_kept_name, may_declare, with_symbol, with_assertion, asserted_by, performed, then_by, at_check, stack_at}
+use Rattle.spec_scripts.specs.Plain.{if_last, plain_by, plain_stack}
 use Rattle.spec_scripts.specs.Current.{IsDeclared, IsReadUnder, IsReadStack}
 
 -- a tree's command declares constants of sort Bool alone
@@ -112,36 +112,30 @@ performed_kept s CheckSat r d e h = let same : s ≡ r = cc in subst IsReadStack
 performed_kept s (DeclareConst w sort) r d e h = declaration_kept s w sort (may_declare s.symbols w) r refl d e h
 performed_kept s (Assert t) r d e h = assertion_kept s t (term_of s.symbols t) r refl e h
 
-after_kept : (s : Stack) (o : Option Command) → DeclaresBool o → IsReadStack s → IsReadStack (after s o)
-after_kept s None d h = h
-after_kept s (Some c) d h = go (performed s c) (λ r. performed_kept s c r d)
-  where
-    go : (o : Option Stack) → ((r : Stack) → o ≡ Some r → IsReadStack s → IsReadStack r) → IsReadStack (or_else o s)
-    go None f = h
-    go (Some r) f = f r refl h
+-- what a command leaves is read, and so is what comes later
+through : (o : Option Stack) (r : Stack) (k : ℕ) (rest : Stack → ℕ → Option Stack) → ((next : Stack) → o ≡ Some next → IsReadStack next) → then_by o (λ next. rest next k) ≡ Some r → ((next : Stack) (n : ℕ) → IsReadStack next → rest next n ≡ Some r → IsReadStack r) → IsReadStack r
+through None r k rest kept e later = cc
+through (Some next) r k rest kept e later = later next k (kept next refl) e
 
--- at a check, what stands there, or what comes later
-at_check_is : (s r : Stack) (k : ℕ) (o : Option Command) (rest : Stack → ℕ → Option Stack) → at_check s k o rest ≡ Some r → (s ≡ r) ⊎ ((n : ℕ) × (rest (after s o) n ≡ Some r))
-at_check_is s r zero o rest e = inr (zero, e)
-at_check_is s r (suc zero) None rest e = inr (suc zero, e)
-at_check_is s r (suc zero) (Some PrintNoSuccess) rest e = inr (suc zero, e)
-at_check_is s r (suc zero) (Some (DeclareConst w sort)) rest e = inr (suc zero, e)
-at_check_is s r (suc zero) (Some (Assert t)) rest e = inr (suc zero, e)
-at_check_is s r (suc zero) (Some CheckSat) rest e = let same : s ≡ r = cc in inl same
-at_check_is s r (suc (suc k)) None rest e = inr (suc (suc k), e)
-at_check_is s r (suc (suc k)) (Some PrintNoSuccess) rest e = inr (suc (suc k), e)
-at_check_is s r (suc (suc k)) (Some (DeclareConst w sort)) rest e = inr (suc (suc k), e)
-at_check_is s r (suc (suc k)) (Some (Assert t)) rest e = inr (suc (suc k), e)
-at_check_is s r (suc (suc k)) (Some CheckSat) rest e = inr (suc k, e)
+-- what stands at a check is read, where what comes later is
+check_kept : (s r : Stack) (k : ℕ) (o : Option Command) (rest : Stack → ℕ → Option Stack) → DeclaresBool o → IsReadStack s → at_check s k o rest ≡ Some r → ((next : Stack) (n : ℕ) → IsReadStack next → rest next n ≡ Some r → IsReadStack r) → IsReadStack r
+check_kept s r zero None rest d h e later = cc
+check_kept s r (suc zero) None rest d h e later = cc
+check_kept s r (suc (suc k)) None rest d h e later = cc
+check_kept s r (suc zero) (Some CheckSat) rest d h e later = let same : s ≡ r = cc in subst IsReadStack same h
+check_kept s r (suc (suc k)) (Some CheckSat) rest d h e later = later s (suc k) h e
+check_kept s r zero (Some c) rest d h e later = through (performed s c) r zero rest (λ next p. performed_kept s c next d p h) e later
+check_kept s r (suc zero) (Some PrintNoSuccess) rest d h e later = through (performed s PrintNoSuccess) r (suc zero) rest (λ next p. performed_kept s PrintNoSuccess next d p h) e later
+check_kept s r (suc zero) (Some (DeclareConst w sort)) rest d h e later = through (performed s (DeclareConst w sort)) r (suc zero) rest (λ next p. performed_kept s (DeclareConst w sort) next d p h) e later
+check_kept s r (suc zero) (Some (Assert t)) rest d h e later = through (performed s (Assert t)) r (suc zero) rest (λ next p. performed_kept s (Assert t) next d p h) e later
+check_kept s r (suc (suc k)) (Some PrintNoSuccess) rest d h e later = through (performed s PrintNoSuccess) r (suc (suc k)) rest (λ next p. performed_kept s PrintNoSuccess next d p h) e later
+check_kept s r (suc (suc k)) (Some (DeclareConst w sort)) rest d h e later = through (performed s (DeclareConst w sort)) r (suc (suc k)) rest (λ next p. performed_kept s (DeclareConst w sort) next d p h) e later
+check_kept s r (suc (suc k)) (Some (Assert t)) rest d h e later = through (performed s (Assert t)) r (suc (suc k)) rest (λ next p. performed_kept s (Assert t) next d p h) e later
 
 pub current_kept : (s : Stack) (k : ℕ) (ts : Trees) (r : Stack) → stack_at s k ts ≡ Some r → IsReadStack s → IsReadStack r
 unfolding stack_at
 current_kept s k none r e h = cc
-current_kept s k (more t ts) r e h = go (λ n later. current_kept (after s (command_of t)) n ts r later (after_kept s (command_of t) (declares t) h)) (at_check_is s r k (command_of t) (λ next n. stack_at next n ts) e)
-  where
-    go : ((n : ℕ) → stack_at (after s (command_of t)) n ts ≡ Some r → IsReadStack r) → (s ≡ r) ⊎ ((n : ℕ) × (stack_at (after s (command_of t)) n ts ≡ Some r)) → IsReadStack r
-    go rest (inl same) = subst IsReadStack same h
-    go rest (inr later) = rest later.0 later.1
+current_kept s k (more t ts) r e h = check_kept s r k (command_of t) (λ next n. stack_at next n ts) (declares t) h e (λ next n kept later. current_kept next n ts r later kept)
 
 pub empty_kept : IsReadStack empty_stack
 empty_kept = record { symbols = All-nil IsDeclared; assertions = All-nil (IsReadUnder []) }
@@ -152,9 +146,9 @@ unfolding plain_stack stack_at
 plain_at s none r e = cc
 plain_at s (more t ts) r e = go (command_of t) e (λ next. plain_at next ts r)
   where
-    through : (o : Option Stack) → then_by o (λ next. plain_stack next ts) ≡ Some r → ((next : Stack) → plain_stack next ts ≡ Some r → stack_at next 1 ts ≡ Some r) → stack_at (or_else o s) 1 ts ≡ Some r
-    through None e later = cc
-    through (Some next) e later = later next e
+    onward : (o : Option Stack) → then_by o (λ next. plain_stack next ts) ≡ Some r → ((next : Stack) → plain_stack next ts ≡ Some r → stack_at next 1 ts ≡ Some r) → then_by o (λ next. stack_at next 1 ts) ≡ Some r
+    onward None e later = cc
+    onward (Some next) e later = later next e
 
     last : (us : Trees) → if_last s us ≡ Some r → Some s ≡ Some r
     last none e = e
@@ -163,9 +157,9 @@ plain_at s (more t ts) r e = go (command_of t) e (λ next. plain_at next ts r)
     go : (o : Option Command) → plain_by s o ts (λ next. plain_stack next ts) ≡ Some r → ((next : Stack) → plain_stack next ts ≡ Some r → stack_at next 1 ts ≡ Some r) → at_check s 1 o (λ next n. stack_at next n ts) ≡ Some r
     go None e later = cc
     go (Some CheckSat) e later = last ts e
-    go (Some PrintNoSuccess) e later = through (Some s) e later
-    go (Some (DeclareConst w sort)) e later = through (performed s (DeclareConst w sort)) e later
-    go (Some (Assert t)) e later = through (performed s (Assert t)) e later
+    go (Some PrintNoSuccess) e later = onward (Some s) e later
+    go (Some (DeclareConst w sort)) e later = onward (performed s (DeclareConst w sort)) e later
+    go (Some (Assert t)) e later = onward (performed s (Assert t)) e later
 
 -- no theory's name is a head's
 pub own_name : (s : Symbol) → IsDeclared s → HasOwnName s

@@ -11,6 +11,7 @@ pub record IsDeclared (s : Symbol) : Type 0 where
   pub not_kept : is_kept_name s.name ≡ false
   pub sorted : s ≡ constant s.name Truth
 
+-- each of the symbols is declared
 abbrev pub AreDeclared : List Symbol → Type 0
 AreDeclared symbols = All IsDeclared symbols
 

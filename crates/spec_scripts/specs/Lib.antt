@@ -3,3 +3,4 @@ pub mod Commands
 pub mod Stack
 pub mod Plain
 pub mod Current
+pub mod Examples

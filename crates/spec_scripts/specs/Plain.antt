@@ -3,7 +3,7 @@ use Rattle.std.specs.Prelude.{◌≡◌, ℕ, ◌≤◌, ◌^◌, List, length, 
 use Rattle.spec_text.specs.Trees.{Trees, none, more, IsRead}
 use Rattle.spec_text.specs.Faults.{lexical_fault}
 use Rattle.spec_scripts.specs.Commands.{Command, CheckSat, command_of}
-use Rattle.spec_scripts.specs.Stack.{Stack, empty_stack, performed}
+use Rattle.spec_scripts.specs.Stack.{Stack, empty_stack, performed, then_by}
 
 -- how many bytes a text may have
 abbrev pub text_limit : ℕ
@@ -12,10 +12,6 @@ text_limit = 2 ^ 26
 abbrev pub if_last : Stack → Trees → Option Stack
 if_last s none = Some s
 if_last s (more t ts) = None
-
-abbrev pub then_by : Option Stack → (Stack → Option Stack) → Option Stack
-then_by (Some s) rest = rest s
-then_by None rest = None
 
 abbrev pub plain_by : Stack → Option Command → Trees → (Stack → Option Stack) → Option Stack
 plain_by s None ts rest = None

@@ -55,20 +55,17 @@ performed s (DeclareConst w sort) = only_if (may_declare s.symbols w) (with_symb
 performed s (Assert t) = asserted_by s t (term_of s.symbols t)
 performed s CheckSat = Some s
 
-abbrev pub or_else : {A : Type 0} → Option A → A → A
-or_else (Some a) b = a
-or_else None b = b
+-- what follows, where there is a stack so far
+abbrev pub then_by : Option Stack → (Stack → Option Stack) → Option Stack
+then_by (Some s) rest = rest s
+then_by None rest = None
 
--- what a tree leaves; one that is no command, or is refused, changes nothing
-abbrev pub after : Stack → Option Command → Stack
-after s (Some c) = or_else (performed s c) s
-after s None = s
-
--- at a check, the first number of checks still to come being counted down, else what the rest gives
+-- at a check, the number of checks still to come being counted down; what is no command that is taken, or is refused, leaves nothing known so far: commands that come later may change what is current
 abbrev pub at_check : Stack → ℕ → Option Command → (Stack → ℕ → Option Stack) → Option Stack
 at_check s (suc zero) (Some CheckSat) rest = Some s
 at_check s (suc (suc k)) (Some CheckSat) rest = rest s (suc k)
-at_check s k c rest = rest (after s c) k
+at_check s k None rest = None
+at_check s k (Some c) rest = then_by (performed s c) (λ next. rest next k)
 
 -- the stack at the k-th check, from 1; what follows isn't looked at
 unfoldable pub stack_at : Stack → ℕ → Trees → Option Stack
@@ -87,6 +84,6 @@ pub record MakesTrue (i : Interpretation) (text : List ℕ) (k : ℕ) : Type 0 w
   pub current : IsCurrent text k stack
   pub each : All (λ (a : Assertion). value_under i a.text ≡ truth true) stack.assertions
 
--- no interpretation, of whatever tables, makes them true
+-- no interpretation, of whatever tables, makes them true; it says nothing where there is no such check
 abbrev pub HasNoModel : List ℕ → ℕ → Type 0
 HasNoModel text k = (i : Interpretation) → MakesTrue i text k → ⊥

@@ -1,7 +1,6 @@
 //! What the definitions imply. Each law is a function whose contract is the law; it computes nothing.
 
 ghost use Rattle.std.specs.Prelude.{◌≡◌, ℕ, List, All};
-ghost use Rattle.spec_text.specs.Trees.{Trees, IsRead};
 ghost use Rattle.spec_terms.specs.Values.{Interpretation};
 ghost use Rattle.spec_terms.specs.Meaning.{value_under};
 ghost use Rattle.spec_terms.specs.Agreement.{value_at};
@@ -9,16 +8,11 @@ ghost use Rattle.spec_scripts.specs.Stack.{Stack, Assertion, IsCurrent};
 ghost use Rattle.spec_scripts.specs.Plain.{IsPlainScript};
 ghost use Rattle.spec_scripts.specs.Current.{IsReadStack};
 
-/// States that a text has at most one list of trees. Source: own.
-pub fn texts_have_one_reading()
-    ensures { (text : List ℕ) (ts us : Trees) → IsRead text ts → IsRead text us → ts ≡ us }
-{}
-
 /// States that what is current at a check is determined by the text and the check's number. Source: own.
 pub fn checks_have_one_stack()
     ensures { (text : List ℕ) (k : ℕ) (s t : Stack) → IsCurrent text k s → IsCurrent text k t → s ≡ t }
 {
-    texts_have_one_reading();
+    spec_text::laws::trees_are_unique();
 }
 
 /// States that what is current in a plain script at its check is current at the first check. Source: own.

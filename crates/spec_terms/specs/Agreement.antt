@@ -14,6 +14,7 @@ unfoldable mutual
   pub value_at : Interpretation → Term → Value
   value_at i (app h ts) = head_value i h (values_at i ts)
 
+  -- the values of terms, in their order
   pub values_at : Interpretation → Terms → List Value
   values_at i nil = []
   values_at i (cons t ts) = value_at i t ∷ values_at i ts
@@ -22,5 +23,6 @@ unfoldable mutual
 abbrev pub HasOwnName : Symbol → Type 0
 HasOwnName s = look_up theory_values s.name ≡ None
 
+-- no symbol's name is a theory's
 abbrev pub HaveOwnNames : List Symbol → Type 0
 HaveOwnNames symbols = All HasOwnName symbols

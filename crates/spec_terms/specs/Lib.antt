@@ -5,3 +5,4 @@ pub mod Values
 pub mod Meaning
 pub mod Reading
 pub mod Agreement
+pub mod TermCodes

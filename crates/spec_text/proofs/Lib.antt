@@ -4,3 +4,4 @@ pub mod Blanks
 pub mod Tests
 pub mod Spelling
 pub mod Longest
+pub mod Reading

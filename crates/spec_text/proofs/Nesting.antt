@@ -27,30 +27,6 @@ abbrev pub built : List (ℕ × Lexeme) → Behind
 built [] = record { trees = none; outer = [] }
 built ((at, x) ∷ xs) = add_lexeme at x (built xs)
 
-abbrev put : Tree → Behind → Behind
-put t s = record { trees = more t s.trees; outer = s.outer }
-
-abbrev joined : Trees → Behind → Behind
-joined none s = s
-joined (more t ts) s = put t (joined ts s)
-
-joined_none : (ts : Trees) (outer : List (ℕ × Trees)) → joined ts record { trees = none; outer = outer } ≡ record { trees = ts; outer = outer }
-joined_none none outer = refl
-joined_none (more t ts) outer = ap (put t) (joined_none ts outer)
-
-mutual
-  built_tree : (t : Tree) (xs : List (ℕ × Lexeme)) → built (spelled t ++ xs) ≡ put t (built xs)
-  built_tree (atom at k bytes) xs = refl
-  built_tree (list at ts end) xs =
-      ap (λ (ys : List (ℕ × Lexeme)). add_lexeme at opens (built ys)) (append_assoc (spelled_all ts) ((end, closes) ∷ []) xs) ∙ ap (add_lexeme at opens) (built_trees ts ((end, closes) ∷ xs) ∙ joined_none ts ((end, (built xs).trees) ∷ (built xs).outer))
-
-  built_trees : (ts : Trees) (xs : List (ℕ × Lexeme)) → built (spelled_all ts ++ xs) ≡ joined ts (built xs)
-  built_trees none xs = refl
-  built_trees (more t ts) xs = ap built (append_assoc (spelled t) (spelled_all ts) xs) ∙ built_tree t (spelled_all ts ++ xs) ∙ ap (put t) (built_trees ts xs)
-
-pub trees_from_lexemes : (ts : Trees) → (built (spelled_all ts)).trees ≡ ts
-trees_from_lexemes ts = ap (λ (s : Behind). s.trees) (ap built (sym (append-nil (spelled_all ts))) ∙ built_trees ts [] ∙ joined_none ts [])
-
 -- how the ends of lists are spelled
 abbrev pub spelled_outer : List (ℕ × Trees) → List (ℕ × Lexeme)
 spelled_outer [] = []

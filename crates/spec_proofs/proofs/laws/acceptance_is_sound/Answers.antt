@@ -1,9 +1,8 @@
 -- That no script with an accepted proof has a model.
-use Rattle.std.proofs.Common.{◌≡◌, List, All, true, map, refl, sym, ap, ◌∙◌, subst}
+use Rattle.std.proofs.Common.{◌≡◌, All, true, sym, ap, ◌∙◌, subst}
 use Rattle.std.proofs.lemmas.List.Elements.{All-nil, All-map}
-use Rattle.spec_terms.specs.Values.{truth, Interpretation}
+use Rattle.spec_terms.specs.Values.{truth}
 use Rattle.spec_terms.specs.Meaning.{is_true, value_under}
-use Rattle.spec_terms.specs.Agreement.{value_at}
 use Rattle.spec_scripts.specs.Stack.{Stack, Assertion}
 use Rattle.spec_proofs.specs.Commands.{known_at}
 use Rattle.spec_proofs.specs.Models.{truths_of}

@@ -1,10 +1,10 @@
 -- That there is one verdict.
-use Rattle.std.proofs.Common.{◌≡◌, ℕ, List, length, Option, Some, None, ◌⊎◌, inl, inr, sym, ◌∙◌, subst}
+use Rattle.std.proofs.Common.{◌≡◌, ℕ, List, length, Option, inl, inr, sym, ◌∙◌, subst}
 use Rattle.spec_text.specs.Trees.{Trees}
 use Rattle.spec_scripts.specs.Stack.{Stack}
 use Rattle.spec_proofs.specs.Commands.{known_at}
 use Rattle.spec_proofs.specs.Faults.{Fault, FirstFault}
-use Rattle.spec_proofs.specs.Accepted.{IsPlain, IsVerdict}
+use Rattle.spec_proofs.specs.Accepted.{IsVerdict}
 use Rattle.spec_proofs.proofs.laws.verdict_is_one.Goals as goal
 
 pub returns : goal.returns
@@ -15,7 +15,7 @@ returns c = λ script proof a b x y. go script proof a b x y
         let one = c.plain_scripts_have_one_check.ensures script x.0 x.2.plain_script in
         let other = c.plain_scripts_have_one_check.ensures script y.0 y.2.plain_script in
         let stacks = c.checks_have_one_stack.ensures script 1 x.0 y.0 one other in
-        let trees = c.texts_have_one_reading.ensures proof x.1 y.1 x.2.read y.2.read in
+        let trees = c.trees_are_unique.ensures proof x.1 y.1 x.2.read y.2.read in
         let first = subst (λ (t : Trees). FirstFault (known_at y.0) (length proof) t a) trees (subst (λ (s : Stack). FirstFault (known_at s) (length proof) x.1 a) stacks x.3) in
         c.first_fault_is_one.ensures (known_at y.0) (length proof) y.1 a b first y.3
     go script proof a b (inl x) (inr y) = absurd (y.0 (x.0, x.1, x.2))

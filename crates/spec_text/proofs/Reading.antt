@@ -39,3 +39,17 @@ mutual
 -- trees with the same lexemes are the same
 pub same_trees : (ts us : Trees) → spelled_all ts ≡ spelled_all us → ts ≡ us
 same_trees ts us e = (same_inside ts us 0 0 [] [] (ap (λ xs. xs ++ (0, closes) ∷ []) e)).0
+
+-- of trees whose lexemes begin with those of a tree, it is the first
+pub first_tree : (t : Tree) (us : Trees) (rest : List (ℕ × Lexeme)) → spelled_all us ≡ spelled t ++ rest → (vs : Trees) × (us ≡ more t vs) × (spelled_all vs ≡ rest)
+first_tree (atom a k b) none rest e = cc
+first_tree (list a ts f) none rest e = cc
+first_tree t (more u us) rest e =
+    let s = same_first u t (spelled_all us) rest e in
+    (us, ap (λ x. more x us) s.0, s.1)
+
+-- no lexemes, no trees
+pub no_trees : (us : Trees) → spelled_all us ≡ [] → us ≡ none
+no_trees none e = refl
+no_trees (more (atom a k b) us) e = cc
+no_trees (more (list a ts f) us) e = cc
