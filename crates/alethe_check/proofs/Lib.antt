@@ -30,3 +30,4 @@ pub mod Steps
 pub mod Empties
 pub mod Offsets
 pub mod Verdicts
+pub mod Answering

@@ -1,5 +1,5 @@
 -- What the checker answers.
-use Rattle.std.specs.Prelude.{List, ℕ, Some, None, Result, Ok, Err}
+use Rattle.std.specs.Prelude.{◌≡◌, List, ℕ, Option, Some, None, Result, Ok, Err}
 use Rattle.spec_text.specs.Places.{IsPlaceOf}
 use Rattle.spec_proofs.specs.Faults.{Fault, fault_at}
 use Rattle.spec_proofs.specs.Accepted.{IsVerdict}

@@ -85,6 +85,8 @@ fn verdict(proof: &[u8], found: Option<Found>) -> Result<(), ProofStop>
 fn judge_texts(alloc: Global, script: &[u8], proof: &[u8]) -> Result<(), ProofStop>
     ensures { Answers script.now proof.now result }
 {
+    spec_scripts::laws::checks_have_one_stack();
+    spec_scripts::laws::plain_scripts_have_one_check();
     let stated = match read_script(alloc, script) {
         Ok(stated) => stated,
         Err(Unread::NotPlain) => return Err(not_yet()),
