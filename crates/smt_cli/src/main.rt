@@ -1,0 +1,52 @@
+//! Judges an Alethe proof against an SMT-LIB script, both real files.
+//!
+//! The words of the program go to the run with real files and standard output; the program ends with the status of the run.
+#![tactic(auto)]
+
+use smt_top::{Status, run};
+use std::env;
+use std::io::ErrorKind;
+use std::process::ExitCode;
+use std::rt::{Env, Files};
+use world_io::{HostShelf, HostSink};
+
+/// Ends with the status of the run: 0 to 5.
+fn main(rt: HostRuntime) -> ExitCode {
+    ExitCode::from(status_of(&rt).code())
+}
+
+/// Runs the words that the program was given.
+///
+/// Words that are not UTF-8, or that cannot be had as a whole, are as no words; where memory for them is wanting the
+/// answer is `Memory`. Source: own.
+fn status_of<R: Files + Input + Print + Env + AllocGlobal>(rt: &R) -> Status {
+    let mut shelf = HostShelf::new(rt);
+    let mut out = HostSink::new(rt);
+    match words_of(rt) {
+        Ok(words) => run(rt.alloc(), &words, &mut shelf, &mut out),
+        Err(Unread::Unreadable) => run(rt.alloc(), &[], &mut shelf, &mut out),
+        Err(Unread::Memory) => Status::Memory,
+    }
+}
+
+/// Why the words were not had.
+///
+/// Source: own.
+#[derive(Clone, Copy, Debug, PartialEq, Eq)]
+enum Unread {
+    /// One is not UTF-8, or they cannot be had as a whole.
+    Unreadable,
+    /// An allocation was refused.
+    Memory,
+}
+
+/// Collects the words of the program, its name first.
+///
+/// Source: own.
+fn words_of<R: Env + AllocGlobal>(rt: &R) -> Result<Vec<String>, Unread> {
+    match env::args(rt) {
+        Ok(args) => args.collect(rt.alloc()).map_err(|_| Unread::Memory),
+        Err(error) if error.kind() == ErrorKind::OutOfMemory => Err(Unread::Memory),
+        Err(_) => Err(Unread::Unreadable),
+    }
+}

@@ -1,0 +1,3 @@
+-- Lemmas on the parts of a run.
+pub mod Verdicts
+pub mod Statuses

@@ -1,0 +1,31 @@
+-- What the parts of a run promise. Source: own.
+use Rattle.std.specs.Prelude.{ℕ, List, Option, Some, Result, Ok, Err}
+use Rattle.std.specs.Io.KnownBytes.{Appends, Keeps}
+use Rattle.world_io.specs.Outside.{Rose, AppendsFront}
+use Rattle.world_io.specs.declared.fault.Failed.{Failed}
+use Rattle.spec_proofs.specs.Faults.{Fault}
+use Rattle.spec_proofs.specs.Accepted.{IsVerdict}
+use Rattle.alethe_check.specs.declared.ProofStop.{ProofStop}
+use Rattle.alethe_check.specs.Verdicts.{Answers}
+use Rattle.smt_top.specs.declared.status.Status.{Status}
+use Rattle.smt_top.specs.declared.status.Status.TheVariants.{Done, Refused, Memory, WriteFault}
+use Rattle.smt_top.specs.Ends.{IsValid, Writes}
+use Rattle.smt_top.specs.Output.{valid, error_line, output_of}
+
+-- what was judged, and for an accepted proof that nothing makes the script true
+abbrev pub Judges : List ℕ → List ℕ → Result (Unit {0}) ProofStop → Type 0
+Judges script proof (Ok u) = IsValid script proof
+Judges script proof (Err stop) = Answers script proof (Err stop)
+
+-- bytes that were written, or a front of them before a fault
+abbrev pub Sends : Writes → List ℕ → Result (Unit {0}) Failed → Type 0
+Sends out bytes (Ok u) = Appends out.old out.new bytes
+Sends out bytes (Err e) = AppendsFront out.old out.new bytes × Rose out.faults_old out.faults_new
+
+-- what is written for the texts, by how that ends
+abbrev pub Reports : Status → List ℕ → List ℕ → Writes → Type 0
+Reports Done script proof out = IsValid script proof × Appends out.old out.new valid
+Reports Refused script proof out = (f : Fault) × IsVerdict script proof (Some f) × Appends out.old out.new (error_line proof f)
+Reports Memory script proof out = Keeps out.old out.new
+Reports WriteFault script proof out = Rose out.faults_old out.faults_new × ((found : Option Fault) × IsVerdict script proof found × AppendsFront out.old out.new (output_of proof found))
+Reports _ script proof out = ⊥

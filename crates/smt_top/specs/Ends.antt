@@ -1,0 +1,64 @@
+-- How a run ends: what it was given, what it judged, and what it wrote. Source: own.
+use Rattle.std.specs.Prelude.{◌≡◌, ℕ, List, Option, Some, None, IsSome, IfSome, ⊤}
+use Rattle.std.specs.Io.KnownBytes.{Appends, Keeps}
+use Rattle.world_io.specs.Outside.{Rose, TakesFront, AppendsFront}
+use Rattle.spec_scripts.specs.Stack.{HasNoModel}
+use Rattle.spec_proofs.specs.Faults.{Fault}
+use Rattle.spec_proofs.specs.Accepted.{IsAccepted, ArePlain, IsVerdict}
+use Rattle.smt_top.specs.declared.status.Status.{Status}
+use Rattle.smt_top.specs.declared.status.Status.TheVariants.{Done, Refused, Words, Memory, ReadFault, WriteFault}
+use Rattle.smt_top.specs.Words.{Names}
+use Rattle.smt_top.specs.Output.{usage, valid, error_line, output_of}
+
+-- the count of faults of the shelf, before and after
+pub record Reads : Type 0 where
+  pub old : ℕ
+  pub new : ℕ
+
+-- what the sink tells that was written, and its count of faults, before and after
+pub record Writes : Type 0 where
+  pub old : Option (List ℕ)
+  pub new : Option (List ℕ)
+  pub faults_old : ℕ
+  pub faults_new : ℕ
+
+-- what each name holds, where that is told
+abbrev pub Holdings : Type 0
+Holdings = List ℕ → Option (List ℕ)
+
+-- the verdict on the texts is that the proof is accepted, with all that this means: the texts are plain, and no interpretation
+-- makes true what is asserted at the script's first check
+pub record IsValid (script proof : List ℕ) : Type 0 where
+  pub verdict : IsVerdict script proof None
+  pub plain : ArePlain script proof
+  pub accepted : IsAccepted script 1 proof
+  pub no_model : HasNoModel script 1
+
+-- the words are taken, and P is true of a script and a proof that are those of the two names, where these are told
+abbrev pub OnTexts : Option Names → Holdings → (List ℕ → List ℕ → Type 0) → Type 0
+OnTexts None holds P = ⊥
+OnTexts (Some n) holds P = (script : List ℕ) × (proof : List ℕ) × IfSome (holds n.script) (λ t. t ≡ script) × IfSome (holds n.proof) (λ t. t ≡ proof) × P script proof
+
+-- both names hold a text, where the words are taken
+abbrev pub BothHold : Option Names → Holdings → Type 0
+BothHold None holds = ⊤
+BothHold (Some n) holds = IsSome (holds n.script) × IsSome (holds n.proof)
+
+-- the proof was read last: what is left on the shelf is what is left of it, where that is told
+abbrev pub ProofIsLast : Option Names → Holdings → Option (List ℕ) → Type 0
+ProofIsLast None holds left = ⊤
+ProofIsLast (Some n) holds left = TakesFront (holds n.proof) left
+
+-- a front of a right output was written: of how the words are to be, or of a verdict on the texts
+abbrev pub WritesFront : Option Names → Holdings → Writes → Type 0
+WritesFront None holds out = AppendsFront out.old out.new usage
+WritesFront (Some n) holds out = OnTexts (Some n) holds (λ script proof. (found : Option Fault) × IsVerdict script proof found × AppendsFront out.old out.new (output_of proof found))
+
+-- how a run ends, by its status
+abbrev pub Ends : Status → Option Names → Holdings → Reads → Writes → Type 0
+Ends Done names holds reads out = OnTexts names holds (λ script proof. IsValid script proof × Appends out.old out.new valid)
+Ends Refused names holds reads out = OnTexts names holds (λ script proof. (f : Fault) × IsVerdict script proof (Some f) × Appends out.old out.new (error_line proof f))
+Ends Words names holds reads out = (names ≡ None) × Appends out.old out.new usage
+Ends Memory names holds reads out = IsSome names × Keeps out.old out.new
+Ends ReadFault names holds reads out = IsSome names × Rose reads.old reads.new × Keeps out.old out.new
+Ends WriteFault names holds reads out = Rose out.faults_old out.faults_new × WritesFront names holds out

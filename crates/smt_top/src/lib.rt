@@ -1,0 +1,20 @@
+//! One run: it reads a script and a proof by their names, judges them, and writes the verdict.
+#![tactic(auto)]
+
+mod check_run;
+mod in_memory;
+mod output;
+mod read;
+mod status;
+#[cfg(test)]
+mod test_support;
+#[cfg(test)]
+mod tests;
+mod verdict;
+#[cfg(test)]
+mod verdict_tests;
+mod words;
+
+pub use check_run::run;
+pub use in_memory::run_in_memory;
+pub use status::Status;
