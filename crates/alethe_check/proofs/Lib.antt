@@ -23,3 +23,6 @@ pub mod Reading
 pub mod TermReading
 pub mod Stacks
 pub mod Loading
+pub mod Entries
+pub mod Listing
+pub mod Clauses

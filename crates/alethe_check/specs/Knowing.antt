@@ -23,7 +23,3 @@ pub record IsSound (h : Held) : Type 0 where
   pub paired : length h.names ≡ length (lists h.clauses.items)
   pub asserted : AreIn h.table h.asserted
   pub clauses : All (λ c. AreIn h.table c) (lists h.clauses.items)
-
--- the clauses of vectors of terms
-abbrev pub clauses_at : TableView → List (Vec TermId Global) → List Clause
-clauses_at t vs = map (λ v. clause_at t v.items) vs

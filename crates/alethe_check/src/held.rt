@@ -6,10 +6,10 @@ ghost use Rattle.spec_terms.specs.Reading.{term_of};
 ghost use Rattle.spec_proofs.specs.Commands.{clause_of, new_name, premise_of, premises_of, terms_of};
 ghost use Rattle.spec_proofs.specs.Faults.{with_entry};
 ghost use Rattle.alethe_check.specs.Tables.{symbols_of, term_at, clause_at, IsIn, AreIn, Extends};
-ghost use Rattle.alethe_check.specs.Findings.{lists};
+ghost use Rattle.alethe_check.specs.Findings.{lists, clauses_at};
 ghost use Rattle.alethe_check.specs.Items.{trees_in, tree_in};
 ghost use Rattle.alethe_check.specs.Views.{Gives, word_view};
-ghost use Rattle.alethe_check.specs.Knowing.{known_view, IsSound, clauses_at};
+ghost use Rattle.alethe_check.specs.Knowing.{known_view, IsSound};
 
 use crate::asserted::Asserted;
 use crate::names::Names;
@@ -75,7 +75,8 @@ fn find<'a>(held: &'a Held, name: &[u8]) -> Option<&'a [TermId]>
         (λ c. (clause_of (known_view held.now).entries name.now ≡ Some (clause_at held.now.table c.now)) × AreIn held.now.table c.now) }
 {
     held.names.no_name_twice();
-    let number = held.names.find(name)?;
-    let clause = held.clauses.get(number as usize)?;
-    Some(clause.as_slice())
+    match held.names.find(name) {
+        None => None,
+        Some(number) => Some(held.clauses[number as usize].as_slice()),
+    }
 }
