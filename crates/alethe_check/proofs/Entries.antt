@@ -82,7 +82,7 @@ pub known_more : (t : TableView) (asserted : List Term) (ns next : List Name) (v
 known_more t asserted ns next vs more n v l a b =
     let to_items : Vec TermId Global → List TermId = λ w. w.items in
     let e : entries_of t next (lists more) ≡ entries_of t ns (lists vs) ++ (record { name = n; clause = clause_at t v.items }) ∷ [] =
-        (λ i. entries_of t (a i) (lists (b i))) ∙ ap (entries_of t (ns ++ n ∷ [])) (map-append to_items vs (v ∷ [])) ∙ entries_push t ns (lists vs) n v.items l in
+    (λ i. entries_of t (a i) (lists (b i))) ∙ ap (entries_of t (ns ++ n ∷ [])) (map-append to_items vs (v ∷ [])) ∙ entries_push t ns (lists vs) n v.items l in
     λ i. record { symbols = symbols_of t; asserted = asserted; entries = e i }
 
 pub is_among : (ns : List Name) (n : Name) (k : ℕ) → k < length ns → get_or ns k [] ≡ n → among ns n ≡ true

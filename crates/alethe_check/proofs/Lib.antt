@@ -1,5 +1,4 @@
 pub mod Flat
-pub mod Spelling
 pub mod Members
 -- The lemmas of this crate.
 pub mod NamesApart

@@ -18,7 +18,7 @@ use Rattle.alethe_check.specs.Tables.{symbols_of, term_at, AreIn}
 use Rattle.alethe_check.specs.Reads.{fault_from, Reads}
 use Rattle.alethe_check.specs.Scripts.{IsStack, Takes}
 use Rattle.alethe_check.specs.Loads.{IsFaulty, NextIs, EndsAt, Loads}
-use Rattle.alethe_check.proofs.Spelling.{first_tree, no_trees}
+use Rattle.spec_text.proofs.Reading.{first_tree, no_trees}
 
 -- the lexemes of a tree aren't none
 pub some_lexeme : (t : Tree) (rest : List (ℕ × Lexeme)) → spelled t ++ rest ≢ []

@@ -47,16 +47,6 @@ not_second false b e = absurd (false≢true e)
 pub may_is_new : (t : TableView) (w : Word) → may_declare (symbols_of t) w ≡ true → among t.constants w.bytes ≡ false
 may_is_new t w e = ap (λ ns. among ns w.bytes) (sym (names_are t.constants)) ∙ not_second _ _ e
 
-pub declared_more : (old new : Script) (s : Stack) (w : Word) → new.table.constants ≡ old.table.constants ++ w.bytes ∷ [] → new.table.terms ≡ old.table.terms → new.asserted ≡ old.asserted → IsStack old s → IsStack new (with_symbol s (constant w.bytes Truth))
-declared_more old new s w cs ts ids h =
-    let pick : List Term → TermId → Term = λ terms id. slice_index_or terms id.0 no_term in
-    let same : term_at new.table ≡ term_at old.table = ap pick ts in
-    record {
-      symbols = ap (λ ss. ss ++ symbol_of w.bytes ∷ []) h.symbols ∙ sym (ap (map symbol_of) cs ∙ map-append symbol_of old.table.constants (w.bytes ∷ []));
-      terms = h.terms ∙ (λ i. map (sym same i) (sym ids i));
-      inside = subst (λ xs. AreIn new.table xs) (sym ids) (subst (λ (terms : List Term). All (λ (id : TermId). id.0 < length terms) old.asserted) (sym ts) h.inside);
-    }
-
 pub asserted_more : (old new : Script) (id : TermId) (s : Stack) (tree : Tree) → Extends old.table new.table → new.table.constants ≡ old.table.constants → IsIn new.table id → term_of (symbols_of old.table) tree ≡ Some (term_at new.table id) → new.asserted ≡ old.asserted ++ id ∷ [] → IsStack old s
     → (u : Term) × (term_of s.symbols tree ≡ Some u) × IsStack new (with_assertion s tree u)
 asserted_more old new id s tree grows cs there reads ids h =

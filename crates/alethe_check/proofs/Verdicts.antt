@@ -21,7 +21,7 @@ use Rattle.alethe_check.specs.Reads.{fault_from, Reads}
 use Rattle.alethe_check.specs.Loads.{IsFaulty, NextIs}
 use Rattle.alethe_check.specs.Knowing.{known_view, IsSound}
 use Rattle.alethe_check.specs.Judging.{found_view, NextFault, JudgesOne, JudgesAll, Finishes}
-use Rattle.alethe_check.proofs.Spelling.{first_tree, no_trees}
+use Rattle.spec_text.proofs.Reading.{first_tree, no_trees}
 use Rattle.alethe_check.proofs.Loading.{is_tree, no_lexemes_no_fault}
 use Rattle.alethe_check.proofs.Offsets.{fault_within}
 
@@ -107,10 +107,14 @@ module _ (text : List ℕ) (first : Known) (h : Held) (at : ℕ) (found : Option
       sound = sound;
       within = in_text o.0 next o.1 o.3;
       rest = λ cs read.
-          let n = next_tree cs read in
-          (n.0, (n.2,
-           n.1.1 ∙ ap (λ c. plain_by (known_view h) c (λ k. is_plain k n.0)) o.1 ∙ ap (λ k. is_plain k n.0) (sym o.2),
-           subst (λ (k : Known). Carries first k (length text) next cs n.0) (sym o.2) (carried o.0 next cs n.0 o.1 o.3 n.1.2)));
+          let n = next_tree cs read in (
+            n.0,
+            (
+              n.2,
+              n.1.1 ∙ ap (λ c. plain_by (known_view h) c (λ k. is_plain k n.0)) o.1 ∙ ap (λ k. is_plain k n.0) (sym o.2),
+              subst (λ (k : Known). Carries first k (length text) next cs n.0) (sym o.2) (carried o.0 next cs n.0 o.1 o.3 n.1.2),
+            ),
+          );
     }
 
     pub not_judged : (e : Unread) (new : Held) → JudgesOne (known_view h) (command_of (known_view h) (tree_in text s.items.items)) found (Err e) new → JudgesAll text first (Err e)

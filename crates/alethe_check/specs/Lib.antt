@@ -1,6 +1,5 @@
 -- The definitions that the private parts speak in.
 pub mod NameLists
-pub mod TermCodes
 pub mod Tables
 pub mod Items
 pub mod Views

@@ -11,7 +11,7 @@ use Rattle.alethe_check.specs.declared.terms.Sort.{Sort as TableSort}
 use Rattle.alethe_check.specs.declared.terms.Sort.TheVariants.{Bool}
 use Rattle.alethe_check.specs.declared.terms.Node.{Node}
 use Rattle.alethe_check.specs.declared.terms.Node.TheVariants.{Constant, Not}
-use Rattle.alethe_check.specs.TermCodes.{name_code, term_code}
+use Rattle.spec_terms.specs.TermCodes.{name_code, term_code}
 use Rattle.alethe_check.specs.NameLists.{AreApart, HaveNoTwice}
 
 -- The declared constants, all of sort Bool, and the terms, each as it is read.

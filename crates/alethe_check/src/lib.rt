@@ -20,15 +20,18 @@ mod script;
 mod sexpr;
 mod shapes;
 mod terms;
+#[cfg(test)]
+mod tests;
 
-pub use spec_proofs::ProofKind;
-pub use spec_text::Place;
 use held::at_check;
 use judge::{Found, judge};
 use load::read_script;
 use shapes::Unread;
 use smt_lexer::{place_at, start};
+pub use spec_proofs::ProofKind;
+pub use spec_text::Place;
 use std::alloc::Global;
+use thiserror::Error;
 
 /// Why a proof is not accepted, and where: a place of the proof.
 #[derive(Clone, Copy, Debug, PartialEq, Eq)]
@@ -38,11 +41,13 @@ pub struct ProofFault {
 }
 
 /// Why a check did not answer that the proof is accepted.
-#[derive(Clone, Copy, Debug, PartialEq, Eq)]
+#[derive(Clone, Copy, Debug, Error, PartialEq, Eq)]
 pub enum ProofStop {
     /// The first fault of the proof, or that the texts are not of the forms that are taken so far.
+    #[error("{0:?}")]
     Fault(ProofFault),
     /// Out of memory, which says nothing of the proof.
+    #[error("out of memory")]
     Memory,
 }
 

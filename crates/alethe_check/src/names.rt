@@ -4,10 +4,10 @@ ghost use Rattle.std.specs.Prelude.{◌≡◌, false, ◌<◌, [], ◌∷◌, �
 ghost use Rattle.spec_text.specs.Bytes.{among};
 ghost use Rattle.alethe_check.specs.NameLists.{HaveNoTwice};
 
-use crate::terms::NoMemory;
 use indexmap::IndexSet;
 use std::alloc::Global;
 use std::marker::Model;
+use world_io::NoMemory;
 
 /// Names in the order in which they came, no two the same.
 ///

@@ -9,7 +9,10 @@ ghost use Rattle.alethe_check.specs.Judging.{step_shape, read_step, parts_view, 
 
 use crate::held::{Held, clause, fresh_name, read_premises, term};
 use crate::sexpr::Item;
-use crate::shapes::{Unread, Word, is_word, list_first, list_inside, offset, tree_alone, want, want_end, want_keyword, word_first};
+use crate::shapes::{
+    Unread, Word, is_word, list_first, list_inside, offset, tree_alone, want, want_end,
+    want_keyword, word_first,
+};
 use crate::terms::TermId;
 use std::alloc::Global;
 
@@ -94,11 +97,7 @@ fn step<'a>(
 
 /// An assume, behind its word.
 #[tactic(auto, unfolding(spec_proofs::specs::Commands::assume_of))]
-fn assume<'a>(
-    held: &mut Held,
-    text: &'a [u8],
-    items: &'a [Item],
-) -> Result<ReadCommand<'a>, Unread>
+fn assume<'a>(held: &mut Held, text: &'a [u8], items: &'a [Item]) -> Result<ReadCommand<'a>, Unread>
     requires { IsSound held.old }
     ensures gives { Gives (command_view held.new.table) result (assume_of (known_view held.old) (trees_in text.now items.now)) }
     ensures same { known_view held.new ≡ known_view held.old }

@@ -21,7 +21,7 @@ pub struct Sexpr {
 /// How many lists may be open at once.
 const NESTING_LIMIT: usize = 500;
 
-/// A number of 32 bits. An item of a larger offset would need more memory than there is.
+/// A number of 32 bits. Items are kept small; what stands beyond 4 GiB of a text is answered out of memory.
 fn narrow(n: u64) -> Result<u32, AllocError>
     ensures { IfOk result (λ m. m ≡ n) }
 {
@@ -74,8 +74,8 @@ fn refused(place: Place, fault: Fault) -> Refused
 }
 
 /// Reads the next s-expression at a place of the text, and gives it with the place right behind it, or nothing where only
-/// white space and comments are left. An `Err` has the first fault behind the place, E1 to E6, or is out of memory; an
-/// s-expression of more than 2^32 bytes is out of memory, too. Source: SMT-LIB 2.6, section 3.2; the faults are own.
+/// white space and comments are left. An `Err` has the first fault behind the place, E1 to E6, or is out of memory, which
+/// also comes where an item's offset is 2^32 bytes or more. Source: SMT-LIB 2.6, section 3.2; the faults are own.
 pub fn read_one(alloc: Global, text: &[u8], at: Place) -> Result<Option<(Sexpr, Place)>, Refused>
     requires { IsPlaceOf text.now at }
     ensures { ReadsOne text.now at result }

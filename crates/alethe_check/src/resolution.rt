@@ -263,8 +263,9 @@ pub fn resolution(
 #[cfg(test)]
 mod tests {
     use super::*;
-    use crate::terms::{NoMemory, Node};
+    use crate::terms::Node;
     use std::test::Fail;
+    use world_io::NoMemory;
 
     /// Reads a letter: a capital one is the complement.
     fn literal(b: u8) -> Lit {
