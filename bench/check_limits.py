@@ -1,0 +1,81 @@
+#!/usr/bin/env python3
+"""Runs `smt_cli check` on texts of 2^26 bytes, the most that are taken, and on one byte more.
+
+    bench/check_limits.py EXECUTABLE
+
+Each row is a pair of texts whose answer is known beforehand; the script ends with status 1 where another one comes. It
+prints a table of times and of peak memory, also as a multiple of the bytes of both texts. It needs Python 3, its standard
+library and /usr/bin/time.
+"""
+
+import os
+import subprocess
+import sys
+import tempfile
+import time
+
+LIMIT = 2**26
+SCRIPT = "(declare-const p Bool)(assert p)(assert (not p))(check-sat)"
+PROOF = "(assume h1 p)(assume h2 (not p))(step t1 (cl) :rule resolution :premises (h1 h2))"
+NOT_YET = '(error "1:1: NotYet")'
+
+
+def padded(text, size):
+    """The text with spaces behind it, so many bytes in all."""
+    return text + " " * (size - len(text))
+
+
+def one_clause(size):
+    """A proof with one clause of as many literals of one byte as fit."""
+    before = "(assume h1 p)(assume h2 (not p))(step t1 (cl "
+    behind = ") :rule resolution :premises (h1))(step t2 (cl) :rule resolution :premises (h1 h2))"
+    return before + "p " * ((size - len(before) - len(behind)) // 2) + behind
+
+
+def many_assertions(size):
+    """A script that asserts one constant as often as fits."""
+    before = "(declare-const p Bool)(assert (not p))"
+    behind = "(check-sat)"
+    return before + "(assert p)" * ((size - len(before) - len(behind)) // 10) + behind
+
+
+ROWS = [
+    ("script and spaces, 2^26 bytes", lambda: padded(SCRIPT, LIMIT), lambda: PROOF, "valid"),
+    ("one byte more", lambda: padded(SCRIPT, LIMIT + 1), lambda: PROOF, NOT_YET),
+    ("script of many assertions", lambda: many_assertions(LIMIT), lambda: PROOF, "valid"),
+    ("proof of one clause, literals of one byte", lambda: SCRIPT, lambda: one_clause(LIMIT), "valid"),
+    ("proof of opening parentheses", lambda: SCRIPT, lambda: "(" * LIMIT, NOT_YET),
+    ("proof of empty lists", lambda: SCRIPT, lambda: "()" * (LIMIT // 2), NOT_YET),
+    ("proof of zero bytes", lambda: SCRIPT, lambda: "\0" * LIMIT, NOT_YET),
+]
+
+
+def measured(executable, script, proof):
+    """The output, the seconds, and the peak memory in kilobytes of one run."""
+    begin = time.monotonic()
+    run = subprocess.run(["/usr/bin/time", "-f", "%M", executable, "check", script, proof], capture_output=True, text=True)
+    return run.stdout.strip(), time.monotonic() - begin, int(run.stderr.split()[-1])
+
+
+def main():
+    if len(sys.argv) != 2:
+        sys.exit(__doc__)
+    right = True
+    print("| texts | answer | seconds | peak memory in KB | times the texts |")
+    print("|---|---|---|---|---|")
+    with tempfile.TemporaryDirectory() as folder:
+        script, proof = os.path.join(folder, "script.smt2"), os.path.join(folder, "proof.alethe")
+        for name, script_text, proof_text, wanted in ROWS:
+            for path, text in ((script, script_text()), (proof, proof_text())):
+                with open(path, "w", encoding="ascii") as out:
+                    out.write(text)
+            size = os.path.getsize(script) + os.path.getsize(proof)
+            output, seconds, memory = measured(os.path.abspath(sys.argv[1]), script, proof)
+            right = right and output == wanted
+            print(f"| {name} | `{output}` | {seconds:.2f} | {memory:,} | {memory * 1024 / size:.1f} |", flush=True)
+    if not right:
+        sys.exit("an answer is not the one wanted")
+
+
+if __name__ == "__main__":
+    main()
