@@ -51,8 +51,18 @@ pub enum ProofStop {
     Memory,
 }
 
-/// Judges a proof against the `at`-th check of a script, from 1. `Ok` means that the proof is accepted, and then no
-/// interpretation makes the assertions of that check true. Source: Alethe specification; the faults are own.
+/// Judges a proof against the `at`-th check of a script, counted from 1; so far `at` is 1.
+///
+/// `Ok` means that the proof is accepted: each assume is a current assertion, each step is right by its rule, and one
+/// step has the empty clause. Then no interpretation makes the assertions of that check true.
+///
+/// - `Fault` with `NotYet` at line 1, column 1 comes exactly where a text is not of the forms that are taken so far.
+/// - Any other `Fault` is the first one of the proof, with its place there: `NotAsserted` at an assume's term, `RuleFails`
+///   at the parenthesis of a step, `NoEmptyClause` at the end of the text.
+/// - `Memory` may come at any allocation, and says nothing of the proof.
+///
+/// It keeps nothing. Its time goes with the bytes of both texts and the cost of each step of resolution.
+/// Source: Alethe specification; the faults are own.
 pub fn check(alloc: Global, script: &[u8], at: u64, proof: &[u8]) -> Result<(), ProofStop>
     requires first { at ≡ 1 }
     ensures verdict { Answers script.now proof.now result }
