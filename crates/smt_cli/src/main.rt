@@ -11,6 +11,8 @@ use std::rt::{Env, Files};
 use world_io::{HostShelf, HostSink};
 
 /// Ends with the status of the run: 0 to 5.
+///
+/// Source: own.
 fn main(rt: HostRuntime) -> ExitCode {
     ExitCode::from(status_of(&rt).code())
 }
@@ -29,7 +31,7 @@ fn status_of<R: Files + Input + Print + Env + AllocGlobal>(rt: &R) -> Status {
     }
 }
 
-/// Why the words were not had.
+/// Says why the words were not had.
 ///
 /// Source: own.
 #[derive(Clone, Copy, Debug, PartialEq, Eq)]

@@ -12,14 +12,20 @@ use Rattle.smt_top.specs.Output.{usage, valid, error_line, output_of}
 
 -- the count of faults of the shelf, before and after
 pub record Reads : Type 0 where
+  -- before
   pub old : ℕ
+  -- after
   pub new : ℕ
 
 -- what the sink tells that was written, and its count of faults, before and after
 pub record Writes : Type 0 where
+  -- what was written before
   pub old : Option (List ℕ)
+  -- what is written after
   pub new : Option (List ℕ)
+  -- the count before
   pub faults_old : ℕ
+  -- the count after
   pub faults_new : ℕ
 
 -- what each name holds, where that is told
@@ -29,9 +35,13 @@ Holdings = List ℕ → Option (List ℕ)
 -- the verdict on the texts is that the proof is accepted, with all that this means: the texts are plain, and no interpretation
 -- makes true what is asserted at the script's first check
 pub record IsValid (script proof : List ℕ) : Type 0 where
+  -- the verdict has no fault
   pub verdict : IsVerdict script proof None
+  -- both texts are plain
   pub plain : ArePlain script proof
+  -- the proof is accepted, of the script's first check
   pub accepted : IsAccepted script 1 proof
+  -- no interpretation makes true what is asserted there
   pub no_model : HasNoModel script 1
 
 -- the words are taken, and P is true of a script and a proof that are those of the two names, where these are told

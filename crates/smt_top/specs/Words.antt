@@ -16,7 +16,9 @@ code_of WriteFault = 5
 
 -- the names of the two texts
 pub record Names : Type 0 where
+  -- the script's name
   pub script : List ℕ
+  -- the proof's name
   pub proof : List ℕ
 
 -- the first byte is `-`

@@ -12,7 +12,7 @@ use world_io::{ReadEnd, ReadStop, Shelf, read_all};
 /// The most bytes that a text may have.
 const TEXT_LIMIT: u64 = 1 << 26;
 
-/// The two texts of a run, as far as they were read.
+/// Holds the two texts of a run, as far as they were read.
 ///
 /// Source: own.
 #[derive(Drop)]

@@ -13,7 +13,7 @@ use alethe_check::{Place, ProofFault, ProofKind, ProofStop, check};
 use std::alloc::Global;
 use world_io::{ReadEnd, Sink};
 
-/// What is said where a text has too many bytes: it stands at the proof's start.
+/// What is said where a text has too many bytes: it stands at the proof's start. Source: own.
 const NOT_YET: ProofFault = ProofFault {
     place: Place {
         offset: 0,

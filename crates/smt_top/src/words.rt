@@ -3,7 +3,7 @@
 ghost use Rattle.std.specs.Prelude.{◌≡◌, None, Some, MatchOption};
 ghost use Rattle.smt_top.specs.Words.{named, begins_with_dash};
 
-/// The names of the two texts.
+/// Holds the names of the two texts.
 ///
 /// Source: own.
 #[derive(Clone, Copy)]

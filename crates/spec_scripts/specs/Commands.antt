@@ -8,9 +8,13 @@ use Rattle.spec_terms.specs.Terms.{Sort, Truth}
 
 -- No success is printed; a constant, as it is written, has a sort; a term is asserted; what stands is checked.
 pub data Command : Type 0 where
+  -- `set-option` of `:print-success` to false
   PrintNoSuccess : Command
+  -- the name as written, and the sort
   DeclareConst : Word → Sort → Command
+  -- the text of the term
   Assert : Tree → Command
+  -- what stands is to be checked
   CheckSat : Command
 
 -- (set-option :print-success false)

@@ -7,8 +7,11 @@ use Rattle.spec_scripts.specs.Stack.{Assertion, Stack, theory_names, is_kept_nam
 
 -- a constant of sort Bool, with a name that may be declared
 pub record IsDeclared (s : Symbol) : Type 0 where
+  -- the name is no theory's
   pub own : among theory_names s.name ≡ false
+  -- the name is not kept for solvers
   pub not_kept : is_kept_name s.name ≡ false
+  -- it is a constant of sort Bool
   pub sorted : s ≡ constant s.name Truth
 
 -- each of the symbols is declared
@@ -21,5 +24,7 @@ IsReadUnder symbols a = term_of symbols a.text ≡ Some a.term
 
 -- the symbols are declared, and the terms of the assertions those of their texts under all of them
 pub record IsReadStack (s : Stack) : Type 0 where
+  -- each symbol is declared
   pub symbols : AreDeclared s.symbols
+  -- each term is that of its text
   pub assertions : All (IsReadUnder s.symbols) s.assertions

@@ -1,4 +1,4 @@
--- Scripts that are plain, with what they state, and scripts that are not.
+-- Scripts that are plain, with what they state, and scripts that are not. Source: own.
 use Rattle.std.specs.Prelude.{◌≡◌, refl, ℕ, List, [], ◌∷◌, map, Option, Some, None, option_map, codes}
 use Rattle.std.proofs.Common.{arith}
 use Rattle.spec_text.specs.Lexemes.{Lexeme, opens, closes, word, lexemes, first_piece}
@@ -12,7 +12,9 @@ use Rattle.spec_scripts.specs.Plain.{IsPlainScript, plain_stack}
 
 -- The trees behind a lexeme up to the end of its list, and behind the closing parentheses of the lists around it.
 pub record Built : Type 0 where
+  -- the trees behind it in its own list
   pub here : Trees
+  -- of each list around it the closing parenthesis, with the trees behind that
   pub around : List (ℕ × Trees)
 
 -- a list of the trees before its closing parenthesis
@@ -51,7 +53,9 @@ asserted_in text = option_map (λ (s : Stack). map (λ (a : Assertion). a.term) 
 
 -- a text that is read, but whose commands aren't plain
 pub record IsNoPlainScript (text : List ℕ) : Type 0 where
+  -- it is read
   pub read : IsRead text (trees_in text)
+  -- its commands are not plain
   pub refused : plain_stack empty_stack (trees_in text) ≡ None
 
 -- the constants of the examples
@@ -66,10 +70,12 @@ q = constant_term (constant (codes "q") Truth)
 abbrev pub contradiction : List ℕ
 contradiction = codes "(set-option :print-success false)\n(declare-const p Bool)(assert p)(assert (not p))(check-sat)"
 
+-- what it asserts
 pub contradiction_asserts : asserted_in contradiction ≡ Some (p ∷ negated p ∷ [])
 unfolding lexemes first_piece built set_option declare_const command_of term_of plain_stack
 contradiction_asserts = refl
 
+-- it is plain
 pub contradiction_is_plain : IsPlainScript contradiction (stack_in contradiction)
 unfolding lexemes first_piece first_fault built set_option declare_const command_of term_of plain_stack
 contradiction_is_plain = record { limits = record { short = omega arith; unbroken = refl }; commands = trees_in contradiction; read = refl; plain = refl }
@@ -78,10 +84,12 @@ contradiction_is_plain = record { limits = record { short = omega arith; unbroke
 abbrev pub without_option : List ℕ
 without_option = codes "(declare-const p Bool)(assert p)(assert (not p))(check-sat)"
 
+-- what it asserts
 pub without_option_asserts : asserted_in without_option ≡ Some (p ∷ negated p ∷ [])
 unfolding lexemes first_piece built set_option declare_const command_of term_of plain_stack
 without_option_asserts = refl
 
+-- it is plain
 pub without_option_is_plain : IsPlainScript without_option (stack_in without_option)
 unfolding lexemes first_piece first_fault built set_option declare_const command_of term_of plain_stack
 without_option_is_plain = record { limits = record { short = omega arith; unbroken = refl }; commands = trees_in without_option; read = refl; plain = refl }
@@ -90,6 +98,7 @@ without_option_is_plain = record { limits = record { short = omega arith; unbrok
 abbrev pub nothing_asserted : List ℕ
 nothing_asserted = codes "(check-sat)"
 
+-- what it asserts
 pub nothing_asserted_asserts : asserted_in nothing_asserted ≡ Some []
 unfolding lexemes first_piece built set_option declare_const command_of term_of plain_stack
 nothing_asserted_asserts = refl
@@ -98,6 +107,7 @@ nothing_asserted_asserts = refl
 abbrev pub between_bars : List ℕ
 between_bars = codes "(declare-const p Bool)(assert |p|)(assert (|not| p))(check-sat)"
 
+-- what it asserts
 pub between_bars_asserts : asserted_in between_bars ≡ Some (p ∷ negated p ∷ [])
 unfolding lexemes first_piece built set_option declare_const command_of term_of plain_stack
 between_bars_asserts = refl
@@ -106,6 +116,7 @@ between_bars_asserts = refl
 abbrev pub twice_negated : List ℕ
 twice_negated = codes "(declare-const p Bool)(assert (not (not p)))(assert p)(assert p)(check-sat)"
 
+-- what it asserts
 pub twice_negated_asserts : asserted_in twice_negated ≡ Some (negated (negated p) ∷ p ∷ p ∷ [])
 unfolding lexemes first_piece built set_option declare_const command_of term_of plain_stack
 twice_negated_asserts = refl
@@ -114,6 +125,7 @@ twice_negated_asserts = refl
 abbrev pub spaced : List ℕ
 spaced = codes "; a note (\n ( declare-const\tp;\n Bool)(\r\nassert(not p))\n\n(declare-const q Bool)(assert q);\"\n(check-sat)  ; end"
 
+-- what it asserts
 pub spaced_asserts : asserted_in spaced ≡ Some (negated p ∷ q ∷ [])
 unfolding lexemes first_piece built set_option declare_const command_of term_of plain_stack
 spaced_asserts = refl
@@ -122,6 +134,7 @@ spaced_asserts = refl
 abbrev pub sort_name : List ℕ
 sort_name = codes "(declare-const Bool Bool)(declare-const cl Bool)(assert (not Bool))(check-sat)"
 
+-- what it asserts
 pub sort_name_asserts : asserted_in sort_name ≡ Some (negated (constant_term (constant (codes "Bool") Truth)) ∷ [])
 unfolding lexemes first_piece built set_option declare_const command_of term_of plain_stack
 sort_name_asserts = refl
@@ -130,6 +143,7 @@ sort_name_asserts = refl
 abbrev pub late_option : List ℕ
 late_option = codes "(declare-const p Bool)(set-option :print-success false)(check-sat)"
 
+-- what it asserts
 pub late_option_asserts : asserted_in late_option ≡ Some []
 unfolding lexemes first_piece built set_option declare_const command_of term_of plain_stack
 late_option_asserts = refl
@@ -138,6 +152,7 @@ late_option_asserts = refl
 abbrev pub two_checks : List ℕ
 two_checks = codes "(declare-const p Bool)(assert p)(check-sat)(check-sat)"
 
+-- it is read, but is not plain
 pub two_checks_refused : IsNoPlainScript two_checks
 unfolding lexemes first_piece built set_option declare_const command_of term_of plain_stack
 two_checks_refused = record { read = refl; refused = refl }
@@ -146,6 +161,7 @@ two_checks_refused = record { read = refl; refused = refl }
 abbrev pub check_in_front : List ℕ
 check_in_front = codes "(declare-const p Bool)(check-sat)(assert p)"
 
+-- it is read, but is not plain
 pub check_in_front_refused : IsNoPlainScript check_in_front
 unfolding lexemes first_piece built set_option declare_const command_of term_of plain_stack
 check_in_front_refused = record { read = refl; refused = refl }
@@ -154,6 +170,7 @@ check_in_front_refused = record { read = refl; refused = refl }
 abbrev pub no_check : List ℕ
 no_check = codes "(declare-const p Bool)(assert p)"
 
+-- it is read, but is not plain
 pub no_check_refused : IsNoPlainScript no_check
 unfolding lexemes first_piece built set_option declare_const command_of term_of plain_stack
 no_check_refused = record { read = refl; refused = refl }
@@ -162,6 +179,7 @@ no_check_refused = record { read = refl; refused = refl }
 abbrev pub nothing : List ℕ
 nothing = codes ""
 
+-- it is read, but is not plain
 pub nothing_refused : IsNoPlainScript nothing
 unfolding lexemes first_piece built set_option declare_const command_of term_of plain_stack
 nothing_refused = record { read = refl; refused = refl }
@@ -170,6 +188,7 @@ nothing_refused = record { read = refl; refused = refl }
 abbrev pub bars_in_declaration : List ℕ
 bars_in_declaration = codes "(declare-const |p| Bool)(check-sat)"
 
+-- it is read, but is not plain
 pub bars_in_declaration_refused : IsNoPlainScript bars_in_declaration
 unfolding lexemes first_piece built set_option declare_const command_of term_of plain_stack
 bars_in_declaration_refused = record { read = refl; refused = refl }
@@ -178,6 +197,7 @@ bars_in_declaration_refused = record { read = refl; refused = refl }
 abbrev pub theory_name : List ℕ
 theory_name = codes "(declare-const and Bool)(check-sat)"
 
+-- it is read, but is not plain
 pub theory_name_refused : IsNoPlainScript theory_name
 unfolding lexemes first_piece built set_option declare_const command_of term_of plain_stack
 theory_name_refused = record { read = refl; refused = refl }
@@ -186,6 +206,7 @@ theory_name_refused = record { read = refl; refused = refl }
 abbrev pub point_in_front : List ℕ
 point_in_front = codes "(declare-const .x Bool)(check-sat)"
 
+-- it is read, but is not plain
 pub point_in_front_refused : IsNoPlainScript point_in_front
 unfolding lexemes first_piece built set_option declare_const command_of term_of plain_stack
 point_in_front_refused = record { read = refl; refused = refl }
@@ -194,6 +215,7 @@ point_in_front_refused = record { read = refl; refused = refl }
 abbrev pub at_in_front : List ℕ
 at_in_front = codes "(declare-const @x Bool)(check-sat)"
 
+-- it is read, but is not plain
 pub at_in_front_refused : IsNoPlainScript at_in_front
 unfolding lexemes first_piece built set_option declare_const command_of term_of plain_stack
 at_in_front_refused = record { read = refl; refused = refl }
@@ -202,6 +224,7 @@ at_in_front_refused = record { read = refl; refused = refl }
 abbrev pub reserved_name : List ℕ
 reserved_name = codes "(declare-const let Bool)(check-sat)"
 
+-- it is read, but is not plain
 pub reserved_name_refused : IsNoPlainScript reserved_name
 unfolding lexemes first_piece built set_option declare_const command_of term_of plain_stack
 reserved_name_refused = record { read = refl; refused = refl }
@@ -210,6 +233,7 @@ reserved_name_refused = record { read = refl; refused = refl }
 abbrev pub same_name : List ℕ
 same_name = codes "(declare-const p Bool)(declare-const p Bool)(check-sat)"
 
+-- it is read, but is not plain
 pub same_name_refused : IsNoPlainScript same_name
 unfolding lexemes first_piece built set_option declare_const command_of term_of plain_stack
 same_name_refused = record { read = refl; refused = refl }
@@ -218,6 +242,7 @@ same_name_refused = record { read = refl; refused = refl }
 abbrev pub unknown_symbol : List ℕ
 unknown_symbol = codes "(declare-const p Bool)(assert q)(check-sat)"
 
+-- it is read, but is not plain
 pub unknown_symbol_refused : IsNoPlainScript unknown_symbol
 unfolding lexemes first_piece built set_option declare_const command_of term_of plain_stack
 unknown_symbol_refused = record { read = refl; refused = refl }
@@ -226,6 +251,7 @@ unknown_symbol_refused = record { read = refl; refused = refl }
 abbrev pub declared_later : List ℕ
 declared_later = codes "(assert p)(declare-const p Bool)(check-sat)"
 
+-- it is read, but is not plain
 pub declared_later_refused : IsNoPlainScript declared_later
 unfolding lexemes first_piece built set_option declare_const command_of term_of plain_stack
 declared_later_refused = record { read = refl; refused = refl }
@@ -234,6 +260,7 @@ declared_later_refused = record { read = refl; refused = refl }
 abbrev pub true_asserted : List ℕ
 true_asserted = codes "(assert true)(check-sat)"
 
+-- it is read, but is not plain
 pub true_asserted_refused : IsNoPlainScript true_asserted
 unfolding lexemes first_piece built set_option declare_const command_of term_of plain_stack
 true_asserted_refused = record { read = refl; refused = refl }
@@ -242,6 +269,7 @@ true_asserted_refused = record { read = refl; refused = refl }
 abbrev pub not_alone : List ℕ
 not_alone = codes "(assert not)(check-sat)"
 
+-- it is read, but is not plain
 pub not_alone_refused : IsNoPlainScript not_alone
 unfolding lexemes first_piece built set_option declare_const command_of term_of plain_stack
 not_alone_refused = record { read = refl; refused = refl }
@@ -250,6 +278,7 @@ not_alone_refused = record { read = refl; refused = refl }
 abbrev pub not_of_two : List ℕ
 not_of_two = codes "(declare-const p Bool)(assert (not p p))(check-sat)"
 
+-- it is read, but is not plain
 pub not_of_two_refused : IsNoPlainScript not_of_two
 unfolding lexemes first_piece built set_option declare_const command_of term_of plain_stack
 not_of_two_refused = record { read = refl; refused = refl }
@@ -258,6 +287,7 @@ not_of_two_refused = record { read = refl; refused = refl }
 abbrev pub constant_in_list : List ℕ
 constant_in_list = codes "(declare-const p Bool)(assert (p))(check-sat)"
 
+-- it is read, but is not plain
 pub constant_in_list_refused : IsNoPlainScript constant_in_list
 unfolding lexemes first_piece built set_option declare_const command_of term_of plain_stack
 constant_in_list_refused = record { read = refl; refused = refl }
@@ -266,6 +296,7 @@ constant_in_list_refused = record { read = refl; refused = refl }
 abbrev pub two_asserted : List ℕ
 two_asserted = codes "(declare-const p Bool)(assert p p)(check-sat)"
 
+-- it is read, but is not plain
 pub two_asserted_refused : IsNoPlainScript two_asserted
 unfolding lexemes first_piece built set_option declare_const command_of term_of plain_stack
 two_asserted_refused = record { read = refl; refused = refl }
@@ -274,6 +305,7 @@ two_asserted_refused = record { read = refl; refused = refl }
 abbrev pub option_true : List ℕ
 option_true = codes "(set-option :print-success true)(check-sat)"
 
+-- it is read, but is not plain
 pub option_true_refused : IsNoPlainScript option_true
 unfolding lexemes first_piece built set_option declare_const command_of term_of plain_stack
 option_true_refused = record { read = refl; refused = refl }
@@ -282,6 +314,7 @@ option_true_refused = record { read = refl; refused = refl }
 abbrev pub other_sort : List ℕ
 other_sort = codes "(declare-const x Real)(check-sat)"
 
+-- it is read, but is not plain
 pub other_sort_refused : IsNoPlainScript other_sort
 unfolding lexemes first_piece built set_option declare_const command_of term_of plain_stack
 other_sort_refused = record { read = refl; refused = refl }
@@ -290,6 +323,7 @@ other_sort_refused = record { read = refl; refused = refl }
 abbrev pub other_command : List ℕ
 other_command = codes "(set-logic QF_UF)(check-sat)"
 
+-- it is read, but is not plain
 pub other_command_refused : IsNoPlainScript other_command
 unfolding lexemes first_piece built set_option declare_const command_of term_of plain_stack
 other_command_refused = record { read = refl; refused = refl }
@@ -298,6 +332,7 @@ other_command_refused = record { read = refl; refused = refl }
 abbrev pub bars_in_command : List ℕ
 bars_in_command = codes "(|check-sat|)"
 
+-- it is read, but is not plain
 pub bars_in_command_refused : IsNoPlainScript bars_in_command
 unfolding lexemes first_piece built set_option declare_const command_of term_of plain_stack
 bars_in_command_refused = record { read = refl; refused = refl }
@@ -306,6 +341,7 @@ bars_in_command_refused = record { read = refl; refused = refl }
 abbrev pub no_list : List ℕ
 no_list = codes "check-sat"
 
+-- it is read, but is not plain
 pub no_list_refused : IsNoPlainScript no_list
 unfolding lexemes first_piece built set_option declare_const command_of term_of plain_stack
 no_list_refused = record { read = refl; refused = refl }
@@ -318,14 +354,17 @@ asserted_at k text = option_map (λ (s : Stack). map (λ (a : Assertion). a.term
 abbrev pub two_stacks : List ℕ
 two_stacks = codes "(declare-const p Bool)(assert p)(check-sat)(assert (not p))(check-sat)"
 
+-- at the first check
 pub first_of_two : asserted_at 1 two_stacks ≡ Some (p ∷ [])
 unfolding lexemes first_piece built set_option declare_const command_of term_of stack_at
 first_of_two = refl
 
+-- at the second one
 pub second_of_two : asserted_at 2 two_stacks ≡ Some (p ∷ negated p ∷ [])
 unfolding lexemes first_piece built set_option declare_const command_of term_of stack_at
 second_of_two = refl
 
+-- there is no third
 pub no_third : asserted_at 3 two_stacks ≡ None
 unfolding lexemes first_piece built set_option declare_const command_of term_of stack_at
 no_third = refl

@@ -11,17 +11,23 @@ use Rattle.spec_scripts.specs.Commands.{Command, PrintNoSuccess, DeclareConst, A
 
 -- An asserted expression: its text, and the term that it is read as.
 pub record Assertion : Type 0 where
+  -- the text as it stands in the script
   pub text : Tree
+  -- the term that it is read as
   pub term : Term
 
 -- What commands leave: the declared symbols and the assertions, oldest first.
 pub record Stack : Type 0 where
+  -- the declared symbols
   pub symbols : List Symbol
+  -- the assertions
   pub assertions : List Assertion
 
+-- nothing declared, and nothing asserted
 abbrev pub empty_stack : Stack
 empty_stack = record { symbols = []; assertions = [] }
 
+-- the names of symbols, in their order
 abbrev pub names_of : List Symbol → List Name
 names_of ss = map (λ (s : Symbol). s.name) ss
 
@@ -38,12 +44,15 @@ is_kept_name (b ∷ bs) = one_of (codes "@.") b
 abbrev pub may_declare : List Symbol → Word → Bool
 may_declare ss w = ((is_simple w.kind && not (among theory_names w.bytes)) && not (is_kept_name w.bytes)) && not (among (names_of ss) w.bytes)
 
+-- one symbol more
 abbrev pub with_symbol : Stack → Symbol → Stack
 with_symbol s c = record { symbols = s.symbols ++ c ∷ []; assertions = s.assertions }
 
+-- one assertion more, by its text and its term
 abbrev pub with_assertion : Stack → Tree → Term → Stack
 with_assertion s t u = record { symbols = s.symbols; assertions = s.assertions ++ (record { text = t; term = u }) ∷ [] }
 
+-- one assertion more where the text is a term; else the command is refused
 abbrev pub asserted_by : Stack → Tree → Option Term → Option Stack
 asserted_by s t (Some u) = Some (with_assertion s t u)
 asserted_by s t None = None
@@ -74,14 +83,20 @@ stack_at s k (more t ts) = at_check s k (command_of t) (λ next n. stack_at next
 
 -- what is current at the k-th check of a text
 pub record IsCurrent (text : List ℕ) (k : ℕ) (s : Stack) : Type 0 where
+  -- the s-expressions of all of the text
   pub commands : Trees
+  -- they are those of the text
   pub read : IsRead text commands
+  -- the commands up to the check leave the stack
   pub here : stack_at empty_stack k commands ≡ Some s
 
 -- every current expression has the value true
 pub record MakesTrue (i : Interpretation) (text : List ℕ) (k : ℕ) : Type 0 where
+  -- what is current
   pub stack : Stack
+  -- it is current at that check
   pub current : IsCurrent text k stack
+  -- each current expression is true
   pub each : All (λ (a : Assertion). value_under i a.text ≡ truth true) stack.assertions
 
 -- no interpretation, of whatever tables, makes them true; it says nothing where there is no such check

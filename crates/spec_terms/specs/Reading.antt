@@ -12,12 +12,15 @@ abbrev pub symbol_named : List Symbol → Name → Option Symbol
 symbol_named [] n = None
 symbol_named (s ∷ ss) n = if bytes_eq s.name n then Some s else symbol_named ss n
 
+-- a symbol without arguments
 abbrev pub constant_term : Symbol → Term
 constant_term s = of (Apply s) []
 
+-- the term of an atom that is a declared constant
 abbrev pub constant_of : List Symbol → Kind → Name → Option Term
 constant_of ss k n = if is_symbol k then option_map constant_term (symbol_named ss n) else None
 
+-- the negation of a term, where the head is `not`
 abbrev pub negation_by : Bool → Option Term → Option Term
 negation_by is_not t = if is_not then option_map negated t else None
 

@@ -7,10 +7,14 @@ use Rattle.spec_terms.specs.Terms.{Sort, Truth, Number, Declared, same_sort, Sym
 
 -- A truth value, a fraction, or an element of a declared sort by its number, from 0.
 pub data Value : Type 0 where
+  -- a value of sort Bool
   truth : Bool → Value
+  -- a value of sort Real
   number : Fraction → Value
+  -- the sort by its name, and which of its elements
   element : Name → ℕ → Value
 
+-- the values are the same
 abbrev pub same_value : Value → Value → Bool
 same_value (truth true) (truth b) = b
 same_value (truth false) (truth b) = not b
@@ -18,11 +22,13 @@ same_value (number p) (number q) = same_fraction p q
 same_value (element s k) (element t m) = bytes_eq s t && nat_eq k m
 same_value _ _ = false
 
+-- as many values, and the same in their order
 abbrev pub same_values : List Value → List Value → Bool
 same_values [] [] = true
 same_values (v ∷ vs) (w ∷ ws) = same_value v w && same_values vs ws
 same_values _ _ = false
 
+-- the sort of a value
 abbrev pub sort_of_value : Value → Sort
 sort_of_value (truth b) = Truth
 sort_of_value (number q) = Number
@@ -30,12 +36,16 @@ sort_of_value (element s k) = Declared s
 
 -- Arguments, and the value there.
 pub record Row : Type 0 where
+  -- the arguments' values
   pub arguments : List Value
+  -- the value there
   pub value : Value
 
 -- A finite list of rows, and what holds everywhere else.
 pub record Table : Type 0 where
+  -- the rows, of which the first that fits counts
   pub rows : List Row
+  -- the value for all other arguments
   pub default : Value
 
 -- the first row that fits counts, else the default
@@ -45,8 +55,10 @@ first_fit (r ∷ rs) default vs = if same_values r.arguments vs then r.value els
 
 -- A table for each name.
 pub record Interpretation : Type 0 where
+  -- what each name gives, whether it is declared or not
   pub table : Name → Table
 
+-- the value of a name at values under an interpretation
 abbrev pub table_value : Interpretation → Name → List Value → Value
 table_value i n vs = first_fit (i.table n).rows (i.table n).default vs
 
@@ -58,8 +70,11 @@ fits _ _ = false
 
 -- the table of a symbol: rows and default of the right sorts, and no rows without parameters
 pub record IsTableOf (s : Symbol) (t : Table) : Type 0 where
+  -- the default has the symbol's sort
   pub default : same_sort s.result (sort_of_value t.default) ≡ true
+  -- each row's arguments have the parameters' sorts, and its value the symbol's
   pub rows : All (λ r. (fits s.parameters r.arguments ≡ true) × (same_sort s.result (sort_of_value r.value) ≡ true)) t.rows
+  -- a constant has the default alone
   pub bare : s.parameters ≡ [] → t.rows ≡ []
 
 -- each of the symbols has its table

@@ -1,4 +1,4 @@
--- What a shelf and a sink in memory hold.
+-- What a shelf and a sink in memory hold. Source: own.
 use Rattle.std.specs.Prelude.{◌≡◌, ℕ, zero, suc, ◌+◌, ◌-◌, ◌^◌, ◌<◌, ◌⊎◌, List, [], ◌∷◌, ◌++◌, length, take, drop, min, Contains, Option, Some, None, Result, Ok, Err, if◌then◌else◌, string_bytes, String}
 use Rattle.std.specs.Str.{bytes_eq}
 use Rattle.world_io.specs.declared.bytes.Bytes.{Bytes}
@@ -32,21 +32,33 @@ text_at (t ∷ ts) (suc k) = text_at ts k
 -- a shelf: its texts, what is left of the one begun, the most bytes of a read, the numbers of the calls that are to fail,
 -- how many calls came, and how many of them failed
 pub record ShelfState : Type 0 where
+  -- the texts, each with its name
   pub texts : List Text
+  -- what is left of the text that was begun
   pub left : List ℕ
+  -- the most bytes that one read gives
   pub most : ℕ
+  -- the numbers of the calls that fail
   pub failing : List ℕ
+  -- how many calls of `begin` and `read` came
   pub calls : ℕ
+  -- how many of them failed
   pub faults : ℕ
 
 -- a sink: what was written, for how many bytes there is room, the most bytes of a write, the numbers of the writes that are
 -- to fail, how many writes came, and how many of them failed
 pub record SinkState : Type 0 where
+  -- what was written
   pub written : List ℕ
+  -- how many bytes more it takes
   pub room : ℕ
+  -- the most bytes that one write takes
   pub most : ℕ
+  -- the numbers of the writes that fail
   pub failing : List ℕ
+  -- how many writes came
   pub calls : ℕ
+  -- how many of them failed
   pub faults : ℕ
 
 -- one more; at the greatest number of 64 bits it stays

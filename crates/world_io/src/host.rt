@@ -9,11 +9,14 @@ use std::io::{self, Read, Write};
 use std::marker::Model;
 use std::rt::Files;
 
-/// What is being read.
+/// Tells what is being read. Source: own.
 #[derive(Drop)]
 enum Source<F> {
+    /// No text was begun.
     Nothing,
+    /// Standard input.
     Input,
+    /// A file that was opened.
     Text(F),
 }
 
