@@ -195,8 +195,6 @@ const SCRIPTS: [(&str, Answer); 21] = [
 #[test]
 fn takes_plain_scripts_alone(rt: HostRuntime) -> Result<(), Fail> {
     for (script, wanted) in SCRIPTS {
-        let proof =
-            "(assume h1 p)\n(assume h2 (not p))\n(step t1 (cl) :rule resolution :premises (h1 h2))";
         assert!(rt; answer(rt.alloc(), script.as_bytes(), PROOF.as_bytes())? == wanted);
     }
     Ok(())

@@ -2,6 +2,7 @@
 
 ghost use Rattle.std.specs.Prelude.{◌≡◌, ◌≢◌, ◌++◌, ◌<◌, ◌≤◌, [], None, Some, IsSome};
 ghost use Rattle.world_io.specs.Memory.{text_named};
+ghost use Rattle.world_io.specs.Outside.{Rose};
 ghost use Rattle.spec_proofs.specs.Faults.{Fault};
 ghost use Rattle.spec_proofs.specs.Accepted.{IsVerdict};
 ghost use Rattle.smt_top.specs.Words.{named};
@@ -26,8 +27,8 @@ pub fn run_in_memory(
     ensures refused { result ≡ Status.Refused → OnNamed (named words.now) shelf.old.texts (λ script proof. (f : Fault) × IsVerdict script proof (Some f) × (out.new.written ≡ out.old.written ++ error_line proof f)) }
     ensures words { result ≡ Status.Words → (named words.now ≡ None) × (out.new.written ≡ out.old.written ++ usage) }
     ensures memory { result ≡ Status.Memory → IsSome (named words.now) × (out.new.written ≡ out.old.written) }
-    ensures read_fault { result ≡ Status.ReadFault → IsSome (named words.now) × (out.new.written ≡ out.old.written) }
-    ensures write_fault { result ≡ Status.WriteFault → GrowsByRight (named words.now) shelf.old.texts out.old.written out.new.written }
+    ensures read_fault { result ≡ Status.ReadFault → IsSome (named words.now) × Rose shelf.old.faults shelf.new.faults × (out.new.written ≡ out.old.written) }
+    ensures write_fault { result ≡ Status.WriteFault → Rose out.old.faults out.new.faults × GrowsByRight (named words.now) shelf.old.texts out.old.written out.new.written }
     ensures read { shelf.old.failing ≡ [] → 0 < shelf.old.most → BothHold (named words.now) (text_named shelf.old.texts) → result ≢ Status.ReadFault }
     ensures write { out.old.failing ≡ [] → 0 < out.old.most → longest_line ≤ out.old.room → result ≢ Status.WriteFault }
 {
