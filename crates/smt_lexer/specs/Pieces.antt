@@ -32,7 +32,7 @@ head_at b =
     else if b == 124 then heads.Bar
     else if b == 58 then heads.Colon
     else if is_symbol_byte b then heads.Symbol
-    else heads.Stranger
+    else heads.Other
 
 -- how long a string's body is
 abbrev pub IsBody : List ℕ → Option ℕ → Type 0

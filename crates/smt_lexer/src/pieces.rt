@@ -46,7 +46,7 @@ enum Head {
     Bar,
     Colon,
     Symbol,
-    Stranger,
+    Other,
 }
 
 /// Says what a first byte says. Source: SMT-LIB 2.6, section 3.1.
@@ -66,7 +66,7 @@ fn head_of(b: u8) -> Head
         b'|' => Head::Bar,
         b':' => Head::Colon,
         _ if is_of_symbols(b) => Head::Symbol,
-        _ => Head::Stranger,
+        _ => Head::Other,
     }
 }
 
@@ -217,7 +217,7 @@ fn first_piece<'a>(bytes: &'a [u8]) -> Found<'a>
         Head::Bar => return quoted(rest),
         Head::Colon => return keyword(rest),
         Head::Symbol => return symbol(bytes, 1 + front_len(rest, Class::Symbol)),
-        Head::Stranger => return fault_at(Fault::BadChar, 0),
+        Head::Other => return fault_at(Fault::BadChar, 0),
     };
     Found { what, size }
 }
