@@ -16,6 +16,7 @@ lexeme_of whats.Close = closes
 lexeme_of (whats.Word k bytes) = word k bytes.now
 lexeme_of (whats.Wrong f) = wrong f
 
+-- the lexeme with its number of bytes
 abbrev pub piece_of : Found → Piece
 piece_of f = piece (lexeme_of f.what) f.size
 

@@ -36,16 +36,27 @@ pub struct Found<'a> {
 /// What a first byte says.
 #[derive(Clone, Copy, Debug, PartialEq, Eq)]
 enum Head {
+    /// White space.
     Blank,
+    /// `;`, which begins a comment.
     Semicolon,
+    /// `(`
     Open,
+    /// `)`
     Close,
+    /// `0`, a number's first digit that no other follows.
     Zero,
+    /// `1` to `9`, which begin a number.
     Digit,
+    /// `"`, which begins a string.
     Quote,
+    /// `|`, which begins a quoted symbol.
     Bar,
+    /// `:`, which begins a keyword.
     Colon,
+    /// A byte of symbols that is no digit: it begins a symbol without bars.
     Symbol,
+    /// A byte that begins no token.
     Other,
 }
 
