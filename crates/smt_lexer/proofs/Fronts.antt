@@ -52,7 +52,7 @@ piece_by heads.Quote b bs = lexicon.string (lexicon.string_body bs)
 piece_by heads.Bar b bs = lexicon.quoted (front is_in_bars bs) (drop (length (front is_in_bars bs)) bs)
 piece_by heads.Colon b bs = lexicon.keyword (front is_symbol_byte bs)
 piece_by heads.Symbol b bs = lexicon.symbol (b ∷ front is_symbol_byte bs)
-piece_by heads.Stranger b bs = piece (lexicon.wrong BadChar) 0
+piece_by heads.Other b bs = piece (lexicon.wrong BadChar) 0
 
 pub piece_by_head : (b : ℕ) (bs : List ℕ) → lexicon.first_piece b bs ≡ piece_by (head_at b) b bs
 unfolding lexicon.first_piece
@@ -61,7 +61,7 @@ piece_by_head b bs = go (is_blank b) (b == 59) (b == 40) (b == 41) (b == 48) (is
     p : Head → Piece
     p h = piece_by h b bs
 
-    go : (blank semicolon opens closes zero_is digit quote bar colon symbol : Bool) → (zero_is ≡ true → b ≡ 48) → cond blank (p heads.Blank) (cond semicolon (p heads.Semicolon) (cond opens (p heads.Open) (cond closes (p heads.Close) (cond zero_is (lexicon.number (48 ∷ []) bs) (cond digit (p heads.Digit) (cond quote (p heads.Quote) (cond bar (p heads.Bar) (cond colon (p heads.Colon) (cond symbol (p heads.Symbol) (p heads.Stranger)))))))))) ≡ p (cond blank heads.Blank (cond semicolon heads.Semicolon (cond opens heads.Open (cond closes heads.Close (cond zero_is heads.Zero (cond digit heads.Digit (cond quote heads.Quote (cond bar heads.Bar (cond colon heads.Colon (cond symbol heads.Symbol heads.Stranger))))))))))
+    go : (blank semicolon opens closes zero_is digit quote bar colon symbol : Bool) → (zero_is ≡ true → b ≡ 48) → cond blank (p heads.Blank) (cond semicolon (p heads.Semicolon) (cond opens (p heads.Open) (cond closes (p heads.Close) (cond zero_is (lexicon.number (48 ∷ []) bs) (cond digit (p heads.Digit) (cond quote (p heads.Quote) (cond bar (p heads.Bar) (cond colon (p heads.Colon) (cond symbol (p heads.Symbol) (p heads.Other)))))))))) ≡ p (cond blank heads.Blank (cond semicolon heads.Semicolon (cond opens heads.Open (cond closes heads.Close (cond zero_is heads.Zero (cond digit heads.Digit (cond quote heads.Quote (cond bar heads.Bar (cond colon heads.Colon (cond symbol heads.Symbol heads.Other))))))))))
     go true _ _ _ _ _ _ _ _ _ e = refl
     go false true _ _ _ _ _ _ _ _ e = refl
     go false false true _ _ _ _ _ _ _ e = refl

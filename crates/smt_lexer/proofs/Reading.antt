@@ -9,7 +9,7 @@ use Rattle.smt_lexer.specs.declared.pieces.What.TheVariants as whats
 use Rattle.smt_lexer.specs.declared.TokenKind.{TokenKind}
 use Rattle.smt_lexer.specs.declared.TokenKind.TheVariants as kinds
 use Rattle.smt_lexer.specs.Pieces.{lexeme_of, IsWithin}
-use Rattle.smt_lexer.specs.Tokens.{Stands, IsToken}
+use Rattle.smt_lexer.specs.Tokens.{Stands, IsToken, piece_from}
 use Rattle.spec_text.specs.Lexemes.{Lexeme, blank, opens, closes, word, wrong, Piece, piece, first_piece, before, lexemes, lexemes_from}
 
 lexemes_skip : (n at : ℕ) (bs : List ℕ) → lexemes n at bs ≡ lexemes 0 (at + n) (drop n bs)
@@ -45,24 +45,29 @@ module _ (text : List ℕ) (at : ℕ) (lt : at < length text) where
 
     -- the token that it is, from an offset before it on
     module _ (from : ℕ) (place after : Place) (behind : from ≤ place.offset) (passed : lexemes_from text from ≡ lexemes_from text at) (here : place.offset ≡ at) (size : after.offset ≡ at + n) where
-      stands : (x : Lexeme) → 0 < n → lexemes_from text at ≡ (at, x) ∷ lexemes_from text (at + n) → Stands text from place after x
-      stands x some f = record {
+      stands : (x : Lexeme) → 0 < n → piece x n ≡ piece_from text at → lexemes_from text at ≡ (at, x) ∷ lexemes_from text (at + n) → Stands text from place after x
+      stands x some p f = record {
         first = passed ∙ f ∙ rw (here, size) refl;
         behind = behind;
         longer = omega arith;
+        own = rw here (sym (ap (λ (q : Piece). q.lexeme) p));
+        ends = size ∙ ap (λ (q : Piece). at + q.size) p ∙ rw here refl;
       }
 
       pub open_here : w ≡ whats.Open → (k : TokenKind) → k ≡ kinds.Open → IsToken text from place after k
       open_here is k kind =
           let some = rw is at within in
-          rw kind (stands opens some.0 (lexeme_here (piece opens n) (rw is at e) ∙ ap (λ m. (at, opens) ∷ lexemes_from text m) (one_less n some.0)))
+          let p : piece opens n ≡ piece_from text at = rw is at e in
+          rw kind (stands opens some.0 p (lexeme_here (piece opens n) p ∙ ap (λ m. (at, opens) ∷ lexemes_from text m) (one_less n some.0)))
 
       pub close_here : w ≡ whats.Close → (k : TokenKind) → k ≡ kinds.Close → IsToken text from place after k
       close_here is k kind =
           let some = rw is at within in
-          rw kind (stands closes some.0 (lexeme_here (piece closes n) (rw is at e) ∙ ap (λ m. (at, closes) ∷ lexemes_from text m) (one_less n some.0)))
+          let p : piece closes n ≡ piece_from text at = rw is at e in
+          rw kind (stands closes some.0 p (lexeme_here (piece closes n) p ∙ ap (λ m. (at, closes) ∷ lexemes_from text m) (one_less n some.0)))
 
       pub word_here : (kind : Kind) (bytes : Bor (List ℕ)) → w ≡ whats.Word kind bytes → (k : TokenKind) → k ≡ kinds.Word kind bytes → IsToken text from place after k
       word_here kind bytes is k kind_is =
           let some = rw is at within in
-          rw kind_is (stands (word kind bytes.now) some.0 (lexeme_here (piece (word kind bytes.now) n) (rw is at e) ∙ ap (λ m. (at, word kind bytes.now) ∷ lexemes_from text m) (one_less n some.0)))
+          let p : piece (word kind bytes.now) n ≡ piece_from text at = rw is at e in
+          rw kind_is (stands (word kind bytes.now) some.0 p (lexeme_here (piece (word kind bytes.now) n) p ∙ ap (λ m. (at, word kind bytes.now) ∷ lexemes_from text m) (one_less n some.0)))

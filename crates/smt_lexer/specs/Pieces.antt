@@ -16,6 +16,7 @@ lexeme_of whats.Close = closes
 lexeme_of (whats.Word k bytes) = word k bytes.now
 lexeme_of (whats.Wrong f) = wrong f
 
+-- the lexeme with its number of bytes
 abbrev pub piece_of : Found → Piece
 piece_of f = piece (lexeme_of f.what) f.size
 
@@ -32,7 +33,7 @@ head_at b =
     else if b == 124 then heads.Bar
     else if b == 58 then heads.Colon
     else if is_symbol_byte b then heads.Symbol
-    else heads.Stranger
+    else heads.Other
 
 -- how long a string's body is
 abbrev pub IsBody : List ℕ → Option ℕ → Type 0

@@ -1,18 +1,29 @@
 -- What the next token says of the lexemes from an offset on.
-use Rattle.std.specs.Prelude.{◌≡◌, ◌<◌, ◌≤◌, ℕ, List, [], ◌∷◌, length, Result, Ok, Err}
+use Rattle.std.specs.Prelude.{◌≡◌, ◌+◌, ◌<◌, ◌≤◌, ℕ, List, [], ◌∷◌, length, drop, slice_index, Result, Ok, Err}
 use Rattle.spec_text.specs.declared.Place.{Place}
 use Rattle.spec_text.specs.Places.{IsPlaceOf}
-use Rattle.spec_text.specs.Lexemes.{Lexeme, opens, closes, word, wrong, lexemes_from}
+use Rattle.spec_text.specs.Lexemes.{Lexeme, opens, closes, word, wrong, Piece, first_piece, lexemes_from}
 use Rattle.smt_lexer.specs.declared.TokenKind.{TokenKind}
 use Rattle.smt_lexer.specs.declared.TokenKind.TheVariants.{Open, Close, Word, End}
 use Rattle.smt_lexer.specs.declared.Token.{Token}
 use Rattle.smt_lexer.specs.declared.Refusal.{Refusal}
 
--- the first lexeme from an offset on stands at a place, and the others stand from another place on
+-- what the byte at an offset and the bytes behind it begin with, and how many of them it has
+abbrev pub piece_from : List ℕ → ℕ → Piece
+piece_from text at = first_piece (slice_index text at) (drop (at + 1) text)
+
+-- The first lexeme from an offset on stands at a place, up to another place, and the others stand from there on. Before it stands nothing but white space and comments, for `lexemes_from` passes over nothing else.
 pub record Stands (text : List ℕ) (from : ℕ) (place after : Place) (x : Lexeme) : Type 0 where
+  -- it is the first, and the others are those behind it
   pub first : lexemes_from text from ≡ (place.offset, x) ∷ lexemes_from text after.offset
+  -- it stands at the offset or behind it
   pub behind : from ≤ place.offset
+  -- it has one byte at least
   pub longer : place.offset < after.offset
+  -- it is what the bytes at the place begin with
+  pub own : (piece_from text place.offset).lexeme ≡ x
+  -- it ends right behind its own bytes: what white space follows stands behind that
+  pub ends : after.offset ≡ place.offset + (piece_from text place.offset).size
 
 -- no lexeme stands from an offset on, and the place is the end of the text
 pub record Ends (text : List ℕ) (from : ℕ) (place after : Place) : Type 0 where

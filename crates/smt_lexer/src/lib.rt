@@ -24,22 +24,23 @@ pub use places::{place_after, place_at, start};
 pub use spec_text::{Fault, Kind, Place};
 pub use words::is_one_of;
 
-/// A fault with its place.
+/// A fault with its place. Source: own.
 #[derive(Clone, Copy, Debug, PartialEq, Eq)]
 pub struct Refusal {
-    /// Where the fault stands.
+    /// Where the fault stands: of a byte that may not stand there its own place, of a string or quoted symbol that does
+    /// not end the place of its first byte.
     pub place: Place,
     /// Which fault it is.
     pub fault: Fault,
 }
 
-/// Why reading stopped.
+/// Why reading stopped. Source: own.
 #[derive(Debug, Drop, Error, PartialEq, Eq)]
 pub enum Refused {
-    /// The text has a fault.
+    /// The text has a fault: which one, and where.
     #[error("{0:?}")]
     Fault(Refusal),
-    /// No memory was left.
+    /// No memory was left. It says nothing of the text.
     #[error("out of memory")]
     Memory,
 }
@@ -68,32 +69,35 @@ impl From<Refusal> for Refused {
     }
 }
 
-/// What a token is.
+/// What a token is. Source: SMT-LIB 2.6, section 3.1.
 #[derive(Clone, Copy, Debug)]
 pub enum TokenKind<'a> {
-    /// `(`
+    /// An opening parenthesis, `(`.
     Open,
-    /// `)`
+    /// A closing parenthesis, `)`.
     Close,
-    /// A word by its kind, and its bytes as written, but without quotes, bars or colon.
+    /// A word by its kind, and its bytes as written, but without quotes, bars or colon. Two quotes inside a string are
+    /// both there.
     Word(Kind, &'a [u8]),
-    /// The end of the text.
+    /// The end of the text. Source: own.
     End,
 }
 
-/// A token with the place of its first byte.
+/// A token with the place of its first byte. Source: own.
 #[derive(Clone, Copy, Debug)]
 pub struct Token<'a> {
-    /// The place of its first byte, or the end of the text.
+    /// The place of its first byte, be it a quote, a bar or a colon; of `End`, the end of the text.
     pub place: Place,
     /// What it is.
     pub lexeme: TokenKind<'a>,
 }
 
 /// Reads the next token at a place of the bytes, past white space and comments, and gives it with the place right
-/// behind it. Behind the last token that is the end of the bytes, again and again. An `Err` has the first lexical
-/// fault behind the place, where no token stands before it: a byte that begins no token or cannot follow one
-/// (`BadChar`), a string (`UnclosedString`) or a quoted symbol (`UnclosedQuote`) that does not end.
+/// behind its last byte: what white space or comments follow stand behind that place. At the end of the bytes it gives
+/// `End` with that place, again and again. The place that it reads from may be any of the bytes, also one inside a
+/// token: then the rest of it is read as if it began there. An `Err` has the first lexical fault behind the place,
+/// where no token stands before it: a byte that begins no token or cannot follow one (`BadChar`), a string
+/// (`UnclosedString`) or a quoted symbol (`UnclosedQuote`) that does not end.
 /// Source: SMT-LIB 2.6, section 3.1; the faults are own.
 pub fn next<'a>(bytes: &'a [u8], at: Place) -> Result<(Token<'a>, Place), Refusal>
     requires { IsPlaceOf bytes.now at }

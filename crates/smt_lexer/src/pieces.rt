@@ -36,17 +36,28 @@ pub struct Found<'a> {
 /// What a first byte says.
 #[derive(Clone, Copy, Debug, PartialEq, Eq)]
 enum Head {
+    /// White space.
     Blank,
+    /// `;`, which begins a comment.
     Semicolon,
+    /// `(`
     Open,
+    /// `)`
     Close,
+    /// `0`, a number's first digit that no other follows.
     Zero,
+    /// `1` to `9`, which begin a number.
     Digit,
+    /// `"`, which begins a string.
     Quote,
+    /// `|`, which begins a quoted symbol.
     Bar,
+    /// `:`, which begins a keyword.
     Colon,
+    /// A byte of symbols that is no digit: it begins a symbol without bars.
     Symbol,
-    Stranger,
+    /// A byte that begins no token.
+    Other,
 }
 
 /// Says what a first byte says. Source: SMT-LIB 2.6, section 3.1.
@@ -66,7 +77,7 @@ fn head_of(b: u8) -> Head
         b'|' => Head::Bar,
         b':' => Head::Colon,
         _ if is_of_symbols(b) => Head::Symbol,
-        _ => Head::Stranger,
+        _ => Head::Other,
     }
 }
 
@@ -217,7 +228,7 @@ fn first_piece<'a>(bytes: &'a [u8]) -> Found<'a>
         Head::Bar => return quoted(rest),
         Head::Colon => return keyword(rest),
         Head::Symbol => return symbol(bytes, 1 + front_len(rest, Class::Symbol)),
-        Head::Stranger => return fault_at(Fault::BadChar, 0),
+        Head::Other => return fault_at(Fault::BadChar, 0),
     };
     Found { what, size }
 }

@@ -1,4 +1,4 @@
--- Bytes by what they can stand in. Source: SMT-LIB 2.6, section 3.1.
+-- Bytes by what they can stand in. Source: SMT-LIB 2.6, section 3.1; where any other byte may stand, own.
 use Rattle.std.specs.Prelude.{ℕ, Bool, false, ◌&&◌, ◌||◌, not, List, [], ◌∷◌, codes, nat_le, ◌==◌, if◌then◌else◌}
 use Rattle.std.specs.Str.{bytes_eq}
 
@@ -20,13 +20,15 @@ among (m ∷ ms) n = bytes_eq m n || among ms n
 abbrev pub is_blank : ℕ → Bool
 is_blank b = one_of (9 ∷ 10 ∷ 13 ∷ 32 ∷ []) b
 
--- a comment goes up to a line feed or a carriage return
+-- a comment goes up to a line feed or a carriage return, and may hold any other byte (own: the standard has printable characters and white space there)
 abbrev pub is_in_comment : ℕ → Bool
 is_in_comment b = not (one_of (10 ∷ 13 ∷ []) b)
 
+-- 0 to 9
 abbrev pub is_digit : ℕ → Bool
 is_digit b = nat_le 48 b && nat_le b 57
 
+-- A to Z and a to z
 abbrev pub is_letter : ℕ → Bool
 is_letter b = (nat_le 65 b && nat_le b 90) || (nat_le 97 b && nat_le b 122)
 
@@ -34,7 +36,7 @@ is_letter b = (nat_le 65 b && nat_le b 90) || (nat_le 97 b && nat_le b 122)
 abbrev pub is_symbol_byte : ℕ → Bool
 is_symbol_byte b = is_digit b || is_letter b || one_of (codes "~!@$%^&*_-+=<>.?/") b
 
--- in a quoted symbol stand all bytes but the bar and the backslash
+-- a quoted symbol may hold any byte but the bar and the backslash (own: the standard has printable characters and white space there)
 abbrev pub is_in_bars : ℕ → Bool
 is_in_bars b = not (one_of (124 ∷ 92 ∷ []) b)
 

@@ -9,6 +9,7 @@ pub record Located : Type 0 where
   pub offset : ℕ
   pub fault : Fault
 
+-- a fault that there is, with its offset
 abbrev pub located : ℕ → Fault → Option Located
 located at f = Some (record { offset = at; fault = f })
 

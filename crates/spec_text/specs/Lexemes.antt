@@ -17,6 +17,7 @@ pub record Piece : Type 0 where
   pub lexeme : Lexeme
   pub size : ℕ
 
+-- a lexeme with its number of bytes
 abbrev pub piece : Lexeme → ℕ → Piece
 piece x n = record { lexeme = x; size = n }
 
@@ -35,16 +36,19 @@ abbrev pub number : List ℕ → List ℕ → Piece
 number digits [] = piece (word Numeral digits) (length digits)
 number digits (b ∷ bs) = if b == 46 then decimal digits (front is_digit bs) (drop (length (front is_digit bs)) bs) else ended (b ∷ bs) (length digits) (word Numeral digits)
 
--- the bytes behind an opening quote up to the closing one, as written; there, two quotes stand for one
+-- strings may hold any byte (own: the standard has printable characters and white space there)
 unfoldable mutual
+  -- the bytes behind an opening quote up to the closing one, as written; there, two quotes stand for one
   pub string_body : List ℕ → Option (List ℕ)
   string_body [] = None
   string_body (b ∷ bs) = if b == 34 then after_quote bs else option_map (λ body. b ∷ body) (string_body bs)
 
+  -- the same from behind a quote on: with a second one it is a pair, else it was the closing one
   pub after_quote : List ℕ → Option (List ℕ)
   after_quote [] = Some []
   after_quote (b ∷ bs) = if b == 34 then option_map (λ body. 34 ∷ 34 ∷ body) (string_body bs) else Some []
 
+-- a string by its body, or the fault where no quote closes it
 abbrev pub string : Option (List ℕ) → Piece
 string None = piece (wrong UnclosedString) 0
 string (Some body) = piece (word Text body) (length body + 2)
@@ -54,10 +58,12 @@ abbrev pub quoted : Name → List ℕ → Piece
 quoted name [] = piece (wrong UnclosedQuote) 0
 quoted name (b ∷ bs) = if b == 124 then piece (word Quoted name) (length name + 2) else piece (wrong BadChar) (length name + 1)
 
+-- a keyword by its name behind the colon, of which there is one byte at least; it may begin with a digit (own)
 abbrev pub keyword : Name → Piece
 keyword [] = piece (wrong BadChar) 0
 keyword (b ∷ bs) = piece (word Keyword (b ∷ bs)) (length (b ∷ bs) + 1)
 
+-- a symbol without bars by its name, or a reserved word
 abbrev pub symbol : Name → Piece
 symbol name = piece (word (if among reserved_words name then Reserved else Simple) name) (length name)
 

@@ -1,4 +1,4 @@
--- The lexicon as a table: which bytes spell which lexeme. Source: SMT-LIB 2.6, section 3.1.
+-- The lexicon as a table: which bytes spell which lexeme. Source: SMT-LIB 2.6, section 3.1. Own: strings, quoted symbols and comments may hold any other byte, where the standard has printable characters and white space, and behind a keyword's colon may stand any bytes of symbols, where it has a simple symbol.
 use Rattle.std.specs.Prelude.{◌≡◌, ◌≢◌, ◌≤◌, ℕ, Bool, true, false, List, [], ◌∷◌, ◌++◌, length, take, drop, ◌==◌}
 use Rattle.spec_text.specs.declared.Kind.TheVariants.{Numeral, Decimal, Text, Simple, Quoted, Reserved, Keyword}
 use Rattle.spec_text.specs.Bytes.{is_blank, is_in_comment, is_digit, is_symbol_byte, is_in_bars, among, reserved_words}
@@ -14,7 +14,7 @@ pub data IsNumeral : List ℕ → Type 0 where
   only_zero : IsNumeral (48 ∷ [])
   digits : (d : ℕ) (ds : List ℕ) → d ≢ 48 → Consists is_digit (d ∷ ds) → IsNumeral (d ∷ ds)
 
--- the inside of a string: bytes that are no quotes, and quotes in pairs
+-- the inside of a string: any bytes that are no quotes (own), and quotes in pairs
 pub data IsInside : List ℕ → Type 0 where
   empty : IsInside []
   byte : (b : ℕ) (bs : List ℕ) → b ≢ 34 → IsInside bs → IsInside (b ∷ bs)

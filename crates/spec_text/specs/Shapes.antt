@@ -52,14 +52,17 @@ is_symbol Simple = true
 is_symbol Quoted = true
 is_symbol _ = false
 
+-- a symbol without bars
 abbrev pub is_simple : Kind → Bool
 is_simple Simple = true
 is_simple _ = false
 
+-- a keyword
 abbrev pub is_keyword : Kind → Bool
 is_keyword Keyword = true
 is_keyword _ = false
 
+-- a reserved word
 abbrev pub is_reserved : Kind → Bool
 is_reserved Reserved = true
 is_reserved _ = false

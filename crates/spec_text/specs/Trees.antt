@@ -3,6 +3,7 @@ use Rattle.std.specs.Prelude.{◌≡◌, ℕ, List, [], ◌∷◌, ◌++◌}
 use Rattle.spec_text.specs.declared.Kind.{Kind}
 use Rattle.spec_text.specs.Lexemes.{Lexeme, opens, closes, word, lexemes}
 
+-- A tree and a row of trees: each holds the other.
 mutual
   -- An atom by its offset, kind and bytes, or a list by the offsets of its parentheses and what stands between them.
   pub data Tree : Type 0 where
@@ -14,12 +15,14 @@ mutual
     none : Trees
     more : Tree → Trees → Trees
 
--- the lexemes of a tree, each with its offset
+-- the lexemes of trees, each with its offset
 abbrev mutual
+  -- of one tree
   pub spelled : Tree → List (ℕ × Lexeme)
   spelled (atom at k bytes) = (at, word k bytes) ∷ []
   spelled (list at ts end) = (at, opens) ∷ spelled_all ts ++ (end, closes) ∷ []
 
+  -- of trees, one after the other
   pub spelled_all : Trees → List (ℕ × Lexeme)
   spelled_all none = []
   spelled_all (more t ts) = spelled t ++ spelled_all ts

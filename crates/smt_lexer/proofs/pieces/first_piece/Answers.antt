@@ -31,8 +31,8 @@ returns-in-Symbol-clause-piece c =
     let run = first_run is_symbol_byte c.args.bytes.now c.front_len-in-Symbol.result c.requires (rw take_rest at c.front_len-in-Symbol.ensures.length) in
     c.symbol.ensures.piece ∙ rw run.0 (sym (piece_at_head _ _ _ _ c.head_of.ensures c.in-Symbol.is))
 
-pub returns-in-Stranger-clause-piece : goal.returns-in-Stranger-clause-piece
-returns-in-Stranger-clause-piece c = c.fault_at.ensures.piece ∙ sym (piece_at_head _ _ _ _ c.head_of.ensures c.in-Stranger.is)
+pub returns-in-Other-clause-piece : goal.returns-in-Other-clause-piece
+returns-in-Other-clause-piece c = c.fault_at.ensures.piece ∙ sym (piece_at_head _ _ _ _ c.head_of.ensures c.in-Other.is)
 
 pub returns-clause-piece : goal.returns-clause-piece
 returns-clause-piece c = elim c.match-head_of.branch [
