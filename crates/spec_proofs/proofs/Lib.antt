@@ -2,5 +2,6 @@
 pub mod Resolution
 pub mod Values
 pub mod Judging
+pub mod Good
 pub mod Verdicts
 pub mod Chains

@@ -1,11 +1,11 @@
 -- Proofs that are plain, and proofs that are not. Each is one of the script `contradiction`: a constant p, and p and (not p) asserted.
-use Rattle.std.specs.Prelude.{◌≡◌, refl, ℕ, zero, suc, false, List, [], ◌∷◌, ◌⊎◌, map, Contains, Option, Some, codes}
+use Rattle.std.specs.Prelude.{◌≡◌, refl, ℕ, zero, suc, false, List, [], ◌∷◌, ◌⊎◌, map, Contains, Some, codes}
 use Rattle.std.proofs.Common.{arith, sym, inl, inr}
 use Rattle.spec_text.specs.Lexemes.{lexemes, first_piece}
 use Rattle.spec_text.specs.Faults.{first_fault}
 use Rattle.spec_text.specs.Places.{line_of, column_of}
-use Rattle.spec_text.specs.Shapes.{◌>>=◌, each}
-use Rattle.spec_text.specs.Trees.{Trees, none, more, IsRead}
+use Rattle.spec_text.specs.Shapes.{each}
+use Rattle.spec_text.specs.Trees.{IsRead}
 use Rattle.spec_terms.specs.Terms.{Truth, constant, negated}
 use Rattle.spec_terms.specs.Reading.{term_of}
 use Rattle.spec_scripts.specs.Commands as scripts
@@ -14,9 +14,9 @@ use Rattle.spec_scripts.specs.Plain.{plain_stack}
 use Rattle.spec_scripts.specs.Examples.{built, trees_in, stack_in, p, q, contradiction, contradiction_is_plain, without_option, without_option_is_plain}
 use Rattle.spec_proofs.specs.Resolution.{IsChain}
 use Rattle.spec_proofs.specs.Clauses.{Literal, complement, literal_of, literals_of}
-use Rattle.spec_proofs.specs.Commands.{Known, Command, Assume, Step, assume_of, step_of, command_of, known_at}
+use Rattle.spec_proofs.specs.Commands.{Known, Assume, Step, assume_of, step_of, command_of, known_at}
 use Rattle.spec_proofs.specs.declared.Rule.TheVariants.{Resolution}
-use Rattle.spec_proofs.specs.Faults.{with_command}
+use Rattle.spec_proofs.specs.Good.{commands_in}
 use Rattle.spec_proofs.specs.Accepted.{IsPlain, is_plain}
 
 -- the proof is plain
@@ -39,11 +39,6 @@ contradiction_makes_known = refl
 pub without_option_makes_known : known_at (stack_in without_option) ≡ known
 unfolding lexemes first_piece built set_option declare_const scripts.command_of term_of plain_stack
 without_option_makes_known = refl
-
--- the commands that trees are, each under the names before it
-unfoldable pub commands_in : Known → Trees → Option (List Command)
-commands_in k none = Some []
-commands_in k (more t ts) = command_of k t >>= λ c. commands_in (with_command k c) ts >>= λ cs. Some (c ∷ cs)
 
 -- the offset's place
 abbrev pub IsAt : List ℕ → ℕ → ℕ → ℕ → Type 0
