@@ -3,5 +3,6 @@ pub mod Resolution
 pub mod Values
 pub mod Judging
 pub mod Good
+pub mod Refuting
 pub mod Verdicts
 pub mod Chains

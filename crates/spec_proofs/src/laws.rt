@@ -96,6 +96,19 @@ pub fn satisfied_scripts_have_a_model()
     spec_scripts::laws::assertions_have_their_texts_value();
 }
 
+/// States that goodness is not asked in vain: what no truths make true at a check has a good proof, and so has what no
+/// interpretation makes true there. It is of trees, so that no text is too long for it. Source: own.
+pub fn unsatisfiable_scripts_have_a_proof()
+    ensures truths { (script : List ℕ) (k : ℕ) (s : Stack) → IsCurrent script k s
+        → ((v : Truths) → All (λ (a : Assertion). term_true v a.term ≡ true) s.assertions → ⊥)
+        → (ts : Trees) × IsGood (known_at s) ts }
+    ensures models { (script : List ℕ) (k : ℕ) (s : Stack) → IsCurrent script k s → HasNoModel script k
+        → (ts : Trees) × IsGood (known_at s) ts }
+{
+    spec_scripts::laws::assertions_are_read();
+    satisfied_scripts_have_a_model();
+}
+
 /// States that of a script which is read, but is not plain, the verdict is that it is not yet taken. Source: own.
 pub fn other_scripts_are_not_yet_taken()
     ensures { (script proof : List ℕ) (ts : Trees) → IsRead script ts → plain_stack empty_stack ts ≡ None
