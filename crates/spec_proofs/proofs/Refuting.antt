@@ -1,5 +1,5 @@
 -- A good proof of what no truths make true: two of the assertions are opposed, and their resolvent is empty.
-use Rattle.std.proofs.Common.{◌≡◌, ◌≢◌, ℕ, Bool, true, false, not, ◌&&◌, ◌⊎◌, List, [], ◌∷◌, Option, Some, None, option_map, codes, cond, All, Contains, get_or, inl, inr, refl, sym, ap, ◌∙◌, subst, arith}
+use Rattle.std.proofs.Common.{◌≡◌, Bool, true, false, not, ◌&&◌, ◌⊎◌, List, [], ◌∷◌, Option, Some, None, option_map, codes, cond, All, Contains, get_or, inl, inr, refl, sym, ap, ◌∙◌, subst, arith}
 use Rattle.std.specs.List.{list_any}
 use Rattle.std.specs.Str.{bytes_eq}
 use Rattle.std.proofs.lemmas.Bool.{false≢true}
@@ -11,14 +11,14 @@ use Rattle.spec_text.specs.declared.Kind.TheVariants.{Simple, Keyword}
 use Rattle.spec_text.specs.Bytes.{Name}
 use Rattle.spec_text.specs.Shapes.{◌>>=◌, each, is_symbol, is_word}
 use Rattle.spec_text.specs.Trees.{Tree, Trees, atom, list, none, more, offset_of}
-use Rattle.spec_terms.specs.Terms.{Not, Apply, Symbol, Term, app, nil, cons, constant, negated, Truth}
+use Rattle.spec_terms.specs.Terms.{Not, Apply, Symbol, Term, app, constant, negated, Truth}
 use Rattle.spec_terms.specs.Reading.{constant_term, symbol_named, constant_of, negation_by, term_of}
 use Rattle.spec_scripts.specs.Stack.{Stack, Assertion}
 use Rattle.spec_scripts.specs.Current.{AreDeclared, IsReadUnder, IsReadStack}
 use Rattle.spec_proofs.specs.declared.Rule.TheVariants.{Resolution}
-use Rattle.spec_proofs.specs.Resolution.{Derives, unit, Conflicts, both_ways}
+use Rattle.spec_proofs.specs.Resolution.{Derives, unit, both_ways}
 use Rattle.spec_proofs.specs.Clauses.{Literal, complement, literal_of, Truths, term_true, IsResolvent}
-use Rattle.spec_proofs.specs.Commands.{Known, Entry, Command, Assume, Step, new_name, known_at, command_of, assume_of, step_of}
+use Rattle.spec_proofs.specs.Commands.{Known, Assume, Step, new_name, known_at, command_of, assume_of, step_of}
 use Rattle.spec_proofs.specs.Faults.{with_command}
 use Rattle.spec_proofs.specs.Good.{IsGood}
 use Rattle.spec_proofs.proofs.Chains.{in_front, behind, mapped}
