@@ -2,5 +2,7 @@
 pub mod Resolution
 pub mod Values
 pub mod Judging
+pub mod Good
+pub mod Refuting
 pub mod Verdicts
 pub mod Chains

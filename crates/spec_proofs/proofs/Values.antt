@@ -29,7 +29,7 @@ abbrev pub model_of : Truths → Interpretation
 model_of v = record { table = λ n. record { rows = []; default = truth (v (constant_term (constant n Truth))) } }
 
 -- a symbol that is found is declared
-found_declared : (ss : List Symbol) (n : Name) (s : Symbol) → AreDeclared ss → symbol_named ss n ≡ Some s → s ≡ constant s.name Truth
+pub found_declared : (ss : List Symbol) (n : Name) (s : Symbol) → AreDeclared ss → symbol_named ss n ≡ Some s → s ≡ constant s.name Truth
 found_declared [] n s h e = cc
 found_declared (x ∷ ss) n s h e = go (bytes_eq x.name n) (found_declared ss n s (All-tail IsDeclared x ss h)) e
   where

@@ -14,7 +14,8 @@ use Rattle.spec_proofs.specs.declared.ProofKind.TheVariants.{NotAsserted, RuleFa
 use Rattle.spec_proofs.specs.Clauses.{Clause, Literal, complement, literal_of, Truths, clause_true, IsResolvent}
 use Rattle.spec_proofs.specs.Commands.{Entry, Known, Command, Assume, Step, command_of, known_at}
 use Rattle.spec_proofs.specs.Faults.{Fault, fault_at, with_entry, with_command, HasEmptyClause, EndsBy, FaultBy, FirstFault}
-use Rattle.spec_proofs.specs.Examples.{refutation, one_premise, not_asserted, assumption, nothing, tautology, same_literals, double_negation, known, commands_in, contradiction_makes_known, without_option_makes_known, refutation_commands, one_premise_commands, not_asserted_commands, assumption_commands, nothing_commands, tautology_commands, same_literals_commands, double_negation_commands}
+use Rattle.spec_proofs.specs.Good.{commands_in}
+use Rattle.spec_proofs.specs.Examples.{refutation, one_premise, not_asserted, assumption, nothing, tautology, same_literals, double_negation, known, contradiction_makes_known, without_option_makes_known, refutation_commands, one_premise_commands, not_asserted_commands, assumption_commands, nothing_commands, tautology_commands, same_literals_commands, double_negation_commands}
 
 -- p, or its complement
 abbrev literal : Bool → Literal

@@ -6,16 +6,18 @@ use Rattle.spec_scripts.specs.Plain.{IsWithinLimits, IsPlainScript}
 use Rattle.spec_proofs.specs.declared.ProofKind.TheVariants.{NotYet}
 use Rattle.spec_proofs.specs.Commands.{Known, known_at, Command, command_of}
 use Rattle.spec_proofs.specs.Faults.{Fault, fault_at, with_command, FirstFault}
+use Rattle.spec_proofs.specs.Good.{IsGood}
 
--- a proof of the k-th check of a script: within the limits, each command right, and one step with the empty clause
+-- a proof of the k-th check of a script: within the limits, each command right after those before it, and one clause empty
 pub record IsAccepted (script : List ℕ) (k : ℕ) (proof : List ℕ) : Type 0 where
   pub stack : Stack
   pub current : IsCurrent script k stack
   pub limits : IsWithinLimits proof
   pub commands : Trees
   pub read : IsRead proof commands
-  pub good : FirstFault (known_at stack) (length proof) commands None
+  pub good : IsGood (known_at stack) commands
 
+-- what follows a command, under its name too; what is no command is refused
 abbrev pub plain_by : Known → Option Command → (Known → Bool) → Bool
 plain_by k None rest = false
 plain_by k (Some c) rest = rest (with_command k c)

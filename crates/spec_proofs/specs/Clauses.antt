@@ -13,6 +13,7 @@ pub record Literal : Type 0 where
   pub atom : Term
   pub positive : Bool
 
+-- the same term, meant the other way
 abbrev pub complement : Literal → Literal
 complement l = record { atom = l.atom; positive = not l.positive }
 
@@ -21,6 +22,7 @@ unfoldable pub literal_of : Term → Literal
 literal_of (app Not (cons t nil)) = complement (literal_of t)
 literal_of t = record { atom = t; positive = true }
 
+-- the literals of a clause, in order
 abbrev pub literals_of : Clause → List Literal
 literals_of c = map literal_of c
 
@@ -32,9 +34,11 @@ IsResolvent premises clause = Resolves complement (map literals_of premises) (li
 abbrev pub Truths : Type 0
 Truths = Term → Bool
 
+-- a literal is true where its term's truth is the one meant
 abbrev pub literal_true : Truths → Literal → Bool
 literal_true v l = if l.positive then v l.atom else not (v l.atom)
 
+-- a term is true where its literal is
 abbrev pub term_true : Truths → Term → Bool
 term_true v t = literal_true v (literal_of t)
 

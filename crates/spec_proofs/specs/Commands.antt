@@ -36,6 +36,7 @@ abbrev pub clause_of : List Entry → Name → Option Clause
 clause_of [] n = None
 clause_of (e ∷ es) n = if bytes_eq e.name n then Some e.clause else clause_of es n
 
+-- the names of earlier commands, oldest first
 abbrev pub entry_names : List Entry → List Name
 entry_names es = map (λ (e : Entry). e.name) es
 
@@ -48,9 +49,11 @@ abbrev pub premise_of : Known → Tree → Option Clause
 premise_of k (atom at kind n) = if is_symbol kind then clause_of k.entries n else None
 premise_of k (list at ts end) = None
 
+-- the clauses that premises name, in order
 abbrev pub premises_of : Known → Trees → Option (List Clause)
 premises_of k ts = each (premise_of k) ts
 
+-- the terms of a clause, under the script's symbols
 abbrev pub terms_of : Known → Trees → Option Clause
 terms_of k ts = each (term_of k.symbols) ts
 

@@ -1,11 +1,11 @@
 -- Proofs that are plain, and proofs that are not. Each is one of the script `contradiction`: a constant p, and p and (not p) asserted.
-use Rattle.std.specs.Prelude.{◌≡◌, refl, ℕ, zero, suc, false, List, [], ◌∷◌, ◌⊎◌, map, Contains, Option, Some, codes}
+use Rattle.std.specs.Prelude.{◌≡◌, refl, ℕ, zero, suc, false, List, [], ◌∷◌, ◌⊎◌, map, Contains, Some, codes}
 use Rattle.std.proofs.Common.{arith, sym, inl, inr}
 use Rattle.spec_text.specs.Lexemes.{lexemes, first_piece}
 use Rattle.spec_text.specs.Faults.{first_fault}
 use Rattle.spec_text.specs.Places.{line_of, column_of}
-use Rattle.spec_text.specs.Shapes.{◌>>=◌, each}
-use Rattle.spec_text.specs.Trees.{Trees, none, more, IsRead}
+use Rattle.spec_text.specs.Shapes.{each}
+use Rattle.spec_text.specs.Trees.{IsRead}
 use Rattle.spec_terms.specs.Terms.{Truth, constant, negated}
 use Rattle.spec_terms.specs.Reading.{term_of}
 use Rattle.spec_scripts.specs.Commands as scripts
@@ -14,9 +14,9 @@ use Rattle.spec_scripts.specs.Plain.{plain_stack}
 use Rattle.spec_scripts.specs.Examples.{built, trees_in, stack_in, p, q, contradiction, contradiction_is_plain, without_option, without_option_is_plain}
 use Rattle.spec_proofs.specs.Resolution.{IsChain}
 use Rattle.spec_proofs.specs.Clauses.{Literal, complement, literal_of, literals_of}
-use Rattle.spec_proofs.specs.Commands.{Known, Command, Assume, Step, assume_of, step_of, command_of, known_at}
+use Rattle.spec_proofs.specs.Commands.{Known, Assume, Step, assume_of, step_of, command_of, known_at}
 use Rattle.spec_proofs.specs.declared.Rule.TheVariants.{Resolution}
-use Rattle.spec_proofs.specs.Faults.{with_command}
+use Rattle.spec_proofs.specs.Good.{commands_in}
 use Rattle.spec_proofs.specs.Accepted.{IsPlain, is_plain}
 
 -- the proof is plain
@@ -32,18 +32,15 @@ pub record IsNoPlainProof (proof : List ℕ) : Type 0 where
 abbrev pub known : Known
 known = record { symbols = constant (codes "p") Truth ∷ []; asserted = p ∷ negated p ∷ []; entries = [] }
 
+-- from the script as it stands
 pub contradiction_makes_known : known_at (stack_in contradiction) ≡ known
 unfolding lexemes first_piece built set_option declare_const scripts.command_of term_of plain_stack
 contradiction_makes_known = refl
 
+-- and without its option
 pub without_option_makes_known : known_at (stack_in without_option) ≡ known
 unfolding lexemes first_piece built set_option declare_const scripts.command_of term_of plain_stack
 without_option_makes_known = refl
-
--- the commands that trees are, each under the names before it
-unfoldable pub commands_in : Known → Trees → Option (List Command)
-commands_in k none = Some []
-commands_in k (more t ts) = command_of k t >>= λ c. commands_in (with_command k c) ts >>= λ cs. Some (c ∷ cs)
 
 -- the offset's place
 abbrev pub IsAt : List ℕ → ℕ → ℕ → ℕ → Type 0
@@ -53,14 +50,17 @@ IsAt text offset line column = (line_of text offset ≡ line) × (column_of text
 abbrev pub refutation : List ℕ
 refutation = codes "(assume h1 p)\n(assume h2 (not p))\n(step t1 (cl) :rule resolution :premises (h1 h2))\n"
 
+-- it is plain
 pub refutation_is_plain : IsPlainProof refutation
 unfolding lexemes first_piece first_fault built set_option declare_const command_of assume_of step_of each term_of plain_stack is_plain scripts.command_of
 refutation_is_plain = record { plain_script = contradiction_is_plain; limits = record { short = omega arith; unbroken = refl }; read = refl; plain = refl }
 
+-- its commands as they are read
 pub refutation_commands : commands_in known (trees_in refutation) ≡ Some (Assume 11 (codes "h1") p ∷ Assume 25 (codes "h2") (negated p) ∷ Step 34 (codes "t1") [] Resolution ((p ∷ []) ∷ (negated p ∷ []) ∷ []) ∷ [])
 unfolding lexemes first_piece built set_option declare_const command_of assume_of step_of each term_of plain_stack scripts.command_of commands_in
 refutation_commands = refl
 
+-- and so it is of the script without the option
 pub refutation_without_option : IsPlain without_option refutation (stack_in without_option) (trees_in refutation)
 unfolding lexemes first_piece first_fault built set_option declare_const command_of assume_of step_of each term_of plain_stack is_plain scripts.command_of
 refutation_without_option = record { plain_script = without_option_is_plain; limits = record { short = omega arith; unbroken = refl }; read = refl; plain = refl }
@@ -69,14 +69,17 @@ refutation_without_option = record { plain_script = without_option_is_plain; lim
 abbrev pub one_premise : List ℕ
 one_premise = codes "(assume h1 p)\n(assume h2 (not p))\n(step t1 (cl) :rule resolution :premises (h1))\n"
 
+-- it is plain
 pub one_premise_is_plain : IsPlainProof one_premise
 unfolding lexemes first_piece first_fault built set_option declare_const command_of assume_of step_of each term_of plain_stack is_plain scripts.command_of
 one_premise_is_plain = record { plain_script = contradiction_is_plain; limits = record { short = omega arith; unbroken = refl }; read = refl; plain = refl }
 
+-- its commands as they are read
 pub one_premise_commands : commands_in known (trees_in one_premise) ≡ Some (Assume 11 (codes "h1") p ∷ Assume 25 (codes "h2") (negated p) ∷ Step 34 (codes "t1") [] Resolution ((p ∷ []) ∷ []) ∷ [])
 unfolding lexemes first_piece built set_option declare_const command_of assume_of step_of each term_of plain_stack scripts.command_of commands_in
 one_premise_commands = refl
 
+-- its fault's place
 pub one_premise_place : IsAt one_premise 34 3 1
 one_premise_place = (refl, refl)
 
@@ -84,14 +87,17 @@ one_premise_place = (refl, refl)
 abbrev pub not_asserted : List ℕ
 not_asserted = codes "(assume h1 p)\n(assume h2 (not (not p)))\n(step t1 (cl) :rule resolution :premises (h1 h2))\n"
 
+-- it is plain
 pub not_asserted_is_plain : IsPlainProof not_asserted
 unfolding lexemes first_piece first_fault built set_option declare_const command_of assume_of step_of each term_of plain_stack is_plain scripts.command_of
 not_asserted_is_plain = record { plain_script = contradiction_is_plain; limits = record { short = omega arith; unbroken = refl }; read = refl; plain = refl }
 
+-- its commands as they are read
 pub not_asserted_commands : commands_in known (trees_in not_asserted) ≡ Some (Assume 11 (codes "h1") p ∷ Assume 25 (codes "h2") (negated (negated p)) ∷ Step 40 (codes "t1") [] Resolution ((p ∷ []) ∷ (negated (negated p) ∷ []) ∷ []) ∷ [])
 unfolding lexemes first_piece built set_option declare_const command_of assume_of step_of each term_of plain_stack scripts.command_of commands_in
 not_asserted_commands = refl
 
+-- its fault's place
 pub not_asserted_place : IsAt not_asserted 25 2 12
 not_asserted_place = (refl, refl)
 
@@ -99,14 +105,17 @@ not_asserted_place = (refl, refl)
 abbrev pub assumption : List ℕ
 assumption = codes "(assume h1 p)\n"
 
+-- it is plain
 pub assumption_is_plain : IsPlainProof assumption
 unfolding lexemes first_piece first_fault built set_option declare_const command_of assume_of step_of each term_of plain_stack is_plain scripts.command_of
 assumption_is_plain = record { plain_script = contradiction_is_plain; limits = record { short = omega arith; unbroken = refl }; read = refl; plain = refl }
 
+-- its commands as they are read
 pub assumption_commands : commands_in known (trees_in assumption) ≡ Some (Assume 11 (codes "h1") p ∷ [])
 unfolding lexemes first_piece built set_option declare_const command_of assume_of step_of each term_of plain_stack scripts.command_of commands_in
 assumption_commands = refl
 
+-- its fault's place
 pub assumption_place : IsAt assumption 14 2 1
 assumption_place = (refl, refl)
 
@@ -114,10 +123,12 @@ assumption_place = (refl, refl)
 abbrev pub nothing : List ℕ
 nothing = codes ""
 
+-- it is plain
 pub nothing_is_plain : IsPlainProof nothing
 unfolding lexemes first_piece first_fault built set_option declare_const command_of assume_of step_of each term_of plain_stack is_plain scripts.command_of
 nothing_is_plain = record { plain_script = contradiction_is_plain; limits = record { short = omega arith; unbroken = refl }; read = refl; plain = refl }
 
+-- its commands as they are read
 pub nothing_commands : commands_in known (trees_in nothing) ≡ Some []
 unfolding lexemes first_piece built set_option declare_const command_of assume_of step_of each term_of plain_stack scripts.command_of commands_in
 nothing_commands = refl
@@ -126,10 +137,12 @@ nothing_commands = refl
 abbrev pub tautology : List ℕ
 tautology = codes "(step t1 (cl p (not p)) :rule resolution :premises ())"
 
+-- it is plain
 pub tautology_is_plain : IsPlainProof tautology
 unfolding lexemes first_piece first_fault built set_option declare_const command_of assume_of step_of each term_of plain_stack is_plain scripts.command_of
 tautology_is_plain = record { plain_script = contradiction_is_plain; limits = record { short = omega arith; unbroken = refl }; read = refl; plain = refl }
 
+-- its commands as they are read
 pub tautology_commands : commands_in known (trees_in tautology) ≡ Some (Step 0 (codes "t1") (p ∷ negated p ∷ []) Resolution [] ∷ [])
 unfolding lexemes first_piece built set_option declare_const command_of assume_of step_of each term_of plain_stack scripts.command_of commands_in
 tautology_commands = refl
@@ -138,10 +151,12 @@ tautology_commands = refl
 abbrev pub same_literals : List ℕ
 same_literals = codes "(assume h1 p)(step t1 (cl p p) :rule resolution :premises (h1))(assume h2 (not p))(step t2 (cl) :rule resolution :premises (t1 h2))"
 
+-- it is plain
 pub same_literals_is_plain : IsPlainProof same_literals
 unfolding lexemes first_piece first_fault built set_option declare_const command_of assume_of step_of each term_of plain_stack is_plain scripts.command_of
 same_literals_is_plain = record { plain_script = contradiction_is_plain; limits = record { short = omega arith; unbroken = refl }; read = refl; plain = refl }
 
+-- its commands as they are read
 pub same_literals_commands : commands_in known (trees_in same_literals) ≡ Some (Assume 11 (codes "h1") p ∷ Step 13 (codes "t1") (p ∷ p ∷ []) Resolution ((p ∷ []) ∷ []) ∷ Assume 74 (codes "h2") (negated p) ∷ Step 82 (codes "t2") [] Resolution ((p ∷ p ∷ []) ∷ (negated p ∷ []) ∷ []) ∷ [])
 unfolding lexemes first_piece built set_option declare_const command_of assume_of step_of each term_of plain_stack scripts.command_of commands_in
 same_literals_commands = refl
@@ -150,10 +165,12 @@ same_literals_commands = refl
 abbrev pub double_negation : List ℕ
 double_negation = codes "(assume h1 p)(step t1 (cl (not (not p))) :rule resolution :premises (h1))(assume h2 (not p))(step t2 (cl) :rule resolution :premises (t1 h2))"
 
+-- it is plain
 pub double_negation_is_plain : IsPlainProof double_negation
 unfolding lexemes first_piece first_fault built set_option declare_const command_of assume_of step_of each term_of plain_stack is_plain scripts.command_of
 double_negation_is_plain = record { plain_script = contradiction_is_plain; limits = record { short = omega arith; unbroken = refl }; read = refl; plain = refl }
 
+-- its commands as they are read
 pub double_negation_commands : commands_in known (trees_in double_negation) ≡ Some (Assume 11 (codes "h1") p ∷ Step 13 (codes "t1") (negated (negated p) ∷ []) Resolution ((p ∷ []) ∷ []) ∷ Assume 84 (codes "h2") (negated p) ∷ Step 92 (codes "t2") [] Resolution ((negated (negated p) ∷ []) ∷ (negated p ∷ []) ∷ []) ∷ [])
 unfolding lexemes first_piece built set_option declare_const command_of assume_of step_of each term_of plain_stack scripts.command_of commands_in
 double_negation_commands = refl
@@ -162,6 +179,7 @@ double_negation_commands = refl
 abbrev pub words_in_bars : List ℕ
 words_in_bars = codes "(|assume| h1 p)(assume h2 (|not| |p|))(|step| t1 (|cl|) :rule |resolution| :premises (|h1| h2))"
 
+-- it is plain
 pub words_in_bars_is_plain : IsPlainProof words_in_bars
 unfolding lexemes first_piece first_fault built set_option declare_const command_of assume_of step_of each term_of plain_stack is_plain scripts.command_of
 words_in_bars_is_plain = record { plain_script = contradiction_is_plain; limits = record { short = omega arith; unbroken = refl }; read = refl; plain = refl }
@@ -170,6 +188,7 @@ words_in_bars_is_plain = record { plain_script = contradiction_is_plain; limits 
 abbrev pub spaced : List ℕ
 spaced = codes " ( assume\th1 ; a note )\n p)(assume h2(not p))\r\n(step t1(cl):rule resolution:premises(h1 h2));\""
 
+-- it is plain
 pub spaced_is_plain : IsPlainProof spaced
 unfolding lexemes first_piece first_fault built set_option declare_const command_of assume_of step_of each term_of plain_stack is_plain scripts.command_of
 spaced_is_plain = record { plain_script = contradiction_is_plain; limits = record { short = omega arith; unbroken = refl }; read = refl; plain = refl }
@@ -178,6 +197,7 @@ spaced_is_plain = record { plain_script = contradiction_is_plain; limits = recor
 abbrev pub odd_names : List ℕ
 odd_names = codes "(assume p p)(assume cl (not p))(assume .x p)(step @y (cl) :rule resolution :premises (p cl))"
 
+-- it is plain
 pub odd_names_is_plain : IsPlainProof odd_names
 unfolding lexemes first_piece first_fault built set_option declare_const command_of assume_of step_of each term_of plain_stack is_plain scripts.command_of
 odd_names_is_plain = record { plain_script = contradiction_is_plain; limits = record { short = omega arith; unbroken = refl }; read = refl; plain = refl }
@@ -186,6 +206,7 @@ odd_names_is_plain = record { plain_script = contradiction_is_plain; limits = re
 abbrev pub other_rule : List ℕ
 other_rule = codes "(assume h1 p)\n(assume h2 (not p))\n(step t1 (cl) :rule hole :premises (h1 h2))\n"
 
+-- it is read as trees, but not plain
 pub other_rule_refused : IsNoPlainProof other_rule
 unfolding lexemes first_piece first_fault built set_option declare_const command_of assume_of step_of each term_of plain_stack is_plain scripts.command_of
 other_rule_refused = record { read = refl; refused = refl }
@@ -194,6 +215,7 @@ other_rule_refused = record { read = refl; refused = refl }
 abbrev pub later_premise : List ℕ
 later_premise = codes "(step t1 (cl) :rule resolution :premises (h1 h2))\n(assume h1 p)\n(assume h2 (not p))\n"
 
+-- it is read as trees, but not plain
 pub later_premise_refused : IsNoPlainProof later_premise
 unfolding lexemes first_piece first_fault built set_option declare_const command_of assume_of step_of each term_of plain_stack is_plain scripts.command_of
 later_premise_refused = record { read = refl; refused = refl }
@@ -202,6 +224,7 @@ later_premise_refused = record { read = refl; refused = refl }
 abbrev pub own_premise : List ℕ
 own_premise = codes "(assume h1 p)\n(assume h2 (not p))\n(step t1 (cl) :rule resolution :premises (t1))"
 
+-- it is read as trees, but not plain
 pub own_premise_refused : IsNoPlainProof own_premise
 unfolding lexemes first_piece first_fault built set_option declare_const command_of assume_of step_of each term_of plain_stack is_plain scripts.command_of
 own_premise_refused = record { read = refl; refused = refl }
@@ -210,6 +233,7 @@ own_premise_refused = record { read = refl; refused = refl }
 abbrev pub same_name : List ℕ
 same_name = codes "(assume h1 p)(assume h1 p)"
 
+-- it is read as trees, but not plain
 pub same_name_refused : IsNoPlainProof same_name
 unfolding lexemes first_piece first_fault built set_option declare_const command_of assume_of step_of each term_of plain_stack is_plain scripts.command_of
 same_name_refused = record { read = refl; refused = refl }
@@ -218,6 +242,7 @@ same_name_refused = record { read = refl; refused = refl }
 abbrev pub name_in_bars : List ℕ
 name_in_bars = codes "(assume |h1| p)"
 
+-- it is read as trees, but not plain
 pub name_in_bars_refused : IsNoPlainProof name_in_bars
 unfolding lexemes first_piece first_fault built set_option declare_const command_of assume_of step_of each term_of plain_stack is_plain scripts.command_of
 name_in_bars_refused = record { read = refl; refused = refl }
@@ -226,6 +251,7 @@ name_in_bars_refused = record { read = refl; refused = refl }
 abbrev pub reserved_name : List ℕ
 reserved_name = codes "(assume let p)"
 
+-- it is read as trees, but not plain
 pub reserved_name_refused : IsNoPlainProof reserved_name
 unfolding lexemes first_piece first_fault built set_option declare_const command_of assume_of step_of each term_of plain_stack is_plain scripts.command_of
 reserved_name_refused = record { read = refl; refused = refl }
@@ -234,6 +260,7 @@ reserved_name_refused = record { read = refl; refused = refl }
 abbrev pub unknown_symbol : List ℕ
 unknown_symbol = codes "(assume h1 q)"
 
+-- it is read as trees, but not plain
 pub unknown_symbol_refused : IsNoPlainProof unknown_symbol
 unfolding lexemes first_piece first_fault built set_option declare_const command_of assume_of step_of each term_of plain_stack is_plain scripts.command_of
 unknown_symbol_refused = record { read = refl; refused = refl }
@@ -242,6 +269,7 @@ unknown_symbol_refused = record { read = refl; refused = refl }
 abbrev pub premises_in_front : List ℕ
 premises_in_front = codes "(assume h1 p)(step t1 (cl p) :premises (h1) :rule resolution)"
 
+-- it is read as trees, but not plain
 pub premises_in_front_refused : IsNoPlainProof premises_in_front
 unfolding lexemes first_piece first_fault built set_option declare_const command_of assume_of step_of each term_of plain_stack is_plain scripts.command_of
 premises_in_front_refused = record { read = refl; refused = refl }
@@ -250,6 +278,7 @@ premises_in_front_refused = record { read = refl; refused = refl }
 abbrev pub no_premises : List ℕ
 no_premises = codes "(step t1 (cl p (not p)) :rule resolution)"
 
+-- it is read as trees, but not plain
 pub no_premises_refused : IsNoPlainProof no_premises
 unfolding lexemes first_piece first_fault built set_option declare_const command_of assume_of step_of each term_of plain_stack is_plain scripts.command_of
 no_premises_refused = record { read = refl; refused = refl }
@@ -258,6 +287,7 @@ no_premises_refused = record { read = refl; refused = refl }
 abbrev pub no_clause : List ℕ
 no_clause = codes "(step t1 () :rule resolution :premises ())"
 
+-- it is read as trees, but not plain
 pub no_clause_refused : IsNoPlainProof no_clause
 unfolding lexemes first_piece first_fault built set_option declare_const command_of assume_of step_of each term_of plain_stack is_plain scripts.command_of
 no_clause_refused = record { read = refl; refused = refl }
@@ -266,6 +296,7 @@ no_clause_refused = record { read = refl; refused = refl }
 abbrev pub with_arguments : List ℕ
 with_arguments = codes "(step t1 (cl p (not p)) :rule resolution :premises () :args ())"
 
+-- it is read as trees, but not plain
 pub with_arguments_refused : IsNoPlainProof with_arguments
 unfolding lexemes first_piece first_fault built set_option declare_const command_of assume_of step_of each term_of plain_stack is_plain scripts.command_of
 with_arguments_refused = record { read = refl; refused = refl }
@@ -274,6 +305,7 @@ with_arguments_refused = record { read = refl; refused = refl }
 abbrev pub other_command : List ℕ
 other_command = codes "(anchor :step t1)"
 
+-- it is read as trees, but not plain
 pub other_command_refused : IsNoPlainProof other_command
 unfolding lexemes first_piece first_fault built set_option declare_const command_of assume_of step_of each term_of plain_stack is_plain scripts.command_of
 other_command_refused = record { read = refl; refused = refl }
@@ -282,6 +314,7 @@ other_command_refused = record { read = refl; refused = refl }
 abbrev pub answer_in_front : List ℕ
 answer_in_front = codes "unsat\n(assume h1 p)\n(assume h2 (not p))\n"
 
+-- it is read as trees, but not plain
 pub answer_in_front_refused : IsNoPlainProof answer_in_front
 unfolding lexemes first_piece first_fault built set_option declare_const command_of assume_of step_of each term_of plain_stack is_plain scripts.command_of
 answer_in_front_refused = record { read = refl; refused = refl }

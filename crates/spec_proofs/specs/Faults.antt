@@ -21,6 +21,7 @@ pub record Fault : Type 0 where
   pub offset : ℕ
   pub kind : ProofKind
 
+-- a fault by its offset and its kind
 abbrev pub fault_at : ℕ → ProofKind → Fault
 fault_at at k = record { offset = at; kind = k }
 

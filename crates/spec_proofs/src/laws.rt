@@ -1,6 +1,6 @@
 //! What the definitions imply. Each law is a function whose contract is the law; it computes nothing.
 
-ghost use Rattle.std.specs.Prelude.{◌≡◌, ◌≢◌, ℕ, List, ◌∷◌, map, All, Option, Some, None, true, false, length};
+ghost use Rattle.std.specs.Prelude.{◌≡◌, ◌↔◌, ◌≢◌, ℕ, List, ◌∷◌, map, All, Option, Some, None, true, false, length};
 ghost use Rattle.spec_text.specs.Trees.{Trees, IsRead};
 ghost use Rattle.spec_terms.specs.Values.{Interpretation, Interprets};
 ghost use Rattle.spec_scripts.specs.Stack.{Assertion, Stack, empty_stack, IsCurrent, MakesTrue, HasNoModel};
@@ -10,6 +10,7 @@ ghost use Rattle.spec_proofs.specs.Clauses.{Clause, complement, literals_of, IsR
 ghost use Rattle.spec_proofs.specs.declared.ProofKind.TheVariants.{NotYet};
 ghost use Rattle.spec_proofs.specs.Commands.{Known, known_at};
 ghost use Rattle.spec_proofs.specs.Faults.{Fault, FirstFault};
+ghost use Rattle.spec_proofs.specs.Good.{IsGood};
 ghost use Rattle.spec_proofs.specs.Accepted.{IsAccepted, ArePlain, IsPlain, is_plain, not_yet, IsVerdict};
 
 /// States that a resolvent of clauses that are true is true, under the same truths.
@@ -31,12 +32,19 @@ pub fn chains_are_resolvents()
         → IsResolvent (first ∷ rest) clause }
 {}
 
+/// States that commands are good exactly where they have no first fault, wherever the text ends: the two are stated apart,
+/// goodness of the whole list, the first fault by going through it. Source: own.
+pub fn good_proofs_have_no_fault()
+    ensures { (k : Known) (end : ℕ) (ts : Trees) → IsGood k ts ↔ FirstFault k end ts None }
+{}
+
 /// States that no interpretation makes true what is current at a check of which a proof is accepted.
 /// Source: own.
 pub fn acceptance_is_sound()
     ensures { (script proof : List ℕ) (k : ℕ) → IsAccepted script k proof → HasNoModel script k }
 {
     resolution_is_sound();
+    good_proofs_have_no_fault();
     spec_scripts::laws::checks_have_one_stack();
     spec_scripts::laws::assertions_have_their_texts_value();
 }
@@ -46,6 +54,7 @@ pub fn plain_proofs_are_accepted()
     ensures { (script proof : List ℕ) (s : Stack) (ts : Trees) → IsPlain script proof s ts
         → FirstFault (known_at s) (length proof) ts None → IsAccepted script 1 proof }
 {
+    good_proofs_have_no_fault();
     spec_scripts::laws::plain_scripts_have_one_check();
 }
 
@@ -54,6 +63,7 @@ pub fn accepted_proofs_have_no_fault()
     ensures { (script proof : List ℕ) (s : Stack) (ts : Trees) → IsPlain script proof s ts → IsAccepted script 1 proof
         → FirstFault (known_at s) (length proof) ts None }
 {
+    good_proofs_have_no_fault();
     spec_scripts::laws::plain_scripts_have_one_check();
     spec_scripts::laws::checks_have_one_stack();
     spec_text::laws::trees_are_unique();
@@ -84,6 +94,19 @@ pub fn satisfied_scripts_have_a_model()
 {
     spec_scripts::laws::assertions_are_read();
     spec_scripts::laws::assertions_have_their_texts_value();
+}
+
+/// States that goodness is not asked in vain: what no truths make true at a check has a good proof, and so has what no
+/// interpretation makes true there. It is of trees, so that no text is too long for it. Source: own.
+pub fn unsatisfiable_scripts_have_a_proof()
+    ensures truths { (script : List ℕ) (k : ℕ) (s : Stack) → IsCurrent script k s
+        → ((v : Truths) → All (λ (a : Assertion). term_true v a.term ≡ true) s.assertions → ⊥)
+        → (ts : Trees) × IsGood (known_at s) ts }
+    ensures models { (script : List ℕ) (k : ℕ) (s : Stack) → IsCurrent script k s → HasNoModel script k
+        → (ts : Trees) × IsGood (known_at s) ts }
+{
+    spec_scripts::laws::assertions_are_read();
+    satisfied_scripts_have_a_model();
 }
 
 /// States that of a script which is read, but is not plain, the verdict is that it is not yet taken. Source: own.

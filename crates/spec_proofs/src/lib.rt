@@ -7,23 +7,24 @@ pub mod laws;
 ghost use Rattle.std.specs.Prelude.{◌≡◌};
 ghost use Rattle.spec_proofs.specs.Faults.{fault_name};
 
-/// A rule by which a step follows from earlier ones.
+/// Names a rule by which a step follows from earlier clauses. Source: Alethe specification, rules; the others are not
+/// taken so far.
 #[derive(Clone, Copy, Debug, PartialEq, Eq)]
 pub enum Rule {
-    /// Resolution of the premises, by unit propagation.
+    /// `resolution`: the clause follows from the premises by unit propagation, whatever their order.
     Resolution,
 }
 
-/// Why a proof is not accepted.
+/// Tells why a proof is not accepted. Source: own; of several, the first in the text counts.
 #[derive(Clone, Copy, Debug, PartialEq, Eq)]
 pub enum ProofKind {
-    /// The script or the proof is not of a form that is taken so far.
+    /// The script or the proof is not of a form that is taken so far: at offset 0.
     NotYet,
-    /// An assumed term is no current assertion.
+    /// A term is assumed that is no current assertion: at the term's offset.
     NotAsserted,
-    /// A step is not right by its rule.
+    /// A step's clause does not follow by its rule from its premises: at the step's offset.
     RuleFails,
-    /// No step has the empty clause.
+    /// All commands are right, but no clause is empty: at the end of the proof.
     NoEmptyClause,
 }
 

@@ -18,4 +18,5 @@ returns c = λ script proof k accepted i model.
     let texts = subst (λ (x : Stack). All (λ (a : Assertion). value_under i a.text ≡ truth true) x.assertions) same model.each in
     let values = c.assertions_have_their_texts_value.ensures script k s accepted.current i in
     let given = All-map (TermTrue v) (λ (a : Assertion). a.term) s.assertions (λ n d h. true_at i _ ∙ ap is_true (sym (values n d h) ∙ texts n d h)) in
-    sound v c.resolution_is_sound.ensures (known_at s) _ accepted.commands (All-nil (EntryTrue v)) given accepted.good
+    let no_fault = (c.good_proofs_have_no_fault.ensures (known_at s) 0 accepted.commands).0 accepted.good in
+    sound v c.resolution_is_sound.ensures (known_at s) 0 accepted.commands (All-nil (EntryTrue v)) given no_fault
