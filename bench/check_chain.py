@@ -9,7 +9,7 @@
 The families, each with a number n:
 
 chain   The script asserts p0 to pn and (not pn). From each p(i+1) the proof derives the clause (not pi) or p(i+1), and
-        with it p(i+1) from pi: 2n steps with at most two premises each. Ten times the steps may cost at most fifteen
+        with it p(i+1) from pi: 2n + 1 steps with at most two premises each. Ten times the steps may cost at most fifteen
         times the time, else the script ends with status 1.
 wide    One clause p1 .. pn, against the assumptions (not p1) .. (not pn), in one step of n + 1 premises. `helpful`
         has the clause first, so that the pass from the last premise to the first meets it last; `unhelpful` has it last.
@@ -51,7 +51,7 @@ def step(out, name, literals, premises):
 
 
 def write_chain(n, script, proof, _helpful):
-    """Writes 2n steps, each of which has the one before it as a premise."""
+    """Writes 2n + 1 steps, of which each second one has the one before it as a premise."""
     write_script(
         script,
         (f"p{i}" for i in range(n + 1)),

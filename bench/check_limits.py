@@ -32,6 +32,15 @@ def one_clause(size):
     return before + "p " * ((size - len(before) - len(behind)) // 2) + behind
 
 
+def many_mentions(size):
+    """A proof with one clause of many literals, which one step names as a premise as often as fits."""
+    before = "(assume h1 p)(assume h2 (not p))(step c (cl "
+    between = ") :rule resolution :premises (h1))(step e (cl) :rule resolution :premises (h2"
+    behind = "))"
+    count = (size - len(before) - len(between) - len(behind)) // 4
+    return before + "p " * count + between + " c" * count + behind
+
+
 def many_assertions(size):
     """A script that asserts one constant as often as fits."""
     before = "(declare-const p Bool)(assert (not p))"
@@ -44,6 +53,7 @@ ROWS = [
     ("one byte more", lambda: padded(SCRIPT, LIMIT + 1), lambda: PROOF, NOT_YET),
     ("script of many assertions", lambda: many_assertions(LIMIT), lambda: PROOF, "valid"),
     ("proof of one clause, literals of one byte", lambda: SCRIPT, lambda: one_clause(LIMIT), "valid"),
+    ("proof of one clause, named as often as it is long", lambda: SCRIPT, lambda: many_mentions(LIMIT), "valid"),
     ("proof of opening parentheses", lambda: SCRIPT, lambda: "(" * LIMIT, NOT_YET),
     ("proof of empty lists", lambda: SCRIPT, lambda: "()" * (LIMIT // 2), NOT_YET),
     ("proof of zero bytes", lambda: SCRIPT, lambda: "\0" * LIMIT, NOT_YET),
