@@ -97,7 +97,8 @@ pub fn satisfied_scripts_have_a_model()
 }
 
 /// States that goodness is not asked in vain: what no truths make true at a check has a good proof, and so has what no
-/// interpretation makes true there. It is of trees, so that no text is too long for it. Source: own.
+/// interpretation makes true there. The proof is given by its trees: its text may be longer than a text may be.
+/// Source: own.
 pub fn unsatisfiable_scripts_have_a_proof()
     ensures truths { (script : List ℕ) (k : ℕ) (s : Stack) → IsCurrent script k s
         → ((v : Truths) → All (λ (a : Assertion). term_true v a.term ≡ true) s.assertions → ⊥)

@@ -15,7 +15,8 @@ pub enum Rule {
     Resolution,
 }
 
-/// Tells why a proof is not accepted. Source: own; of several, the first in the text counts.
+/// Tells why a proof is not accepted. Of several faults `NotYet` counts before all others, then the first in the text.
+/// Source: own.
 #[derive(Clone, Copy, Debug, PartialEq, Eq)]
 pub enum ProofKind {
     /// The script or the proof is not of a form that is taken so far: at offset 0.
