@@ -1,10 +1,10 @@
 -- Names with their clauses.
-use Rattle.std.proofs.Common.{◌≡◌, ℕ, zero, suc, ◌+◌, ◌<◌, ◌≤◌, Bool, true, false, cond, ◌||◌, List, [], ◌∷◌, ◌++◌, map, length, get_or, All, Option, Some, None, refl, sym, ap, ◌∙◌, subst, arith}
+use Rattle.std.proofs.Common.{◌≡◌, ℕ, zero, suc, ◌<◌, Bool, true, false, cond, ◌||◌, List, [], ◌∷◌, ◌++◌, map, length, get_or, All, Some, None, refl, sym, ap, ◌∙◌, arith}
 use Rattle.std.specs.Prelude.{Vec}
 use Rattle.std.specs.declared.alloc.Global.{Global}
 use Rattle.std.specs.Str.{bytes_eq}
 use Rattle.std.proofs.lemmas.Bool.{false≢true}
-use Rattle.std.proofs.lemmas.List.{get_or-map, length-map, map-append}
+use Rattle.std.proofs.lemmas.List.{map-append}
 use Rattle.spec_text.specs.Bytes.{Name, among}
 use Rattle.spec_terms.specs.Terms.{Term}
 use Rattle.spec_proofs.specs.Clauses.{Clause}
@@ -38,14 +38,11 @@ module _ (t : TableView) where
       go true q rec = absurd (first zero (omega arith) (same_bytes m n q))
       go false q rec = rec
 
-  pub find_some : (ns : List Name) (vs : List (Vec TermId Global)) (n : Name) (k : ℕ) (v : Vec TermId Global) (c : List TermId) → HaveNoTwice ns → length ns ≡ length (lists vs) → All (λ c. AreIn t c) (lists vs) → k < length ns → get_or ns k [] ≡ n → v ≡ get_or vs k v → c ≡ v.items
-      → (clause_of (entries_of t ns (lists vs)) n ≡ Some (clause_at t c)) × AreIn t c
-  find_some ns vs n k v c apart l within lt e stored same =
-      let to_items : Vec TermId Global → List TermId = λ w. w.items in
-      let below : k < length vs = omega (arith, l, length-map vs to_items) in
-      let here : get_or (lists vs) k [] ≡ c = get_or-map to_items vs k v [] below ∙ ap to_items (sym stored) ∙ sym same in
+  -- the clause of a name stands at the name's number
+  pub find_numbered : (ns : List Name) (cs : List (List TermId)) (n : Name) (k : ℕ) → HaveNoTwice ns → length ns ≡ length cs → k < length ns → get_or ns k [] ≡ n → (clause_of (entries_of t ns cs) n ≡ Some (clause_at t (get_or cs k []))) × (k < length cs)
+  find_numbered ns cs n k apart l lt e =
       let first : (j : ℕ) → j < k → get_or ns j [] ≡ n → ⊥ = λ j h s. let twice = apart j k (omega arith) lt (s ∙ sym e) in absurd (omega (arith, twice)) in
-      (find_first ns (lists vs) n k l lt e first ∙ ap (λ d. Some (clause_at t d)) here, subst (λ (d : List TermId). AreIn t d) here (within k [] (omega (arith, l))))
+      (find_first ns cs n k l lt e first, omega arith)
 
   pub names_of_entries : (ns : List Name) (cs : List (List TermId)) → length ns ≡ length cs → entry_names (entries_of t ns cs) ≡ ns
   names_of_entries [] [] l = refl
@@ -91,6 +88,10 @@ is_among ns n k l e = go (among ns n) refl
     go : (b : Bool) → among ns n ≡ b → b ≡ true
     go true q = refl
     go false q = absurd (not_there ns n k q l e)
+
+-- the images of numbers, with one more
+pub images_push : {A : Type 0} (f : ℕ → A) (ks more : List ℕ) (k : ℕ) → more ≡ ks ++ k ∷ [] → map f more ≡ map f ks ++ f k ∷ []
+images_push f ks more k e = ap (map f) e ∙ map-append f ks (k ∷ [])
 
 -- the clauses of vectors, with one more
 pub clauses_push : (t : TableView) (vs more : List (Vec TermId Global)) (v : Vec TermId Global) → more ≡ vs ++ v ∷ [] → clauses_at t more ≡ clauses_at t vs ++ clause_at t v.items ∷ []

@@ -23,6 +23,8 @@ pub mod TermReading
 pub mod Stacks
 pub mod Loading
 pub mod Entries
+pub mod Within
+pub mod Numbers
 pub mod Listing
 pub mod Clauses
 pub mod Steps

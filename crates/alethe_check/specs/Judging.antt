@@ -1,8 +1,7 @@
 -- Commands of a proof as the code has them, and what judging comes to.
-use Rattle.std.specs.Prelude.{◌≡◌, ℕ, ◌≤◌, Bool, true, false, List, [], length, map, All, Option, Some, None, option_map, IfSome, Result, Ok, Err, codes, Vec}
-use Rattle.std.specs.declared.alloc.Global.{Global}
+use Rattle.std.specs.Prelude.{◌≡◌, ℕ, ◌≤◌, true, false, List, length, Option, Some, None, option_map, IfSome, Result, Ok, Err, codes}
 use Rattle.spec_text.specs.Bytes.{among}
-use Rattle.spec_text.specs.Trees.{Tree, Trees, IsRead}
+use Rattle.spec_text.specs.Trees.{Trees, IsRead}
 use Rattle.spec_text.specs.Shapes.{◌>>=◌, Word, first_word, first_list, no_tree, wanted, wanted_keyword}
 use Rattle.spec_scripts.specs.Plain.{IsWithinLimits}
 use Rattle.spec_proofs.specs.declared.Rule.TheVariants.{Resolution}
@@ -18,9 +17,8 @@ use Rattle.alethe_check.specs.declared.judge.Found.{Found}
 use Rattle.alethe_check.specs.declared.shapes.Unread.{Unread}
 use Rattle.alethe_check.specs.declared.shapes.Unread.TheVariants as unread
 use Rattle.alethe_check.specs.Items.{trees_in}
-use Rattle.alethe_check.specs.Tables.{TableView, term_at, clause_at, IsIn, AreIn}
-use Rattle.alethe_check.specs.Findings.{clauses_at}
-use Rattle.alethe_check.specs.Knowing.{known_view}
+use Rattle.alethe_check.specs.Tables.{term_at, clause_at, IsIn, AreIn}
+use Rattle.alethe_check.specs.Knowing.{known_view, clauses_numbered, AreNumbers}
 use Rattle.alethe_check.specs.Views.{word_view}
 
 -- A step by its shape: its name, its literals, its premises.
@@ -58,14 +56,14 @@ abbrev pub parts_view : List ℕ → code_parts.StepParts → StepParts
 parts_view text p = record { name = word_view p.name; literals = trees_in text p.literals.now; premises = trees_in text p.premises.now }
 
 -- a command in the words of the definitions
-abbrev pub command_view : TableView → ReadCommand → Command
-command_view t (code.Assume at name id) = Assume at name.now (term_at t id)
-command_view t (code.Step at name clause premises) = Step at name.now (clause_at t clause.items) Resolution (clauses_at t premises.items)
+abbrev pub command_view : Held → ReadCommand → Command
+command_view h (code.Assume at name id) = Assume at name.now (term_at h.table id)
+command_view h (code.Step at name clause premises) = Step at name.now (clause_at h.table clause.items) Resolution (clauses_numbered h premises.items)
 
--- the name is new, and the terms are there
+-- the name is new, and the terms and the premises are there
 abbrev pub IsReady : Held → ReadCommand → Type 0
 IsReady h (code.Assume at name id) = (among h.names name.now ≡ false) × IsIn h.table id
-IsReady h (code.Step at name clause premises) = (among h.names name.now ≡ false) × AreIn h.table clause.items × All (λ p. AreIn h.table p.items) premises.items
+IsReady h (code.Step at name clause premises) = (among h.names name.now ≡ false) × AreIn h.table clause.items × AreNumbers h premises.items
 
 abbrev pub found_view : Found → Fault
 found_view f = fault_at f.offset f.kind

@@ -1,6 +1,5 @@
 -- What is known of a proof while it is judged.
-use Rattle.std.specs.Prelude.{◌≡◌, ℕ, List, [], ◌∷◌, length, map, All, Vec, Bool, true, false, ◌==◌, if◌then◌else◌}
-use Rattle.std.specs.declared.alloc.Global.{Global}
+use Rattle.std.specs.Prelude.{◌≡◌, ◌<◌, ℕ, List, [], ◌∷◌, length, map, All, slice_index_or, Bool, true, false, ◌==◌, if◌then◌else◌}
 use Rattle.spec_text.specs.Bytes.{Name}
 use Rattle.spec_proofs.specs.Clauses.{Clause}
 use Rattle.spec_proofs.specs.Commands.{Entry, Known}
@@ -23,6 +22,18 @@ pub record IsSound (h : Held) : Type 0 where
   pub paired : length h.names ≡ length (lists h.clauses.items)
   pub asserted : AreIn h.table h.asserted
   pub clauses : All (λ c. AreIn h.table c) (lists h.clauses.items)
+
+-- the clause with that number, from 0
+abbrev pub clause_numbered : Held → ℕ → Clause
+clause_numbered h k = clause_at h.table (slice_index_or (lists h.clauses.items) k [])
+
+-- the clauses with these numbers, in order
+abbrev pub clauses_numbered : Held → List ℕ → List Clause
+clauses_numbered h ks = map (clause_numbered h) ks
+
+-- each number is that of a clause
+abbrev pub AreNumbers : Held → List ℕ → Type 0
+AreNumbers h ks = All (λ k. k < length (lists h.clauses.items)) ks
 
 -- whether one of the clauses is empty
 abbrev pub some_empty : List (List TermId) → Bool

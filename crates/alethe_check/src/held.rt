@@ -1,16 +1,16 @@
 //! What is known of a proof while it is judged: the script's terms, and the clauses of the commands so far.
 
-ghost use Rattle.std.specs.Prelude.{◌≡◌, ◌++◌, ◌∷◌, [], List, map, length, IfOk, IfErr, OnOk, All, MatchOption, MatchBool, Contains, None, Some, false, if◌then◌else◌};
+ghost use Rattle.std.specs.Prelude.{◌≡◌, ◌<◌, ◌++◌, ◌∷◌, [], List, map, length, IfOk, IfErr, OnOk, All, MatchOption, MatchBool, Contains, None, Some, false, if◌then◌else◌};
 ghost use Rattle.spec_text.specs.Bytes.{among};
 ghost use Rattle.spec_text.specs.Shapes.{each, is_symbol};
 ghost use Rattle.spec_terms.specs.Reading.{term_of};
 ghost use Rattle.spec_proofs.specs.Commands.{clause_of, entry_names, new_name, premise_of, premises_of, terms_of};
 ghost use Rattle.spec_proofs.specs.Faults.{with_entry};
 ghost use Rattle.alethe_check.specs.Tables.{symbols_of, term_at, clause_at, IsIn, AreIn, Extends};
-ghost use Rattle.alethe_check.specs.Findings.{lists, clauses_at};
+ghost use Rattle.alethe_check.specs.Findings.{lists};
 ghost use Rattle.alethe_check.specs.Items.{trees_in, tree_in};
 ghost use Rattle.alethe_check.specs.Views.{Gives, word_view};
-ghost use Rattle.alethe_check.specs.Knowing.{known_view, IsSound};
+ghost use Rattle.alethe_check.specs.Knowing.{known_view, IsSound, clause_numbered, clauses_numbered, AreNumbers};
 
 use crate::asserted::Asserted;
 use crate::names::Names;
@@ -70,39 +70,39 @@ fn read_clause(
     }
 }
 
-/// The clause of a name.
-fn find<'a>(held: &'a Held, name: &[u8]) -> Option<&'a [TermId]>
+/// The number of a name's clause.
+fn find(held: &Held, name: &[u8]) -> Option<u64>
     requires { IsSound held.now }
     ensures { MatchOption result (clause_of (known_view held.now).entries name.now ≡ None)
-        (λ c. (clause_of (known_view held.now).entries name.now ≡ Some (clause_at held.now.table c.now)) × AreIn held.now.table c.now) }
+        (λ k. (clause_of (known_view held.now).entries name.now ≡ Some (clause_numbered held.now k)) × (k < length (lists held.now.clauses.items))) }
 {
     held.names.no_name_twice();
     match held.names.find(name) {
         None => None,
-        Some(number) => Some(held.clauses[number as usize].as_slice()),
+        Some(number) => Some(number),
     }
 }
 
-/// The clause of a symbol.
-fn clause_named<'a>(held: &'a Held, kind: Kind, name: &[u8]) -> Result<&'a [TermId], Unread>
+/// The number of a symbol's clause.
+fn clause_named(held: &Held, kind: Kind, name: &[u8]) -> Result<u64, Unread>
     requires { IsSound held.now }
-    ensures gives { Gives (λ c. clause_at held.now.table c.now) result (if is_symbol kind then clause_of (known_view held.now).entries name.now else None) }
-    ensures there { IfOk result (λ c. AreIn held.now.table c.now) }
+    ensures gives { Gives (clause_numbered held.now) result (if is_symbol kind then clause_of (known_view held.now).entries name.now else None) }
+    ensures there { IfOk result (λ k. k < length (lists held.now.clauses.items)) }
 {
     if is_symbol(kind) {
         return match find(held, name) {
-            Some(clause) => Ok(clause),
+            Some(number) => Ok(number),
             None => Err(Unread::NotPlain),
         };
     }
     Err(Unread::NotPlain)
 }
 
-/// The clause that a premise names.
-fn premise<'a>(held: &'a Held, text: &[u8], items: &[Item]) -> Result<&'a [TermId], Unread>
+/// The number of the clause that a premise names.
+fn premise(held: &Held, text: &[u8], items: &[Item]) -> Result<u64, Unread>
     requires { IsSound held.now }
-    ensures gives { Gives (λ c. clause_at held.now.table c.now) result (premise_of (known_view held.now) (tree_in text.now items.now)) }
-    ensures there { IfOk result (λ c. AreIn held.now.table c.now) }
+    ensures gives { Gives (clause_numbered held.now) result (premise_of (known_view held.now) (tree_in text.now items.now)) }
+    ensures there { IfOk result (λ k. k < length (lists held.now.clauses.items)) }
 {
     match look(text, items) {
         View::List(_, _, _) => Err(Unread::NotPlain),
@@ -110,31 +110,16 @@ fn premise<'a>(held: &'a Held, text: &[u8], items: &[Item]) -> Result<&'a [TermI
     }
 }
 
-/// A copy of the clause that a premise names.
-fn premise_copy(
-    alloc: Global,
-    held: &Held,
-    text: &[u8],
-    items: &[Item],
-) -> Result<Vec<TermId>, Unread>
-    requires { IsSound held.now }
-    ensures gives { Gives (λ v. clause_at held.now.table v.items) result (premise_of (known_view held.now) (tree_in text.now items.now)) }
-    ensures there { IfOk result (λ v. AreIn held.now.table v.items) }
-{
-    let clause = premise(held, text, items)?;
-    Ok(clause.to_vec(alloc)?)
-}
-
-/// The clauses that the premises name.
+/// The numbers of the clauses that the premises name, in order.
 pub fn read_premises(
     alloc: Global,
     held: &Held,
     text: &[u8],
     items: &[Item],
-) -> Result<Vec<Vec<TermId>>, Unread>
+) -> Result<Vec<u64>, Unread>
     requires { IsSound held.now }
-    ensures gives { Gives (λ v. clauses_at held.now.table v.items) result (premises_of (known_view held.now) (trees_in text.now items.now)) }
-    ensures there { IfOk result (λ v. All (λ p. AreIn held.now.table p.items) v.items) }
+    ensures gives { Gives (λ v. clauses_numbered held.now v.items) result (premises_of (known_view held.now) (trees_in text.now items.now)) }
+    ensures there { IfOk result (λ v. AreNumbers held.now v.items) }
 {
     let mut made = Vec::new(alloc);
     let mut rest = items;
@@ -142,8 +127,8 @@ pub fn read_premises(
         let Some((first, others)) = split(rest) else {
             return Ok(made);
         };
-        match premise_copy(alloc, held, text, first) {
-            Ok(clause) => made.push(clause)?,
+        match premise(held, text, first) {
+            Ok(number) => made.push(number)?,
             Err(e) => return Err(e),
         }
         rest = others;

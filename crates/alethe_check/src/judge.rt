@@ -2,16 +2,18 @@
 
 ghost use Rattle.std.specs.Prelude.{◌≡◌, ◌∷◌, [], ℕ, List, length, IfOk, IfErr, OnOk, MatchBool};
 ghost use Rattle.spec_text.specs.Places.{IsPlaceOf};
+ghost use Rattle.spec_proofs.specs.Clauses.{IsResolvent};
 ghost use Rattle.spec_proofs.specs.Commands.{command_of};
 ghost use Rattle.spec_proofs.specs.Faults.{IsRightAfter, HasEmptyClause, with_command, fault_of, fault_at};
 ghost use Rattle.alethe_check.specs.Items.{tree_in};
-ghost use Rattle.alethe_check.specs.Tables.{TableView};
+ghost use Rattle.alethe_check.specs.Tables.{AreIn, clause_at};
 ghost use Rattle.alethe_check.specs.Findings.{lists};
-ghost use Rattle.alethe_check.specs.Knowing.{known_view, IsSound, some_empty};
+ghost use Rattle.alethe_check.specs.Knowing.{known_view, IsSound, some_empty, clauses_numbered, AreNumbers};
 ghost use Rattle.alethe_check.specs.Judging.{command_view, IsReady, found_view, NextFault, JudgesOne, JudgesAll, Finishes};
 
 use crate::held::{Held, add, is_asserted};
 use crate::load::{TEXT_LIMIT, next_sexpr};
+use crate::premises::distinct_clauses;
 use crate::proof::{ReadCommand, proof_command};
 use crate::reader::Sexpr;
 use crate::resolution::{RuleStop, resolution};
@@ -28,28 +30,43 @@ pub struct Found {
     pub kind: ProofKind,
 }
 
+/// Says whether a clause follows by resolution from the clauses of numbers, each of which is taken once.
+fn is_resolved(
+    alloc: Global,
+    held: &Held,
+    premises: &[u64],
+    clause: &[TermId],
+) -> Result<bool, Unread>
+    requires sound { IsSound held.now }
+    requires premises { AreNumbers held.now premises.now }
+    requires clause { AreIn held.now.table clause.now }
+    ensures exact { IfOk result (λ yes. MatchBool yes (IsResolvent (clauses_numbered held.now premises.now) (clause_at held.now.table clause.now)) (IsResolvent (clauses_numbered held.now premises.now) (clause_at held.now.table clause.now) → ⊥)) }
+    ensures memory { IfErr result (λ e. e ≡ Unread.Memory) }
+{
+    let clauses = distinct_clauses(alloc, held, premises)?;
+    match resolution(alloc, &held.table, &clauses, clause) {
+        Ok(()) => Ok(true),
+        Err(RuleStop::Fails) => Ok(false),
+        Err(RuleStop::Memory) => Err(Unread::Memory),
+    }
+}
+
 /// Says whether a command is right.
 fn is_right(alloc: Global, held: &Held, command: &ReadCommand<'_>) -> Result<bool, Unread>
     requires sound { IsSound held.now }
     requires ready { IsReady held.now command.now }
-    ensures exact { IfOk result (λ yes. MatchBool yes (IsRightAfter (known_view held.now) (command_view held.now.table command.now)) (IsRightAfter (known_view held.now) (command_view held.now.table command.now) → ⊥)) }
+    ensures exact { IfOk result (λ yes. MatchBool yes (IsRightAfter (known_view held.now) (command_view held.now command.now)) (IsRightAfter (known_view held.now) (command_view held.now command.now) → ⊥)) }
     ensures memory { IfErr result (λ e. e ≡ Unread.Memory) }
 {
     match command {
         ReadCommand::Assume(_, _, id) => Ok(is_asserted(held, *id)),
-        ReadCommand::Step(_, _, clause, premises) => {
-            match resolution(alloc, &held.table, premises, clause) {
-                Ok(()) => Ok(true),
-                Err(RuleStop::Fails) => Ok(false),
-                Err(RuleStop::Memory) => Err(Unread::Memory),
-            }
-        }
+        ReadCommand::Step(_, _, clause, premises) => is_resolved(alloc, held, premises, clause),
     }
 }
 
 /// The fault of a command that is not right.
 fn fault(command: &ReadCommand<'_>) -> Found
-    ensures { (t : TableView) → found_view result ≡ fault_of (command_view t command.now) }
+    ensures { (h : Held) → found_view result ≡ fault_of (command_view h command.now) }
 {
     match command {
         ReadCommand::Assume(at, _, _) => Found {
@@ -76,7 +93,7 @@ fn unit(alloc: Global, id: TermId) -> Result<Vec<TermId>, AllocError>
 fn learn(alloc: Global, held: &mut Held, command: ReadCommand<'_>) -> Result<(), Unread>
     requires sound { IsSound held.old }
     requires ready { IsReady held.old command }
-    ensures added { OnOk result (known_view held.new ≡ with_command (known_view held.old) (command_view held.old.table command.entry)) }
+    ensures added { OnOk result (known_view held.new ≡ with_command (known_view held.old) (command_view held.old command.entry)) }
     ensures sound { OnOk result (IsSound held.new) }
     ensures memory { IfErr result (λ e. e ≡ Unread.Memory) }
 {
@@ -98,7 +115,7 @@ fn next_fault(
 ) -> Result<Option<Found>, Unread>
     requires sound { IsSound held.now }
     requires ready { IsReady held.now command.now }
-    ensures next { IfOk result (λ next. NextFault (known_view held.now) (command_view held.now.table command.now) found next) }
+    ensures next { IfOk result (λ next. NextFault (known_view held.now) (command_view held.now command.now) found next) }
     ensures memory { IfErr result (λ e. e ≡ Unread.Memory) }
 {
     match found {

@@ -13,6 +13,7 @@ mod held;
 mod judge;
 mod load;
 mod names;
+mod premises;
 mod proof;
 mod reader;
 mod resolution;

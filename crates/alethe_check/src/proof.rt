@@ -16,11 +16,12 @@ use crate::shapes::{
 use crate::terms::TermId;
 use std::alloc::Global;
 
-/// A command: an assumed term with the offset of its text, or a step with its offset, clause and premises' clauses.
+/// A command: an assumed term with the offset of its text, or a step with its offset, clause and the numbers of its
+/// premises' clauses.
 #[derive(Drop)]
 pub enum ReadCommand<'a> {
     Assume(u64, &'a [u8], TermId),
-    Step(u64, &'a [u8], Vec<TermId>, Vec<Vec<TermId>>),
+    Step(u64, &'a [u8], Vec<TermId>, Vec<u64>),
 }
 
 /// A step by its shape.
@@ -64,7 +65,7 @@ fn step_by<'a>(
     parts: StepParts<'a>,
 ) -> Result<ReadCommand<'a>, Unread>
     requires { IsSound held.old }
-    ensures gives { Gives (command_view held.new.table) result (read_step (known_view held.old) at (parts_view text.now parts.entry)) }
+    ensures gives { Gives (command_view held.new) result (read_step (known_view held.old) at (parts_view text.now parts.entry)) }
     ensures same { known_view held.new ≡ known_view held.old }
     ensures sound { IsSound held.new }
     ensures ready { IfOk result (λ c. IsReady held.new c) }
@@ -84,7 +85,7 @@ fn step<'a>(
     items: &'a [Item],
 ) -> Result<ReadCommand<'a>, Unread>
     requires { IsSound held.old }
-    ensures gives { Gives (command_view held.new.table) result (step_of (known_view held.old) at (trees_in text.now items.now)) }
+    ensures gives { Gives (command_view held.new) result (step_of (known_view held.old) at (trees_in text.now items.now)) }
     ensures same { known_view held.new ≡ known_view held.old }
     ensures sound { IsSound held.new }
     ensures ready { IfOk result (λ c. IsReady held.new c) }
@@ -99,7 +100,7 @@ fn step<'a>(
 #[tactic(auto, unfolding(spec_proofs::specs::Commands::assume_of))]
 fn assume<'a>(held: &mut Held, text: &'a [u8], items: &'a [Item]) -> Result<ReadCommand<'a>, Unread>
     requires { IsSound held.old }
-    ensures gives { Gives (command_view held.new.table) result (assume_of (known_view held.old) (trees_in text.now items.now)) }
+    ensures gives { Gives (command_view held.new) result (assume_of (known_view held.old) (trees_in text.now items.now)) }
     ensures same { known_view held.new ≡ known_view held.old }
     ensures sound { IsSound held.new }
     ensures ready { IfOk result (λ c. IsReady held.new c) }
@@ -121,7 +122,7 @@ fn by_word<'a>(
     items: &'a [Item],
 ) -> Result<ReadCommand<'a>, Unread>
     requires { IsSound held.old }
-    ensures gives { Gives (command_view held.new.table) result (command_by (known_view held.old) at (word_view word.entry, trees_in text.now items.now)) }
+    ensures gives { Gives (command_view held.new) result (command_by (known_view held.old) at (word_view word.entry, trees_in text.now items.now)) }
     ensures same { known_view held.new ≡ known_view held.old }
     ensures sound { IsSound held.new }
     ensures ready { IfOk result (λ c. IsReady held.new c) }
@@ -144,7 +145,7 @@ pub fn proof_command<'a>(
     items: &'a [Item],
 ) -> Result<ReadCommand<'a>, Unread>
     requires { IsSound held.old }
-    ensures gives { Gives (command_view held.new.table) result (command_of (known_view held.old) (tree_in text.now items.now)) }
+    ensures gives { Gives (command_view held.new) result (command_of (known_view held.old) (tree_in text.now items.now)) }
     ensures same { known_view held.new ≡ known_view held.old }
     ensures sound { IsSound held.new }
     ensures ready { IfOk result (λ c. IsReady held.new c) }

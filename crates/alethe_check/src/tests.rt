@@ -247,3 +247,30 @@ fn takes_texts_of_64_mebibytes(rt: HostRuntime) -> Result<(), Fail> {
     assert!(rt; answer(alloc, &longer, proof.as_bytes())? == NOT_YET);
     Ok(())
 }
+
+/// A step that names a clause of so many literals so many times as its premise.
+fn named_often(alloc: Global, literals: usize, times: usize) -> Result<Vec<u8>, AllocError> {
+    let mut text = Vec::new(alloc);
+    text.extend_from_slice(b"(assume h p)\n(step a (cl p")?;
+    for _ in 1..literals {
+        text.extend_from_slice(b" p")?;
+    }
+    text.extend_from_slice(
+        b") :rule resolution :premises (h))\n(step b (cl q) :rule resolution :premises (a",
+    )?;
+    for _ in 1..times {
+        text.extend_from_slice(b" a")?;
+    }
+    text.extend_from_slice(b"))")?;
+    Ok(text)
+}
+
+#[test]
+fn takes_a_premise_once_however_often_it_is_named(rt: HostRuntime) -> Result<(), Fail> {
+    let alloc = rt.alloc();
+    let script =
+        "(declare-const p Bool)(declare-const q Bool)(assert p)(assert (not p))(check-sat)";
+    let proof = named_often(alloc, 300, 300)?;
+    assert!(rt; answer(alloc, script.as_bytes(), &proof)? == Some((ProofKind::RuleFails, 3, 1)));
+    Ok(())
+}

@@ -1,14 +1,13 @@
 -- One premise more, or the end, or none.
-use Rattle.std.proofs.Common.{ap, ◌∙◌, subst, List, Vec, Global, All}
+use Rattle.std.proofs.Common.{◌<◌, ap, ◌∙◌, length}
 use Rattle.std.proofs.lemmas.List.Elements.{All-push}
 use Rattle.spec_text.specs.Shapes.{each}
 use Rattle.spec_proofs.specs.Commands.{premise_of}
-use Rattle.alethe_check.specs.declared.terms.TermId.{TermId}
 use Rattle.alethe_check.specs.Items.{trees_in}
-use Rattle.alethe_check.specs.Tables.{AreIn}
-use Rattle.alethe_check.specs.Knowing.{known_view}
+use Rattle.alethe_check.specs.Findings.{lists}
+use Rattle.alethe_check.specs.Knowing.{known_view, clause_numbered}
 use Rattle.alethe_check.proofs.Listing.{with_front, each_ends, each_more, each_fails}
-use Rattle.alethe_check.proofs.Entries.{clauses_push}
+use Rattle.alethe_check.proofs.Entries.{images_push}
 use Rattle.alethe_check.proofs.held.read_premises.Goals as goal
 
 pub returns-in_default-clause-gives : goal.returns-in_default-clause-gives
@@ -21,6 +20,6 @@ pub premises-preserved : goal.premises-preserved
 premises-preserved c =
     let k = known_view c.args.held.now in
     record {
-      gives = ap (λ xs. with_front xs (each (premise_of k) (trees_in c.args.text.now c.in-Some.others.now))) (clauses_push c.args.held.now.table c.premises.made.items c.push.new.self.items c.in-Ok.clause c.in_ok-push-in-Ok.ensures.items) ∙ each_more (premise_of k) _ _ _ c.premises.invariant.gives _ _ _ (c.in-Some.ensures.first c.args.text.now) c.in-Ok.ensures.gives;
-      there = rw c.in_ok-push-in-Ok.ensures.items (All-push (λ (p : Vec TermId Global). AreIn c.args.held.now.table p.items) c.premises.made.items c.in-Ok.clause c.premises.invariant.there c.in-Ok.ensures.there);
+      gives = ap (λ xs. with_front xs (each (premise_of k) (trees_in c.args.text.now c.in-Some.others.now))) (images_push (clause_numbered c.args.held.now) c.premises.made.items c.push.new.self.items c.in-Ok.number c.in_ok-push-in-Ok.ensures.items) ∙ each_more (premise_of k) _ _ _ c.premises.invariant.gives _ _ _ (c.in-Some.ensures.first c.args.text.now) c.in-Ok.ensures.gives;
+      there = rw c.in_ok-push-in-Ok.ensures.items (All-push (λ k. k < length (lists c.args.held.now.clauses.items)) c.premises.made.items c.in-Ok.number c.premises.invariant.there c.in-Ok.ensures.there);
     }
