@@ -62,7 +62,8 @@ pub enum ProofStop {
 ///   at the parenthesis of a step, `NoEmptyClause` at the end of the text.
 /// - `Memory` may come at any allocation, and says nothing of the proof.
 ///
-/// It keeps nothing. Its time goes with the bytes of both texts and the cost of each step of resolution.
+/// It keeps nothing. It takes memory of a multiple of the bytes of both texts, however often a premise is named; its time
+/// goes with these bytes and the cost of each step of resolution.
 /// Source: Alethe specification; the faults are own.
 pub fn check(alloc: Global, script: &[u8], at: u64, proof: &[u8]) -> Result<(), ProofStop>
     requires first { at ≡ 1 }
