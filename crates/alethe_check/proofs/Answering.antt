@@ -1,12 +1,11 @@
 -- From what was read to the verdict.
-use Rattle.std.proofs.Common.{◌≡◌, ℕ, ◌≤◌, inl, inr, Bool, true, List, [], length, map, Option, Some, None, refl, sym, ap, ◌∙◌, subst, arith}
+use Rattle.std.proofs.Common.{◌≡◌, ℕ, inl, inr, true, List, [], length, map, Option, Some, None, refl, sym, ap, ◌∙◌, subst, arith}
 use Rattle.std.specs.Prelude.{Result, Ok, Err, OnOk, option_map}
-use Rattle.spec_text.specs.Trees.{Trees, IsRead}
 use Rattle.spec_scripts.specs.Stack.{Stack, HasNoModel}
-use Rattle.spec_scripts.specs.Plain.{IsWithinLimits, IsPlainScript}
+use Rattle.spec_scripts.specs.Plain.{IsPlainScript}
 use Rattle.spec_proofs.specs.Commands.{Known, known_at}
-use Rattle.spec_proofs.specs.Faults.{Fault, FirstFault}
-use Rattle.spec_proofs.specs.Accepted.{is_plain, IsPlain, ArePlain, not_yet, IsVerdict}
+use Rattle.spec_proofs.specs.Faults.{Fault}
+use Rattle.spec_proofs.specs.Accepted.{is_plain, ArePlain, not_yet, IsVerdict}
 use Rattle.alethe_check.specs.declared.ProofStop.{ProofStop}
 use Rattle.alethe_check.specs.declared.ProofStop.TheVariants as stops
 use Rattle.alethe_check.specs.declared.held.Held.{Held}
@@ -18,7 +17,7 @@ use Rattle.alethe_check.specs.Scripts.{IsStack}
 use Rattle.alethe_check.specs.Knowing.{known_view, entries_of, IsSound}
 use Rattle.alethe_check.specs.Findings.{lists}
 use Rattle.alethe_check.specs.Judging.{found_view, JudgesAll}
-use Rattle.alethe_check.specs.Verdicts.{fault_view, Answers, Refuses, Says}
+use Rattle.alethe_check.specs.Verdicts.{Answers, Refuses, Says}
 
 module _ (script proof : List ℕ) where
   -- an answer by what was found

@@ -1,10 +1,10 @@
 -- Clauses read literal by literal, while the table grows.
-use Rattle.std.proofs.Common.{◌≡◌, ℕ, List, [], ◌∷◌, ◌++◌, map, All, Option, Some, None, refl, sym, ap, ◌∙◌, subst}
+use Rattle.std.proofs.Common.{◌≡◌, List, [], ◌∷◌, ◌++◌, map, Option, Some, sym, ap, ◌∙◌, subst}
 use Rattle.std.proofs.lemmas.List.{map-append}
 use Rattle.std.proofs.lemmas.List.Elements.{All-push}
 use Rattle.spec_text.specs.Trees.{Tree, Trees}
 use Rattle.spec_text.specs.Shapes.{each}
-use Rattle.spec_terms.specs.Terms.{Symbol, Term}
+use Rattle.spec_terms.specs.Terms.{Term}
 use Rattle.spec_terms.specs.Reading.{term_of}
 use Rattle.alethe_check.specs.declared.terms.TermId.{TermId}
 use Rattle.alethe_check.specs.Items.{split_first}

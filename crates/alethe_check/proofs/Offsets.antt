@@ -1,18 +1,17 @@
 -- The faults of commands stand within the text.
-use Rattle.std.proofs.Common.{◌≡◌, ℕ, zero, suc, ◌+◌, ◌-◌, ◌≤◌, ◌<◌, Bool, true, false, cond, List, [], ◌∷◌, ◌++◌, length, drop, Option, Some, None, refl, sym, ap, ◌∙◌, subst, append_assoc, length-drop, arith}
+use Rattle.std.proofs.Common.{◌≡◌, ℕ, zero, suc, ◌+◌, ◌-◌, ◌≤◌, Bool, true, false, cond, List, [], ◌∷◌, ◌++◌, length, drop, Option, Some, None, refl, sym, ap, ◌∙◌, subst, append_assoc, length-drop, arith}
 use Rattle.std.specs.Prelude.{⊤, codes}
-use Rattle.spec_text.specs.declared.Kind.{Kind}
 use Rattle.spec_text.specs.declared.Place.{Place}
 use Rattle.spec_text.specs.Lexemes.{Lexeme, blank, opens, closes, word, wrong, Piece, piece, first_piece, before, lexemes, lexemes_from}
 use Rattle.spec_text.specs.Trees.{Tree, Trees, atom, list, none, more, spelled, spelled_all, offset_of}
-use Rattle.spec_text.specs.Shapes.{◌>>=◌, Word, first_word, only_tree, inside_of, is_word}
+use Rattle.spec_text.specs.Shapes.{◌>>=◌, Word, first_word, only_tree, is_word}
 use Rattle.spec_terms.specs.Reading.{term_of}
-use Rattle.spec_proofs.specs.Commands.{Known, Command, Assume, Step, new_name, terms_of, premises_of, assume_of, step_of, command_by, command_of}
-use Rattle.spec_proofs.specs.Faults.{Fault, fault_of}
+use Rattle.spec_proofs.specs.Commands.{Known, Command, new_name, terms_of, premises_of, assume_of, step_of, command_by, command_of}
+use Rattle.spec_proofs.specs.Faults.{fault_of}
 use Rattle.alethe_check.specs.declared.reader.Sexpr.{Sexpr}
 use Rattle.alethe_check.specs.Items.{tree_in}
 use Rattle.alethe_check.specs.Reads.{Reads}
-use Rattle.alethe_check.specs.Judging.{StepParts, step_shape, read_step}
+use Rattle.alethe_check.specs.Judging.{step_shape, read_step}
 use Rattle.alethe_check.proofs.Words.{next_here}
 use Rattle.alethe_check.proofs.Loading.{is_tree}
 use Rattle.alethe_check.proofs.Steps.{step_is}

@@ -1,6 +1,5 @@
 -- What a script states, command by command.
-use Rattle.std.proofs.Common.{◌≡◌, ◌<◌, Bool, true, false, not, ◌&&◌, cond, ◌||◌, List, [], ◌∷◌, ◌++◌, map, length, All, Some, None, refl, sym, ap, ◌∙◌, subst}
-use Rattle.std.specs.Prelude.{slice_index_or}
+use Rattle.std.proofs.Common.{◌≡◌, Bool, true, false, not, ◌&&◌, cond, ◌||◌, List, [], ◌∷◌, ◌++◌, map, Some, None, refl, sym, ap, ◌∙◌, subst}
 use Rattle.std.specs.Str.{bytes_eq}
 use Rattle.std.proofs.lemmas.Bool.{false≢true}
 use Rattle.std.proofs.lemmas.List.{map-append}
@@ -8,12 +7,12 @@ use Rattle.std.proofs.lemmas.List.Elements.{All-push}
 use Rattle.spec_text.specs.Bytes.{Name, among}
 use Rattle.spec_text.specs.Trees.{Tree}
 use Rattle.spec_text.specs.Shapes.{Word}
-use Rattle.spec_terms.specs.Terms.{Truth, Symbol, constant, Term}
+use Rattle.spec_terms.specs.Terms.{Symbol, Term}
 use Rattle.spec_terms.specs.Reading.{symbol_named, term_of}
-use Rattle.spec_scripts.specs.Stack.{Stack, Assertion, names_of, may_declare, with_symbol, with_assertion}
+use Rattle.spec_scripts.specs.Stack.{Stack, Assertion, names_of, may_declare, with_assertion}
 use Rattle.alethe_check.specs.declared.terms.TermId.{TermId}
 use Rattle.alethe_check.specs.declared.script.Script.{Script}
-use Rattle.alethe_check.specs.Tables.{TableView, no_term, symbol_of, symbols_of, term_at, IsIn, AreIn, Extends}
+use Rattle.alethe_check.specs.Tables.{TableView, symbol_of, symbols_of, term_at, IsIn, AreIn, Extends}
 use Rattle.alethe_check.specs.Scripts.{IsStack}
 use Rattle.alethe_check.proofs.TermsExtend.{AreIn-kept, clause_at-kept}
 

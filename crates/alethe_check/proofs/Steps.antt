@@ -2,8 +2,8 @@
 use Rattle.std.proofs.Common.{◌≡◌, ℕ, Option, Some, None, refl, sym, ap, ◌∙◌}
 use Rattle.std.specs.Prelude.{codes}
 use Rattle.spec_text.specs.Trees.{Trees}
-use Rattle.spec_text.specs.Shapes.{◌>>=◌, Word, first_word, first_list, no_tree, wanted, wanted_keyword}
-use Rattle.spec_proofs.specs.Commands.{Known, Command, step_of}
+use Rattle.spec_text.specs.Shapes.{◌>>=◌, first_word, first_list, no_tree, wanted, wanted_keyword}
+use Rattle.spec_proofs.specs.Commands.{Known, step_of}
 use Rattle.alethe_check.specs.declared.shapes.Unread.{Unread}
 use Rattle.alethe_check.specs.declared.shapes.Unread.TheVariants as unread
 use Rattle.alethe_check.specs.Views.{Fails}

@@ -1,15 +1,14 @@
 -- A proof judged command by command.
-use Rattle.std.proofs.Common.{◌≡◌, ℕ, ◌≤◌, ◌⊎◌, inl, inr, Bool, true, false, List, [], ◌∷◌, ◌++◌, length, Option, Some, None, refl, sym, ap, ◌∙◌, subst, arith}
+use Rattle.std.proofs.Common.{◌≡◌, ℕ, ◌≤◌, inl, inr, List, [], ◌++◌, length, Option, Some, None, refl, sym, ap, ◌∙◌, subst, arith}
 use Rattle.std.specs.Prelude.{Ok, Err, IfSome, option_map}
 use Rattle.std.proofs.lemmas.Bool.{false≢true}
 use Rattle.spec_text.specs.declared.Place.{Place}
 use Rattle.spec_text.specs.Lexemes.{lexemes_from}
-use Rattle.spec_text.specs.Trees.{Tree, Trees, none, more, spelled, spelled_all, IsRead}
+use Rattle.spec_text.specs.Trees.{Trees, none, more, spelled, spelled_all, IsRead}
 use Rattle.spec_text.specs.Faults.{lexical_fault}
-use Rattle.spec_scripts.specs.Plain.{text_limit, IsWithinLimits}
-use Rattle.spec_proofs.specs.declared.ProofKind.TheVariants.{NoEmptyClause}
+use Rattle.spec_scripts.specs.Plain.{text_limit}
 use Rattle.spec_proofs.specs.Commands.{Known, Command, command_of}
-use Rattle.spec_proofs.specs.Faults.{Fault, fault_at, IsRightAfter, HasEmptyClause, with_command, fault_of, FaultBy, FirstFault}
+use Rattle.spec_proofs.specs.Faults.{Fault, with_command, FaultBy, FirstFault}
 use Rattle.spec_proofs.specs.Accepted.{is_plain, plain_by}
 use Rattle.alethe_check.specs.declared.reader.Sexpr.{Sexpr}
 use Rattle.alethe_check.specs.declared.held.Held.{Held}
@@ -18,7 +17,7 @@ use Rattle.alethe_check.specs.declared.shapes.Unread.{Unread}
 use Rattle.alethe_check.specs.declared.shapes.Unread.TheVariants as unread
 use Rattle.alethe_check.specs.Items.{tree_in}
 use Rattle.alethe_check.specs.Reads.{fault_from, Reads}
-use Rattle.alethe_check.specs.Loads.{IsFaulty, NextIs}
+use Rattle.alethe_check.specs.Loads.{NextIs}
 use Rattle.alethe_check.specs.Knowing.{known_view, IsSound}
 use Rattle.alethe_check.specs.Judging.{found_view, NextFault, JudgesOne, JudgesAll, Finishes}
 use Rattle.spec_text.proofs.Reading.{first_tree, no_trees}

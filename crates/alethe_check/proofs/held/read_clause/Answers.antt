@@ -1,8 +1,7 @@
 -- One literal more, or the end, or none.
-use Rattle.std.proofs.Common.{ap, sym, ◌∙◌, refl, subst, arith, Option, None}
-use Rattle.spec_terms.specs.Terms.{Term}
+use Rattle.std.proofs.Common.{◌∙◌, refl, subst, arith}
 use Rattle.spec_terms.specs.Reading.{term_of}
-use Rattle.alethe_check.specs.Tables.{symbols_of, clause_at}
+use Rattle.alethe_check.specs.Tables.{symbols_of}
 use Rattle.alethe_check.specs.Items.{tree_in}
 use Rattle.alethe_check.specs.Views.{Fails}
 use Rattle.alethe_check.proofs.Listing.{with_nothing, each_ends, each_fails}
