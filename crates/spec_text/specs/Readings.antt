@@ -1,0 +1,85 @@
+-- A text as s-expressions, one after the other, up to its end or to its first fault. Source: SMT-LIB 2.6, section 3.2; limits and faults are own.
+use Rattle.std.specs.Prelude.{◌≡◌, ℕ, suc, ◌+◌, ◌<◌, ◌≤◌, ◌^◌, max, Bool, true, false, ◌&&◌, List, [], ◌∷◌, ◌++◌, length, take, nat_lt, Option, Some, None, if◌then◌else◌}
+use Rattle.spec_text.specs.declared.Fault.{Fault}
+use Rattle.spec_text.specs.declared.Fault.TheVariants.{UnclosedString, UnclosedQuote, UnclosedList, TooLong}
+use Rattle.spec_text.specs.Lexemes.{Lexeme, closes, lexemes}
+use Rattle.spec_text.specs.Trees.{Tree, Trees, atom, list, none, more, spelled, spelled_all}
+use Rattle.spec_text.specs.Faults.{Located, nesting_limit, first_fault}
+
+-- how many lists are open at once, at most
+abbrev mutual
+  -- in a tree
+  pub depth : Tree → ℕ
+  depth (atom at k bytes) = 0
+  depth (list at ts end) = suc (depth_all ts)
+
+  -- in trees, one after the other
+  pub depth_all : Trees → ℕ
+  depth_all none = 0
+  depth_all (more t ts) = max (depth t) (depth_all ts)
+
+-- behind n open lists the lexemes begin with no tree and with no end of a list: their first fault stands before
+pub record IsBroken (end n : ℕ) (xs : List (ℕ × Lexeme)) (f : Located) : Type 0 where
+  -- it is their first fault
+  pub fault : first_fault nesting_limit end n xs ≡ Some f
+  -- a list that could end is none of the n
+  pub no_end : (at : ℕ) (ys : List (ℕ × Lexeme)) → xs ≡ (at, closes) ∷ ys → n ≡ 0
+  -- a tree that stands in front is nested too deep
+  pub no_tree : (t : Tree) (ys : List (ℕ × Lexeme)) → xs ≡ spelled t ++ ys → nesting_limit < n + depth t
+
+-- the lexemes are these trees, nested no deeper than they may be behind n open lists, and then the rest
+pub record AreTrees (n : ℕ) (xs : List (ℕ × Lexeme)) (ts : Trees) (rest : List (ℕ × Lexeme)) : Type 0 where
+  -- the trees stand in front of the rest
+  pub split : xs ≡ spelled_all ts ++ rest
+  -- none is nested too deep
+  pub within : n + depth_all ts ≤ nesting_limit
+
+-- no lexemes are left, or the rest is broken
+abbrev pub Stops : ℕ → List (ℕ × Lexeme) → Option Located → Type 0
+Stops end rest None = rest ≡ []
+Stops end rest (Some f) = IsBroken end 0 rest f
+
+-- how many bytes of a text are read
+abbrev pub text_limit : ℕ
+text_limit = 2 ^ 26
+
+-- the bytes that are read
+abbrev pub kept : List ℕ → List ℕ
+kept text = take text_limit text
+
+-- whether there are more
+abbrev pub is_long : List ℕ → Bool
+is_long text = nat_lt text_limit (length text)
+
+-- the first byte that is not read
+abbrev pub too_long : Located
+too_long = record { offset = text_limit; fault = TooLong }
+
+-- a fault that the end of the bytes is
+abbrev pub is_of_end : Fault → Bool
+is_of_end UnclosedString = true
+is_of_end UnclosedQuote = true
+is_of_end UnclosedList = true
+is_of_end _ = false
+
+-- where bytes are left unread, what is missing at the end of the others may stand among them
+abbrev pub at_limit : Bool → Located → Located
+at_limit long f = if long && is_of_end f.fault then too_long else f
+
+-- what stops the reading of a text: nothing but its end, or a fault
+abbrev pub limited : Bool → Option Located → Option Located
+limited long None = if long then Some too_long else None
+limited long (Some f) = Some (at_limit long f)
+
+-- a text is these trees, and then ends or is broken
+pub record IsReadUpTo (text : List ℕ) (ts : Trees) (found : Option Located) : Type 0 where
+  -- the lexemes behind the trees
+  pub rest : List (ℕ × Lexeme)
+  -- the trees stand in front
+  pub trees : AreTrees 0 (lexemes 0 0 (kept text)) ts rest
+  -- what stops the reading of the bytes that are kept
+  pub stop : Option Located
+  -- it stands behind the trees
+  pub stops : Stops (length (kept text)) rest stop
+  -- it is that of the whole text
+  pub is : found ≡ limited (is_long text) stop
