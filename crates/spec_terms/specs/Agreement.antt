@@ -1,13 +1,22 @@
--- The value of a term as read, and symbols that have no theory's name. Source: SMT-LIB 2.6, section 5.3.
-use Rattle.std.specs.Prelude.{◌≡◌, List, [], ◌∷◌, All, None}
-use Rattle.spec_terms.specs.Terms.{Symbol, Head, Not, Apply, Term, Terms, app, nil, cons}
-use Rattle.spec_terms.specs.Values.{Value, Interpretation, table_value}
-use Rattle.spec_terms.specs.Meaning.{look_up, negation_of, theory_values}
+-- The value of a term as read, and symbols that have no theory's name. Source: SMT-LIB 2.6, section 5.3 and theory Core.
+use Rattle.std.specs.Prelude.{◌≡◌, true, false, not, ◌||◌, List, [], ◌∷◌, All, None}
+use Rattle.spec_terms.specs.Terms.{Symbol, Head, True, False, Not, And, Or, Xor, Implies, Equal, Ite, Apply, Term, Terms, app, nil, cons}
+use Rattle.spec_terms.specs.Values.{Value, truth, same_value, is_true, all_true, any_true, different, chosen, Interpretation, table_value}
+use Rattle.spec_terms.specs.Theory.{look_up, theory}
 
 -- what a head gives at its arguments' values
 abbrev pub head_value : Interpretation → Head → List Value → Value
-head_value i Not vs = negation_of vs
+head_value i True vs = truth true
+head_value i False vs = truth false
+head_value i Not vs = truth (not (all_true vs))
+head_value i And vs = truth (all_true vs)
+head_value i Or vs = truth (any_true vs)
+head_value i Xor (v ∷ w ∷ _) = truth (different (is_true v) (is_true w))
+head_value i Implies (v ∷ w ∷ _) = truth (not (is_true v) || is_true w)
+head_value i Equal (v ∷ w ∷ _) = truth (same_value v w)
+head_value i Ite vs = chosen vs
 head_value i (Apply s) vs = table_value i s.name vs
+head_value i _ _ = truth false
 
 unfoldable mutual
   -- the value of a term
@@ -21,7 +30,7 @@ unfoldable mutual
 
 -- the symbol's name is no theory's
 abbrev pub HasOwnName : Symbol → Type 0
-HasOwnName s = look_up theory_values s.name ≡ None
+HasOwnName s = look_up theory s.name ≡ None
 
 -- no symbol's name is a theory's
 abbrev pub HaveOwnNames : List Symbol → Type 0

@@ -1,8 +1,12 @@
 -- What terms are and mean.
 pub mod Fractions
 pub mod Terms
+pub mod Lists
+pub mod Theory
 pub mod Values
+pub mod Forms
 pub mod Meaning
 pub mod Reading
+pub mod Subterms
 pub mod Agreement
 pub mod TermCodes

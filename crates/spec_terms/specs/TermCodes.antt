@@ -1,10 +1,10 @@
 -- Codes by which a proof tells terms apart: trees of numbers, each of one term. Source: own.
-use Rattle.std.specs.Prelude.{◌≡◌, ◌⊎◌, List, refl}
+use Rattle.std.specs.Prelude.{◌≡◌, ◌⊎◌, ℕ, zero, suc, List, refl}
 use Rattle.std.proofs.Common.{inl, inr, sym, ap, subst}
 use Rattle.std.specs.Coded.{Coded, code_by, coded_ℕ, coded_list, coded×, coded⊎}
 use base.Stored.{Gv, gnil, gcons, coded_unit}
 use Rattle.spec_text.specs.Bytes.{Name}
-use Rattle.spec_terms.specs.Terms.{Sort, Truth, Number, Declared, Symbol, Head, Not, Apply, Term, Terms, app, nil, cons}
+use Rattle.spec_terms.specs.Terms.{Sort, Truth, Number, Declared, Symbol, Head, True, False, Not, And, Or, Xor, Implies, Equal, Ite, Apply, Term, Terms, app, nil, cons}
 
 -- a name is its bytes
 abbrev pub name_code : Coded Name
@@ -36,24 +36,57 @@ sort_code = code_by _ (coded⊎ coded_unit (coded⊎ coded_unit name_code)) sort
 abbrev pub symbol_code : Coded Symbol
 symbol_code = code_by (Name × (List Sort × Sort)) (coded× name_code (coded× (coded_list sort_code) sort_code)) (λ s. (s.name, (s.parameters, s.result))) (λ p. record { name = p.0; parameters = p.1.0; result = p.1.1 }) (λ _. refl)
 
--- a head as one of two
-abbrev pub head_parts : Head → Unit {0} ⊎ Symbol
-head_parts Not = inl tt
+-- the code of each head of a theory
+abbrev pub theory_code : Head → ℕ
+theory_code True = 0
+theory_code False = 1
+theory_code Not = 2
+theory_code And = 3
+theory_code Or = 4
+theory_code Xor = 5
+theory_code Implies = 6
+theory_code Equal = 7
+theory_code Ite = 8
+theory_code (Apply s) = 9
+
+-- a head as a number, or a symbol
+abbrev pub head_parts : Head → ℕ ⊎ Symbol
 head_parts (Apply s) = inr s
+head_parts h = inl (theory_code h)
+
+-- the head of a number
+abbrev pub theory_head : ℕ → Head
+theory_head zero = True
+theory_head (suc zero) = False
+theory_head (suc (suc zero)) = Not
+theory_head (suc (suc (suc zero))) = And
+theory_head (suc (suc (suc (suc zero)))) = Or
+theory_head (suc (suc (suc (suc (suc zero))))) = Xor
+theory_head (suc (suc (suc (suc (suc (suc zero)))))) = Implies
+theory_head (suc (suc (suc (suc (suc (suc (suc zero))))))) = Equal
+theory_head _ = Ite
 
 -- the head back
-abbrev pub head_by : Unit {0} ⊎ Symbol → Head
-head_by (inl u) = Not
+abbrev pub head_by : ℕ ⊎ Symbol → Head
+head_by (inl n) = theory_head n
 head_by (inr s) = Apply s
 
 -- nothing is lost
 pub head_back : (h : Head) → head_by (head_parts h) ≡ h
+head_back True = refl
+head_back False = refl
 head_back Not = refl
+head_back And = refl
+head_back Or = refl
+head_back Xor = refl
+head_back Implies = refl
+head_back Equal = refl
+head_back Ite = refl
 head_back (Apply s) = refl
 
 -- heads have codes
 abbrev pub head_code : Coded Head
-head_code = code_by _ (coded⊎ coded_unit symbol_code) head_parts head_by head_back
+head_code = code_by _ (coded⊎ coded_ℕ symbol_code) head_parts head_by head_back
 
 unfoldable mutual
   -- a term's code: its head's, with its arguments'

@@ -1,5 +1,5 @@
 -- Values, and interpretations of declared symbols. Source: SMT-LIB 2.6, section 5.3; the finite tables are own.
-use Rattle.std.specs.Prelude.{◌≡◌, ℕ, Bool, true, false, not, ◌&&◌, List, [], ◌∷◌, nat_eq, if◌then◌else◌, All}
+use Rattle.std.specs.Prelude.{◌≡◌, ℕ, Bool, true, false, not, ◌&&◌, ◌||◌, List, [], ◌∷◌, nat_eq, if◌then◌else◌, All}
 use Rattle.std.specs.Str.{bytes_eq}
 use Rattle.spec_text.specs.Bytes.{Name}
 use Rattle.spec_terms.specs.Fractions.{Fraction, same_fraction}
@@ -27,6 +27,31 @@ abbrev pub same_values : List Value → List Value → Bool
 same_values [] [] = true
 same_values (v ∷ vs) (w ∷ ws) = same_value v w && same_values vs ws
 same_values _ _ = false
+
+-- the value is the truth value true
+abbrev pub is_true : Value → Bool
+is_true (truth b) = b
+is_true _ = false
+
+-- each value is true
+abbrev pub all_true : List Value → Bool
+all_true [] = true
+all_true (v ∷ vs) = is_true v && all_true vs
+
+-- one of the values is true
+abbrev pub any_true : List Value → Bool
+any_true [] = false
+any_true (v ∷ vs) = is_true v || any_true vs
+
+-- one of two truth values is true, and the other is not
+abbrev pub different : Bool → Bool → Bool
+different true b = not b
+different false b = b
+
+-- the second of three values where the first is true, else the third
+abbrev pub chosen : List Value → Value
+chosen (c ∷ v ∷ w ∷ _) = if is_true c then v else w
+chosen _ = truth false
 
 -- the sort of a value
 abbrev pub sort_of_value : Value → Sort

@@ -4,6 +4,7 @@ pub mod Lexemes
 pub mod Places
 pub mod Trees
 pub mod Faults
+pub mod Answers
 pub mod Readings
 pub mod Lexicon
 pub mod Examples
