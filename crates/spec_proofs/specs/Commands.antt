@@ -1,98 +1,152 @@
--- The commands of a proof, read under what is known before them. Source: Alethe specification, commands.
-use Rattle.std.specs.Prelude.{ℕ, not, ◌&&◌, List, [], ◌∷◌, map, Option, Some, None, codes, if◌then◌else◌}
+-- The commands of a proof, read under what is known before them: its shape, its name, its terms, its rule, its premises. Source: Alethe specification, commands; the order of faults, and keywords in any order, are own.
+use Rattle.std.specs.Prelude.{ℕ, Bool, true, false, not, ◌&&◌, List, [], ◌∷◌, map, Option, Some, None, Ok, Err, codes, if◌then◌else◌}
 use Rattle.std.specs.Str.{bytes_eq}
+use Rattle.spec_text.specs.declared.Kind.{Kind}
+use Rattle.spec_text.specs.declared.Fault.TheVariants.{Full}
 use Rattle.spec_text.specs.Bytes.{Name, among}
-use Rattle.spec_text.specs.Shapes.{◌>>=◌, Word, only_if, first_word, first_list, only_tree, no_tree, inside_of, is_symbol, is_simple, is_word, wanted, wanted_keyword, each}
-use Rattle.spec_text.specs.Trees.{Tree, Trees, atom, list, offset_of}
+use Rattle.spec_text.specs.Trees.{Tree, Trees, atom, list, none, more, offset_of}
+use Rattle.spec_text.specs.Shapes.{◌>>=◌, Word, passes, first_word, first_list, only_tree, is_symbol, is_keyword, is_word, wanted}
+use Rattle.spec_text.specs.Answers.{Answer}
 use Rattle.spec_terms.specs.Terms.{Symbol, Term}
-use Rattle.spec_terms.specs.Reading.{term_of}
+use Rattle.spec_terms.specs.Literals.{Clause}
 use Rattle.spec_scripts.specs.Stack.{Stack, Assertion}
 use Rattle.spec_proofs.specs.declared.Rule.{Rule}
-use Rattle.spec_proofs.specs.declared.Rule.TheVariants.{Resolution}
-use Rattle.spec_proofs.specs.Clauses.{Clause}
 
 -- A step's or an assume's name, with its clause.
 pub record Entry : Type 0 where
+  -- the name
   pub name : Name
+  -- the clause
   pub clause : Clause
 
 -- What is known before a command: the script's symbols and assertions, and the earlier commands.
 pub record Known : Type 0 where
+  -- the declared symbols
   pub symbols : List Symbol
+  -- the terms of the current assertions
   pub asserted : List Term
+  -- the earlier commands, oldest first
   pub entries : List Entry
 
 -- what is known at a check, before a proof's first command
 abbrev pub known_at : Stack → Known
 known_at s = record { symbols = s.symbols; asserted = map (λ (a : Assertion). a.term) s.assertions; entries = [] }
 
--- A term that is assumed, with the offset of its text; or a clause that follows by a rule from premises, with the offset of the step.
+-- A command that is read.
 pub data Command : Type 0 where
+  -- the offset of the term's text, the name, and the term that is assumed
   Assume : ℕ → Name → Term → Command
+  -- the offset of the step, its name, its clause, its rule, and the clauses of its premises
   Step : ℕ → Name → Clause → Rule → List Clause → Command
 
--- the clause of a name
-abbrev pub clause_of : List Entry → Name → Option Clause
-clause_of [] n = None
-clause_of (e ∷ es) n = if bytes_eq e.name n then Some e.clause else clause_of es n
+-- A command by its shape.
+pub data Shape : Type 0 where
+  -- the name and the term's text
+  assumes : Word → Tree → Shape
+  -- the name, the literals' texts, the rule's name, and the premises' names
+  steps : Word → Trees → Word → Trees → Shape
 
--- the names of earlier commands, oldest first
-abbrev pub entry_names : List Entry → List Name
-entry_names es = map (λ (e : Entry). e.name) es
+-- What the keywords of a step say.
+pub record Parts : Type 0 where
+  -- the rule's name
+  pub rule : Option Word
+  -- the premises' names
+  pub premises : Option Trees
+  -- whether there are arguments
+  pub args : Bool
+  -- whether there are discharged assumptions
+  pub discharge : Bool
 
--- a name that a command may have: a simple symbol, and new
-abbrev pub new_name : Known → Word → Option Name
-new_name k x = only_if (is_simple x.kind && not (among (entry_names k.entries) x.bytes)) x.bytes
+-- no keyword so far
+abbrev pub no_parts : Parts
+no_parts = record { rule = None; premises = None; args = false; discharge = false }
 
--- the clause that a premise names
-abbrev pub premise_of : Known → Tree → Option Clause
-premise_of k (atom at kind n) = if is_symbol kind then clause_of k.entries n else None
-premise_of k (list at ts end) = None
+-- a symbol, and no other tree
+abbrev pub symbol_in : Tree → Option Word
+symbol_in (atom at k n) = if is_symbol k then Some (record { at = at; kind = k; bytes = n }) else None
+symbol_in (list at ts end) = None
 
--- the clauses that premises name, in order
-abbrev pub premises_of : Known → Trees → Option (List Clause)
-premises_of k ts = each (premise_of k) ts
+-- a list, and no other tree
+abbrev pub list_in : Tree → Option Trees
+list_in (atom at k n) = None
+list_in (list at ts end) = Some ts
 
--- the terms of a clause, under the script's symbols
-abbrev pub terms_of : Known → Trees → Option Clause
-terms_of k ts = each (term_of k.symbols) ts
+-- each is a symbol
+abbrev pub all_symbols : Trees → Bool
+all_symbols none = true
+all_symbols (more (atom at k n) ts) = is_symbol k && all_symbols ts
+all_symbols (more (list at us end) ts) = false
+
+-- a list of symbols, and no other tree
+abbrev pub symbols_in : Tree → Option Trees
+symbols_in t = list_in t >>= λ ts. passes (all_symbols ts) >>= λ each. Some ts
+
+-- not yet there
+abbrev pub is_new : {A : Type 0} → Option A → Bool
+is_new None = true
+is_new (Some a) = false
+
+-- `:rule r`
+abbrev pub with_rule : Parts → Tree → Option Parts
+with_rule p t = passes (is_new p.rule) >>= λ new. symbol_in t >>= λ r. Some (record { rule = Some r; premises = p.premises; args = p.args; discharge = p.discharge })
+
+-- `:premises (p ..)`
+abbrev pub with_premises : Parts → Tree → Option Parts
+with_premises p t = passes (is_new p.premises) >>= λ new. symbols_in t >>= λ ps. Some (record { rule = p.rule; premises = Some ps; args = p.args; discharge = p.discharge })
+
+-- `:args (a ..)`; what the arguments are does not matter so far
+abbrev pub with_args : Parts → Tree → Option Parts
+with_args p t = passes (not p.args) >>= λ new. list_in t >>= λ as_list. Some (record { rule = p.rule; premises = p.premises; args = true; discharge = p.discharge })
+
+-- `:discharge (d ..)`; which they are does not matter so far
+abbrev pub with_discharge : Parts → Tree → Option Parts
+with_discharge p t = passes (not p.discharge) >>= λ new. symbols_in t >>= λ ds. Some (record { rule = p.rule; premises = p.premises; args = p.args; discharge = true })
+
+-- a keyword by its name, with its value
+abbrev pub with_part : Parts → Name → Tree → Option Parts
+with_part p n t =
+    if bytes_eq n (codes "rule") then with_rule p t
+    else if bytes_eq n (codes "premises") then with_premises p t
+    else if bytes_eq n (codes "args") then with_args p t
+    else if bytes_eq n (codes "discharge") then with_discharge p t
+    else None
+
+-- keywords and their values, in any order, each at most once
+unfoldable pub parts_of : Parts → Trees → Option Parts
+parts_of p none = Some p
+parts_of p (more key none) = None
+parts_of p (more (list at us end) (more t ts)) = None
+parts_of p (more (atom at k n) (more t ts)) = passes (is_keyword k) >>= λ key. with_part p n t >>= λ q. parts_of q ts
+
+-- premises that are not given are none
+abbrev pub or_none : Option Trees → Trees
+or_none (Some ts) = ts
+or_none None = none
 
 -- h t, behind (assume
-unfoldable pub assume_of : Known → Trees → Option Command
-assume_of k ts = do
+unfoldable pub assume_shape : Trees → Option Shape
+assume_shape ts = do
   h ← first_word ts
+  named ← passes (is_symbol h.0.kind)
   t ← only_tree h.1
-  n ← new_name k h.0
-  u ← term_of k.symbols t
-  Some (Assume (offset_of t) n u)
+  Some (assumes h.0 t)
 
--- i (cl t ..) :rule resolution :premises (p ..), behind (step; own: an empty :premises () is taken, and the keyword may not be left out so far
-unfoldable pub step_of : Known → ℕ → Trees → Option Command
-step_of k at ts = do
+-- i (cl t ..) and keywords, :rule among them, behind (step
+unfoldable pub step_shape : Trees → Option Shape
+step_shape ts = do
   i ← first_word ts
+  named ← passes (is_symbol i.0.kind)
   c ← first_list i.1
   cl ← first_word c.0
   is_cl ← wanted (codes "cl") cl.0
-  r ← first_word c.1
-  is_rule ← wanted_keyword (codes "rule") r.0
-  name ← first_word r.1
-  is_resolution ← wanted (codes "resolution") name.0
-  p ← first_word name.1
-  is_premises ← wanted_keyword (codes "premises") p.0
-  l ← first_list p.1
-  end ← no_tree l.1
-  n ← new_name k i.0
-  ls ← terms_of k cl.1
-  ps ← premises_of k l.0
-  Some (Step at n ls Resolution ps)
+  p ← parts_of no_parts c.1
+  r ← p.rule
+  Some (steps i.0 cl.1 r (or_none p.premises))
 
 -- the items of a list, behind its first one
-abbrev pub command_by : Known → ℕ → Word × Trees → Option Command
-command_by k at x = if is_word (codes "assume") x.0 then assume_of k x.1 else if is_word (codes "step") x.0 then step_of k at x.1 else None
+abbrev pub shape_by : Word × Trees → Option Shape
+shape_by x = if is_word (codes "assume") x.0 then assume_shape x.1 else if is_word (codes "step") x.0 then step_shape x.1 else None
 
--- the command that a tree is
-unfoldable pub command_of : Known → Tree → Option Command
-command_of k t = do
-  l ← inside_of t
-  w ← first_word l.1
-  command_by k l.0 w
+-- the shape of a command's list
+unfoldable pub shape_of : Trees → Option Shape
+shape_of ts = first_word ts >>= λ w. shape_by w

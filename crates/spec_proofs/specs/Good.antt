@@ -1,14 +1,16 @@
 -- When the commands of a proof are good, apart from any fault. Source: Alethe specification, proofs as lists of commands.
-use Rattle.std.specs.Prelude.{◌≡◌, List, [], ◌∷◌, ◌++◌, Option, Some}
-use Rattle.spec_text.specs.Shapes.{◌>>=◌}
+use Rattle.std.specs.Prelude.{◌≡◌, List, [], ◌∷◌, ◌++◌, Ok}
+use Rattle.spec_text.specs.Answers.{◌>>=◌}
 use Rattle.spec_text.specs.Trees.{Trees, none, more}
-use Rattle.spec_proofs.specs.Commands.{Known, Command, command_of}
-use Rattle.spec_proofs.specs.Faults.{with_command, IsRightAfter, HasEmptyClause}
+use Rattle.spec_proofs.specs.Faults.{Read}
+use Rattle.spec_proofs.specs.Commands.{Known, Command}
+use Rattle.spec_proofs.specs.Known.{command_of}
+use Rattle.spec_proofs.specs.Judging.{with_command, IsRightAfter, HasEmptyClause}
 
 -- the commands that trees are, each under the names before it
-unfoldable pub commands_in : Known → Trees → Option (List Command)
-commands_in k none = Some []
-commands_in k (more t ts) = command_of k t >>= λ c. commands_in (with_command k c) ts >>= λ cs. Some (c ∷ cs)
+unfoldable pub commands_in : Known → Trees → Read (List Command)
+commands_in k none = Ok []
+commands_in k (more t ts) = command_of k t >>= λ c. commands_in (with_command k c) ts >>= λ cs. Ok (c ∷ cs)
 
 -- what is known after commands
 abbrev pub known_after : Known → List Command → Known
@@ -21,7 +23,11 @@ AreRight k commands = (before : List Command) (c : Command) (after : List Comman
 
 -- the trees are commands that are right, and at the end some clause is empty
 pub record IsGood (k : Known) (ts : Trees) : Type 0 where
+  -- the commands
   pub commands : List Command
-  pub read : commands_in k ts ≡ Some commands
+  -- they are those of the trees
+  pub read : commands_in k ts ≡ Ok commands
+  -- each is right
   pub right : AreRight k commands
+  -- one has the empty clause
   pub empty : HasEmptyClause (known_after k commands)

@@ -1,9 +1,11 @@
--- What a proof is.
+-- What proofs are, and when they are accepted.
 pub mod Resolution
 pub mod Clauses
-pub mod Commands
+pub mod Rules
 pub mod Faults
+pub mod Commands
+pub mod Known
+pub mod Texts
+pub mod Judging
 pub mod Good
 pub mod Accepted
-pub mod Models
-pub mod Examples

@@ -1,8 +1,8 @@
 -- What holds of the symbols and assertions that are current. Source: own.
-use Rattle.std.specs.Prelude.{◌≡◌, false, List, All, Some}
+use Rattle.std.specs.Prelude.{◌≡◌, false, List, All, Ok}
 use Rattle.spec_text.specs.Bytes.{among}
 use Rattle.spec_terms.specs.Terms.{Symbol, constant, Truth}
-use Rattle.spec_terms.specs.Reading.{term_of}
+use Rattle.spec_terms.specs.Reading.{term_in}
 use Rattle.spec_scripts.specs.Stack.{Assertion, Stack, theory_names, is_kept_name}
 
 -- a constant of sort Bool, with a name that may be declared
@@ -20,7 +20,7 @@ AreDeclared symbols = All IsDeclared symbols
 
 -- the assertion's term is that of its text
 abbrev pub IsReadUnder : List Symbol → Assertion → Type 0
-IsReadUnder symbols a = term_of symbols a.text ≡ Some a.term
+IsReadUnder symbols a = term_in symbols a.text ≡ Ok a.term
 
 -- the symbols are declared, and the terms of the assertions those of their texts under all of them
 pub record IsReadStack (s : Stack) : Type 0 where

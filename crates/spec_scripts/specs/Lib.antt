@@ -1,6 +1,4 @@
 -- What a script is.
 pub mod Commands
 pub mod Stack
-pub mod Plain
 pub mod Current
-pub mod Examples

@@ -1,13 +1,22 @@
--- What stands after commands, what is current at a check, and what makes it true. Source: SMT-LIB 2.6, section 4.1.4.
-use Rattle.std.specs.Prelude.{◌≡◌, ℕ, zero, suc, Bool, true, false, not, ◌&&◌, List, [], ◌∷◌, ◌++◌, map, All, Option, Some, None, codes}
+-- What stands after commands, what is current at a check, and what makes it true. Source: SMT-LIB 2.6, section 4.1.4; the order of faults and the limits are own.
+use Rattle.std.specs.Prelude.{◌≡◌, ℕ, zero, suc, ◌^◌, Bool, true, false, not, ◌&&◌, ◌||◌, List, [], ◌∷◌, ◌++◌, length, map, All, Option, Some, None, Ok, Err, codes, nat_lt, if◌then◌else◌}
+use Rattle.std.specs.Str.{bytes_eq}
+use Rattle.spec_text.specs.declared.Kind.{Kind}
+use Rattle.spec_text.specs.declared.Kind.TheVariants.{Simple, Quoted, Reserved as word_kind}
+use Rattle.spec_text.specs.declared.Fault.{Fault}
+use Rattle.spec_text.specs.declared.Fault.TheVariants.{BadShape, UnknownSort, Twice, Reserved, Full}
 use Rattle.spec_text.specs.Bytes.{Name, one_of, among}
-use Rattle.spec_text.specs.Shapes.{Word, only_if, is_simple}
-use Rattle.spec_text.specs.Trees.{Tree, Trees, none, more, IsRead}
-use Rattle.spec_terms.specs.Terms.{Symbol, constant, Term}
+use Rattle.spec_text.specs.Faults.{Located}
+use Rattle.spec_text.specs.Readings.{IsReadUpTo}
+use Rattle.spec_text.specs.Shapes.{Word, is_symbol, is_reserved}
+use Rattle.spec_text.specs.Answers.{Answer, ◌>>=◌, refused, require}
+use Rattle.spec_text.specs.Trees.{Tree, Trees, atom, list, none, more, offset_of}
+use Rattle.spec_terms.specs.Terms.{Sort, Truth, Symbol, constant, Term}
 use Rattle.spec_terms.specs.Values.{truth, Interpretation}
 use Rattle.spec_terms.specs.Meaning.{value_under}
-use Rattle.spec_terms.specs.Reading.{term_of}
-use Rattle.spec_scripts.specs.Commands.{Command, PrintNoSuccess, DeclareConst, Assert, CheckSat, command_of}
+use Rattle.spec_terms.specs.Reading.{term_in}
+use Rattle.spec_terms.specs.Subterms.{fit_in}
+use Rattle.spec_scripts.specs.Commands.{Command, SetOption, DeclareConst, Assert, CheckSat, Exit, command_of}
 
 -- An asserted expression: its text, and the term that it is read as.
 pub record Assertion : Type 0 where
@@ -16,22 +25,24 @@ pub record Assertion : Type 0 where
   -- the term that it is read as
   pub term : Term
 
--- What commands leave: the declared symbols and the assertions, oldest first.
+-- What commands leave: the declared symbols and the assertions, oldest first, and the options.
 pub record Stack : Type 0 where
   -- the declared symbols
   pub symbols : List Symbol
   -- the assertions
   pub assertions : List Assertion
+  -- whether commands that were taken are answered `success`
+  pub print_success : Bool
 
--- nothing declared, and nothing asserted
+-- nothing declared, nothing asserted, and the options as they are at first
 abbrev pub empty_stack : Stack
-empty_stack = record { symbols = []; assertions = [] }
+empty_stack = record { symbols = []; assertions = []; print_success = true }
 
 -- the names of symbols, in their order
 abbrev pub names_of : List Symbol → List Name
 names_of ss = map (λ (s : Symbol). s.name) ss
 
--- the names that the theories have
+-- the names that the theories Core and Reals have
 abbrev pub theory_names : List Name
 theory_names = codes "true" ∷ codes "false" ∷ codes "not" ∷ codes "and" ∷ codes "or" ∷ codes "xor" ∷ codes "=>" ∷ codes "=" ∷ codes "distinct" ∷ codes "ite" ∷ codes "-" ∷ codes "+" ∷ codes "*" ∷ codes "/" ∷ codes "<" ∷ codes "<=" ∷ codes ">" ∷ codes ">=" ∷ []
 
@@ -40,55 +51,145 @@ abbrev pub is_kept_name : Name → Bool
 is_kept_name [] = false
 is_kept_name (b ∷ bs) = one_of (codes "@.") b
 
--- a name that may be declared: a simple symbol, no theory's, not kept, and new
-abbrev pub may_declare : List Symbol → Word → Bool
-may_declare ss w = ((is_simple w.kind && not (among theory_names w.bytes)) && not (is_kept_name w.bytes)) && not (among (names_of ss) w.bytes)
+-- the word is reserved, or a name that is kept
+abbrev pub is_barred : Word → Bool
+is_barred w = is_reserved w.kind || is_kept_name w.bytes
+
+-- the name is a theory's, or declared
+abbrev pub is_taken : List Symbol → Name → Bool
+is_taken symbols n = among theory_names n || among (names_of symbols) n
+
+-- a name that may be declared
+abbrev pub new_name : List Symbol → Word → Answer Name
+new_name symbols w =
+    require (not (is_barred w)) w.at Reserved >>= λ free.
+    require (not (is_taken symbols w.bytes)) w.at Twice >>= λ new.
+    Ok w.bytes
+
+-- a sort by its name: Bool alone so far
+abbrev pub sort_named : ℕ → Name → Answer Sort
+sort_named at n = if bytes_eq n (codes "Bool") then Ok Truth else refused at UnknownSort
+
+-- the sort of an atom
+abbrev pub atom_sort : ℕ → Kind → Name → Answer Sort
+atom_sort at Simple n = sort_named at n
+atom_sort at Quoted n = sort_named at n
+atom_sort at word_kind n = refused at Reserved
+atom_sort at _ n = refused at BadShape
+
+-- the sort of a text: sorts with parameters are not known
+abbrev pub sort_in : Tree → Answer Sort
+sort_in (atom at k n) = atom_sort at k n
+sort_in (list at ts end) = refused at UnknownSort
+
+-- a truth value as it is written for an option
+abbrev pub truth_named : Name → Option Bool
+truth_named n = if bytes_eq n (codes "true") then Some true else if bytes_eq n (codes "false") then Some false else None
+
+-- the truth value of a text
+abbrev pub truth_in : Tree → Option Bool
+truth_in (atom at k n) = if is_symbol k then truth_named n else None
+truth_in (list at ts end) = None
+
+-- an option that is known, set to a value; the command stands at an offset
+abbrev pub with_success : ℕ → Stack → Option Bool → Answer Stack
+with_success at s (Some b) = Ok (record { symbols = s.symbols; assertions = s.assertions; print_success = b })
+with_success at s None = refused at BadShape
+
+-- the one option that is known so far
+abbrev pub is_known_option : Name → Bool
+is_known_option k = bytes_eq k (codes "print-success")
 
 -- one symbol more
 abbrev pub with_symbol : Stack → Symbol → Stack
-with_symbol s c = record { symbols = s.symbols ++ c ∷ []; assertions = s.assertions }
+with_symbol s c = record { symbols = s.symbols ++ c ∷ []; assertions = s.assertions; print_success = s.print_success }
 
 -- one assertion more, by its text and its term
 abbrev pub with_assertion : Stack → Tree → Term → Stack
-with_assertion s t u = record { symbols = s.symbols; assertions = s.assertions ++ (record { text = t; term = u }) ∷ [] }
+with_assertion s t u = record { symbols = s.symbols; assertions = s.assertions ++ (record { text = t; term = u }) ∷ []; print_success = s.print_success }
 
--- one assertion more where the text is a term; else the command is refused
-abbrev pub asserted_by : Stack → Tree → Option Term → Option Stack
-asserted_by s t (Some u) = Some (with_assertion s t u)
-asserted_by s t None = None
+-- what a command leaves, or its first fault: `limit` bounds the names that are declared and the different subterms of a command's terms; `at` is the command's offset
+abbrev pub performed : (limit at : ℕ) → Stack → Command → Answer Stack
+performed limit at s (SetOption k v) = if is_known_option k then with_success at s (truth_in v) else Ok s
+performed limit at s (DeclareConst w t) =
+    new_name s.symbols w >>= λ n.
+    sort_in t >>= λ sort.
+    require (nat_lt (length s.symbols) limit) at Full >>= λ room.
+    Ok (with_symbol s (constant n sort))
+performed limit at s (Assert t) =
+    term_in s.symbols t >>= λ u.
+    require (fit_in limit (u ∷ [])) at Full >>= λ room.
+    Ok (with_assertion s t u)
+performed limit at s CheckSat = Ok s
+performed limit at s Exit = Ok s
 
--- what a command leaves, where it is taken
-abbrev pub performed : Stack → Command → Option Stack
-performed s PrintNoSuccess = Some s
-performed s (DeclareConst w sort) = only_if (may_declare s.symbols w) (with_symbol s (constant w.bytes sort))
-performed s (Assert t) = asserted_by s t (term_of s.symbols t)
-performed s CheckSat = Some s
+-- What is answered to a command that is not refused.
+pub data Effect : Type 0 where
+  -- it is done; its option is not known; a check is asked for; the script ends
+  done unsupported check leave : Effect
 
--- what follows, where there is a stack so far
-abbrev pub then_by : Option Stack → (Stack → Option Stack) → Option Stack
-then_by (Some s) rest = rest s
-then_by None rest = None
+-- by the command
+abbrev pub effect_of : Command → Effect
+effect_of (SetOption k v) = if is_known_option k then done else unsupported
+effect_of (DeclareConst w t) = done
+effect_of (Assert t) = done
+effect_of CheckSat = check
+effect_of Exit = leave
 
--- at a check, the number of checks still to come being counted down; what is no command that is taken, or is refused, leaves nothing known so far: commands that come later may change what is current
-abbrev pub at_check : Stack → ℕ → Option Command → (Stack → ℕ → Option Stack) → Option Stack
-at_check s (suc zero) (Some CheckSat) rest = Some s
-at_check s (suc (suc k)) (Some CheckSat) rest = rest s (suc k)
-at_check s k None rest = None
-at_check s k (Some c) rest = then_by (performed s c) (λ next. rest next k)
+-- A command that was taken: what it answers, and what it leaves.
+pub record Taken : Type 0 where
+  -- the answer
+  pub effect : Effect
+  -- what stands behind it
+  pub stack : Stack
+
+-- the command of a tree, taken after a stack
+unfoldable pub step : ℕ → Stack → Tree → Answer Taken
+step limit s t = command_of t >>= λ c. performed limit (offset_of t) s c >>= λ next. Ok (record { effect = effect_of c; stack = next })
+
+-- go on behind a command that was taken, with as many checks to come; a check that is the last of them leaves the stack
+abbrev pub behind : Effect → Stack → ℕ → (Stack → ℕ → Option Stack) → Option Stack
+behind check s (suc zero) rest = Some s
+behind check s (suc (suc k)) rest = rest s (suc k)
+behind check s zero rest = rest s zero
+behind leave s k rest = None
+behind _ s k rest = rest s k
+
+-- a command that is refused changes nothing
+abbrev pub at_check : Stack → ℕ → Answer Taken → (Stack → ℕ → Option Stack) → Option Stack
+at_check s k (Ok d) rest = behind d.effect d.stack k rest
+at_check s k (Err e) rest = rest s k
 
 -- the stack at the k-th check, from 1; what follows isn't looked at
-unfoldable pub stack_at : Stack → ℕ → Trees → Option Stack
-stack_at s k none = None
-stack_at s k (more t ts) = at_check s k (command_of t) (λ next n. stack_at next n ts)
+unfoldable pub stack_at : ℕ → Stack → ℕ → Trees → Option Stack
+stack_at limit s k none = None
+stack_at limit s k (more t ts) = at_check s k (step limit s t) (λ next n. stack_at limit next n ts)
+
+-- the limit under which proofs are checked
+abbrev pub term_limit : ℕ
+term_limit = 2 ^ 24
 
 -- what is current at the k-th check of a text
 pub record IsCurrent (text : List ℕ) (k : ℕ) (s : Stack) : Type 0 where
-  -- the s-expressions of all of the text
+  -- the s-expressions of the text
   pub commands : Trees
+  -- what ends them
+  pub end : Option Located
   -- they are those of the text
-  pub read : IsRead text commands
+  pub read : IsReadUpTo text commands end
   -- the commands up to the check leave the stack
-  pub here : stack_at empty_stack k commands ≡ Some s
+  pub here : stack_at term_limit empty_stack k commands ≡ Some s
+
+-- the text ends before its k-th check: by its end, by `exit`, or by a fault behind which it cannot be read on
+pub record HasNoCheck (text : List ℕ) (k : ℕ) : Type 0 where
+  -- the s-expressions of the text
+  pub commands : Trees
+  -- what ends them
+  pub end : Option Located
+  -- they are those of the text
+  pub read : IsReadUpTo text commands end
+  -- no command is that check
+  pub none_here : stack_at term_limit empty_stack k commands ≡ None
 
 -- every current expression has the value true
 pub record MakesTrue (i : Interpretation) (text : List ℕ) (k : ℕ) : Type 0 where

@@ -1,29 +1,26 @@
 //! What the definitions imply. Each law is a function whose contract is the law; it computes nothing.
 
-ghost use Rattle.std.specs.Prelude.{◌≡◌, ℕ, List, All};
+ghost use Rattle.std.specs.Prelude.{◌≡◌, ℕ, List, All, ◌⊎◌};
 ghost use Rattle.spec_terms.specs.Values.{Interpretation};
 ghost use Rattle.spec_terms.specs.Meaning.{value_under};
-ghost use Rattle.spec_terms.specs.Agreement.{value_at};
-ghost use Rattle.spec_scripts.specs.Stack.{Stack, Assertion, IsCurrent};
-ghost use Rattle.spec_scripts.specs.Plain.{IsPlainScript};
+ghost use Rattle.spec_terms.specs.Agreement.{value_at, HaveOwnNames};
+ghost use Rattle.spec_scripts.specs.Stack.{Stack, Assertion, IsCurrent, HasNoCheck};
 ghost use Rattle.spec_scripts.specs.Current.{IsReadStack};
 
-/// States that what is current at a check is determined by the text and the check's number. Source: own.
+/// States that what is current at a check is determined by the text and the check's number, and that a text which ends
+/// before the check has nothing current there. Source: own.
 pub fn checks_have_one_stack()
-    ensures { (text : List ℕ) (k : ℕ) (s t : Stack) → IsCurrent text k s → IsCurrent text k t → s ≡ t }
+    ensures one { (text : List ℕ) (k : ℕ) (s t : Stack) → IsCurrent text k s → IsCurrent text k t → s ≡ t }
+    ensures other { (text : List ℕ) (k : ℕ) (s : Stack) → IsCurrent text k s → HasNoCheck text k → ⊥ }
 {
-    spec_text::laws::trees_are_unique();
+    spec_text::laws::a_text_is_read_up_to_one_end();
 }
-
-/// States that what is current in a plain script at its check is current at the first check. Source: own.
-pub fn plain_scripts_have_one_check()
-    ensures { (text : List ℕ) (s : Stack) → IsPlainScript text s → IsCurrent text 1 s }
-{}
 
 /// States that the current symbols are declared constants, and that the term of each current assertion is that of its
 /// text under all of them. Source: own.
 pub fn assertions_are_read()
-    ensures { (text : List ℕ) (k : ℕ) (s : Stack) → IsCurrent text k s → IsReadStack s }
+    ensures read { (text : List ℕ) (k : ℕ) (s : Stack) → IsCurrent text k s → IsReadStack s }
+    ensures own { (s : Stack) → IsReadStack s → HaveOwnNames s.symbols }
 {}
 
 /// States that the text and the term of a current assertion have one value, under every interpretation.

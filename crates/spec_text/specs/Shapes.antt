@@ -16,14 +16,22 @@ None >>= f = None
 abbrev pub only_if : {A : Type 0} → Bool → A → Option A
 only_if test a = if test then Some a else None
 
--- An atom by its kind and its own bytes.
+-- a test alone
+abbrev pub passes : Bool → Option (Unit {0})
+passes test = if test then Some tt else None
+
+-- An atom by its offset, its kind and its own bytes.
 pub record Word : Type 0 where
+  -- the offset of its first byte
+  pub at : ℕ
+  -- what it is
   pub kind : Kind
+  -- its bytes, without quotes, bars or colon
   pub bytes : List ℕ
 
 -- an atom, and what follows it
 abbrev pub first_word : Trees → Option (Word × Trees)
-first_word (more (atom at k bytes) ts) = Some (record { kind = k; bytes = bytes }, ts)
+first_word (more (atom at k bytes) ts) = Some (record { at = at; kind = k; bytes = bytes }, ts)
 first_word _ = None
 
 -- what stands in a list, and what follows it

@@ -1,10 +1,11 @@
 //! Laws of texts, lexemes and trees: functions with empty bodies, whose clauses are proved of the definitions.
 
-ghost use Rattle.std.specs.Prelude.{◌≡◌, ℕ, List, ◌∷◌, None, IfSome};
+ghost use Rattle.std.specs.Prelude.{◌≡◌, ℕ, List, ◌∷◌, Option, None, IfSome};
 ghost use Rattle.spec_text.specs.Lexemes.{Lexeme, first_piece};
 ghost use Rattle.spec_text.specs.Lexicon.{Spells, IsFirst};
 ghost use Rattle.spec_text.specs.Trees.{Trees, IsRead};
-ghost use Rattle.spec_text.specs.Faults.{lexical_fault};
+ghost use Rattle.spec_text.specs.Faults.{Located, lexical_fault};
+ghost use Rattle.spec_text.specs.Readings.{IsReadUpTo};
 ghost use Rattle.spec_text.specs.declared.Fault.TheVariants.{TooDeep};
 
 /// Says that a text has one reading at most. Source: SMT-LIB 2.6, section 3.2.
@@ -31,4 +32,10 @@ pub fn lexemes_are_longest()
 /// Says that no bytes are two lexemes. Source: SMT-LIB 2.6, section 3.1.
 pub fn spelling_is_unique()
     ensures { (bytes : List ℕ) (x y : Lexeme) → Spells bytes x → Spells bytes y → x ≡ y }
+{}
+
+/// Says that a text is s-expressions up to one end, and which these are. Source: own.
+pub fn a_text_is_read_up_to_one_end()
+    ensures { (text : List ℕ) (ts us : Trees) (f g : Option Located) → IsReadUpTo text ts f → IsReadUpTo text us g
+        → (ts ≡ us) × (f ≡ g) }
 {}

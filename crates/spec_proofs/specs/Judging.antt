@@ -1,0 +1,49 @@
+-- Which commands are right, and the first fault of a proof. Source: Alethe specification; the faults are own.
+use Rattle.std.specs.Prelude.{◌≡◌, ℕ, List, [], ◌∷◌, ◌++◌, Any, ◌⊎◌, Option, Some, None, Result, Ok, Err, Contains}
+use Rattle.spec_text.specs.Bytes.{Name}
+use Rattle.spec_text.specs.Trees.{Trees, none, more}
+use Rattle.spec_terms.specs.Literals.{Clause}
+use Rattle.spec_proofs.specs.declared.ProofKind.TheVariants.{NotAsserted, RuleFails, NoEmptyClause}
+use Rattle.spec_proofs.specs.Rules.{IsRight}
+use Rattle.spec_proofs.specs.Faults.{Fault, Read, fault_at}
+use Rattle.spec_proofs.specs.Commands.{Known, Entry, Command, Assume, Step}
+use Rattle.spec_proofs.specs.Known.{command_of}
+
+-- what is known with a command's clause under its name
+abbrev pub with_entry : Known → Name → Clause → Known
+with_entry k n c = record { symbols = k.symbols; asserted = k.asserted; entries = k.entries ++ (record { name = n; clause = c }) ∷ [] }
+
+-- what a command makes known
+abbrev pub with_command : Known → Command → Known
+with_command k (Assume at n t) = with_entry k n (t ∷ [])
+with_command k (Step at n c r ps) = with_entry k n c
+
+-- an assumed term is a current assertion, and a step is right by its rule
+abbrev pub IsRightAfter : Known → Command → Type 0
+IsRightAfter k (Assume at n t) = Contains k.asserted t
+IsRightAfter k (Step at n c r ps) = IsRight r ps c
+
+-- the fault of a command that isn't right
+abbrev pub fault_of : Command → Fault
+fault_of (Assume at n t) = fault_at at NotAsserted
+fault_of (Step at n c r ps) = fault_at at RuleFails
+
+-- some clause is empty
+abbrev pub HasEmptyClause : Known → Type 0
+HasEmptyClause k = Any (λ (e : Entry). e.clause ≡ []) k.entries
+
+-- behind the last command: what ends the text wrongly is the fault; else, where no clause is empty, that is the fault, at the end of the text
+abbrev pub EndsBy : Known → ℕ → Option Fault → Option Fault → Type 0
+EndsBy k end (Some f) found = found ≡ Some f
+EndsBy k end None None = HasEmptyClause k
+EndsBy k end None (Some f) = (HasEmptyClause k → ⊥) × (f ≡ fault_at end NoEmptyClause)
+
+-- the first fault of a command and those behind it: that of reading it, or its own where it isn't right, else that of the rest
+abbrev pub FaultBy : Known → Read Command → (Known → Type 0) → Option Fault → Type 0
+FaultBy k (Err f) rest found = found ≡ Some f
+FaultBy k (Ok c) rest found = (IsRightAfter k c × rest (with_command k c)) ⊎ ((IsRightAfter k c → ⊥) × (found ≡ Some (fault_of c)))
+
+-- the first fault of a proof's commands and of what ends them, or none
+unfoldable pub FirstFault : Known → ℕ → Option Fault → Trees → Option Fault → Type 0
+FirstFault k end ending none found = EndsBy k end ending found
+FirstFault k end ending (more t ts) found = FaultBy k (command_of k t) (λ next. FirstFault next end ending ts found) found

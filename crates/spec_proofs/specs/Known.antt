@@ -1,0 +1,99 @@
+-- What a command's parts are under what is known before it. Source: Alethe specification, commands; the order of faults is own.
+use Rattle.std.specs.Prelude.{ℕ, Bool, true, false, not, List, [], ◌∷◌, map, Option, Some, None, Ok, Err, if◌then◌else◌}
+use Rattle.std.specs.Str.{bytes_eq}
+use Rattle.spec_text.specs.declared.Fault.TheVariants.{Full}
+use Rattle.spec_text.specs.Bytes.{Name, among}
+use Rattle.spec_text.specs.Trees.{Tree, Trees, atom, list, none, more, offset_of}
+use Rattle.spec_text.specs.Shapes.{Word}
+use Rattle.spec_text.specs.Answers.{Answer, ◌>>=◌, require}
+use Rattle.spec_terms.specs.Terms.{Term}
+use Rattle.spec_terms.specs.Literals.{Clause}
+use Rattle.spec_terms.specs.Reading.{terms_in}
+use Rattle.spec_terms.specs.Subterms.{fit_in}
+use Rattle.spec_scripts.specs.Stack.{term_limit}
+use Rattle.spec_proofs.specs.declared.Rule.{Rule}
+use Rattle.spec_proofs.specs.declared.ProofKind.TheVariants.{BadShape, TwiceName, UnknownPremise, UnknownRule}
+use Rattle.spec_proofs.specs.Rules.{rule_named}
+use Rattle.spec_proofs.specs.Faults.{Read, wrong, term_fault}
+use Rattle.spec_proofs.specs.Commands.{Entry, Known, Command, Assume, Step, Shape, assumes, steps, shape_of}
+
+-- the clause of a name
+abbrev pub clause_of : List Entry → Name → Option Clause
+clause_of [] n = None
+clause_of (e ∷ es) n = if bytes_eq e.name n then Some e.clause else clause_of es n
+
+-- the names of earlier commands, oldest first
+abbrev pub entry_names : List Entry → List Name
+entry_names es = map (λ (e : Entry). e.name) es
+
+-- a name that no earlier command has
+unfoldable pub fresh_name : Known → Word → Read Name
+fresh_name k w = if among (entry_names k.entries) w.bytes then wrong w.at TwiceName else Ok w.bytes
+
+-- a fault of reading terms, as one of the proof
+unfoldable pub in_proof : {A : Type 0} → Answer A → Read A
+in_proof (Ok a) = Ok a
+in_proof (Err f) = Err (term_fault f)
+
+-- the terms of trees, if there is room for them; the command stands at an offset
+unfoldable pub roomy_terms : Known → ℕ → Trees → Answer (List Term)
+roomy_terms k at ts = terms_in k.symbols ts >>= λ us. require (fit_in term_limit us) at Full >>= λ room. Ok us
+
+-- the terms of a clause, all of which there is room for
+abbrev pub clause_in : Known → ℕ → Trees → Read Clause
+clause_in k at ts = in_proof (roomy_terms k at ts)
+
+-- the rule of a name
+unfoldable pub known_rule : Word → Read Rule
+known_rule w = by (rule_named w.bytes)
+  where
+    by : Option Rule → Read Rule
+    by (Some r) = Ok r
+    by None = wrong w.at UnknownRule
+
+-- the clause of a premise's name, which stands at an offset
+unfoldable pub known_clause : Known → ℕ → Name → Read Clause
+known_clause k at n = by (clause_of k.entries n)
+  where
+    by : Option Clause → Read Clause
+    by (Some c) = Ok c
+    by None = wrong at UnknownPremise
+
+-- the clause that a premise names
+unfoldable pub premise_of : Known → Tree → Read Clause
+premise_of k (atom at kind n) = known_clause k at n
+premise_of k (list at ts end) = wrong at BadShape
+
+-- the clauses that premises name, in order
+unfoldable pub premises_of : Known → Trees → Read (List Clause)
+premises_of k none = Ok []
+premises_of k (more t ts) = premise_of k t >>= λ c. premises_of k ts >>= λ cs. Ok (c ∷ cs)
+
+-- the one literal of an assumed term
+unfoldable pub term_alone : ℕ → List Term → Read Term
+term_alone at (u ∷ []) = Ok u
+term_alone at _ = wrong at BadShape
+
+-- a command by its shape, which stands at an offset
+unfoldable pub read_shape : Known → ℕ → Shape → Read Command
+read_shape k at (assumes h t) = do
+  n ← fresh_name k h
+  us ← clause_in k at (more t none)
+  u ← term_alone at us
+  Ok (Assume (offset_of t) n u)
+read_shape k at (steps i ls r ps) = do
+  n ← fresh_name k i
+  c ← clause_in k at ls
+  rule ← known_rule r
+  qs ← premises_of k ps
+  Ok (Step at n c rule qs)
+
+-- what has the shape of a command, or the fault at its start
+unfoldable pub shaped : ℕ → Option Shape → Read Shape
+shaped at (Some s) = Ok s
+shaped at None = wrong at BadShape
+
+-- the command that a tree is
+unfoldable pub command_of : Known → Tree → Read Command
+command_of k (atom at kind n) = wrong at BadShape
+command_of k (list at ts end) = shaped at (shape_of ts) >>= λ s. read_shape k at s
