@@ -1,15 +1,13 @@
 -- What a command's parts are under what is known before it. Source: Alethe specification, commands; the order of faults is own.
 use Rattle.std.specs.Prelude.{ℕ, Bool, true, false, not, List, [], ◌∷◌, map, Option, Some, None, Ok, Err, if◌then◌else◌}
 use Rattle.std.specs.Str.{bytes_eq}
-use Rattle.spec_text.specs.declared.Fault.TheVariants.{Full}
 use Rattle.spec_text.specs.Bytes.{Name, among}
 use Rattle.spec_text.specs.Trees.{Tree, Trees, atom, list, none, more, offset_of}
 use Rattle.spec_text.specs.Shapes.{Word}
-use Rattle.spec_text.specs.Answers.{Answer, ◌>>=◌, require}
+use Rattle.spec_text.specs.Answers.{Answer, ◌>>=◌}
 use Rattle.spec_terms.specs.Terms.{Term}
 use Rattle.spec_terms.specs.Literals.{Clause}
-use Rattle.spec_terms.specs.Reading.{terms_in}
-use Rattle.spec_terms.specs.Subterms.{fit_in}
+use Rattle.spec_terms.specs.Subterms.{roomy_terms}
 use Rattle.spec_scripts.specs.Stack.{term_limit}
 use Rattle.spec_proofs.specs.declared.Rule.{Rule}
 use Rattle.spec_proofs.specs.declared.ProofKind.TheVariants.{BadShape, TwiceName, UnknownPremise, UnknownRule}
@@ -35,13 +33,9 @@ unfoldable pub in_proof : {A : Type 0} → Answer A → Read A
 in_proof (Ok a) = Ok a
 in_proof (Err f) = Err (term_fault f)
 
--- the terms of trees, if there is room for them; the command stands at an offset
-unfoldable pub roomy_terms : Known → ℕ → Trees → Answer (List Term)
-roomy_terms k at ts = terms_in k.symbols ts >>= λ us. require (fit_in term_limit us) at Full >>= λ room. Ok us
-
 -- the terms of a clause, all of which there is room for
 abbrev pub clause_in : Known → ℕ → Trees → Read Clause
-clause_in k at ts = in_proof (roomy_terms k at ts)
+clause_in k at ts = in_proof (roomy_terms k.symbols term_limit at ts)
 
 -- the rule of a name
 unfoldable pub known_rule : Word → Read Rule

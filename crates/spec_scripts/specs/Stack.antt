@@ -14,8 +14,7 @@ use Rattle.spec_text.specs.Trees.{Tree, Trees, atom, list, none, more, offset_of
 use Rattle.spec_terms.specs.Terms.{Sort, Truth, Symbol, constant, Term}
 use Rattle.spec_terms.specs.Values.{truth, Interpretation}
 use Rattle.spec_terms.specs.Meaning.{value_under}
-use Rattle.spec_terms.specs.Reading.{term_in}
-use Rattle.spec_terms.specs.Subterms.{fit_in}
+use Rattle.spec_terms.specs.Subterms.{roomy_terms}
 use Rattle.spec_scripts.specs.Commands.{Command, SetOption, DeclareConst, Assert, CheckSat, Exit, command_of}
 
 -- An asserted expression: its text, and the term that it is read as.
@@ -108,6 +107,11 @@ with_symbol s c = record { symbols = s.symbols ++ c ∷ []; assertions = s.asser
 abbrev pub with_assertion : Stack → Tree → Term → Stack
 with_assertion s t u = record { symbols = s.symbols; assertions = s.assertions ++ (record { text = t; term = u }) ∷ []; print_success = s.print_success }
 
+-- one assertion more, by its text and its one term
+abbrev pub with_assertions : Stack → Tree → List Term → Stack
+with_assertions s t [] = s
+with_assertions s t (u ∷ us) = with_assertion s t u
+
 -- what a command leaves, or its first fault: `limit` bounds the names that are declared and the different subterms of a command's terms; `at` is the command's offset
 abbrev pub performed : (limit at : ℕ) → Stack → Command → Answer Stack
 performed limit at s (SetOption k v) = if is_known_option k then with_success at s (truth_in v) else Ok s
@@ -117,9 +121,8 @@ performed limit at s (DeclareConst w t) =
     require (nat_lt (length s.symbols) limit) at Full >>= λ room.
     Ok (with_symbol s (constant n sort))
 performed limit at s (Assert t) =
-    term_in s.symbols t >>= λ u.
-    require (fit_in limit (u ∷ [])) at Full >>= λ room.
-    Ok (with_assertion s t u)
+    roomy_terms s.symbols limit at (more t none) >>= λ us.
+    Ok (with_assertions s t us)
 performed limit at s CheckSat = Ok s
 performed limit at s Exit = Ok s
 
