@@ -1,11 +1,11 @@
 //! Laws of texts, lexemes and trees: functions with empty bodies, whose clauses are proved of the definitions.
 
-ghost use Rattle.std.specs.Prelude.{◌≡◌, ℕ, List, ◌∷◌, Option, None, IfSome};
+ghost use Rattle.std.specs.Prelude.{◌≡◌, ℕ, ◌+◌, ◌<◌, List, ◌∷◌, ◌++◌, Option, None, IfSome};
 ghost use Rattle.spec_text.specs.Lexemes.{Lexeme, first_piece};
 ghost use Rattle.spec_text.specs.Lexicon.{Spells, IsFirst};
-ghost use Rattle.spec_text.specs.Trees.{Trees, IsRead};
-ghost use Rattle.spec_text.specs.Faults.{Located, lexical_fault};
-ghost use Rattle.spec_text.specs.Readings.{IsReadUpTo};
+ghost use Rattle.spec_text.specs.Trees.{Tree, Trees, spelled, IsRead};
+ghost use Rattle.spec_text.specs.Faults.{Located, nesting_limit, lexical_fault};
+ghost use Rattle.spec_text.specs.Readings.{depth, AreTrees, IsReadUpTo};
 ghost use Rattle.spec_text.specs.declared.Fault.TheVariants.{TooDeep};
 
 /// Says that a text has one reading at most. Source: SMT-LIB 2.6, section 3.2.
@@ -38,4 +38,13 @@ pub fn spelling_is_unique()
 pub fn a_text_is_read_up_to_one_end()
     ensures { (text : List ℕ) (ts us : Trees) (f g : Option Located) → IsReadUpTo text ts f → IsReadUpTo text us g
         → (ts ≡ us) × (f ≡ g) }
+{}
+
+/// Says that behind so many open lists lexemes are trees up to one end: where what is behind the trees begins with no
+/// tree, but for one nested too deep, the trees and what is behind them are one. Source: own.
+pub fn lexemes_are_read_up_to_one_end()
+    ensures { (n : ℕ) (xs rest others : List (ℕ × Lexeme)) (ts us : Trees) → AreTrees n xs ts rest → AreTrees n xs us others
+        → ((t : Tree) (ys : List (ℕ × Lexeme)) → rest ≡ spelled t ++ ys → nesting_limit < n + depth t)
+        → ((t : Tree) (ys : List (ℕ × Lexeme)) → others ≡ spelled t ++ ys → nesting_limit < n + depth t)
+        → (ts ≡ us) × (rest ≡ others) }
 {}
