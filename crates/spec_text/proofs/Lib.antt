@@ -6,3 +6,4 @@ pub mod Spelling
 pub mod Longest
 pub mod Reading
 pub mod Stopping
+pub mod Parsing

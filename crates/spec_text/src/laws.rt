@@ -1,11 +1,11 @@
 //! Laws of texts, lexemes and trees: functions with empty bodies, whose clauses are proved of the definitions.
 
-ghost use Rattle.std.specs.Prelude.{◌≡◌, ℕ, ◌+◌, ◌<◌, List, ◌∷◌, ◌++◌, Option, None, IfSome};
-ghost use Rattle.spec_text.specs.Lexemes.{Lexeme, first_piece};
+ghost use Rattle.std.specs.Prelude.{◌≤◌, length, ◌≡◌, ℕ, ◌+◌, ◌<◌, List, ◌∷◌, ◌++◌, Option, None, IfSome};
+ghost use Rattle.spec_text.specs.Lexemes.{lexemes_from, Lexeme, first_piece};
 ghost use Rattle.spec_text.specs.Lexicon.{Spells, IsFirst};
 ghost use Rattle.spec_text.specs.Trees.{Tree, Trees, spelled, IsRead};
 ghost use Rattle.spec_text.specs.Faults.{Located, nesting_limit, lexical_fault};
-ghost use Rattle.spec_text.specs.Readings.{depth, AreTrees, IsReadUpTo};
+ghost use Rattle.spec_text.specs.Readings.{StopsAt, depth, AreTrees, IsReadUpTo};
 ghost use Rattle.spec_text.specs.declared.Fault.TheVariants.{TooDeep};
 
 /// Says that a text has one reading at most. Source: SMT-LIB 2.6, section 3.2.
@@ -47,4 +47,11 @@ pub fn lexemes_are_read_up_to_one_end()
         → ((t : Tree) (ys : List (ℕ × Lexeme)) → rest ≡ spelled t ++ ys → nesting_limit < n + depth t)
         → ((t : Tree) (ys : List (ℕ × Lexeme)) → others ≡ spelled t ++ ys → nesting_limit < n + depth t)
         → (ts ≡ us) × (rest ≡ others) }
+{}
+
+/// Says that each text is s-expressions, from each offset on and behind so many open lists, up to what stops their reading.
+/// Source: own.
+pub fn each_text_is_read()
+    ensures { (text : List ℕ) (at n : ℕ) → n ≤ nesting_limit
+        → (ts : Trees) × (rest : List (ℕ × Lexeme)) × AreTrees n (lexemes_from text at) ts rest × StopsAt (length text) n rest }
 {}
