@@ -1,25 +1,23 @@
 -- One token more of a list.
-use Rattle.std.proofs.Common.{◌≡◌, ℕ, zero, suc, ◌+◌, ◌-◌, ◌<◌, ◌≤◌, true, false, List, [], ◌∷◌, ◌++◌, length, take, drop, Option, Some, sym, ap, ◌∙◌, refl, subst, append_assoc, length-append, append-nil, add-zero, arith}
-use Rattle.std.specs.Prelude.{max, nat_lt, ⊤}
+use Rattle.std.proofs.Common.{◌≡◌, ℕ, zero, suc, ◌+◌, ◌-◌, ◌<◌, ◌≤◌, true, List, [], ◌∷◌, ◌++◌, length, take, drop, Option, sym, ap, ◌∙◌, refl, subst, append_assoc, length-append, append-nil, arith}
+use Rattle.std.specs.Prelude.{nat_lt, ⊤}
 use Rattle.std.proofs.lemmas.Bool.Decides.{nat_tests}
 use Rattle.std.proofs.lemmas.List.{take_at, drop_at}
-use Rattle.std.proofs.Math.Nat.{max-le, le-max_left, le-max_right}
+use Rattle.std.proofs.Math.Nat.{le-max_left, le-max_right}
 use Rattle.spec_text.specs.declared.Kind.{Kind}
 use Rattle.spec_text.specs.declared.Place.{Place}
-use Rattle.spec_text.specs.declared.Fault.{Fault}
-use Rattle.spec_text.specs.declared.Fault.TheVariants.{UnclosedList, StrayClose, TooDeep}
-use Rattle.spec_text.specs.Lexemes.{Lexeme, opens, closes, word, wrong, lexemes_from}
+use Rattle.spec_text.specs.Lexemes.{Lexeme, opens, closes, word, lexemes_from}
 use Rattle.spec_text.specs.Places.{IsPlaceOf}
 use Rattle.spec_text.specs.Trees.{Tree, Trees, atom, list, none, more, spelled, spelled_all, offset_of}
-use Rattle.spec_text.specs.Faults.{Located, located, first_fault, nesting_limit}
+use Rattle.spec_text.specs.Faults.{Located, first_fault, nesting_limit}
 use Rattle.spec_text.specs.Readings.{depth, depth_all, IsBroken}
 use Rattle.smt_sexpr.specs.declared.items.Item.{Item}
-use Rattle.smt_sexpr.specs.declared.items.Item.TheVariants.{Atom, List as Group}
+use Rattle.smt_sexpr.specs.declared.items.Item.TheVariants.{List as Group}
 use Rattle.smt_sexpr.specs.declared.sexpr.Sexpr.{Sexpr}
 use Rattle.smt_sexpr.specs.Items.{bytes_at, trees_in, first_of, text_of, items_of, start_of, tree_of}
 use Rattle.smt_sexpr.specs.Open.{Context, top, inside, add, push, closed, flat, flat_all, spelled_in, flat_in, open_in, IsUnfinished, Holds}
 use Rattle.smt_sexpr.specs.Reads.{IsFirst}
-use Rattle.smt_sexpr.proofs.Broken.{Stuck, heads, stuck_in, nothing_stuck, wrong_stuck, deep_stuck}
+use Rattle.smt_sexpr.proofs.Broken.{heads, broken_in}
 use Rattle.smt_sexpr.proofs.Contexts.{spelled_push, open_push, holds_word, holds_begun}
 use Rattle.smt_sexpr.proofs.Flat.{trees_none, trees_atom, trees_list}
 use Rattle.smt_sexpr.proofs.Words.{AreWordsOf, words_stand}
@@ -122,43 +120,15 @@ reading_begins text n start behind items room e =
 
 module _ (text : List ℕ) (n : ℕ) (xs : List (ℕ × Lexeme)) (items : List Item) (places : List ℕ) (at : ℕ) (r : Reading text n xs items places at) where
   -- what stops here stops all
-  stops : (f : Located) → Stuck (n + length places) (lexemes_from text at) → fault_at_depth text (n + length places) (lexemes_from text at) ≡ Some f → IsBroken (length text) n xs f
-  stops f h e =
-      let all = stuck_in n r.context (lexemes_from text at) r.unfinished (subst (λ k. Stuck (n + k) (lexemes_from text at)) (ap length r.holds.open_are) h) in
-      record {
-        fault = r.faults ∙ e;
-        no_end = λ b ys g. all.no_end b ys (sym r.read ∙ g);
-        no_tree = λ t ys g. all.no_tree t ys (sym r.read ∙ g);
-      }
-
-  -- the end of the text
-  pub unclosed : lexemes_from text at ≡ [] → 0 < length places → IsBroken (length text) n xs (record { offset = length text; fault = UnclosedList })
-  unfolding first_fault
-  unclosed nothing some = stops _ (rw nothing (nothing_stuck (n + length places))) (ap (fault_at_depth text (n + length places)) nothing ∙ go (n + length places) (omega arith))
-    where
-      go : (m : ℕ) → 0 < m → fault_at_depth text m [] ≡ located (length text) UnclosedList
-      go zero k = absurd (omega arith)
-      go (suc m) k = refl
-
-  -- a fault of the token
-  pub wrong_here : (place : ℕ) (f : Fault) → lexemes_from text at ≡ (place, wrong f) ∷ [] → IsBroken (length text) n xs (record { offset = place; fault = f })
-  unfolding first_fault
-  wrong_here place f e = stops _ (rw e (wrong_stuck (n + length places) place f [])) (ap (fault_at_depth text (n + length places)) e ∙ go (n + length places))
-    where
-      go : (m : ℕ) → fault_at_depth text m ((place, wrong f) ∷ []) ≡ located place f
-      go zero = refl
-      go (suc m) = refl
+  pub stops : (f : Located) → IsBroken (length text) (n + length places) (lexemes_from text at) f → IsBroken (length text) n xs f
+  stops f b =
+      let count : length places ≡ length (open_in r.context) = ap length r.holds.open_are in
+      broken_in (length text) n r.context xs (lexemes_from text at) f r.unfinished r.read (rw (← count) r.faults) (rw (← count) b)
 
   module _ (place after : ℕ) where
     -- the lexeme behind what was read
     moved : (x : Lexeme) → lexemes_from text at ≡ (place, x) ∷ lexemes_from text after → fault_at_depth text n xs ≡ fault_at_depth text (n + length places) ((place, x) ∷ lexemes_from text after)
     moved x e = r.faults ∙ ap (fault_at_depth text (n + length places)) e
-
-    pub too_deep : lexemes_from text at ≡ (place, opens) ∷ lexemes_from text after → 500 ≤ n + length places → IsBroken (length text) n xs (record { offset = place; fault = TooDeep })
-    unfolding first_fault
-    too_deep e deep =
-        let no_room : nat_lt (n + length places) 500 ≡ false = grind (arith, nat_tests) in
-        stops _ (rw e (deep_stuck (n + length places) place (lexemes_from text after) deep)) (ap (fault_at_depth text (n + length places)) e ∙ rw no_room refl)
 
     pub opened : lexemes_from text at ≡ (place, opens) ∷ lexemes_from text after → n + length places < 500
         → (next : List Item) (index : ℕ) → next ≡ items ++ Group place 0 0 ∷ [] → index ≡ length items → Reading text n xs next (places ++ index ∷ []) after
@@ -244,3 +214,14 @@ module _ (text : List ℕ) (n : ℕ) (xs : List (ℕ × Lexeme)) (items : List I
               read ∙ ap (λ c. spelled_in c ++ lexemes_from text after) w ∙ ap (λ ys. ys ++ lexemes_from text after) (append-nil (spelled t)),
               omega (arith, subst (IsShallow (nesting_limit - n)) w s, le-max_left (depth t) 0),
             )
+
+-- a list that has begun and ended is what an s-expression is
+pub whole_list : (text : List ℕ) (n : ℕ) (start : ℕ) (behind after : Place) (s : Sexpr) → text_of s ≡ text → start_of s ≡ start
+    → ((t : Tree) × (items_of s ≡ flat t) × ((start, opens) ∷ lexemes_from text behind.offset ≡ spelled t ++ lexemes_from text after.offset) × (depth t ≤ nesting_limit - n))
+    → IsPlaceOf text after → IsFirst text n ((start, opens) ∷ lexemes_from text behind.offset) s after
+whole_list text n start behind after s text_is start_is x place =
+    first_is text n ((start, opens) ∷ lexemes_from text behind.offset) s after x.0 text_is x.1 x.2 (words_stand text behind.offset) x.3 (begins x.0 x.2 ∙ sym start_is) place
+  where
+    begins : (t : Tree) → (start, opens) ∷ lexemes_from text behind.offset ≡ spelled t ++ lexemes_from text after.offset → offset_of t ≡ start
+    begins (atom at k w) e = sym (heads e).0
+    begins (list at ts end) e = sym (heads e).0

@@ -3,6 +3,7 @@ use Rattle.std.proofs.Common.{◌≡◌, ℕ, zero, suc, ◌+◌, ◌-◌, ◌==
 use Rattle.std.specs.Prelude.{option_map, ⊤}
 use Rattle.std.proofs.lemmas.List.{take_at, drop-drop, take-append-drop}
 use Rattle.std.proofs.lemmas.Bool.{eqb-true}
+use Rattle.spec_text.specs.declared.Kind.{Kind}
 use Rattle.spec_text.specs.declared.Kind.TheVariants.{Numeral, Decimal, Simple, Reserved}
 use Rattle.spec_text.specs.Bytes.{is_blank, is_digit, is_symbol_byte, is_in_bars, among, front, reserved_words}
 use Rattle.spec_text.specs.Lexemes.{Lexeme, blank, opens, closes, word, wrong, Piece, piece, ended, decimal, number, string_body, after_quote, string, quoted, keyword, symbol, first_piece, before, lexemes}
@@ -143,3 +144,56 @@ module _ (text : List ℕ) where
 
   pub words_stand : (at : ℕ) → AreWordsOf text (lexemes 0 at (drop at text))
   words_stand at = words_from 0 at (drop at text) refl
+
+-- the end of a list is one byte
+abbrev IsOneBy : Lexeme → ℕ → Type 0
+IsOneBy closes n = n ≡ 1
+IsOneBy _ n = ⊤
+
+abbrev IsOne : Piece → Type 0
+IsOne p = IsOneBy p.lexeme p.size
+
+one_of : (c : Bool) (p q : Piece) → IsOne p → IsOne q → IsOne (cond c p q)
+one_of true p q h k = h
+one_of false p q h k = k
+
+ended_one : (rest : List ℕ) (n : ℕ) (k : Kind) (w : List ℕ) → IsOne (ended rest n (word k w))
+ended_one [] n k w = tt
+ended_one (b ∷ bs) n k w = one_of (is_symbol_byte b) _ _ tt tt
+
+decimal_one : (digits ds rest : List ℕ) → IsOne (decimal digits ds rest)
+decimal_one digits [] rest = tt
+decimal_one digits (d ∷ ds) rest = ended_one rest _ Decimal (digits ++ 46 ∷ d ∷ ds)
+
+number_one : (digits rest : List ℕ) → IsOne (number digits rest)
+number_one digits [] = tt
+number_one digits (b ∷ bs) = one_of (b == 46) _ _ (decimal_one digits (front is_digit bs) (drop (length (front is_digit bs)) bs)) (ended_one (b ∷ bs) (length digits) Numeral digits)
+
+string_one : (o : Option (List ℕ)) → IsOne (string o)
+string_one None = tt
+string_one (Some body) = tt
+
+quoted_one : (name rest : List ℕ) → IsOne (quoted name rest)
+quoted_one name [] = tt
+quoted_one name (b ∷ bs) = one_of (b == 124) _ _ tt tt
+
+keyword_one : (name : List ℕ) → IsOne (keyword name)
+keyword_one [] = tt
+keyword_one (b ∷ bs) = tt
+
+first_one : (b : ℕ) (bs : List ℕ) → IsOne (first_piece b bs)
+unfolding first_piece
+first_one b bs =
+    one_of (is_blank b) _ _ tt (
+    one_of (b == 59) _ _ tt (
+    one_of (b == 40) _ _ tt (
+    one_of (b == 41) _ _ refl (
+    one_of (b == 48) _ _ (number_one (48 ∷ []) bs) (
+    one_of (is_digit b) _ _ (number_one (b ∷ front is_digit bs) (drop (length (front is_digit bs)) bs)) (
+    one_of (b == 34) _ _ (string_one (string_body bs)) (
+    one_of (b == 124) _ _ (quoted_one (front is_in_bars bs) (drop (length (front is_in_bars bs)) bs)) (
+    one_of (b == 58) _ _ (keyword_one (front is_symbol_byte bs)) (
+    one_of (is_symbol_byte b) _ _ tt tt)))))))))
+
+pub close_size : (b : ℕ) (bs : List ℕ) → (first_piece b bs).lexeme ≡ closes → (first_piece b bs).size ≡ 1
+close_size b bs e = subst (λ x. IsOneBy x (first_piece b bs).size) e (first_one b bs)
