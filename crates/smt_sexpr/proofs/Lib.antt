@@ -1,0 +1,6 @@
+-- The lemmas of this crate.
+pub mod Flat
+pub mod Contexts
+pub mod Words
+pub mod Broken
+pub mod Reading

@@ -1,0 +1,227 @@
+-- One token more of a list.
+use Rattle.std.proofs.Common.{◌≡◌, ℕ, zero, suc, ◌+◌, ◌-◌, ◌<◌, ◌≤◌, true, List, [], ◌∷◌, ◌++◌, length, take, drop, Option, sym, ap, ◌∙◌, refl, subst, append_assoc, length-append, append-nil, arith}
+use Rattle.std.specs.Prelude.{nat_lt, ⊤}
+use Rattle.std.proofs.lemmas.Bool.Decides.{nat_tests}
+use Rattle.std.proofs.lemmas.List.{take_at, drop_at}
+use Rattle.std.proofs.Math.Nat.{le-max_left, le-max_right}
+use Rattle.spec_text.specs.declared.Kind.{Kind}
+use Rattle.spec_text.specs.declared.Place.{Place}
+use Rattle.spec_text.specs.Lexemes.{Lexeme, opens, closes, word, lexemes_from}
+use Rattle.spec_text.specs.Places.{IsPlaceOf}
+use Rattle.spec_text.specs.Trees.{Tree, Trees, atom, list, none, more, spelled, spelled_all, offset_of}
+use Rattle.spec_text.specs.Faults.{Located, first_fault, nesting_limit}
+use Rattle.spec_text.specs.Readings.{depth, depth_all, IsBroken}
+use Rattle.smt_sexpr.specs.declared.items.Item.{Item}
+use Rattle.smt_sexpr.specs.declared.items.Item.TheVariants.{List as Group}
+use Rattle.smt_sexpr.specs.declared.sexpr.Sexpr.{Sexpr}
+use Rattle.smt_sexpr.specs.Items.{bytes_at, trees_in, first_of, text_of, items_of, start_of, tree_of}
+use Rattle.smt_sexpr.specs.Open.{Context, top, inside, add, push, closed, flat, flat_all, spelled_in, flat_in, open_in, IsUnfinished, Holds}
+use Rattle.smt_sexpr.specs.Reads.{IsFirst}
+use Rattle.smt_sexpr.proofs.Broken.{heads, broken_in}
+use Rattle.smt_sexpr.proofs.Contexts.{spelled_push, open_push, holds_word, holds_begun}
+use Rattle.smt_sexpr.proofs.Flat.{trees_none, trees_atom, trees_list}
+use Rattle.smt_sexpr.proofs.Words.{AreWordsOf, words_stand}
+
+-- the words of each tree stand in the text
+abbrev mutual
+  IsIn : List ℕ → Tree → Type 0
+  IsIn text (atom at k w) = w ≡ bytes_at text k at (length w)
+  IsIn text (list at ts end) = AreIn text ts
+
+  AreIn : List ℕ → Trees → Type 0
+  AreIn text none = ⊤
+  AreIn text (more t ts) = IsIn text t × AreIn text ts
+
+mutual
+  in_first : (text : List ℕ) (t : Tree) (rest : List (ℕ × Lexeme)) → AreWordsOf text (spelled t ++ rest) → IsIn text t × AreWordsOf text rest
+  in_first text (atom at k w) rest h = h
+  in_first text (list at ts end) rest h = in_all text ts ((end, closes) ∷ rest) (subst (AreWordsOf text) (append_assoc (spelled_all ts) ((end, closes) ∷ []) rest) h)
+
+  in_all : (text : List ℕ) (ts : Trees) (rest : List (ℕ × Lexeme)) → AreWordsOf text (spelled_all ts ++ rest) → AreIn text ts × AreWordsOf text rest
+  in_all text none rest h = (tt, h)
+  in_all text (more t ts) rest h =
+      let f = in_first text t (spelled_all ts ++ rest) (subst (AreWordsOf text) (append_assoc (spelled t) (spelled_all ts) rest) h) in
+      let r = in_all text ts rest f.1 in
+      ((f.0, r.0), r.1)
+
+-- trees whose words stand in the text are what their items mean
+back : (text : List ℕ) (ts : Trees) → AreIn text ts → trees_in text (flat_all ts) ≡ ts
+back text none h = trees_none text
+back text (more (atom at k w) ts) h = trees_atom text k at (length w) (flat_all ts) ∙ ap (λ bs. more (atom at k bs) (trees_in text (flat_all ts))) (sym h.0) ∙ ap (more (atom at k w)) (back text ts h.1)
+back text (more (list at us end) ts) h =
+    let within : take (length (flat_all us)) (flat_all us ++ flat_all ts) ≡ flat_all us = take_at (flat_all us) (flat_all ts) (length (flat_all us)) refl in
+    let rest : drop (length (flat_all us)) (flat_all us ++ flat_all ts) ≡ flat_all ts = drop_at (flat_all us) (flat_all ts) (length (flat_all us)) refl in
+    trees_list text at end (length (flat_all us)) (flat_all us ++ flat_all ts)
+    ∙ ap (λ xs. more (list at (trees_in text xs) end) (trees_in text (drop (length (flat_all us)) (flat_all us ++ flat_all ts)))) within
+    ∙ ap (λ xs. more (list at (trees_in text (flat_all us)) end) (trees_in text xs)) rest
+    ∙ ap (λ t. more (list at t end) (trees_in text (flat_all ts))) (back text us h.0) ∙ ap (more (list at us end)) (back text ts h.1)
+
+-- a tree that stands in front, with its items, is what an s-expression is
+pub first_is : (text : List ℕ) (n : ℕ) (xs : List (ℕ × Lexeme)) (s : Sexpr) (after : Place) (t : Tree) → text_of s ≡ text → items_of s ≡ flat t → xs ≡ spelled t ++ lexemes_from text after.offset → AreWordsOf text xs
+    → depth t ≤ nesting_limit - n → offset_of t ≡ start_of s → IsPlaceOf text after → IsFirst text n xs s after
+first_is text n xs s after t text_is items first words within start place =
+    let same : items_of s ≡ flat_all (more t none) = items ∙ sym (append-nil (flat t)) in
+    let means : trees_in text (items_of s) ≡ more t none = ap (trees_in text) same ∙ back text (more t none) ((in_first text t (lexemes_from text after.offset) (subst (AreWordsOf text) first words)).0, tt) in
+    let tree : tree_of s ≡ t = ap (λ xs. first_of (trees_in xs (items_of s))) text_is ∙ ap first_of means in
+    record {
+      text_is = text_is;
+      first = first ∙ ap (λ u. spelled u ++ lexemes_from text after.offset) (sym tree);
+      means = means ∙ ap (λ u. more u none) (sym tree);
+      within = rw tree within;
+      start = ap offset_of tree ∙ start;
+      place = place;
+    }
+
+-- no tree of the context is nested deeper than so many lists
+abbrev pub IsShallow : ℕ → Context → Type 0
+IsShallow m (top rows) = depth_all rows ≤ m
+IsShallow m (inside outer at rows) = IsShallow m outer × (length (open_in outer) + 1 + depth_all rows ≤ m)
+
+depth_added : (ts : Trees) (t : Tree) (k m : ℕ) → k + depth_all ts ≤ m → k + depth t ≤ m → k + depth_all (add ts t) ≤ m
+depth_added none t k m h one = grind arith
+depth_added (more u us) t k m h one = let rest = depth_added us t k m (omega (arith, h, le-max_right (depth u) (depth_all us))) one in grind arith
+
+-- one tree more
+shallow_push : (c : Context) (t : Tree) (m : ℕ) → IsShallow m c → length (open_in c) + depth t ≤ m → IsShallow m (push c t)
+shallow_push (top rows) t m h one = omega (arith, depth_added rows t 0 m (omega (arith, h)) (omega (arith, one)))
+shallow_push (inside outer at rows) t m h one = (h.0, depth_added rows t (length (open_in outer) + 1) m h.1 (omega (arith, one, length-append (open_in outer) (length (flat_in outer) ∷ []))))
+
+-- the innermost list ends
+shallow_closed : (c : Context) (end m : ℕ) → IsShallow m c → IsShallow m (closed c end)
+shallow_closed (top rows) end m h = h
+shallow_closed (inside outer at rows) end m h = shallow_push outer (list at rows end) m h.0 (omega (arith, h.1))
+
+-- a fault at a depth
+abbrev fault_at_depth : List ℕ → ℕ → List (ℕ × Lexeme) → Option Located
+fault_at_depth text n xs = first_fault nesting_limit (length text) n xs
+
+-- what is known of lexemes behind n open lists when they were read up to an offset, and more lists are open
+pub record Reading (text : List ℕ) (n : ℕ) (xs : List (ℕ × Lexeme)) (items : List Item) (places : List ℕ) (at : ℕ) : Type 0 where
+  pub context : Context
+  pub unfinished : IsUnfinished context
+  pub shallow : IsShallow (nesting_limit - n) context
+  pub holds : Holds context items places
+  pub read : xs ≡ spelled_in context ++ lexemes_from text at
+  pub faults : fault_at_depth text n xs ≡ fault_at_depth text (n + length places) (lexemes_from text at)
+
+-- a list has begun
+pub reading_begins : (text : List ℕ) (n start behind : ℕ) (items : List Item) → n < nesting_limit → items ≡ [] ++ Group start 0 0 ∷ [] → Reading text n ((start, opens) ∷ lexemes_from text behind) items (0 ∷ []) behind
+unfolding first_fault
+reading_begins text n start behind items room e =
+    let room_left : nat_lt n 500 ≡ true = grind (arith, nat_tests) in
+    record {
+      context = inside (top none) start none;
+      unfinished = tt;
+      shallow = (omega arith, omega arith);
+      holds = record { items_are = e; open_are = refl };
+      read = refl;
+      faults = rw room_left (ap (λ k. fault_at_depth text k (lexemes_from text behind)) (omega arith));
+    }
+
+module _ (text : List ℕ) (n : ℕ) (xs : List (ℕ × Lexeme)) (items : List Item) (places : List ℕ) (at : ℕ) (r : Reading text n xs items places at) where
+  -- what stops here stops all
+  pub stops : (f : Located) → IsBroken (length text) (n + length places) (lexemes_from text at) f → IsBroken (length text) n xs f
+  stops f b =
+      let count : length places ≡ length (open_in r.context) = ap length r.holds.open_are in
+      broken_in (length text) n r.context xs (lexemes_from text at) f r.unfinished r.read (rw (← count) r.faults) (rw (← count) b)
+
+  module _ (place after : ℕ) where
+    -- the lexeme behind what was read
+    moved : (x : Lexeme) → lexemes_from text at ≡ (place, x) ∷ lexemes_from text after → fault_at_depth text n xs ≡ fault_at_depth text (n + length places) ((place, x) ∷ lexemes_from text after)
+    moved x e = r.faults ∙ ap (fault_at_depth text (n + length places)) e
+
+    pub opened : lexemes_from text at ≡ (place, opens) ∷ lexemes_from text after → n + length places < 500
+        → (next : List Item) (index : ℕ) → next ≡ items ++ Group place 0 0 ∷ [] → index ≡ length items → Reading text n xs next (places ++ index ∷ []) after
+    unfolding first_fault
+    opened e room next index n_is i_is =
+        let room_left : nat_lt (n + length places) 500 ≡ true = grind (arith, nat_tests) in
+        record {
+          context = inside r.context place none;
+          unfinished = r.unfinished;
+          shallow = (r.shallow, omega (arith, ap length r.holds.open_are));
+          holds = holds_begun r.context items next places index place n_is i_is r.holds;
+          read = r.read ∙ ap (λ ts. spelled_in r.context ++ ts) e ∙ sym (append_assoc (spelled_in r.context) ((place, opens) ∷ []) (lexemes_from text after));
+          faults = moved opens e ∙ rw room_left (ap (λ k. fault_at_depth text k (lexemes_from text after)) (omega (arith, length-append places (index ∷ []))));
+        }
+
+    word_fault : (m : ℕ) (k : Kind) (w : List ℕ) (ys : List (ℕ × Lexeme)) → fault_at_depth text m ((place, word k w) ∷ ys) ≡ fault_at_depth text m ys
+    unfolding first_fault
+    word_fault zero k w ys = refl
+    word_fault (suc m) k w ys = refl
+
+    unfinished_push : (c : Context) (t : Tree) → IsUnfinished c → 0 < length (open_in c) → IsUnfinished (push c t)
+    unfinished_push (top rows) t h l = absurd (omega arith)
+    unfinished_push (inside outer b rows) t h l = h
+
+    pub word_within : (k : Kind) (w : List ℕ) → lexemes_from text at ≡ (place, word k w) ∷ lexemes_from text after → 0 < length places → n + length places ≤ nesting_limit
+        → (next : List Item) → next ≡ items ++ flat (atom place k w) → Reading text n xs next places after
+    word_within k w e some room next next_is = record {
+      context = push r.context (atom place k w);
+      unfinished = unfinished_push r.context (atom place k w) r.unfinished (omega (arith, ap length r.holds.open_are));
+      shallow = shallow_push r.context (atom place k w) (nesting_limit - n) r.shallow (omega (arith, ap length r.holds.open_are));
+      holds = holds_word r.context items next places w k place next_is r.holds;
+      read = r.read ∙ ap (λ ts. spelled_in r.context ++ ts) e ∙ (sym (append_assoc (spelled_in r.context) ((place, word k w) ∷ []) (lexemes_from text after)) ∙ sym (ap (λ x. x ++ lexemes_from text after) (spelled_push r.context (atom place k w))));
+      faults = moved (word k w) e ∙ word_fault (n + length places) k w (lexemes_from text after);
+    }
+
+    -- the end of a list, as far as the lexemes go
+    close_read : lexemes_from text at ≡ (place, closes) ∷ lexemes_from text after → 0 < length places → xs ≡ spelled_in (closed r.context place) ++ lexemes_from text after
+    close_read e some = r.read ∙ ap (λ ts. spelled_in r.context ++ ts) e ∙ go r.context (omega (arith, ap length r.holds.open_are))
+      where
+        go : (c : Context) → 0 < length (open_in c) → spelled_in c ++ (place, closes) ∷ lexemes_from text after ≡ spelled_in (closed c place) ++ lexemes_from text after
+        go (top rows) h = absurd (omega arith)
+        go (inside outer b rows) h = rw spelled_push (simp append_assoc)
+
+    close_fault : lexemes_from text at ≡ (place, closes) ∷ lexemes_from text after → (open_at : List ℕ) → length places ≡ length open_at + 1 → fault_at_depth text n xs ≡ fault_at_depth text (n + length open_at) (lexemes_from text after)
+    unfolding first_fault
+    close_fault e open_at m =
+        let one : n + length places ≡ suc (n + length open_at) = omega arith in
+        moved closes e ∙ rw one refl
+
+    pub closed_within : lexemes_from text at ≡ (place, closes) ∷ lexemes_from text after → (next : List Item) (open_at : List ℕ)
+        → length places ≡ length open_at + 1 → 0 < length open_at → Holds (closed r.context place) next open_at → Reading text n xs next open_at after
+    closed_within e next open_at m some h = record {
+      context = closed r.context place;
+      unfinished = go r.context r.unfinished (omega (arith, ap length r.holds.open_are)) h;
+      shallow = shallow_closed r.context place (nesting_limit - n) r.shallow;
+      holds = h;
+      read = close_read e (omega arith);
+      faults = close_fault e open_at m;
+    }
+      where
+        go : (c : Context) → IsUnfinished c → 0 < length (open_in c) → Holds (closed c place) next open_at → IsUnfinished (closed c place)
+        go (top rows) u k g = absurd (omega arith)
+        go (inside outer b rows) u k g = unfinished_push outer (list b rows place) u (omega (arith, ap length (g.open_are ∙ open_push outer (list b rows place))))
+
+    -- the end of the one list that is open
+    pub closed_whole : lexemes_from text at ≡ (place, closes) ∷ lexemes_from text after → (next : List Item) → length places ≡ 1 → Holds (closed r.context place) next []
+        → (t : Tree) × (next ≡ flat t) × (xs ≡ spelled t ++ lexemes_from text after) × (depth t ≤ nesting_limit - n)
+    closed_whole e next m h = go r.context r.unfinished (omega (arith, ap length r.holds.open_are)) h (shallow_closed r.context place (nesting_limit - n) r.shallow) (close_read e (omega arith))
+      where
+        whole_push : (c : Context) (t : Tree) → IsUnfinished c → open_in c ≡ [] → push c t ≡ top (more t none)
+        whole_push (top none) t u k = refl
+        whole_push (top (more v vs)) t u k = absurd u
+        whole_push (inside outer b rows) t u k = absurd (omega (arith, ap length k, length-append (open_in outer) (length (flat_in outer) ∷ [])))
+
+        go : (c : Context) → IsUnfinished c → 0 < length (open_in c) → Holds (closed c place) next [] → IsShallow (nesting_limit - n) (closed c place) → xs ≡ spelled_in (closed c place) ++ lexemes_from text after
+            → (t : Tree) × (next ≡ flat t) × (xs ≡ spelled t ++ lexemes_from text after) × (depth t ≤ nesting_limit - n)
+        go (top rows) u k g s read = absurd (omega arith)
+        go (inside outer b rows) u k g s read =
+            let t = list b rows place in
+            let w : push outer t ≡ top (more t none) = whole_push outer t u (sym (g.open_are ∙ open_push outer t)) in (
+              t,
+              g.items_are ∙ ap flat_in w ∙ append-nil (flat t),
+              read ∙ ap (λ c. spelled_in c ++ lexemes_from text after) w ∙ ap (λ ys. ys ++ lexemes_from text after) (append-nil (spelled t)),
+              omega (arith, subst (IsShallow (nesting_limit - n)) w s, le-max_left (depth t) 0),
+            )
+
+-- a list that has begun and ended is what an s-expression is
+pub whole_list : (text : List ℕ) (n : ℕ) (start : ℕ) (behind after : Place) (s : Sexpr) → text_of s ≡ text → start_of s ≡ start
+    → ((t : Tree) × (items_of s ≡ flat t) × ((start, opens) ∷ lexemes_from text behind.offset ≡ spelled t ++ lexemes_from text after.offset) × (depth t ≤ nesting_limit - n))
+    → IsPlaceOf text after → IsFirst text n ((start, opens) ∷ lexemes_from text behind.offset) s after
+whole_list text n start behind after s text_is start_is x place =
+    first_is text n ((start, opens) ∷ lexemes_from text behind.offset) s after x.0 text_is x.1 x.2 (words_stand text behind.offset) x.3 (begins x.0 x.2 ∙ sym start_is) place
+  where
+    begins : (t : Tree) → (start, opens) ∷ lexemes_from text behind.offset ≡ spelled t ++ lexemes_from text after.offset → offset_of t ≡ start
+    begins (atom at k w) e = sym (heads e).0
+    begins (list at ts end) e = sym (heads e).0

@@ -1,0 +1,5 @@
+-- What an s-expression means, and what reading gives.
+pub mod Items
+pub mod Open
+pub mod Reads
+pub mod Views

@@ -1,0 +1,50 @@
+//! S-expressions with the text that they stand in.
+
+ghost use Rattle.spec_text.specs.Places.{IsPlaceOf};
+
+use crate::items::Item;
+use smt_lexer::{Place, place_after};
+
+/// An s-expression, by the text that it was read from. It means one tree, whose offsets are those of the text.
+/// Source: SMT-LIB 2.6, section 3.2.
+#[derive(Drop)]
+pub struct Sexpr<'a> {
+    /// The whole text that it stands in.
+    pub(crate) text: &'a [u8],
+    /// The place of its first byte.
+    pub(crate) start: Place,
+    /// Its items, in the order of the text.
+    pub(crate) items: Vec<Item>,
+    /// It begins in the text.
+    ghost placed: { IsPlaceOf text.now start },
+}
+
+impl<'a> Sexpr<'a> {
+    ghost use Rattle.std.specs.Prelude.{◌≡◌, ◌≤◌, length};
+    ghost use Rattle.smt_sexpr.specs.Items.{text_of, items_of, start_of};
+
+    /// Lends the whole text that it was read from. Source: own.
+    pub fn text(&self) -> &'a [u8]
+        ensures { result.now ≡ text_of self.now }
+    {
+        self.text
+    }
+
+    /// Lends its items, which mean the one tree that it is. Source: own.
+    pub fn items(&self) -> &[Item]
+        ensures { result.now ≡ items_of self.now }
+    {
+        self.items.as_slice()
+    }
+
+    /// Gives the place of an offset of the text, from its first byte on up to the end of the text. It takes time linear in
+    /// the number of bytes between them. Source: own.
+    pub fn place(&self, offset: u64) -> Place
+        requires behind { start_of self.now ≤ offset }
+        requires within { offset ≤ length (text_of self.now) }
+        ensures place { IsPlaceOf (text_of self.now) result }
+        ensures offset { result.offset ≡ offset }
+    {
+        place_after(self.text, self.start, (offset - self.start.offset) as usize)
+    }
+}
