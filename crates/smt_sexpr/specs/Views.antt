@@ -9,7 +9,7 @@ use Rattle.smt_sexpr.specs.Items.{trees_in, tree_in}
 
 -- an atom
 abbrev pub word_view : code.Word → Word
-word_view w = record { kind = w.kind; bytes = w.bytes.now }
+word_view w = record { at = w.at; kind = w.kind; bytes = w.bytes.now }
 
 -- an atom, and the trees behind it
 abbrev pub word_rest : List ℕ → code.Word × Bor (List Item) → Word × Trees

@@ -2,7 +2,7 @@
 
 ghost use Rattle.std.specs.Prelude.{◌≡◌, ℕ, ◌<◌, ◌≤◌, List, length, option_map, IfSome};
 ghost use Rattle.std.specs.Str.{bytes_eq};
-ghost use Rattle.spec_text.specs.Shapes.{first_word, first_list, only_tree, no_tree, inside_of, is_word, is_keyword, is_reserved, is_simple, is_symbol, wanted, wanted_keyword};
+ghost use Rattle.spec_text.specs.Shapes.{passes, first_word, first_list, only_tree, no_tree, inside_of, is_word, is_keyword, is_reserved, is_simple, is_symbol, wanted, wanted_keyword};
 ghost use Rattle.spec_text.specs.Trees.{offset_of};
 ghost use Rattle.smt_sexpr.specs.Items.{trees_in, tree_in};
 ghost use Rattle.smt_sexpr.specs.Views.{word_view, word_rest, list_rest, tree_view, inside_view};
@@ -10,9 +10,11 @@ ghost use Rattle.smt_sexpr.specs.Views.{word_view, word_rest, list_rest, tree_vi
 use crate::items::{Item, View, look, split};
 use smt_lexer::Kind;
 
-/// An atom by its kind and its own bytes. Source: SMT-LIB 2.6, section 3.1.
+/// An atom by its offset, its kind and its own bytes. Source: SMT-LIB 2.6, section 3.1.
 #[derive(Clone, Copy, Debug)]
 pub struct Word<'a> {
+    /// The offset of its first byte.
+    pub at: u64,
     /// What it is.
     pub kind: Kind,
     /// Its bytes as written, but without quotes, bars or colon.
@@ -66,6 +68,16 @@ pub fn is_reserved(kind: Kind) -> bool
     }
 }
 
+/// Asks that a test holds: `None` where it does not. Source: own.
+pub fn passes(test: bool) -> Option<()>
+    ensures { result ≡ passes test }
+{
+    if test {
+        return Some(());
+    }
+    None
+}
+
 /// Tells whether a word is this symbol, with bars or without. Source: SMT-LIB 2.6, section 3.1.
 pub fn is_word(name: &[u8], word: Word<'_>) -> bool
     ensures { result ≡ is_word name.now (word_view word.entry) }
@@ -101,7 +113,14 @@ pub fn word_first<'a>(text: &'a [u8], items: &'a [Item]) -> Option<(Word<'a>, &'
 {
     let (first, rest) = split(items)?;
     match look(text, first) {
-        View::Atom(_, kind, bytes) => Some((Word { kind, bytes }, rest)),
+        View::Atom(at, kind, bytes) => Some((
+            Word {
+                at: u64::from(at),
+                kind,
+                bytes,
+            },
+            rest,
+        )),
         View::List(_, _, _) => None,
     }
 }
