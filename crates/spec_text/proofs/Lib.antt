@@ -5,3 +5,4 @@ pub mod Tests
 pub mod Spelling
 pub mod Longest
 pub mod Reading
+pub mod Ends

@@ -1,10 +1,11 @@
 //! Laws of texts, lexemes and trees: functions with empty bodies, whose clauses are proved of the definitions.
 
-ghost use Rattle.std.specs.Prelude.{◌≡◌, ℕ, List, ◌∷◌, None, IfSome};
+ghost use Rattle.std.specs.Prelude.{◌≡◌, ℕ, List, ◌∷◌, Option, None, IfSome};
 ghost use Rattle.spec_text.specs.Lexemes.{Lexeme, first_piece};
 ghost use Rattle.spec_text.specs.Lexicon.{Spells, IsFirst};
 ghost use Rattle.spec_text.specs.Trees.{Trees, IsRead};
-ghost use Rattle.spec_text.specs.Faults.{lexical_fault};
+ghost use Rattle.spec_text.specs.Faults.{Located, lexical_fault};
+ghost use Rattle.spec_text.specs.Readings.{IsReadUpTo};
 ghost use Rattle.spec_text.specs.declared.Fault.TheVariants.{TooDeep};
 
 /// Says that a text has one reading at most. Source: SMT-LIB 2.6, section 3.2.
@@ -20,6 +21,12 @@ pub fn a_text_without_fault_is_read()
 /// Says that a text with a reading has no lexical fault but lists nested too deep. Source: own.
 pub fn a_read_text_has_no_fault_but_depth()
     ensures { (text : List ℕ) (ts : Trees) → IsRead text ts → IfSome (lexical_fault text) (λ f. f.fault ≡ TooDeep) }
+{}
+
+/// Says that a text is read up to one end: it has one row of trees in front, and one fault that stops the reading, or
+/// none. Source: own.
+pub fn a_text_is_read_up_to_one_end()
+    ensures { (text : List ℕ) (ts us : Trees) (f g : Option Located) → IsReadUpTo text ts f → IsReadUpTo text us g → (ts ≡ us) × (f ≡ g) }
 {}
 
 /// Says that the first lexeme of a text is the longest front that the lexicon's table has, and that a text whose first
