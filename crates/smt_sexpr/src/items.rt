@@ -3,9 +3,10 @@
 ghost use Rattle.std.specs.Prelude.{◌≡◌, ℕ, ◌+◌, ◌<◌, ◌≤◌, List, length, take, drop, option_map, IfSome};
 ghost use Rattle.smt_sexpr.specs.Items.{trees_in, tree_in, split_first, two, seen, count_first, marks, bytes_at, IsShorter};
 
-use spec_text::Kind;
+use smt_lexer::Kind;
 
 /// An item of a flat list: an atom, or a list with as many items behind it as it counts. Offsets and sizes are in bytes.
+/// Source: own.
 #[derive(Clone, Copy, Debug, PartialEq, Eq)]
 pub enum Item {
     /// The kind, the offset of the first byte, and the number of bytes without quotes, bars or colon.
@@ -14,7 +15,8 @@ pub enum Item {
     List(u32, u32, u32),
 }
 
-/// A tree at the front of a list of items.
+/// A tree at the front of a list of items. Source: own.
+#[derive(Clone, Copy, Debug)]
 pub enum View<'a> {
     /// An atom's offset, kind and own bytes.
     Atom(u32, Kind, &'a [u8]),
@@ -37,7 +39,8 @@ fn first_len(items: &[Item]) -> usize
     }
 }
 
-/// The first tree's items, and those behind it.
+/// Splits items behind the first tree: that tree's items, and those of the trees behind it; `None` where there is no item.
+/// Source: own.
 pub fn split(items: &[Item]) -> Option<(&[Item], &[Item])>
     ensures first { (text : List ℕ) → option_map (two text) result ≡ split_first (trees_in text items.now) }
     ensures less { IfSome result (λ x. length x.1.now < length items.now) }
@@ -62,7 +65,7 @@ fn part(text: &[u8], from: usize, size: usize) -> &[u8]
 }
 
 /// How many bytes stand before a word's own.
-pub fn marks_of(kind: Kind) -> usize
+fn marks_of(kind: Kind) -> usize
     ensures { result ≡ marks kind }
 {
     match kind {
@@ -78,7 +81,8 @@ fn word_bytes(text: &[u8], kind: Kind, at: u32, size: u32) -> &[u8]
     part(text, at as usize + marks_of(kind), size as usize)
 }
 
-/// The first tree by its kind.
+/// Looks at the first tree: an atom, or a list with the items in it. Where there is no item it gives the numeral at offset 0
+/// that has no bytes, which no text has. Source: own.
 pub fn look<'a>(text: &'a [u8], items: &'a [Item]) -> View<'a>
     ensures seen { seen text.now result ≡ tree_in text.now items.now }
     ensures less { IsShorter result (length items.now) }

@@ -30,8 +30,7 @@ pub returns-in_default : goal.returns-in_default
 returns-in_default c =
     let t = rw c.in-Close.is at c.in-Ok.ensures.0 in
     let none_left : c.tokens.outer.items ≡ [] = none_of c.tokens.outer.items (omega (arith, c.in_default.ensures.cases.0, c.tokens.outer.ok.0)) in
-    let ended = c.in_ok-end_list-in-Close.ensures c.tokens.invariant.reading.context c.tokens.outer.items c.tokens.invariant.reading.holds in
-    (
+    let ended = c.in_ok-end_list-in-Close.ensures c.tokens.invariant.reading.context c.tokens.outer.items c.tokens.invariant.reading.holds in (
       whole_list c.args.text.now c.args.open_lists c.args.start.offset c.args.behind c.in-Ok.read.1 _ refl refl (closed_whole _ _ _ _ _ _ c.tokens.invariant.reading _ _ t.first c.end_list.new.items.items (omega (arith, ap length none_left, length-append c.tokens.outer.items (c.tokens.innermost ∷ []))) (rw none_left at ended)) c.in-Ok.ensures.2,
       omega (arith, t.behind, t.longer, c.tokens.invariant.later),
     )
