@@ -1,1 +1,3 @@
-
+-- Lemmas on scripts: what commands keep.
+pub mod Later
+pub mod Kept

@@ -1,1 +1,3 @@
-
+-- Lemmas on terms: what each head is read as, and what a text is read as.
+pub mod Heads
+pub mod Reading

@@ -1,5 +1,5 @@
 -- The value of a text, by cases on its tree. Source: SMT-LIB 2.6, section 5.3 and theory Core.
-use Rattle.std.specs.Prelude.{Bool, true, false, not, ◌&&◌, ◌||◌, List, [], ◌∷◌, Option, Some, None, codes, if◌then◌else◌}
+use Rattle.std.specs.Prelude.{true, false, not, ◌||◌, List, [], ◌∷◌, Option, Some, None, codes, if◌then◌else◌}
 use Rattle.spec_text.specs.declared.Kind.{Kind}
 use Rattle.spec_text.specs.Bytes.{Name}
 use Rattle.spec_text.specs.Shapes.{is_symbol}

@@ -1,5 +1,5 @@
 -- Sorts, symbols, and terms as read. Source: SMT-LIB 2.6, sections 3.5, 3.6 and 5.2; the one form for scripts and proofs is own.
-use Rattle.std.specs.Prelude.{Bool, true, false, ◌&&◌, ◌||◌, List, [], ◌∷◌}
+use Rattle.std.specs.Prelude.{Bool, true, false, ◌&&◌, List, [], ◌∷◌}
 use Rattle.std.specs.Str.{bytes_eq}
 use Rattle.spec_text.specs.Bytes.{Name}
 

@@ -10,11 +10,11 @@ ghost use Rattle.spec_terms.specs.Terms.{Symbol, Term};
 ghost use Rattle.spec_terms.specs.Values.{Interpretation};
 ghost use Rattle.spec_terms.specs.Meaning.{value_under};
 ghost use Rattle.spec_terms.specs.Reading.{term_in};
-ghost use Rattle.spec_terms.specs.Agreement.{value_at, HaveOwnNames};
+ghost use Rattle.spec_terms.specs.Agreement.{value_at};
 
 /// States that the term which a text is read as has the text's value, under every interpretation.
 /// Source: SMT-LIB 2.6, section 5.3.
 pub fn terms_have_their_texts_value()
-    ensures { (symbols : List Symbol) (t : Tree) (u : Term) → HaveOwnNames symbols → term_in symbols t ≡ Ok u
+    ensures { (symbols : List Symbol) (t : Tree) (u : Term) → term_in symbols t ≡ Ok u
         → (i : Interpretation) → value_under i t ≡ value_at i u }
 {}
