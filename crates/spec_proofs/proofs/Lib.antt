@@ -1,1 +1,5 @@
-
+-- The lemmas of this crate.
+pub mod Resolution
+pub mod Rules
+pub mod Chains
+pub mod Steps
