@@ -3,3 +3,6 @@ pub mod Resolution
 pub mod Rules
 pub mod Chains
 pub mod Steps
+pub mod Good
+pub mod Judging
+pub mod Endings
