@@ -1,1 +1,8 @@
-
+-- The lemmas of this crate.
+pub mod Resolution
+pub mod Rules
+pub mod Chains
+pub mod Steps
+pub mod Good
+pub mod Judging
+pub mod Endings
