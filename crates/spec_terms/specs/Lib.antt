@@ -8,5 +8,6 @@ pub mod Forms
 pub mod Meaning
 pub mod Reading
 pub mod Subterms
+pub mod Literals
 pub mod Agreement
 pub mod TermCodes
