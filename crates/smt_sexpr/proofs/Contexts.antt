@@ -4,9 +4,10 @@ use Rattle.std.proofs.lemmas.List.{set_at, get_or_at}
 use Rattle.spec_text.specs.declared.Kind.{Kind}
 use Rattle.spec_text.specs.Lexemes.{opens}
 use Rattle.spec_text.specs.Trees.{Tree, Trees, atom, list, none, more, spelled, spelled_all}
+use Rattle.smt_sexpr.specs.Means.{flat, flat_all}
 use Rattle.smt_sexpr.specs.declared.items.Item.{Item}
 use Rattle.smt_sexpr.specs.declared.items.Item.TheVariants.{List as Group}
-use Rattle.smt_sexpr.specs.Open.{Context, top, inside, add, push, closed, flat, flat_all, spelled_in, flat_in, open_in, Holds}
+use Rattle.smt_sexpr.specs.Open.{Context, top, inside, add, push, closed, spelled_in, flat_in, open_in, Holds}
 
 flat_add : (ts : Trees) (t : Tree) → flat_all (add ts t) ≡ flat_all ts ++ flat t
 flat_add none t = append-nil (flat t)

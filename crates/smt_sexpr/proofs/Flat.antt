@@ -5,9 +5,10 @@ use Rattle.std.proofs.lemmas.List.{drop_all, take_min}
 use Rattle.spec_text.specs.declared.Kind.{Kind}
 use Rattle.spec_text.specs.declared.Kind.TheVariants.{Numeral}
 use Rattle.spec_text.specs.Trees.{atom, list, none, more}
+use Rattle.smt_sexpr.specs.Means.{bytes_at, trees_within, trees_in, first_of, tree_in}
 use Rattle.smt_sexpr.specs.declared.items.Item.{Item}
 use Rattle.smt_sexpr.specs.declared.items.Item.TheVariants.{Atom, List as Group}
-use Rattle.smt_sexpr.specs.Items.{trees_within, trees_in, tree_in, first_of, split_first, count_first, bytes_at}
+use Rattle.smt_sexpr.specs.Items.{split_first, count_first}
 
 take_fits : (k n : ℕ) (is : List Item) → length is ≤ n → length (take k is) ≤ n
 take_fits zero n is h = omega arith

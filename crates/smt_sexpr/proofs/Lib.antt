@@ -3,4 +3,5 @@ pub mod Flat
 pub mod Contexts
 pub mod Words
 pub mod Broken
+pub mod Offsets
 pub mod Reading

@@ -11,14 +11,16 @@ use Rattle.spec_text.specs.Places.{IsPlaceOf}
 use Rattle.spec_text.specs.Trees.{Tree, Trees, atom, list, none, more, spelled, spelled_all, offset_of}
 use Rattle.spec_text.specs.Faults.{Located, first_fault, nesting_limit}
 use Rattle.spec_text.specs.Readings.{depth, depth_all, IsBroken}
+use Rattle.smt_sexpr.specs.Means.{bytes_at, trees_in, first_of, tree_in, flat, flat_all, AreRead}
 use Rattle.smt_sexpr.specs.declared.items.Item.{Item}
 use Rattle.smt_sexpr.specs.declared.items.Item.TheVariants.{List as Group}
 use Rattle.smt_sexpr.specs.declared.sexpr.Sexpr.{Sexpr}
-use Rattle.smt_sexpr.specs.Items.{bytes_at, trees_in, first_of, text_of, items_of, start_of, tree_of}
-use Rattle.smt_sexpr.specs.Open.{Context, top, inside, add, push, closed, flat, flat_all, spelled_in, flat_in, open_in, IsUnfinished, Holds}
-use Rattle.smt_sexpr.specs.Reads.{IsFirst}
+use Rattle.smt_sexpr.specs.Items.{text_of, items_of, start_of, tree_of}
+use Rattle.smt_sexpr.specs.Open.{Context, top, inside, add, push, closed, spelled_in, flat_in, open_in, IsUnfinished, Holds}
+use Rattle.smt_sexpr.specs.Reads.{BeginsWith, IsFirst}
 use Rattle.smt_sexpr.proofs.Broken.{heads, broken_in}
 use Rattle.smt_sexpr.proofs.Contexts.{spelled_push, open_push, holds_word, holds_begun}
+use Rattle.smt_sexpr.proofs.Offsets.{IsToken, resumes}
 use Rattle.smt_sexpr.proofs.Flat.{trees_none, trees_atom, trees_list}
 use Rattle.smt_sexpr.proofs.Words.{AreWordsOf, words_stand}
 
@@ -56,20 +58,42 @@ back text (more (list at us end) ts) h =
     ∙ ap (λ xs. more (list at (trees_in text (flat_all us)) end) (trees_in text xs)) rest
     ∙ ap (λ t. more (list at t end) (trees_in text (flat_all ts))) (back text us h.0) ∙ ap (more (list at us end)) (back text ts h.1)
 
--- a tree that stands in front, with its items, is what an s-expression is
-pub first_is : (text : List ℕ) (n : ℕ) (xs : List (ℕ × Lexeme)) (s : Sexpr) (after : Place) (t : Tree) → text_of s ≡ text → items_of s ≡ flat t → xs ≡ spelled t ++ lexemes_from text after.offset → AreWordsOf text xs
-    → depth t ≤ nesting_limit - n → offset_of t ≡ start_of s → IsPlaceOf text after → IsFirst text n xs s after
-first_is text n xs s after t text_is items first words within start place =
-    let same : items_of s ≡ flat_all (more t none) = items ∙ sym (append-nil (flat t)) in
-    let means : trees_in text (items_of s) ≡ more t none = ap (trees_in text) same ∙ back text (more t none) ((in_first text t (lexemes_from text after.offset) (subst (AreWordsOf text) first words)).0, tt) in
+-- a tree that stands in front is what its items mean
+means_tree : (text : List ℕ) (from : ℕ) (t : Tree) (rest : List (ℕ × Lexeme)) → lexemes_from text from ≡ spelled t ++ rest → trees_in text (flat t) ≡ more t none
+means_tree text from t rest first =
+    ap (trees_in text) (sym (append-nil (flat t))) ∙ back text (more t none) ((in_first text t rest (subst (AreWordsOf text) first (words_stand text from))).0, tt)
+
+begins_at : (at : ℕ) (x : Lexeme) (ys : List (ℕ × Lexeme)) (t : Tree) (rest : List (ℕ × Lexeme)) → (at, x) ∷ ys ≡ spelled t ++ rest → offset_of t ≡ at
+begins_at at x ys (atom b k w) rest e = sym (heads e).0
+begins_at at x ys (list b ts end) rest e = sym (heads e).0
+
+-- a word
+pub begins_with_word : (text : List ℕ) (n : ℕ) (xs : List (ℕ × Lexeme)) (at : ℕ) (k : Kind) (w : List ℕ) (is : List Item) (after : Place) → is ≡ flat (atom at k w) → xs ≡ (at, word k w) ∷ lexemes_from text after.offset → IsPlaceOf text after → BeginsWith text n xs is after
+begins_with_word text n xs at k w is after items first place = record { tree = atom at k w; items = items; first = first; within = omega arith; place = place }
+
+-- what was read from a place on stands at its own offset
+pub read_there : (text : List ℕ) (n from at : ℕ) (x : Lexeme) (ys : List (ℕ × Lexeme)) (is : List Item) (after : Place) → IsToken x → lexemes_from text from ≡ (at, x) ∷ ys → BeginsWith text n (lexemes_from text from) is after → AreRead text at is
+read_there text n from at x ys is after token here b =
+    let t = b.tree in
+    let behind = lexemes_from text after.offset in
+    let tree : tree_in text is ≡ t = ap (tree_in text) b.items ∙ ap first_of (means_tree text from t behind b.first) in
+    let there : lexemes_from text at ≡ spelled t ++ behind = resumes text from [] at x ys here token ∙ sym here ∙ b.first in
+    let rest : drop (length (spelled t)) (lexemes_from text at) ≡ behind = ap (drop (length (spelled t))) there ∙ drop_at (spelled t) behind (length (spelled t)) refl in
+    (b.items ∙ ap flat (sym tree), rw (tree, rest) there)
+
+-- it is what an s-expression is
+pub first_is : (text : List ℕ) (n from at : ℕ) (x : Lexeme) (ys : List (ℕ × Lexeme)) (s : Sexpr) (after : Place) → text_of s ≡ text → start_of s ≡ at → lexemes_from text from ≡ (at, x) ∷ ys → BeginsWith text n (lexemes_from text from) (items_of s) after → IsFirst text n (lexemes_from text from) s after
+first_is text n from at x ys s after text_is start here b =
+    let t = b.tree in
+    let means : trees_in text (items_of s) ≡ more t none = ap (trees_in text) b.items ∙ means_tree text from t (lexemes_from text after.offset) b.first in
     let tree : tree_of s ≡ t = ap (λ xs. first_of (trees_in xs (items_of s))) text_is ∙ ap first_of means in
     record {
       text_is = text_is;
-      first = first ∙ ap (λ u. spelled u ++ lexemes_from text after.offset) (sym tree);
+      first = b.first ∙ ap (λ u. spelled u ++ lexemes_from text after.offset) (sym tree);
       means = means ∙ ap (λ u. more u none) (sym tree);
-      within = rw tree within;
-      start = ap offset_of tree ∙ start;
-      place = place;
+      within = rw tree b.within;
+      start = ap offset_of tree ∙ begins_at at x ys t (lexemes_from text after.offset) (sym here ∙ b.first) ∙ sym start;
+      place = b.place;
     }
 
 -- no tree of the context is nested deeper than so many lists
@@ -194,34 +218,23 @@ module _ (text : List ℕ) (n : ℕ) (xs : List (ℕ × Lexeme)) (items : List I
         go (inside outer b rows) u k g = unfinished_push outer (list b rows place) u (omega (arith, ap length (g.open_are ∙ open_push outer (list b rows place))))
 
     -- the end of the one list that is open
-    pub closed_whole : lexemes_from text at ≡ (place, closes) ∷ lexemes_from text after → (next : List Item) → length places ≡ 1 → Holds (closed r.context place) next []
-        → (t : Tree) × (next ≡ flat t) × (xs ≡ spelled t ++ lexemes_from text after) × (depth t ≤ nesting_limit - n)
-    closed_whole e next m h = go r.context r.unfinished (omega (arith, ap length r.holds.open_are)) h (shallow_closed r.context place (nesting_limit - n) r.shallow) (close_read e (omega arith))
+    pub closed_whole : (end : Place) → end.offset ≡ after → IsPlaceOf text end → lexemes_from text at ≡ (place, closes) ∷ lexemes_from text after → (next : List Item) → length places ≡ 1 → Holds (closed r.context place) next [] → BeginsWith text n xs next end
+    closed_whole end end_is place_is e next m h = go r.context r.unfinished (omega (arith, ap length r.holds.open_are)) h (shallow_closed r.context place (nesting_limit - n) r.shallow) (close_read e (omega arith))
       where
         whole_push : (c : Context) (t : Tree) → IsUnfinished c → open_in c ≡ [] → push c t ≡ top (more t none)
         whole_push (top none) t u k = refl
         whole_push (top (more v vs)) t u k = absurd u
         whole_push (inside outer b rows) t u k = absurd (omega (arith, ap length k, length-append (open_in outer) (length (flat_in outer) ∷ [])))
 
-        go : (c : Context) → IsUnfinished c → 0 < length (open_in c) → Holds (closed c place) next [] → IsShallow (nesting_limit - n) (closed c place) → xs ≡ spelled_in (closed c place) ++ lexemes_from text after
-            → (t : Tree) × (next ≡ flat t) × (xs ≡ spelled t ++ lexemes_from text after) × (depth t ≤ nesting_limit - n)
+        go : (c : Context) → IsUnfinished c → 0 < length (open_in c) → Holds (closed c place) next [] → IsShallow (nesting_limit - n) (closed c place) → xs ≡ spelled_in (closed c place) ++ lexemes_from text after → BeginsWith text n xs next end
         go (top rows) u k g s read = absurd (omega arith)
         go (inside outer b rows) u k g s read =
             let t = list b rows place in
-            let w : push outer t ≡ top (more t none) = whole_push outer t u (sym (g.open_are ∙ open_push outer t)) in (
-              t,
-              g.items_are ∙ ap flat_in w ∙ append-nil (flat t),
-              read ∙ ap (λ c. spelled_in c ++ lexemes_from text after) w ∙ ap (λ ys. ys ++ lexemes_from text after) (append-nil (spelled t)),
-              omega (arith, subst (IsShallow (nesting_limit - n)) w s, le-max_left (depth t) 0),
-            )
-
--- a list that has begun and ended is what an s-expression is
-pub whole_list : (text : List ℕ) (n : ℕ) (start : ℕ) (behind after : Place) (s : Sexpr) → text_of s ≡ text → start_of s ≡ start
-    → ((t : Tree) × (items_of s ≡ flat t) × ((start, opens) ∷ lexemes_from text behind.offset ≡ spelled t ++ lexemes_from text after.offset) × (depth t ≤ nesting_limit - n))
-    → IsPlaceOf text after → IsFirst text n ((start, opens) ∷ lexemes_from text behind.offset) s after
-whole_list text n start behind after s text_is start_is x place =
-    first_is text n ((start, opens) ∷ lexemes_from text behind.offset) s after x.0 text_is x.1 x.2 (words_stand text behind.offset) x.3 (begins x.0 x.2 ∙ sym start_is) place
-  where
-    begins : (t : Tree) → (start, opens) ∷ lexemes_from text behind.offset ≡ spelled t ++ lexemes_from text after.offset → offset_of t ≡ start
-    begins (atom at k w) e = sym (heads e).0
-    begins (list at ts end) e = sym (heads e).0
+            let w : push outer t ≡ top (more t none) = whole_push outer t u (sym (g.open_are ∙ open_push outer t)) in
+            record {
+              tree = t;
+              items = g.items_are ∙ ap flat_in w ∙ append-nil (flat t);
+              first = read ∙ ap (λ c. spelled_in c ++ lexemes_from text after) w ∙ ap (λ ys. ys ++ lexemes_from text after) (append-nil (spelled t)) ∙ ap (λ m. spelled t ++ lexemes_from text m) (sym end_is);
+              within = omega (arith, subst (IsShallow (nesting_limit - n)) w s, le-max_left (depth t) 0);
+              place = place_is;
+            }

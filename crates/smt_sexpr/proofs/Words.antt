@@ -7,7 +7,7 @@ use Rattle.spec_text.specs.declared.Kind.{Kind}
 use Rattle.spec_text.specs.declared.Kind.TheVariants.{Numeral, Decimal, Simple, Reserved}
 use Rattle.spec_text.specs.Bytes.{is_blank, is_digit, is_symbol_byte, is_in_bars, among, front, reserved_words}
 use Rattle.spec_text.specs.Lexemes.{Lexeme, blank, opens, closes, word, wrong, Piece, piece, ended, decimal, number, string_body, after_quote, string, quoted, keyword, symbol, first_piece, before, lexemes}
-use Rattle.smt_sexpr.specs.Items.{marks, bytes_at}
+use Rattle.smt_sexpr.specs.Means.{marks, bytes_at}
 
 -- a word's bytes stand behind its marks
 abbrev IsSpeltBy : List ℕ → Lexeme → Type 0

@@ -1,4 +1,5 @@
 -- What an s-expression means, and what reading gives.
+pub mod Means
 pub mod Items
 pub mod Open
 pub mod Reads

@@ -4,16 +4,7 @@ use Rattle.spec_text.specs.Lexemes.{Lexeme, opens}
 use Rattle.spec_text.specs.Trees.{Tree, Trees, atom, list, none, more, spelled_all}
 use Rattle.smt_sexpr.specs.declared.items.Item.{Item}
 use Rattle.smt_sexpr.specs.declared.items.Item.TheVariants as items
-
--- an item, and behind a list's its items, whose number it has
-abbrev mutual
-  pub flat : Tree → List Item
-  flat (atom at k bytes) = items.Atom k at (length bytes) ∷ []
-  flat (list at ts end) = items.List at end (length (flat_all ts)) ∷ flat_all ts
-
-  pub flat_all : Trees → List Item
-  flat_all none = []
-  flat_all (more t ts) = flat t ++ flat_all ts
+use Rattle.smt_sexpr.specs.Means.{flat_all}
 
 -- Whole trees at the top, or in a list that began at an offset.
 pub data Context : Type 0 where

@@ -1,18 +1,21 @@
 -- What reading the next s-expression comes to. Source: SMT-LIB 2.6, section 3.2; limits and faults are own.
-use Rattle.std.specs.Prelude.{◌≡◌, ◌+◌, ◌-◌, ◌<◌, ◌≤◌, ℕ, List, [], ◌∷◌, ◌++◌, length, Option, Some, None, Result, Ok, Err}
+use Rattle.std.specs.Prelude.{◌≡◌, ◌+◌, ◌-◌, ◌<◌, ◌≤◌, ℕ, List, [], ◌∷◌, ◌++◌, length, Option, Some, None, Result, Ok, Err, Vec}
+use Rattle.std.specs.Global.{Global}
 use Rattle.spec_text.specs.declared.Place.{Place}
 use Rattle.spec_text.specs.Places.{IsPlaceOf}
 use Rattle.spec_text.specs.Lexemes.{Lexeme, opens, closes, lexemes_from}
-use Rattle.spec_text.specs.Trees.{none, more, spelled, offset_of}
+use Rattle.spec_text.specs.Trees.{Tree, none, more, spelled, offset_of}
 use Rattle.spec_text.specs.Faults.{nesting_limit}
 use Rattle.spec_text.specs.Readings.{depth, IsBroken}
 use Rattle.smt_lexer.specs.declared.Refusal.{Refusal}
 use Rattle.smt_lexer.specs.declared.Refused.{Refused}
 use Rattle.smt_lexer.specs.declared.Refused.TheVariants as refused
+use Rattle.smt_sexpr.specs.declared.items.Item.{Item}
+use Rattle.smt_sexpr.specs.Means.{trees_in, flat}
 use Rattle.smt_sexpr.specs.declared.reader.Next.{Next}
 use Rattle.smt_sexpr.specs.declared.reader.Next.TheVariants as next
 use Rattle.smt_sexpr.specs.declared.sexpr.Sexpr.{Sexpr}
-use Rattle.smt_sexpr.specs.Items.{trees_in, text_of, items_of, start_of, tree_of}
+use Rattle.smt_sexpr.specs.Items.{text_of, items_of, start_of, tree_of}
 
 -- behind n open lists the lexemes begin with the tree that an s-expression is, up to a place
 pub record IsFirst (text : List ℕ) (n : ℕ) (xs : List (ℕ × Lexeme)) (s : Sexpr) (after : Place) : Type 0 where
@@ -70,8 +73,21 @@ ReadsOne text from (Ok None) = lexemes_from text from.offset ≡ []
 ReadsOne text from (Err (refused.Fault r)) = Breaks text 0 (lexemes_from text from.offset) r
 ReadsOne text from (Err refused.Memory) = Unit {0}
 
+-- behind n open lists the lexemes begin with the tree whose items these are, up to a place
+pub record BeginsWith (text : List ℕ) (n : ℕ) (xs : List (ℕ × Lexeme)) (is : List Item) (after : Place) : Type 0 where
+  -- the tree
+  pub tree : Tree
+  -- its items
+  pub items : is ≡ flat tree
+  -- it is the first, and the other lexemes stand from the place on
+  pub first : xs ≡ spelled tree ++ lexemes_from text after.offset
+  -- it is nested no deeper than it may be
+  pub within : depth tree ≤ nesting_limit - n
+  -- the place behind it is one of the text
+  pub place : IsPlaceOf text after
+
 -- a list that began at an offset, and was read up to a place, comes to its end, or a fault stands before
-abbrev pub ReadsList : List ℕ → ℕ → ℕ → Place → Result (Sexpr × Place) Refused → Type 0
-ReadsList text n start behind (Ok x) = IsFirst text n ((start, opens) ∷ lexemes_from text behind.offset) x.0 x.1 × (behind.offset < x.1.offset)
+abbrev pub ReadsList : List ℕ → ℕ → ℕ → Place → Result (Vec Item Global × Place) Refused → Type 0
+ReadsList text n start behind (Ok x) = BeginsWith text n ((start, opens) ∷ lexemes_from text behind.offset) x.0.items x.1 × (behind.offset < x.1.offset)
 ReadsList text n start behind (Err (refused.Fault r)) = Breaks text n ((start, opens) ∷ lexemes_from text behind.offset) r
 ReadsList text n start behind (Err refused.Memory) = Unit {0}

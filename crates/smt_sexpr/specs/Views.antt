@@ -3,9 +3,9 @@ use Rattle.std.specs.Prelude.{ℕ, List}
 use Rattle.std.specs.Borrow.{Bor}
 use Rattle.spec_text.specs.Trees.{Tree, Trees}
 use Rattle.spec_text.specs.Shapes.{Word}
+use Rattle.smt_sexpr.specs.Means.{trees_in, tree_in}
 use Rattle.smt_sexpr.specs.declared.items.Item.{Item}
 use Rattle.smt_sexpr.specs.declared.shapes.Word as code
-use Rattle.smt_sexpr.specs.Items.{trees_in, tree_in}
 
 -- an atom
 abbrev pub word_view : code.Word → Word

@@ -1,7 +1,8 @@
 //! S-expressions as a flat list of items.
 
 ghost use Rattle.std.specs.Prelude.{◌≡◌, ℕ, ◌+◌, ◌<◌, ◌≤◌, List, length, take, drop, option_map, IfSome};
-ghost use Rattle.smt_sexpr.specs.Items.{trees_in, tree_in, split_first, two, seen, count_first, marks, bytes_at, IsShorter};
+ghost use Rattle.smt_sexpr.specs.Means.{marks, bytes_at, trees_in, tree_in};
+ghost use Rattle.smt_sexpr.specs.Items.{split_first, two, seen, count_first, IsShorter};
 
 use smt_lexer::Kind;
 

@@ -4,8 +4,9 @@ ghost use Rattle.std.specs.Prelude.{◌≡◌, ℕ, ◌+◌, ◌<◌, ◌∷◌,
 ghost use Rattle.spec_text.specs.Places.{IsPlaceOf};
 ghost use Rattle.spec_text.specs.Trees.{atom};
 ghost use Rattle.spec_text.specs.Faults.{nesting_limit};
+ghost use Rattle.smt_sexpr.specs.Means.{flat};
 ghost use Rattle.smt_sexpr.specs.declared.items.Item.TheVariants as item;
-ghost use Rattle.smt_sexpr.specs.Open.{Context, closed, flat, Holds};
+ghost use Rattle.smt_sexpr.specs.Open.{Context, closed, Holds};
 ghost use Rattle.smt_sexpr.specs.Reads.{ReadsNext, ReadsOne, ReadsList};
 ghost use Rattle.smt_lexer.specs.declared.Refused.TheVariants as refused;
 
@@ -80,22 +81,22 @@ fn refused(place: Place, fault: Fault) -> Refused
     Refused::Fault(Refusal { place, fault })
 }
 
-/// Reads the rest of a list, of which the opening parenthesis was read, behind so many others that are open.
-fn read_list<'a>(
+/// Reads the rest of a list, of which the opening parenthesis was read, behind so many others that are open. Gives its
+/// items, and the place right behind it.
+fn read_list(
     alloc: Global,
-    text: &'a [u8],
-    start: Place,
+    text: &[u8],
+    start: u64,
     behind: Place,
     open_lists: usize,
-) -> Result<(Sexpr<'a>, Place), Refused>
-    requires start { IsPlaceOf text.now start }
+) -> Result<(Vec<Item>, Place), Refused>
     requires behind { IsPlaceOf text.now behind }
     requires room { open_lists < nesting_limit }
-    ensures { ReadsList text.now open_lists start.offset behind result }
+    ensures { ReadsList text.now open_lists start behind result }
 {
     let mut items = Vec::new(alloc);
     let mut outer: Vec<usize> = Vec::new(alloc);
-    let mut innermost = begin_list(&mut items, start.offset)?;
+    let mut innermost = begin_list(&mut items, start)?;
     let mut place = behind;
     'tokens: loop {
         let (token, after) = match next(text, place) {
@@ -114,7 +115,7 @@ fn read_list<'a>(
             TokenKind::Close => {
                 end_list(&mut items, innermost, token.place.offset)?;
                 let Some(list) = outer.pop() else {
-                    return Ok((Sexpr { text, start, items }, after));
+                    return Ok((items, after));
                 };
                 innermost = list;
             }
@@ -126,22 +127,13 @@ fn read_list<'a>(
     }
 }
 
-/// Reads a word.
-fn read_word<'a>(
-    alloc: Global,
-    text: &'a [u8],
-    start: Place,
-    kind: Kind,
-    bytes: &[u8],
-) -> Result<Sexpr<'a>, AllocError>
-    requires { IsPlaceOf text.now start }
-    ensures text { IfOk result (λ s. s.text.now ≡ text.now) }
-    ensures start { IfOk result (λ s. s.start ≡ start) }
-    ensures items { IfOk result (λ s. s.items.items ≡ flat (atom start.offset kind bytes.now)) }
+/// Gives the items of a word.
+fn read_word(alloc: Global, at: u64, kind: Kind, bytes: &[u8]) -> Result<Vec<Item>, AllocError>
+    ensures { IfOk result (λ v. v.items ≡ flat (atom at kind bytes.now)) }
 {
     let mut items = Vec::new(alloc);
-    add_word(&mut items, start.offset, kind, bytes)?;
-    Ok(Sexpr { text, start, items })
+    add_word(&mut items, at, kind, bytes)?;
+    Ok(items)
 }
 
 /// Reads what stands next in a text from a place on, where so many lists are open: an s-expression, or the end of the
@@ -176,8 +168,9 @@ pub fn read_next<'a>(
             if open_lists >= NESTING_LIMIT {
                 return Err(refused(token.place, Fault::TooDeep));
             }
-            match read_list(alloc, text, token.place, after, open_lists) {
-                Ok((s, end)) => Ok(Next::One(s, end)),
+            let start = token.place;
+            match read_list(alloc, text, start.offset, after, open_lists) {
+                Ok((items, end)) => Ok(Next::One(Sexpr { text, start, items }, end)),
                 Err(reason) => Err(reason),
             }
         }
@@ -188,8 +181,9 @@ pub fn read_next<'a>(
             Ok(Next::Close(after))
         }
         TokenKind::Word(kind, bytes) => {
-            let s = read_word(alloc, text, token.place, kind, bytes)?;
-            Ok(Next::One(s, after))
+            let start = token.place;
+            let items = read_word(alloc, start.offset, kind, bytes)?;
+            Ok(Next::One(Sexpr { text, start, items }, after))
         }
     }
 }

@@ -1,6 +1,8 @@
 //! S-expressions with the text that they stand in.
 
 ghost use Rattle.spec_text.specs.Places.{IsPlaceOf};
+ghost use Rattle.smt_sexpr.specs.Means.{AreRead};
+ghost use Rattle.std.proofs.Props.{props};
 
 use crate::items::Item;
 use smt_lexer::{Place, place_after};
@@ -17,6 +19,8 @@ pub struct Sexpr<'a> {
     pub(crate) items: Vec<Item>,
     /// It begins in the text.
     ghost placed: { IsPlaceOf text.now start },
+    /// Its items are those of a tree that stands there.
+    ghost read: { AreRead text.now start.offset items.items } by { Prim.hlevel props },
 }
 
 impl<'a> Sexpr<'a> {

@@ -4,7 +4,7 @@ ghost use Rattle.std.specs.Prelude.{◌≡◌, ℕ, ◌<◌, ◌≤◌, List, le
 ghost use Rattle.std.specs.Str.{bytes_eq};
 ghost use Rattle.spec_text.specs.Shapes.{passes, first_word, first_list, only_tree, no_tree, inside_of, is_word, is_keyword, is_reserved, is_simple, is_symbol, wanted, wanted_keyword};
 ghost use Rattle.spec_text.specs.Trees.{offset_of};
-ghost use Rattle.smt_sexpr.specs.Items.{trees_in, tree_in};
+ghost use Rattle.smt_sexpr.specs.Means.{trees_in, tree_in};
 ghost use Rattle.smt_sexpr.specs.Views.{word_view, word_rest, list_rest, tree_view, inside_view};
 
 use crate::items::{Item, View, look, split};

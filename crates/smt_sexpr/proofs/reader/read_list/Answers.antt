@@ -2,12 +2,12 @@
 use Rattle.std.proofs.Common.{◌≡◌, ◌+◌, [], ◌∷◌, length, arith, ap, refl, length-append}
 use Rattle.smt_sexpr.proofs.Broken.{nothing_broken, wrong_broken, deep_broken}
 use Rattle.smt_sexpr.proofs.Contexts.{none_of}
-use Rattle.smt_sexpr.proofs.Reading.{reading_begins, stops, opened, word_within, closed_within, closed_whole, whole_list}
+use Rattle.smt_sexpr.proofs.Reading.{reading_begins, stops, opened, word_within, closed_within, closed_whole}
 use Rattle.smt_sexpr.proofs.reader.read_list.Goals as goal
 
 pub tokens-init : goal.tokens-init
 tokens-init c = record {
-  reading = rw (c.new-outer.ensures.items, c.in_ok-innermost.ensures.index, c.new-items.ensures.items) (reading_begins c.args.text.now c.args.open_lists c.args.start.offset c.args.behind.offset c.begin_list.new.items.items c.requires.room (rw c.new-items.ensures.items at c.in_ok-innermost.ensures.items));
+  reading = rw (c.new-outer.ensures.items, c.in_ok-innermost.ensures.index, c.new-items.ensures.items) (reading_begins c.args.text.now c.args.open_lists c.args.start c.args.behind.offset c.begin_list.new.items.items c.requires.room (rw c.new-items.ensures.items at c.in_ok-innermost.ensures.items));
   room = omega (arith, ap length c.new-outer.ensures.items);
   place = c.requires.behind;
   later = omega arith;
@@ -31,7 +31,7 @@ returns-in_default c =
     let t = rw c.in-Close.is at c.in-Ok.ensures.0 in
     let none_left : c.tokens.outer.items ≡ [] = none_of c.tokens.outer.items (omega (arith, c.in_default.ensures.cases.0, c.tokens.outer.ok.0)) in
     let ended = c.in_ok-end_list-in-Close.ensures c.tokens.invariant.reading.context c.tokens.outer.items c.tokens.invariant.reading.holds in (
-      whole_list c.args.text.now c.args.open_lists c.args.start.offset c.args.behind c.in-Ok.read.1 _ refl refl (closed_whole _ _ _ _ _ _ c.tokens.invariant.reading _ _ t.first c.end_list.new.items.items (omega (arith, ap length none_left, length-append c.tokens.outer.items (c.tokens.innermost ∷ []))) (rw none_left at ended)) c.in-Ok.ensures.2,
+      closed_whole _ _ _ _ _ _ c.tokens.invariant.reading _ _ c.in-Ok.read.1 refl c.in-Ok.ensures.2 t.first c.end_list.new.items.items (omega (arith, ap length none_left, length-append c.tokens.outer.items (c.tokens.innermost ∷ []))) (rw none_left at ended),
       omega (arith, t.behind, t.longer, c.tokens.invariant.later),
     )
 

@@ -8,7 +8,7 @@ use Rattle.smt_sexpr.proofs.reader.read_list.Given as goal
 
 abbrev pub invariant-tokens : goal.invariant-tokens
 invariant-tokens l = record {
-  reading : Reading l.text l.open_lists ((l.start.offset, opens) ∷ lexemes_from l.text l.fn.behind.offset) l.items.items (l.outer.items ++ l.innermost ∷ []) l.place.offset;
+  reading : Reading l.text l.open_lists ((l.start, opens) ∷ lexemes_from l.text l.fn.behind.offset) l.items.items (l.outer.items ++ l.innermost ∷ []) l.place.offset;
   room : l.open_lists + length l.outer.items < nesting_limit;
   place : IsPlaceOf l.text l.place;
   later : l.fn.behind.offset ≤ l.place.offset;

@@ -1,9 +1,9 @@
 -- What the first token says.
-use Rattle.std.proofs.Common.{◌+◌, arith, sym, ◌∙◌, ap}
+use Rattle.std.proofs.Common.{◌+◌, arith, ◌∙◌, ap, refl}
 use Rattle.spec_text.specs.Trees.{atom}
 use Rattle.smt_sexpr.proofs.Broken.{nothing_broken, wrong_broken, deep_broken, stray_broken}
-use Rattle.smt_sexpr.proofs.Reading.{first_is}
-use Rattle.smt_sexpr.proofs.Words.{words_stand, close_size}
+use Rattle.smt_sexpr.proofs.Reading.{begins_with_word, read_there, first_is}
+use Rattle.smt_sexpr.proofs.Words.{close_size}
 use Rattle.smt_sexpr.proofs.reader.read_next.Goals as goal
 
 pub returns-in-Err : goal.returns-in-Err
@@ -24,10 +24,15 @@ returns-then-open_lists-eq0 c =
     let t = rw c.in-Close.is at c.in-Ok.ensures.0 in
     rw c.refused-then-open_lists-eq0.ensures (stray_broken _ _ _ _ _ t.first (omega (arith, c.if-open_lists-eq0.true)), c.in-Ok.ensures.1)
 
+pub invariant_of-result-clause-read : goal.invariant_of-result-clause-read
+invariant_of-result-clause-read c =
+    let t = rw c.in-Open.is at c.in-Ok.ensures.0 in
+    read_there _ _ _ _ _ _ _ _ tt t.first (rw (← t.first) at c.in-Ok-read_list.ensures.0)
+
 pub returns-in-Ok-read_list : goal.returns-in-Ok-read_list
 returns-in-Ok-read_list c =
     let t = rw c.in-Open.is at c.in-Ok.ensures.0 in
-    record { is = rw t.first c.in-Ok-read_list.ensures.0; longer = omega (arith, t.behind, t.longer, c.in-Ok-read_list.ensures.1) }
+    record { is = first_is _ _ _ _ _ _ _ _ refl refl t.first (rw (← t.first) at c.in-Ok-read_list.ensures.0); longer = omega (arith, t.behind, t.longer, c.in-Ok-read_list.ensures.1) }
 
 pub returns-else-open_lists-eq0 : goal.returns-else-open_lists-eq0
 returns-else-open_lists-eq0 c =
@@ -41,10 +46,12 @@ returns-else-open_lists-eq0 c =
       longer = omega (arith, t.behind, t.longer);
     }
 
-pub returns-in_ok-s-in-Word : goal.returns-in_ok-s-in-Word
-returns-in_ok-s-in-Word c =
+pub invariant_of-result-in-Word-clause-read : goal.invariant_of-result-in-Word-clause-read
+invariant_of-result-in-Word-clause-read c =
     let t = rw c.in-Word.is at c.in-Ok.ensures.0 in
-    record {
-      is = first_is _ _ _ _ _ (atom c.in-Ok.read.0.place.offset c.in-Word.kind c.in-Word.bytes.now) c.in_ok-s-in-Word.ensures.text c.in_ok-s-in-Word.ensures.items t.first (words_stand c.args.text.now c.args.at.offset) (omega arith) (ap (λ p. p.offset) (sym c.in_ok-s-in-Word.ensures.start)) c.in-Ok.ensures.2;
-      longer = omega (arith, t.behind, t.longer);
-    }
+    read_there _ _ _ _ _ _ _ _ tt t.first (begins_with_word _ c.args.open_lists _ _ _ _ _ _ c.in_ok-items-in-Word.ensures t.first c.in-Ok.ensures.2)
+
+pub returns-in_ok-items-in-Word : goal.returns-in_ok-items-in-Word
+returns-in_ok-items-in-Word c =
+    let t = rw c.in-Word.is at c.in-Ok.ensures.0 in
+    record { is = first_is _ _ _ _ _ _ _ _ refl refl t.first (begins_with_word _ c.args.open_lists _ _ _ _ _ _ c.in_ok-items-in-Word.ensures t.first c.in-Ok.ensures.2); longer = omega (arith, t.behind, t.longer) }
