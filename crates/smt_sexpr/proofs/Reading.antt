@@ -15,12 +15,12 @@ use Rattle.smt_sexpr.specs.Means.{bytes_at, trees_in, first_of, tree_in, flat, f
 use Rattle.smt_sexpr.specs.declared.items.Item.{Item}
 use Rattle.smt_sexpr.specs.declared.items.Item.TheVariants.{List as Group}
 use Rattle.smt_sexpr.specs.declared.sexpr.Sexpr.{Sexpr}
-use Rattle.smt_sexpr.specs.Items.{text_of, items_of, start_of, tree_of}
+use Rattle.smt_sexpr.specs.Items.{text_of, items_of, start_of, tree_of, IsWithin}
 use Rattle.smt_sexpr.specs.Open.{Context, top, inside, add, push, closed, spelled_in, flat_in, open_in, IsUnfinished, Holds}
 use Rattle.smt_sexpr.specs.Reads.{BeginsWith, IsFirst}
 use Rattle.smt_sexpr.proofs.Broken.{heads, broken_in}
 use Rattle.smt_sexpr.proofs.Contexts.{spelled_push, open_push, holds_word, holds_begun}
-use Rattle.smt_sexpr.proofs.Offsets.{IsToken, resumes}
+use Rattle.smt_sexpr.proofs.Offsets.{IsToken, resumes, within_text}
 use Rattle.smt_sexpr.proofs.Flat.{trees_none, trees_atom, trees_list}
 use Rattle.smt_sexpr.proofs.Words.{AreWordsOf, words_stand}
 
@@ -82,8 +82,8 @@ read_there text n from at x ys is after token here b =
     (b.items ∙ ap flat (sym tree), rw (tree, rest) there)
 
 -- it is what an s-expression is
-pub first_is : (text : List ℕ) (n from at : ℕ) (x : Lexeme) (ys : List (ℕ × Lexeme)) (s : Sexpr) (after : Place) → text_of s ≡ text → start_of s ≡ at → lexemes_from text from ≡ (at, x) ∷ ys → BeginsWith text n (lexemes_from text from) (items_of s) after → IsFirst text n (lexemes_from text from) s after
-first_is text n from at x ys s after text_is start here b =
+pub first_is : (text : List ℕ) (n from at : ℕ) (x : Lexeme) (ys : List (ℕ × Lexeme)) (s : Sexpr) (after : Place) → IsToken x → text_of s ≡ text → start_of s ≡ at → lexemes_from text from ≡ (at, x) ∷ ys → BeginsWith text n (lexemes_from text from) (items_of s) after → IsFirst text n (lexemes_from text from) s after
+first_is text n from at x ys s after token text_is start here b =
     let t = b.tree in
     let means : trees_in text (items_of s) ≡ more t none = ap (trees_in text) b.items ∙ means_tree text from t (lexemes_from text after.offset) b.first in
     let tree : tree_of s ≡ t = ap (λ xs. first_of (trees_in xs (items_of s))) text_is ∙ ap first_of means in
@@ -92,6 +92,7 @@ first_is text n from at x ys s after text_is start here b =
       first = b.first ∙ ap (λ u. spelled u ++ lexemes_from text after.offset) (sym tree);
       means = means ∙ ap (λ u. more u none) (sym tree);
       within = rw tree b.within;
+      offsets = subst (λ m. IsWithin m (length text) (tree_of s)) (sym start) (rw tree (within_text text at t (lexemes_from text after.offset) (resumes text from [] at x ys here token ∙ sym here ∙ b.first)));
       start = ap offset_of tree ∙ begins_at at x ys t (lexemes_from text after.offset) (sym here ∙ b.first) ∙ sym start;
       place = b.place;
     }

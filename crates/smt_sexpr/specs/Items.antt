@@ -1,5 +1,5 @@
 -- What an s-expression, and a list of items, are in the words of trees. Source: own.
-use Rattle.std.specs.Prelude.{ℕ, ◌+◌, ◌<◌, min, List, [], ◌∷◌, length, Option, Some, None}
+use Rattle.std.specs.Prelude.{ℕ, ◌+◌, ◌<◌, ◌≤◌, min, List, [], ◌∷◌, length, Option, Some, None, ⊤}
 use Rattle.std.specs.Borrow.{Bor}
 use Rattle.spec_text.specs.Trees.{Tree, Trees, atom, list, none, more}
 use Rattle.smt_sexpr.specs.declared.items.Item.{Item}
@@ -34,6 +34,18 @@ seen text (views.List at inside end) = list at (trees_in text inside.now) end
 abbrev pub IsShorter : View → ℕ → Type 0
 IsShorter (views.Atom at k bytes) n = Unit {0}
 IsShorter (views.List at inside end) n = length inside.now < n
+
+-- each offset stands from one on, and before another
+abbrev mutual
+  -- of a tree
+  pub IsWithin : ℕ → ℕ → Tree → Type 0
+  IsWithin low high (atom at k bytes) = (low ≤ at) × (at < high)
+  IsWithin low high (list at ts end) = (low ≤ at) × (at < high) × AreWithin low high ts × (low ≤ end) × (end < high)
+
+  -- of trees, one after the other
+  pub AreWithin : ℕ → ℕ → Trees → Type 0
+  AreWithin low high none = ⊤
+  AreWithin low high (more t ts) = IsWithin low high t × AreWithin low high ts
 
 -- the whole text that an s-expression was read from
 abbrev pub text_of : Sexpr → List ℕ

@@ -15,7 +15,7 @@ use Rattle.smt_sexpr.specs.Means.{trees_in, flat}
 use Rattle.smt_sexpr.specs.declared.reader.Next.{Next}
 use Rattle.smt_sexpr.specs.declared.reader.Next.TheVariants as next
 use Rattle.smt_sexpr.specs.declared.sexpr.Sexpr.{Sexpr}
-use Rattle.smt_sexpr.specs.Items.{text_of, items_of, start_of, tree_of}
+use Rattle.smt_sexpr.specs.Items.{text_of, items_of, start_of, tree_of, IsWithin}
 
 -- behind n open lists the lexemes begin with the tree that an s-expression is, up to a place
 pub record IsFirst (text : List ℕ) (n : ℕ) (xs : List (ℕ × Lexeme)) (s : Sexpr) (after : Place) : Type 0 where
@@ -29,6 +29,8 @@ pub record IsFirst (text : List ℕ) (n : ℕ) (xs : List (ℕ × Lexeme)) (s : 
   pub within : depth (tree_of s) ≤ nesting_limit - n
   -- the tree begins where the s-expression does
   pub start : offset_of (tree_of s) ≡ start_of s
+  -- each of its offsets has a place, from the s-expression's own on
+  pub offsets : IsWithin (start_of s) (length text) (tree_of s)
   -- the place behind it is one of the text
   pub place : IsPlaceOf text after
 

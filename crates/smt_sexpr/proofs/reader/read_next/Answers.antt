@@ -32,7 +32,7 @@ invariant_of-result-clause-read c =
 pub returns-in-Ok-read_list : goal.returns-in-Ok-read_list
 returns-in-Ok-read_list c =
     let t = rw c.in-Open.is at c.in-Ok.ensures.0 in
-    record { is = first_is _ _ _ _ _ _ _ _ refl refl t.first (rw (← t.first) at c.in-Ok-read_list.ensures.0); longer = omega (arith, t.behind, t.longer, c.in-Ok-read_list.ensures.1) }
+    record { is = first_is _ _ _ _ _ _ _ _ tt refl refl t.first (rw (← t.first) at c.in-Ok-read_list.ensures.0); longer = omega (arith, t.behind, t.longer, c.in-Ok-read_list.ensures.1) }
 
 pub returns-else-open_lists-eq0 : goal.returns-else-open_lists-eq0
 returns-else-open_lists-eq0 c =
@@ -54,4 +54,4 @@ invariant_of-result-in-Word-clause-read c =
 pub returns-in_ok-items-in-Word : goal.returns-in_ok-items-in-Word
 returns-in_ok-items-in-Word c =
     let t = rw c.in-Word.is at c.in-Ok.ensures.0 in
-    record { is = first_is _ _ _ _ _ _ _ _ refl refl t.first (begins_with_word _ c.args.open_lists _ _ _ _ _ _ c.in_ok-items-in-Word.ensures t.first c.in-Ok.ensures.2); longer = omega (arith, t.behind, t.longer) }
+    record { is = first_is _ _ _ _ _ _ _ _ tt refl refl t.first (begins_with_word _ c.args.open_lists _ _ _ _ _ _ c.in_ok-items-in-Word.ensures t.first c.in-Ok.ensures.2); longer = omega (arith, t.behind, t.longer) }
