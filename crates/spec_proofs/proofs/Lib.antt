@@ -6,3 +6,6 @@ pub mod Steps
 pub mod Good
 pub mod Judging
 pub mod Endings
+pub mod Models
+pub mod Same
+pub mod Refuting

@@ -1,16 +1,18 @@
 //! What the definitions imply. Each law is a function whose contract is the law; it computes nothing.
 
-ghost use Rattle.std.specs.Prelude.{◌≡◌, ◌↔◌, ℕ, Bool, true, List, ◌∷◌, map, All, Option, None};
+ghost use Rattle.std.specs.Prelude.{◌≡◌, ◌↔◌, ℕ, Bool, true, List, [], ◌∷◌, map, All, Option, None};
 ghost use Rattle.spec_text.specs.Bytes.{Name};
 ghost use Rattle.spec_text.specs.Trees.{Trees};
-ghost use Rattle.spec_terms.specs.Values.{Interpretation, Interprets, truth};
+ghost use Rattle.spec_terms.specs.Values.{Interpretation, Interprets, truth, table_value};
+ghost use Rattle.spec_terms.specs.Agreement.{value_at};
 ghost use Rattle.spec_terms.specs.Literals.{Clause, complement, literals_of};
-ghost use Rattle.spec_scripts.specs.Stack.{Stack, IsCurrent, HasNoModel};
+ghost use Rattle.spec_scripts.specs.Stack.{Stack, Assertion, IsCurrent, MakesTrue, HasNoModel};
 ghost use Rattle.spec_proofs.specs.declared.Rule.{Rule};
 ghost use Rattle.spec_proofs.specs.Resolution.{IsWithin, IsChain};
 ghost use Rattle.spec_proofs.specs.Clauses.{IsResolvent, clause_true};
+ghost use Rattle.spec_proofs.specs.Truths.{Truths, term_true_by};
 ghost use Rattle.spec_proofs.specs.Rules.{IsRight};
-ghost use Rattle.spec_proofs.specs.Commands.{Known};
+ghost use Rattle.spec_proofs.specs.Commands.{Known, known_at};
 ghost use Rattle.spec_proofs.specs.Faults.{Fault};
 ghost use Rattle.spec_proofs.specs.Texts.{Ending, IsProofText};
 ghost use Rattle.spec_proofs.specs.Judging.{FirstFault};
@@ -79,4 +81,27 @@ pub fn verdict_is_one()
     first_fault_is_one();
     proofs_have_one_reading();
     spec_scripts::laws::checks_have_one_stack();
+}
+
+/// States that the definition of models is met where it should be: whatever truths names have, some interpretation of the
+/// current symbols gives them to its constants, and where under it the terms of all current assertions have the value
+/// true, it makes the current expressions true. Source: own.
+pub fn satisfied_scripts_have_a_model()
+    ensures { (script : List ℕ) (k : ℕ) (s : Stack) (v : Name → Bool) → IsCurrent script k s
+        → (i : Interpretation) × Interprets i s.symbols × ((n : Name) → table_value i n [] ≡ truth (v n))
+        × (All (λ (a : Assertion). value_at i a.term ≡ truth true) s.assertions → MakesTrue i script k) }
+{
+    spec_scripts::laws::assertions_are_read();
+    spec_scripts::laws::assertions_have_their_texts_value();
+}
+
+/// States that goodness is not asked in vain: where at a check no truths of the terms below negations make all current
+/// assertions true, there is a good proof. It is given by its trees: its text may be longer than a text may be.
+/// Source: own.
+pub fn unsatisfiable_scripts_have_a_proof()
+    ensures truths { (script : List ℕ) (k : ℕ) (s : Stack) → IsCurrent script k s
+        → ((v : Truths) → All (λ (a : Assertion). term_true_by v a.term ≡ true) s.assertions → ⊥)
+        → (ts : Trees) × IsGood (known_at s) ts }
+{
+    spec_scripts::laws::assertions_are_read();
 }

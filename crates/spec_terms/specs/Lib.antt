@@ -11,3 +11,4 @@ pub mod Subterms
 pub mod Literals
 pub mod Agreement
 pub mod TermCodes
+pub mod Examples

@@ -42,12 +42,16 @@ no_fault : (law : Law) (script proof : List ℕ) (k : ℕ) → IsAccepted script
 no_fault law script proof k a =
     let s = a.stack in
     let good = (law (known_at s) (length proof) a.commands).0 a.good in
-    inl (s, a.current, record {
-      commands = a.commands;
-      ending = complete;
-      read = a.read;
-      fault = subst (λ long. FirstFault (known_at s) (length proof) (ending_fault long complete) a.commands None) (sym a.short) good;
-    })
+    inl (
+      s,
+      a.current,
+      record {
+        commands = a.commands;
+        ending = complete;
+        read = a.read;
+        fault = subst (λ long. FirstFault (known_at s) (length proof) (ending_fault long complete) a.commands None) (sym a.short) good;
+      },
+    )
 
 pub returns : goal.returns
 returns c = λ script proof k. (accepted c.good_proofs_have_no_fault.ensures script proof k, no_fault c.good_proofs_have_no_fault.ensures script proof k)
