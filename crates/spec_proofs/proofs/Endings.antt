@@ -1,11 +1,10 @@
 -- A proof's text has one row of commands and one ending.
-use Rattle.std.proofs.Common.{◌≡◌, ◌<◌, ◌≤◌, ◌+◌, ℕ, suc, Bool, true, false, List, [], ◌∷◌, ◌++◌, length, Option, Some, None, cond, inl, inr, refl, sym, ap, ◌∙◌, arith, subst, append_assoc}
-use Rattle.std.specs.Prelude.{max, ◌⊎◌}
+use Rattle.std.proofs.Common.{◌≡◌, ◌<◌, ◌+◌, ℕ, Bool, true, false, List, [], ◌∷◌, ◌++◌, length, Some, None, inl, inr, refl, sym, ap, ◌∙◌, arith, subst, append_assoc}
 use Rattle.std.proofs.Math.Nat.{le-max_left}
 use Rattle.spec_text.specs.Lexemes.{Lexeme, opens, closes}
-use Rattle.spec_text.specs.Trees.{Tree, Trees, atom, list, none, more, spelled, spelled_all, offset_of}
+use Rattle.spec_text.specs.Trees.{Tree, Trees, atom, list, none, more, spelled, offset_of}
 use Rattle.spec_text.specs.Faults.{Located, nesting_limit, first_fault}
-use Rattle.spec_text.specs.Readings.{depth, depth_all, IsBroken, AreTrees, kept}
+use Rattle.spec_text.specs.Readings.{depth, IsBroken, AreTrees, kept}
 use Rattle.spec_proofs.specs.Texts.{Ending, complete, broken, left_over, EndsRow, EndsBehind, EndsList, AreCommands, begins_listed, proof_lexemes, IsProofText}
 
 -- no tree that may stand behind n open lists is in front

@@ -1,12 +1,11 @@
 -- Good commands, one after the other.
-use Rattle.std.proofs.Common.{◌≡◌, ℕ, List, [], ◌∷◌, ◌++◌, Option, Some, None, inl, inr, refl, sym, ap, ◌∙◌, subst}
+use Rattle.std.proofs.Common.{◌≡◌, ℕ, List, [], ◌∷◌, ◌++◌, Some, None, inl, inr, refl, sym, ap, subst}
 use Rattle.std.specs.Prelude.{Ok, Err}
-use Rattle.spec_text.specs.Answers.{◌>>=◌}
 use Rattle.spec_text.specs.Trees.{Tree, Trees, none, more}
 use Rattle.spec_proofs.specs.Faults.{Fault, Read}
 use Rattle.spec_proofs.specs.Commands.{Known, Command}
 use Rattle.spec_proofs.specs.Known.{command_of}
-use Rattle.spec_proofs.specs.Judging.{with_command, fault_of, IsRightAfter, HasEmptyClause, EndsBy, FaultBy, FirstFault}
+use Rattle.spec_proofs.specs.Judging.{with_command, fault_of, IsRightAfter, HasEmptyClause, FaultBy, FirstFault}
 use Rattle.spec_proofs.specs.Good.{commands_in, known_after, AreRight, IsGood}
 use Rattle.spec_proofs.proofs.Steps.{answer, went, joined}
 

@@ -9,3 +9,4 @@ pub mod Endings
 pub mod Models
 pub mod Same
 pub mod Refuting
+pub mod Verdicts

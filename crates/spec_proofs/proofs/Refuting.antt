@@ -1,5 +1,5 @@
 -- A good proof of what no truths make true: two of the assertions are opposed, and their resolvent is empty.
-use Rattle.std.proofs.Common.{◌≡◌, ℕ, Bool, true, false, not, ◌&&◌, ◌⊎◌, List, [], ◌∷◌, Option, Some, None, codes, cond, All, Contains, get_or, inl, inr, refl, sym, ap, ◌∙◌, subst, arith}
+use Rattle.std.proofs.Common.{◌≡◌, ℕ, Bool, true, false, not, ◌&&◌, ◌⊎◌, List, [], ◌∷◌, codes, cond, All, Contains, get_or, inl, inr, refl, sym, ap, ◌∙◌, subst, arith}
 use Rattle.std.specs.Prelude.{Ok}
 use Rattle.std.specs.List.{list_any}
 use Rattle.std.proofs.lemmas.Bool.{false≢true}
@@ -14,14 +14,14 @@ use Rattle.spec_text.specs.Trees.{Tree, Trees, atom, list, none, more, offset_of
 use Rattle.spec_terms.specs.Terms.{Symbol, Term, same_term}
 use Rattle.spec_terms.specs.Reading.{term_in, terms_in}
 use Rattle.spec_terms.specs.Subterms.{fit_in, roomy_terms}
-use Rattle.spec_terms.specs.Literals.{Clause, Literal, complement, literal_of}
+use Rattle.spec_terms.specs.Literals.{Literal, complement, literal_of}
 use Rattle.spec_scripts.specs.Stack.{Stack, Assertion, term_limit}
 use Rattle.spec_scripts.specs.Current.{IsReadUnder, IsReadStack}
 use Rattle.spec_proofs.specs.declared.Rule.TheVariants.{Resolution}
 use Rattle.spec_proofs.specs.Resolution.{Derives, unit, both_ways}
 use Rattle.spec_proofs.specs.Clauses.{IsResolvent}
 use Rattle.spec_proofs.specs.Truths.{Truths, term_true_by}
-use Rattle.spec_proofs.specs.Commands.{Known, Command, Assume, Step, assumes, known_at, shape_of, assume_shape, step_shape, parts_of}
+use Rattle.spec_proofs.specs.Commands.{Known, Assume, Step, known_at, shape_of, assume_shape, step_shape, parts_of}
 use Rattle.spec_proofs.specs.Known.{fresh_name, in_proof, clause_in, known_rule, known_clause, premise_of, premises_of, term_alone, read_shape, shaped, command_of}
 use Rattle.spec_proofs.specs.Judging.{with_command}
 use Rattle.spec_proofs.specs.Good.{IsGood}

@@ -1,9 +1,8 @@
 -- What follows by a rule from what is true is true.
-use Rattle.std.proofs.Common.{◌≡◌, Bool, true, false, not, ◌&&◌, ◌||◌, List, [], ◌∷◌, get_or, All, Contains, refl, sym, ap, ap₂, ◌∙◌, subst}
-use Rattle.std.specs.List.{list_any}
+use Rattle.std.proofs.Common.{◌≡◌, Bool, true, false, not, ◌&&◌, ◌||◌, List, [], ◌∷◌, get_or, All, refl, sym, ap, ap₂, ◌∙◌}
 use Rattle.std.proofs.lemmas.List.Elements.{All-head}
 use Rattle.std.proofs.lemmas.List.Folds.{Any-from_list_any, list_any_at}
-use Rattle.spec_terms.specs.Terms.{Head, True, False, Not, And, Or, Xor, Implies, Equal, Ite, Apply, Term, Terms, app, nil, cons, list_of}
+use Rattle.spec_terms.specs.Terms.{Not, Or, Term, Terms, app, nil, cons, list_of}
 use Rattle.spec_terms.specs.Values.{Interpretation, any_true}
 use Rattle.spec_terms.specs.Literals.{Clause, literal_of}
 use Rattle.spec_terms.specs.Agreement.{value_at, values_at}

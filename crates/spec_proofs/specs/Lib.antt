@@ -10,3 +10,4 @@ pub mod Texts
 pub mod Judging
 pub mod Good
 pub mod Accepted
+pub mod Examples

@@ -1,15 +1,14 @@
 -- That a verdict without a fault is on a text that is commands to its end.
-use Rattle.std.proofs.Common.{◌≡◌, ℕ, Bool, true, false, List, length, Option, Some, None, inl, inr, refl, sym, ap, ◌∙◌, subst}
+use Rattle.std.proofs.Common.{◌≡◌, ℕ, Bool, true, false, List, length, Some, None, inl, inr, refl, sym, subst}
 use Rattle.spec_text.specs.Trees.{Trees}
 use Rattle.spec_text.specs.Readings.{is_long, too_long, at_limit}
-use Rattle.spec_scripts.specs.Stack.{Stack, IsCurrent}
 use Rattle.spec_proofs.specs.declared.ProofKind.TheVariants.{BadShape}
-use Rattle.spec_proofs.specs.Faults.{Fault, fault_at, text_fault}
+use Rattle.spec_proofs.specs.Faults.{fault_at, text_fault}
 use Rattle.spec_proofs.specs.Commands.{Known, known_at}
 use Rattle.spec_proofs.specs.Texts.{Ending, complete, broken, left_over, IsProofText, ending_fault}
 use Rattle.spec_proofs.specs.Judging.{FirstFault}
 use Rattle.spec_proofs.specs.Good.{IsGood}
-use Rattle.spec_proofs.specs.Accepted.{IsAccepted, IsJudged, IsVerdict, no_such_check}
+use Rattle.spec_proofs.specs.Accepted.{IsAccepted, IsVerdict, no_such_check}
 use Rattle.spec_proofs.proofs.Good.{wrong_end}
 use Rattle.spec_proofs.proofs.laws.accepted_proofs_have_no_fault.Goals as goal
 

@@ -1,5 +1,5 @@
 -- That there is one verdict: one stack, or none, and one reading of the proof with one first fault.
-use Rattle.std.proofs.Common.{◌≡◌, ℕ, List, length, Option, Some, inl, inr, sym, ◌∙◌, subst}
+use Rattle.std.proofs.Common.{◌≡◌, ℕ, List, length, Option, inl, inr, sym, ◌∙◌, subst}
 use Rattle.spec_text.specs.Trees.{Trees}
 use Rattle.spec_text.specs.Readings.{is_long}
 use Rattle.spec_scripts.specs.Stack.{Stack, IsCurrent, HasNoCheck}
