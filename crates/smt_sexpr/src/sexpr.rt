@@ -6,6 +6,7 @@ ghost use Rattle.std.proofs.Props.{props};
 
 use crate::items::Item;
 use smt_lexer::{Place, place_after};
+use spec_text::laws::trees_stand_in_their_text;
 
 /// An s-expression, by the text that it was read from. It means one tree, whose offsets are those of the text.
 /// Source: SMT-LIB 2.6, section 3.2.
@@ -24,8 +25,9 @@ pub struct Sexpr<'a> {
 }
 
 impl<'a> Sexpr<'a> {
-    ghost use Rattle.std.specs.Prelude.{◌≡◌, ◌≤◌, length};
-    ghost use Rattle.smt_sexpr.specs.Items.{text_of, items_of, start_of};
+    ghost use Rattle.std.specs.Prelude.{◌≡◌, ◌≤◌, ◌<◌, length};
+    ghost use Rattle.spec_text.specs.Offsets.{AllOffsets};
+    ghost use Rattle.smt_sexpr.specs.Items.{text_of, items_of, start_of, tree_of};
 
     /// Lends the whole text that it was read from. Source: own.
     pub fn text(&self) -> &'a [u8]
@@ -50,5 +52,13 @@ impl<'a> Sexpr<'a> {
         ensures offset { result.offset ≡ offset }
     {
         place_after(self.text, self.start, (offset - self.start.offset) as usize)
+    }
+
+    /// States that each offset of its tree lies in the text, from its own first byte on, and so has a place. It computes
+    /// nothing. Source: own.
+    pub fn offsets_have_places(&self)
+        ensures { AllOffsets (λ n. (start_of self.now ≤ n) × (n < length (text_of self.now))) (tree_of self.now) }
+    {
+        trees_stand_in_their_text();
     }
 }

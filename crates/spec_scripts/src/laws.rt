@@ -1,11 +1,14 @@
 //! What the definitions imply. Each law is a function whose contract is the law; it computes nothing.
 
-ghost use Rattle.std.specs.Prelude.{◌≡◌, ℕ, true, List, [], ◌∷◌, All};
+ghost use Rattle.std.specs.Prelude.{◌≡◌, ℕ, true, List, [], ◌∷◌, All, Err};
+ghost use Rattle.spec_text.specs.Trees.{Tree};
+ghost use Rattle.spec_text.specs.Faults.{Located};
+ghost use Rattle.spec_text.specs.Offsets.{HasOffset};
 ghost use Rattle.spec_terms.specs.Values.{Interpretation};
 ghost use Rattle.spec_terms.specs.Meaning.{value_under};
 ghost use Rattle.spec_terms.specs.Agreement.{value_at, HaveOwnNames};
 ghost use Rattle.spec_terms.specs.Subterms.{fit_in};
-ghost use Rattle.spec_scripts.specs.Stack.{Stack, Assertion, term_limit, IsCurrent, HasNoCheck};
+ghost use Rattle.spec_scripts.specs.Stack.{Stack, Assertion, term_limit, step, IsCurrent, HasNoCheck};
 ghost use Rattle.spec_scripts.specs.Current.{IsReadStack};
 
 /// States that what is current at a check is determined by the text and the check's number, and that a text which ends
@@ -34,4 +37,11 @@ pub fn assertions_have_their_texts_value()
 {
     spec_terms::terms_have_their_texts_value();
     assertions_are_read();
+}
+
+/// States that the fault of a command of a script stands at the offset of one of its atoms or lists. Source: own.
+pub fn faults_stand_in_their_command()
+    ensures { (limit : ℕ) (s : Stack) (t : Tree) (f : Located) → step limit s t ≡ Err f → HasOffset t f.offset }
+{
+    spec_terms::faults_stand_in_their_text();
 }

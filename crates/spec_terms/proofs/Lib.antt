@@ -1,3 +1,4 @@
 -- Lemmas on terms: what each head is read as, and what a text is read as.
 pub mod Heads
 pub mod Reading
+pub mod Offsets

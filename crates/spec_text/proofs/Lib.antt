@@ -7,3 +7,4 @@ pub mod Longest
 pub mod Reading
 pub mod Stopping
 pub mod Parsing
+pub mod Offsets

@@ -50,7 +50,7 @@ mutual
   passed end n (atom at k bytes) xs h = refl
   passed end n (list at ts close) xs h =
       under (nat_lt n nesting_limit) (grind (arith, nat_tests, h))
-          (ap (first_fault nesting_limit end (suc n)) (append_assoc (spelled_all ts) ((close, closes) ∷ []) xs) ∙ passed_all end (suc n) ts ((close, closes) ∷ xs) (omega (arith, h)))
+      (ap (first_fault nesting_limit end (suc n)) (append_assoc (spelled_all ts) ((close, closes) ∷ []) xs) ∙ passed_all end (suc n) ts ((close, closes) ∷ xs) (omega (arith, h)))
     where
       under : (b : Bool) → b ≡ true → first_fault nesting_limit end (suc n) ((spelled_all ts ++ (close, closes) ∷ []) ++ xs) ≡ first_fault nesting_limit end n xs
           → cond b (first_fault nesting_limit end (suc n) ((spelled_all ts ++ (close, closes) ∷ []) ++ xs)) (located at TooDeep) ≡ first_fault nesting_limit end n xs

@@ -3,6 +3,7 @@ pub mod Bytes
 pub mod Lexemes
 pub mod Places
 pub mod Trees
+pub mod Offsets
 pub mod Faults
 pub mod Answers
 pub mod Readings
