@@ -1,5 +1,5 @@
 -- The words of a run. Source: own.
-use Rattle.std.specs.Prelude.{ℕ, Bool, true, ◌&&◌, List, [], ◌∷◌, map, codes, decimal, Option, Some, None, option_and_then, String, string_bytes, nat_le, if◌then◌else◌}
+use Rattle.std.specs.Prelude.{◌≡◌, ℕ, ◌≤◌, Bool, true, ◌&&◌, List, [], ◌∷◌, map, codes, decimal, Option, Some, None, option_and_then, String, string_bytes, nat_le, if◌then◌else◌}
 use Rattle.std.specs.Str.{bytes_eq}
 use Rattle.std.specs.Str.Parse.{digits_value}
 use Rattle.std.specs.declared.alloc.Global.{Global}
@@ -47,8 +47,11 @@ smt_app =
 abbrev pub most_checks : ℕ
 most_checks = 1000000000
 
--- the number that a word stands for: the word is that number's decimal digits, with no sign and no zero before them, and the number
--- is from 1 to `most_checks`
+-- the word is the number's decimal digits, with no sign and no zero before them, and the number is from 1 to `most_checks`
+abbrev pub IsNumber : List ℕ → ℕ → Type 0
+IsNumber word n = (word ≡ decimal n) × (1 ≤ n) × (n ≤ most_checks)
+
+-- the number of which the word is the digits, where there is one: no other than the value of the digits
 unfoldable pub number_of : List ℕ → Option ℕ
 number_of word =
     let n = digits_value 10 word in

@@ -1,9 +1,9 @@
 //! The words of a run, as they stand behind the program's name.
 
-ghost use Rattle.std.specs.Prelude.{◌≡◌, ◌≢◌, ◌×◌, ℕ, ◌≤◌, List, false, map, option_map, option_and_then, decimal, IfOk, IfSome, None, Some, string_bytes, codes, MatchResult};
+ghost use Rattle.std.specs.Prelude.{◌≡◌, ◌≢◌, ◌↔◌, ℕ, false, map, option_map, option_and_then, IfOk, IsTrue, IfSome, None, Some, string_bytes, codes, MatchResult};
 ghost use Rattle.clap.specs.Words.{app_of, rule_of, FailsBy, fault_of, first_of, found_of, kind_of, rows_of, subcommand_of, subcommand_rows_of};
 ghost use Rattle.clap.specs.declared.builder.command.Command.TheViews.{out-Command};
-ghost use Rattle.smt_top.specs.Words.{named, number_of, at_of, names_in, at_option, needed_word, check_app, smt_app, most_checks};
+ghost use Rattle.smt_top.specs.Words.{named, IsNumber, number_of, at_of, names_in, at_option, needed_word, check_app, smt_app, most_checks};
 
 use clap::error::ErrorKind;
 use clap::{Arg, ArgMatches, Command, Error};
@@ -173,7 +173,7 @@ fn value_of<'a>(check: &ArgMatches<'a>, id: &str) -> Option<&'a str>
 ///
 /// Source: own.
 fn at_of(value: Option<&str>) -> Option<u64>
-    ensures { result ≡ at_of (option_map (λ s. s.now) value) }
+    ensures { result ≡ at_of (option_map (λ s. s.now) value.entry) }
 {
     match value {
         Some(word) => number_of(word),
@@ -187,14 +187,21 @@ fn at_of(value: Option<&str>) -> Option<u64>
 /// Source: own.
 fn number_of(word: &str) -> Option<u64>
     ensures value { result ≡ number_of word.now }
-    ensures some { IfSome result (λ n. (word.now ≡ decimal n) × (1 ≤ n) × (n ≤ most_checks)) }
-    ensures none { result ≡ None → (n : ℕ) → 1 ≤ n → n ≤ most_checks → word.now ≢ decimal n }
+    ensures some { IfSome result (IsNumber word.now) }
+    ensures none { result ≡ None → (n : ℕ) → IsNumber word.now n → ⊥ }
 {
-    let n = word.parse::<u64>().ok()?;
+    let Ok(n) = word.parse::<u64>() else {
+        return None;
+    };
+    if is_decimal_of(word, n) { Some(n) } else { None }
+}
+
+/// Tells whether a word is a number from 1 to 1,000,000,000 in decimal digits.
+///
+/// Source: own.
+fn is_decimal_of(word: &str, n: u64) -> bool
+    ensures { IsTrue result ↔ IsNumber word.now n }
+{
     let mut digits = Buffer::new();
-    if 1 <= n && n <= MOST_CHECKS && digits.format(n) == word {
-        Some(n)
-    } else {
-        None
-    }
+    1 <= n && n <= MOST_CHECKS && word == digits.format(n)
 }
