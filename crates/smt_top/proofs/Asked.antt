@@ -22,3 +22,8 @@ with_fault (x ∷ xs) met k h = refl
 -- with a fault nothing is
 pub not_told : (words : List (String Global)) (k : ErrorKind) → IsAmong k (fault_of smt_app (map string_bytes words)) → named words ≡ None
 not_told words k h = named_is words ∙ with_fault (fault_of smt_app (map string_bytes words)) (subcommand_of smt_app (map string_bytes words)) k h
+
+-- where nothing is asked for, each stop tells so
+pub asks_nothing : (names : Option Names) (s : WordsStop) → names ≡ None → Asks names (Err s)
+asks_nothing names stop.Wrong h = h
+asks_nothing names stop.Memory h = tt

@@ -3,6 +3,7 @@
 ghost use Rattle.std.specs.Prelude.{◌≡◌, ◌≢◌, ◌↔◌, ℕ, false, map, option_map, option_and_then, IfOk, IsTrue, IfSome, None, Some, string_bytes, codes, MatchResult};
 ghost use Rattle.clap.specs.Words.{app_of, rule_of, FailsBy, fault_of, first_of, found_of, kind_of, rows_of, subcommand_of, subcommand_rows_of};
 ghost use Rattle.clap.specs.declared.builder.command.Command.TheViews.{out-Command};
+ghost use Rattle.smt_top.specs.Calls.{asked_by, Asks};
 ghost use Rattle.smt_top.specs.Words.{named, IsNumber, number_of, at_of, names_in, at_option, needed_word, check_app, smt_app, most_checks};
 
 use clap::error::ErrorKind;
@@ -51,23 +52,20 @@ pub(crate) enum WordsStop {
 /// K is 1 where it is not given. `Wrong` comes for all other words, `Memory` only where an allocation was refused, whatever the
 /// words are. Source: own.
 pub(crate) fn words_of<'a>(alloc: Global, words: &'a [String]) -> Result<Request<'a>, WordsStop>
-    ensures taken { IfOk result (λ r. named words.entry.now ≡ Some (record { script = r.names.script.now; proof = r.names.proof.now; at = r.at })) }
-    ensures wrong { result ≡ Err WordsStop.Wrong → named words.entry.now ≡ None }
+    ensures { Asks (named words.entry.now) result }
 {
-    match matches_of(alloc, words) {
-        Ok(matches) => match request_of(&matches) {
-            Some(request) => Ok(request),
-            None => Err(WordsStop::Wrong),
-        },
-        Err(error) => Err(stop_of(&error)),
-    }
+    let matches = match matches_of(alloc, words) {
+        Ok(matches) => matches,
+        Err(error) => return Err(stop_of(&error)),
+    };
+    request_of(&matches).ok_or(WordsStop::Wrong)
 }
 
 /// Tells why words give no request, by the fault that was found in them.
 ///
 /// Source: own.
 fn stop_of(error: &Error) -> WordsStop
-    ensures { result ≡ WordsStop.Wrong → kind_of error.now ≢ ErrorKind.OutOfMemory }
+    ensures { (result ≡ WordsStop.Memory) ↔ (kind_of error.now ≡ ErrorKind.OutOfMemory) }
 {
     match error.kind() {
         ErrorKind::OutOfMemory => WordsStop::Memory,
@@ -139,7 +137,7 @@ fn matches_of<'a>(alloc: Global, words: &'a [String]) -> Result<ArgMatches<'a>, 
 ///
 /// Source: own.
 fn request_of<'a>(matches: &ArgMatches<'a>) -> Option<Request<'a>>
-    ensures { option_map (λ r. record { script = r.names.script.now; proof = r.names.proof.now; at = r.at }) result ≡ option_and_then (λ m. names_in m.1) (subcommand_rows_of matches.now) }
+    ensures { option_map asked_by result ≡ option_and_then (λ m. names_in m.1) (subcommand_rows_of matches.now) }
 {
     let (_, check) = matches.subcommand()?;
     request_in(check)
@@ -149,7 +147,7 @@ fn request_of<'a>(matches: &ArgMatches<'a>) -> Option<Request<'a>>
 ///
 /// Source: own.
 fn request_in<'a>(check: &ArgMatches<'a>) -> Option<Request<'a>>
-    ensures { option_map (λ r. record { script = r.names.script.now; proof = r.names.proof.now; at = r.at }) result ≡ names_in (rows_of (found_of check.now)) }
+    ensures { option_map asked_by result ≡ names_in (rows_of (found_of check.now)) }
 {
     let script = value_of(check, "script")?;
     let proof = value_of(check, "proof")?;
