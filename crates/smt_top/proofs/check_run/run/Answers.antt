@@ -6,4 +6,4 @@ pub returns-in-Ok-read_both-clause-ends : goal.returns-in-Ok-read_both-clause-en
 returns-in-Ok-read_both-clause-ends g c =
     let script = c.in-Ok-read_both.ensures.script in
     let proof = c.in-Ok-read_both.ensures.proof in
-    rw c.in-Ok.ensures.taken (ends_with _ _ _ _ _ script.0 proof.0 script.2 proof.2 (c.report.ensures.reports script.0 proof.0 (c.judge.ensures script.0 proof.0 script.1 proof.1)))
+    rw c.in-Ok.ensures (ends_with _ _ _ _ _ script.0 proof.0 script.2 proof.2 (c.report.ensures.reports script.0 proof.0 (c.judge.ensures script.0 proof.0 script.1 proof.1)))
