@@ -1,5 +1,5 @@
 -- Words as numbers of checks.
-use Rattle.std.proofs.Common.{◌≡◌, ◌∙◌, ap, sym, refl, subst, arith, ℕ, ◌≤◌, ◌<◌, ◌^◌, List, Option, Some, None, Bool, true, false, cond, ◌&&◌, nat_le, decimal, unwrap_or, Result, Ok}
+use Rattle.std.proofs.Common.{◌≡◌, ◌∙◌, ap, sym, refl, subst, arith, ℕ, List, Option, Some, None, Bool, true, false, cond, ◌&&◌, nat_le, decimal, unwrap_or, Result, Ok}
 use Rattle.std.proofs.lemmas.Option.{none-some}
 use Rattle.std.proofs.lemmas.Bool.{leb-true, le-leb, false≢true}
 use Rattle.std.proofs.lemmas.Slice.Eq.{bytes_eq-Decides}

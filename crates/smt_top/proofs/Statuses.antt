@@ -1,5 +1,5 @@
 -- From what was written for two texts to the end of a run.
-use Rattle.std.proofs.Common.{◌≡◌, ℕ, List, Some, IfSome, refl}
+use Rattle.std.proofs.Common.{◌≡◌, ℕ, List, Some, IfSome}
 use Rattle.smt_top.specs.declared.status.Status.{Status}
 use Rattle.smt_top.specs.declared.status.Status.TheVariants.{Done, Refused, Words, Memory, ReadFault, WriteFault}
 use Rattle.smt_top.specs.Words.{Names}

@@ -191,7 +191,11 @@ fn number_of(word: &str) -> Option<u64>
     let Ok(n) = word.parse::<u64>() else {
         return None;
     };
-    if is_decimal_of(word, n) { Some(n) } else { None }
+    if is_decimal_of(word, n) {
+        Some(n)
+    } else {
+        None
+    }
 }
 
 /// Tells whether a word is a number from 1 to 1,000,000,000 in decimal digits.
