@@ -16,8 +16,8 @@ use world_io::{ReadStop, Shelf, Sink};
 /// Runs the words `check [--at K] SCRIPT PROOF`, which stand behind the program's name: judges the proof against the script.
 ///
 /// Both texts are read whole, the script first, before anything is judged. Then the verdict is written: `valid`, or the
-/// proof's first fault with its line and column. A text of more than 2^26 bytes is not taken so far. All other words
-/// give the usage text.
+/// proof's first fault with its line and column. A text of more than 2^26 bytes is not taken so far, and whatever K is,
+/// the script's first check is the one that is judged so far. All other words give the usage text.
 ///
 /// `Memory` comes where an allocation was refused, `ReadFault` where the shelf failed; nothing was then written.
 /// `WriteFault` comes where the sink failed, with a front written. Source: own.

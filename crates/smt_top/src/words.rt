@@ -1,10 +1,10 @@
 //! The words of a run, as they stand behind the program's name.
 
-ghost use Rattle.std.specs.Prelude.{◌≡◌, ◌≢◌, ◌↔◌, ℕ, false, map, option_map, option_and_then, IfOk, IsTrue, IfSome, None, Some, string_bytes, codes, MatchResult};
+ghost use Rattle.std.specs.Prelude.{◌≡◌, ◌↔◌, ℕ, false, map, option_map, option_and_then, IfOk, IsTrue, IfSome, None, string_bytes};
 ghost use Rattle.clap.specs.Words.{app_of, rule_of, FailsBy, fault_of, first_of, found_of, kind_of, rows_of, subcommand_of, subcommand_rows_of};
 ghost use Rattle.clap.specs.declared.builder.command.Command.TheViews.{out-Command};
 ghost use Rattle.smt_top.specs.Calls.{asked_by, Asks};
-ghost use Rattle.smt_top.specs.Words.{named, IsNumber, number_of, at_of, names_in, at_option, needed_word, check_app, smt_app, most_checks};
+ghost use Rattle.smt_top.specs.Words.{named, IsNumber, number_of, at_of, names_in, at_option, needed_word, check_app, smt_app};
 
 use clap::error::ErrorKind;
 use clap::{Arg, ArgMatches, Command, Error};
@@ -49,8 +49,8 @@ pub(crate) enum WordsStop {
 
 /// Gives what the words `check [--at K] SCRIPT PROOF` behind the program's name ask for.
 ///
-/// K is 1 where it is not given. `Wrong` comes for all other words, `Memory` only where an allocation was refused, whatever the
-/// words are. Source: own.
+/// K is 1 where it is not given. `Wrong` comes for all other words. `Memory` comes only where an allocation was refused,
+/// whatever the words are. Source: own.
 pub(crate) fn words_of<'a>(alloc: Global, words: &'a [String]) -> Result<Request<'a>, WordsStop>
     ensures { Asks (named words.entry.now) result }
 {
@@ -179,8 +179,8 @@ fn at_of(value: Option<&str>) -> Option<u64>
     }
 }
 
-/// Gives the number that a word stands for, from 1 to 1,000,000,000, and `None` where it is no such number in decimal digits,
-/// with no sign and no zero before them.
+/// Gives the number from 1 to 1,000,000,000 of which a word is the decimal digits, with no sign and no zero before them, and
+/// `None` where there is none.
 ///
 /// Source: own.
 fn number_of(word: &str) -> Option<u64>
@@ -198,7 +198,7 @@ fn number_of(word: &str) -> Option<u64>
     }
 }
 
-/// Tells whether a word is a number from 1 to 1,000,000,000 in decimal digits.
+/// Tells whether a word is this number in decimal digits, and the number is from 1 to 1,000,000,000.
 ///
 /// Source: own.
 fn is_decimal_of(word: &str, n: u64) -> bool

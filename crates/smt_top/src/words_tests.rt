@@ -7,7 +7,7 @@ use crate::words::{WordsStop, words_of};
 use std::test::Fail;
 
 /// Words behind the program's name, with the script, the proof and the number that they ask for, where they are taken.
-const CASES: [(&[&str], Option<(&str, &str, u64)>); 47] = [
+const CASES: [(&[&str], Option<(&str, &str, u64)>); 48] = [
     (&[], None),
     (&[""], None),
     (&["check"], None),
@@ -45,6 +45,7 @@ const CASES: [(&[&str], Option<(&str, &str, u64)>); 47] = [
         &["check", "--at", "99999999999999999999999", "a", "b"],
         None,
     ),
+    (&["check", "--at", "18446744073709551617", "a", "b"], None),
     (&["check", "--at", "0", "a", "b"], None),
     (&["check", "--at", "01", "a", "b"], None),
     (&["check", "--at", "+1", "a", "b"], None),
