@@ -9,3 +9,4 @@ pub mod Counting
 pub mod Tracking
 pub mod Quiet
 pub mod Passes
+pub mod Stepping

@@ -32,6 +32,11 @@ adds_by old new l e = go (list_any (ghosts.eq l) old) refl
     go true t = inl (contains_by old l true (sym t), e ∙ ap (λ c. if c then old else old ++ l ∷ []) t)
     go false t = inr (contains_by old l false (sym t), e ∙ ap (λ c. if c then old else old ++ l ∷ []) t)
 
+-- a literal that is new
+pub adds_new : (old new : List Lit) (l : Lit) → AddsLast old l new → (Contains old l → ⊥) → new ≡ old ++ l ∷ []
+adds_new old new l (inl a) free = absurd (free a.0)
+adds_new old new l (inr a) free = a.1
+
 sign_is : (p q : Bool) → cond p q (not q) ≡ true → p ≡ q
 sign_is true q e = sym e
 sign_is false true e = e

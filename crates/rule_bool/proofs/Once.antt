@@ -35,3 +35,7 @@ each_more vs ws new i v w lt e made set all =
     let here : v.items ≡ get_or (lists vs) i v.items = ap to_items e ∙ sym (get_or-map to_items vs i v v.items lt) in
     let grown : lists new ≡ lists ws ++ w.items ∷ [] = ap lists made ∙ map_push to_items ws w in
     subst (λ (ys : List (List Lit)). AllZip IsSetOf (take (i + 1) (lists vs)) ys) (sym grown) (all_zip_more IsSetOf (lists vs) (lists ws) i v.items w.items (rw length-map lt) here all set)
+
+-- a set of the clause
+pub set_of : (clause keys items : List Lit) → items ≡ keys → IsDistinct ghosts.eq keys → SameLits keys clause → IsSetOf clause items
+set_of clause keys items e d same = record { once = once items (let P : List Lit → Type 0 = IsDistinct ghosts.eq in subst P (sym e) d); same = subst (λ (ls : List Lit). SameLits ls clause) (sym e) same }

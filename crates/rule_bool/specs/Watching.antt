@@ -16,6 +16,14 @@ Watches w l k = (i : ℕ) × (i < length w.literals.keys) × (get_or w.literals.
 abbrev pub AreBelow : ℕ → Watchers → Type 0
 AreBelow n w = All (λ ks. All (λ k. k < n) ks) (lists w.lists.items)
 
+-- the literal has a list, with that index, and the lists are as they were
+pub record Places (old : Watchers) (l : Lit) (index : ℕ) (new : Watchers) : Type 0 where
+  pub paired : IsPaired new
+  pub within : index < length new.literals.keys
+  pub stored : get_or new.literals.keys index l ≡ l
+  pub kept : (m : Lit) (k : ℕ) → Watches old m k → Watches new m k
+  pub below : (n : ℕ) → AreBelow n old → AreBelow n new
+
 -- the lists are as they were, but that those of some literals have one more number
 pub record Notes (old : Watchers) (noted : List Lit) (number : ℕ) (new : Watchers) : Type 0 where
   pub paired : IsPaired new

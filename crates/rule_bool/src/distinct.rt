@@ -19,7 +19,8 @@ fn distinct(alloc: Global, clause: &[Lit]) -> Result<Vec<Lit>, AllocError>
             Err(_) => return Err(AllocError),
         }
     }
-    taken.as_slice().to_vec(alloc)
+    let made = Vec::from_slice(alloc, taken.as_slice())?;
+    Ok(made)
 }
 
 /// Gives each clause with each literal once.

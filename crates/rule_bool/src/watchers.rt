@@ -2,7 +2,7 @@
 
 ghost use Rattle.std.specs.Prelude.{◌≡◌, ◌<◌, ◌∷◌, [], ℕ, All, Contains, IfOk, OnOk};
 ghost use Rattle.rule_bool.specs.Literals.{lists};
-ghost use Rattle.rule_bool.specs.Watching.{IsPaired, Watches, AreBelow, Notes, IsIndexOf};
+ghost use Rattle.rule_bool.specs.Watching.{IsPaired, Watches, AreBelow, Places, Notes, IsIndexOf};
 
 use crate::lits::Lit;
 use indexmap::IndexSet;
@@ -39,17 +39,27 @@ impl Watchers {
         }
     }
 
-    /// Notes that a literal occurs in a clause.
-    fn note(&mut self, alloc: Global, l: Lit, number: usize) -> Result<(), AllocError>
+    /// Finds the index of a literal's list, where it is new after a list for it is made.
+    fn place(&mut self, alloc: Global, l: Lit) -> Result<usize, AllocError>
         requires { IsPaired self.old }
-        ensures { OnOk result (Notes self.old (l ∷ []) number self.new) }
+        ensures { IfOk result (λ index. Places self.old l index self.new) }
     {
         let Ok((index, is_new)) = self.literals.insert_full(l) else {
             return Err(AllocError);
         };
         if is_new {
             self.lists.push(Vec::new(alloc))?;
+            return Ok(index);
         }
+        Ok(index)
+    }
+
+    /// Notes that a literal occurs in a clause.
+    fn note(&mut self, alloc: Global, l: Lit, number: usize) -> Result<(), AllocError>
+        requires { IsPaired self.old }
+        ensures { OnOk result (Notes self.old (l ∷ []) number self.new) }
+    {
+        let index = self.place(alloc, l)?;
         self.lists[index].push(number)?;
         Ok(())
     }

@@ -1,0 +1,94 @@
+-- From premise to premise, and from literal to literal.
+use Rattle.std.proofs.Common.{◌≡◌, ℕ, ◌+◌, ◌-◌, ◌<◌, ◌≤◌, Bool, true, false, List, [], ◌∷◌, ◌++◌, length, get_or, set, take, drop, Contains, All, ◌⊎◌, inl, inr, sym, ap, ◌∙◌, subst, refl, arith}
+use Rattle.std.specs.Prelude.{Vec}
+use Rattle.std.specs.declared.alloc.Global.{Global}
+use Rattle.std.proofs.lemmas.List.{get_or-map, length-map, length_push, drop_more, drop_all}
+use Rattle.std.proofs.lemmas.List.Elements.{Contains-get_or}
+use Rattle.spec_proofs.specs.Resolution.{IsWithin}
+use Rattle.rule_bool.specs.declared.lits.Lit.{Lit}
+use Rattle.rule_bool.specs.Literals.{lists}
+use Rattle.rule_bool.specs.Findings.{IsFalse}
+use Rattle.rule_bool.specs.Propagation.{IsRefuted, Advances, AreTracked, TakesUp, Begins, Loses}
+use Rattle.rule_bool.proofs.Advancing.{advances_none, advances_by, advances_on, held_on, refuted_by, refuted_on}
+use Rattle.rule_bool.proofs.Tracking.{begins_more, loses_one}
+
+abbrev to_items : Vec Lit Global → List Lit
+to_items w = w.items
+
+-- a premise, by its number
+module _ (vs : List (Vec Lit Global)) (i : ℕ) (v : Vec Lit Global) (lt : i < length vs) (e : v ≡ get_or vs i v) where
+  item : get_or (lists vs) i [] ≡ v.items
+  item = get_or-map to_items vs i v [] lt ∙ ap to_items (sym e)
+
+  item_in : Contains (lists vs) v.items
+  item_in = (i, rw length-map lt, get_or-map to_items vs i v v.items lt ∙ ap to_items (sym e))
+
+-- the first i premises were taken up
+pub record HasBegun (premises : List (List Lit)) (first held : List Lit) (left : List ℕ) (i : ℕ) : Type 0 where
+  pub advances : Advances premises first held
+  pub counted : length left ≡ i
+  pub tracked : AreTracked i [] [] premises held left
+
+pub begun_none : (premises : List (List Lit)) (held : List Lit) (left : List ℕ) → left ≡ [] → HasBegun premises held held left 0
+begun_none premises held left e = record {
+  advances = advances_none premises held;
+  counted = ap length e;
+  tracked = λ k lt. absurd (omega (arith, lt));
+}
+
+pub begun_more : (vs : List (Vec Lit Global)) (i : ℕ) (v : Vec Lit Global) → i < length vs → v ≡ get_or vs i v
+    → (first held new : List Lit) (left after : List ℕ) (count n : ℕ) → count ≡ length v.items
+    → HasBegun (lists vs) first held left i → TakesUp v.items held new count n → after ≡ left ++ n ∷ [] → HasBegun (lists vs) first new after (i + 1)
+begun_more vs i v lt e first held new left after count n counted h t pushed =
+    let here = item vs i v lt e in
+    let a = advances_by (lists vs) held new v.items (item_in vs i v lt e) t.follows in
+    let u : TakesUp v.items held new (length v.items) n = subst (λ x. TakesUp v.items held new x n) counted t in
+    let w : TakesUp (get_or (lists vs) i []) held new (length (get_or (lists vs) i [])) n = subst (λ (c : List Lit). TakesUp c held new (length c) n) (sym here) u in
+    record {
+      advances = advances_on (lists vs) first held new h.advances a;
+      counted = ap length pushed ∙ length_push left n ∙ ap (λ x. x + 1) h.counted;
+      tracked = subst (λ (ls : List ℕ). AreTracked (i + 1) [] [] (lists vs) new ls) (sym pushed) (begins_more (lists vs) held new left i n a h.counted w h.tracked);
+    }
+
+-- a false one
+pub refuted_here : (vs : List (Vec Lit Global)) (i : ℕ) (v : Vec Lit Global) → i < length vs → v ≡ get_or vs i v
+    → (first held : List Lit) → Advances (lists vs) first held → IsFalse held v.items → IsRefuted (lists vs) first
+refuted_here vs i v lt e first held a f = refuted_on (lists vs) first held a (refuted_by (lists vs) held v.items (item_in vs i v lt e) f)
+
+pub begun_all : (vs : List (Vec Lit Global)) (i : ℕ) → i ≡ length vs → (first held : List Lit) (left : List ℕ) → HasBegun (lists vs) first held left i → Begins (lists vs) first held left
+begun_all vs i e first held left h =
+    let n : i ≡ length (lists vs) = rw length-map e in
+    record {
+      advances = h.advances;
+      counted = h.counted ∙ n;
+      tracked = subst (λ x. AreTracked x [] [] (lists vs) held left) n h.tracked;
+    }
+
+-- those of the numbers so far have lost a literal
+pub record IsLosing (premises : List (List Lit)) (losing : List ℕ) (first held : List Lit) (before left : List ℕ) (rest : List ℕ) : Type 0 where
+  pub advances : Advances premises first held
+  pub tracked : (seen : List Lit) → IsWithin seen first → AreTracked (length premises) seen losing premises first before → AreTracked (length premises) seen rest premises held left
+
+pub losing_none : (premises : List (List Lit)) (losing : List ℕ) (held : List Lit) (left : List ℕ) → IsLosing premises losing held held left left losing
+losing_none premises losing held left = record { advances = advances_none premises held; tracked = λ seen within t. t }
+
+pub losing_more : (vs : List (Vec Lit Global)) (number : ℕ) (v : Vec Lit Global) → number < length vs → v ≡ get_or vs number v
+    → (losing : List ℕ) (i : ℕ) → i < length losing → number ≡ get_or losing i 0
+    → (first held new : List Lit) (before left : List ℕ) (count n : ℕ) → length left ≡ length vs → count ≡ get_or left number 0 - 1
+    → IsLosing (lists vs) losing first held before left (drop i losing) → TakesUp v.items held new count n
+    → IsLosing (lists vs) losing first new before (set left number n) (drop (i + 1) losing)
+losing_more vs number v lt e losing i here is first held new before left count n long counted h t =
+    let a = advances_by (lists vs) held new v.items (item_in vs number v lt e) t.follows in
+    let u : TakesUp v.items held new (get_or left number 0 - 1) n = subst (λ x. TakesUp v.items held new x n) counted t in
+    let w : TakesUp (get_or (lists vs) number []) held new (get_or left number 0 - 1) n = subst (λ (c : List Lit). TakesUp c held new (get_or left number 0 - 1) n) (sym (item vs number v lt e)) u in
+    let next : drop i losing ≡ number ∷ drop (i + 1) losing = drop_more losing i 0 here ∙ ap (λ x. x ∷ drop (i + 1) losing) (sym is) in
+    record {
+      advances = advances_on (lists vs) first held new h.advances a;
+      tracked = λ seen within before_all. loses_one (length (lists vs)) (lists vs) seen held new left number n (drop (i + 1) losing) (omega (arith, lt, long)) (λ m j. held_on (lists vs) first held h.advances m (within m j)) (held_on (lists vs) held new a) w (subst (λ (js : List ℕ). AreTracked (length (lists vs)) seen js (lists vs) held left) next (h.tracked seen within before_all));
+    }
+
+pub losing_all : (premises : List (List Lit)) (losing : List ℕ) (i : ℕ) → i ≡ length losing → (first held : List Lit) (before left : List ℕ) → IsLosing premises losing first held before left (drop i losing) → Loses premises losing first held before left
+losing_all premises losing i e first held before left h = record {
+  advances = h.advances;
+  tracked = λ seen within t. subst (λ (js : List ℕ). AreTracked (length premises) seen js premises held left) (drop_all i losing (omega (arith, e))) (h.tracked seen within t);
+}
