@@ -39,3 +39,7 @@ each_more vs ws new i v w lt e made set all =
 -- a set of the clause
 pub set_of : (clause keys items : List Lit) → items ≡ keys → IsDistinct ghosts.eq keys → SameLits keys clause → IsSetOf clause items
 set_of clause keys items e d same = record { once = once items (let P : List Lit → Type 0 = IsDistinct ghosts.eq in subst P (sym e) d); same = subst (λ (ls : List Lit). SameLits ls clause) (sym e) same }
+
+-- the literals of a clause, by its place
+pub clause_at : (vs : List (Vec Lit Global)) (i : ℕ) (v : Vec Lit Global) → i < length vs → v ≡ get_or vs i v → v.items ≡ get_or (lists vs) i []
+clause_at vs i v lt e = ap to_items e ∙ sym (get_or-map to_items vs i v [] lt)

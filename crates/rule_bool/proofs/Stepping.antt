@@ -2,15 +2,18 @@
 use Rattle.std.proofs.Common.{◌≡◌, ℕ, ◌+◌, ◌-◌, ◌<◌, ◌≤◌, Bool, true, false, List, [], ◌∷◌, ◌++◌, length, get_or, set, take, drop, Contains, All, ◌⊎◌, inl, inr, sym, ap, ◌∙◌, subst, refl, arith}
 use Rattle.std.specs.Prelude.{Vec}
 use Rattle.std.specs.declared.alloc.Global.{Global}
-use Rattle.std.proofs.lemmas.List.{get_or-map, length-map, length_push, drop_more, drop_all}
+use Rattle.std.proofs.lemmas.List.{get_or-map, length-map, length_push, drop_more, drop_all, take_all, take-append-le, length-append}
 use Rattle.std.proofs.lemmas.List.Elements.{Contains-get_or}
 use Rattle.spec_proofs.specs.Resolution.{IsWithin}
 use Rattle.rule_bool.specs.declared.lits.Lit.{Lit}
-use Rattle.rule_bool.specs.Literals.{lists}
+use Rattle.rule_bool.specs.declared.watchers.Watchers.{Watchers}
+use Rattle.rule_bool.specs.Literals.{lit_complement, lists, HasNoTwice, IsConsistent}
+use Rattle.rule_bool.specs.Watching.{Watches, IsIndexOf}
 use Rattle.rule_bool.specs.Findings.{IsFalse}
-use Rattle.rule_bool.specs.Propagation.{IsRefuted, Advances, AreTracked, TakesUp, Begins, Loses}
+use Rattle.rule_bool.specs.Propagation.{IsRefuted, untouched, Advances, AreTracked, TakesUp, Begins, Loses, IsQuiet}
 use Rattle.rule_bool.proofs.Advancing.{advances_none, advances_by, advances_on, held_on, refuted_by, refuted_on}
-use Rattle.rule_bool.proofs.Tracking.{begins_more, loses_one}
+use Rattle.rule_bool.proofs.Tracking.{begins_more, loses_one, within_take, loses_all, settled}
+use Rattle.rule_bool.proofs.Start.{taken_more}
 
 abbrev to_items : Vec Lit Global → List Lit
 to_items w = w.items
@@ -91,4 +94,38 @@ pub losing_all : (premises : List (List Lit)) (losing : List ℕ) (i : ℕ) → 
 losing_all premises losing i e first held before left h = record {
   advances = h.advances;
   tracked = λ seen within t. subst (λ (js : List ℕ). AreTracked (length premises) seen js premises held left) (drop_all i losing (omega (arith, e))) (h.tracked seen within t);
+}
+
+-- so many of the literals that hold were taken out
+pub record IsGoing (premises : List (List Lit)) (first held : List Lit) (left : List ℕ) (done : ℕ) : Type 0 where
+  pub within : done ≤ length held
+  pub advances : Advances premises first held
+  pub tracked : AreTracked (length premises) (take done held) [] premises held left
+
+pub going_none : (premises : List (List Lit)) (held : List Lit) (left : List ℕ) → AreTracked (length premises) [] [] premises held left → IsGoing premises held held left 0
+going_none premises held left t = record { within = omega arith; advances = advances_none premises held; tracked = t }
+
+pub going_more : (premises : List (List Lit)) → All HasNoTwice premises → (w : Watchers) → IsIndexOf w premises
+    → (first held new : List Lit) (left after : List ℕ) (done : ℕ) (l : Lit) (losing : List ℕ) → done < length held → l ≡ get_or held done l
+    → ((k : ℕ) → Watches w (lit_complement l) k → Contains losing k)
+    → IsGoing premises first held left done → Loses premises losing held new left after → IsGoing premises first new after (done + 1)
+going_more premises once w index first held new left after done l losing lt is complete h a =
+    let more : take (done + 1) held ≡ take done held ++ l ∷ [] = taken_more held done l lt is in
+    let lost : AreTracked (length premises) (take (done + 1) held) losing premises held left = subst (λ (s : List Lit). AreTracked (length premises) s losing premises held left) (sym more) (loses_all premises once held l losing (λ k kt i. complete k (index.complete k (lit_complement l) kt i)) (take done held) left h.tracked) in
+    let same : take (done + 1) held ≡ take (done + 1) new = sym (ap (take (done + 1)) a.advances.is ∙ take-append-le (done + 1) held a.advances.added (omega (arith, lt))) in
+    record {
+      within = omega (arith, lt, ap length a.advances.is, length-append held a.advances.added);
+      advances = advances_on premises first held new h.advances a.advances;
+      tracked = subst (λ (s : List Lit). AreTracked (length premises) s [] premises new after) same (a.tracked (take (done + 1) held) (within_take held (done + 1)) lost);
+    }
+
+-- each literal that is taken out leaves fewer to take out, or to come
+pub going_smaller : (premises : List (List Lit)) (first held new : List Lit) (left : List ℕ) (done : ℕ) → IsConsistent first → IsGoing premises first held left done → done < length held → Advances premises held new
+    → (length new + untouched new premises) - (done + 1) < (length held + untouched held premises) - done
+going_smaller premises first held new left done ok h lt a = let f = a.fewer (h.advances.consistent ok) in omega (arith, f, lt)
+
+pub going_all : (premises : List (List Lit)) → All HasNoTwice premises → (first held : List Lit) (left : List ℕ) (done : ℕ) → length held ≤ done → IsGoing premises first held left done → IsQuiet premises first held
+going_all premises once first held left done all h = record {
+  advances = h.advances;
+  settled = settled premises once (take done held) held left (take_all done held all) h.tracked;
 }

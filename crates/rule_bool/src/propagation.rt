@@ -108,5 +108,8 @@ pub fn resolves(alloc: Global, premises: &[Vec<Lit>], clause: &[Lit]) -> Result<
         return Ok(true);
     };
     let watchers = watchers_of(alloc, &premises)?;
-    propagate(&premises, &watchers, &mut held, &mut left)
+    if propagate(&premises, &watchers, &mut held, &mut left)? {
+        return Ok(true);
+    }
+    Ok(false)
 }

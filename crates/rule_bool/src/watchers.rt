@@ -2,7 +2,7 @@
 
 ghost use Rattle.std.specs.Prelude.{◌≡◌, ◌<◌, ◌∷◌, [], ℕ, All, Contains, IfOk, OnOk};
 ghost use Rattle.rule_bool.specs.Literals.{lists};
-ghost use Rattle.rule_bool.specs.Watching.{IsPaired, Watches, AreBelow, Places, Notes, IsIndexOf};
+ghost use Rattle.rule_bool.specs.Watching.{IsWhole, Watches, AreBelow, Places, Notes, IsIndexOf};
 
 use crate::lits::Lit;
 use indexmap::IndexSet;
@@ -29,7 +29,7 @@ impl Watchers {
 
     /// Gives the numbers of the clauses in which a literal occurs.
     pub(crate) fn of(&self, l: Lit) -> &[usize]
-        requires { IsPaired self.now }
+        requires { IsWhole self.now }
         ensures complete { (k : ℕ) → Watches self.now l k → Contains result.now k }
         ensures below { (n : ℕ) → AreBelow n self.now → All (λ k. k < n) result.now }
     {
@@ -41,7 +41,7 @@ impl Watchers {
 
     /// Finds the index of a literal's list, where it is new after a list for it is made.
     fn place(&mut self, alloc: Global, l: Lit) -> Result<usize, AllocError>
-        requires { IsPaired self.old }
+        requires { IsWhole self.old }
         ensures { IfOk result (λ index. Places self.old l index self.new) }
     {
         let Ok((index, is_new)) = self.literals.insert_full(l) else {
@@ -56,7 +56,7 @@ impl Watchers {
 
     /// Notes that a literal occurs in a clause.
     fn note(&mut self, alloc: Global, l: Lit, number: usize) -> Result<(), AllocError>
-        requires { IsPaired self.old }
+        requires { IsWhole self.old }
         ensures { OnOk result (Notes self.old (l ∷ []) number self.new) }
     {
         let index = self.place(alloc, l)?;
@@ -66,7 +66,7 @@ impl Watchers {
 
     /// Notes each literal of a clause.
     fn note_each(&mut self, alloc: Global, clause: &[Lit], number: usize) -> Result<(), AllocError>
-        requires { IsPaired self.old }
+        requires { IsWhole self.old }
         ensures { OnOk result (Notes self.old clause.now number self.new) }
     {
         for l in clause {

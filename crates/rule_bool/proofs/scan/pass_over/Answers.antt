@@ -13,5 +13,8 @@ loop-at-preserved-in-Unit c =
     let found = rw (c.in-Unit.is, c.deref.ensures.value) at c.in_ok-take_up.ensures in
     to_unit _ _ _ _ _ _ _ _ c.loop-at.invariant (before c.args.premises.now c.loop-at.at c.index-premises-at.result c.loop-at-test.true c.loop-at.auto.at c.index-premises-at.is) found.0 found.1
 
+pub loop-at-preserved : goal.loop-at-preserved
+loop-at-preserved c = ?
+
 pub returns-else-added : goal.returns-else-added
 returns-else-added c = ended (lists c.args.premises.now) c.loop-at.at _ _ c.loop-at-test.false (rw c.if-added.false at c.loop-at.invariant)
