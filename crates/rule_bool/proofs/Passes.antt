@@ -6,9 +6,11 @@ use Rattle.std.proofs.lemmas.List.{drop_more, length-map, get_or-map, length_pus
 use Rattle.rule_bool.specs.declared.lits.Lit.{Lit}
 use Rattle.rule_bool.specs.declared.scan.Pass.TheVariants.{Same}
 use Rattle.rule_bool.specs.Literals.{lists}
-use Rattle.rule_bool.specs.Findings.{IsFalse, IsUnit, IsSettled}
+use Rattle.rule_bool.specs.Findings.{IsFalse, IsUnit, HasTwoOpen, IsTouched, IsSettled}
 use Rattle.rule_bool.specs.Propagation.{IsRefuted, Advances}
-use Rattle.rule_bool.specs.Scanning.{Moves}
+use Rattle.rule_bool.specs.Scanning.{Scans, Moves}
+use Rattle.rule_bool.specs.declared.look.Finding.{Finding}
+use Rattle.rule_bool.specs.declared.look.Finding.TheVariants.{Open, True}
 use Rattle.rule_bool.proofs.Advancing.{advances_one, advances_on, refuted_by, refuted_on}
 use Rattle.rule_bool.proofs.Counting.{Contains-cons_cases}
 
@@ -56,3 +58,8 @@ module _ (vs : List (Vec Lit Global)) (n : ℕ) (v : Vec Lit Global) (some : 0 <
 pub ended : (premises : List (List Lit)) (n : ℕ) (old new : List Lit) → n ≤ 0 → SoFar premises (drop n premises) old new false → Moves premises premises old new Same
 ended premises zero old new l m = m
 ended premises (suc n) old new l m = absurd (omega (arith, l))
+
+-- an open or a true clause
+pub settles : (c old new : List Lit) (f : Finding) → (f ≡ Open) ⊎ (f ≡ True) → Scans c old new f → IsSettled old c × (new ≡ old)
+settles c old new f (inl e) s = let t : HasTwoOpen old c × (new ≡ old) = let P : Finding → Type 0 = Scans c old new in subst P e s in (inr t.0, t.1)
+settles c old new f (inr e) s = let t : IsTouched old c × (new ≡ old) = let P : Finding → Type 0 = Scans c old new in subst P e s in (inl t.0, t.1)

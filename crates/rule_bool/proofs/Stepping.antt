@@ -129,3 +129,10 @@ going_all premises once first held left done all h = record {
   advances = h.advances;
   settled = settled premises once (take done held) held left (take_all done held all) h.tracked;
 }
+
+-- what taking up all premises gives of their own numbers
+pub begun_counted : (vs : List (Vec Lit Global)) (old held : List Lit) (left after : List ℕ) → after ≡ left → Begins (lists vs) old held left → length after ≡ length vs
+begun_counted vs old held left after e h = ap length e ∙ h.counted ∙ length-map vs to_items
+
+pub begun_tracked : (vs : List (Vec Lit Global)) (old held : List Lit) (left after : List ℕ) → after ≡ left → Begins (lists vs) old held left → AreTracked (length vs) [] [] (lists vs) held after
+begun_tracked vs old held left after e h = subst (λ (ls : List ℕ). AreTracked (length vs) [] [] (lists vs) held ls) (sym e) (subst (λ n. AreTracked n [] [] (lists vs) held left) (length-map vs to_items) h.tracked)

@@ -96,6 +96,22 @@ fn propagate(
     Ok(false)
 }
 
+/// Goes on from the literals that hold as far as it can, and tells whether a premise comes to be false.
+fn refutes(alloc: Global, premises: &[Vec<Lit>], held: &mut Held) -> Result<bool, AllocError>
+    requires once { All HasNoTwice (lists premises.now) }
+    requires consistent { IsConsistent held.old }
+    ensures { IfOk result (λ no. Propagates (lists premises.now) held.old held.new no) }
+{
+    let Some(mut left) = begin(alloc, premises, held)? else {
+        return Ok(true);
+    };
+    let watchers = watchers_of(alloc, premises)?;
+    if propagate(premises, &watchers, held, &mut left)? {
+        return Ok(true);
+    }
+    Ok(false)
+}
+
 /// Tells whether unit propagation over the premises, from the complement of each literal of the clause, reaches a conflict.
 pub fn resolves(alloc: Global, premises: &[Vec<Lit>], clause: &[Lit]) -> Result<bool, AllocError>
     ensures { IfOk result (λ yes. MatchBool yes (Resolves lit_complement (lists premises.now) clause.now) (Resolves lit_complement (lists premises.now) clause.now → ⊥)) }
@@ -104,11 +120,7 @@ pub fn resolves(alloc: Global, premises: &[Vec<Lit>], clause: &[Lit]) -> Result<
         return Ok(true);
     };
     let premises = distinct_each(alloc, premises)?;
-    let Some(mut left) = begin(alloc, &premises, &mut held)? else {
-        return Ok(true);
-    };
-    let watchers = watchers_of(alloc, &premises)?;
-    if propagate(&premises, &watchers, &mut held, &mut left)? {
+    if refutes(alloc, &premises, &mut held)? {
         return Ok(true);
     }
     Ok(false)

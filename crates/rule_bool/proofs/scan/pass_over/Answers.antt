@@ -1,6 +1,6 @@
 -- That a pass goes over all premises.
 use Rattle.rule_bool.specs.Literals.{lists}
-use Rattle.rule_bool.proofs.Passes.{to_false, to_unit, to_settled, before, behind, ended}
+use Rattle.rule_bool.proofs.Passes.{to_false, to_unit, to_settled, settles, before, behind, ended}
 use Rattle.rule_bool.proofs.scan.pass_over.Goals as goal
 
 pub returns-in-False : goal.returns-in-False
@@ -14,7 +14,9 @@ loop-at-preserved-in-Unit c =
     to_unit _ _ _ _ _ _ _ _ c.loop-at.invariant (before c.args.premises.now c.loop-at.at c.index-premises-at.result c.loop-at-test.true c.loop-at.auto.at c.index-premises-at.is) found.0 found.1
 
 pub loop-at-preserved : goal.loop-at-preserved
-loop-at-preserved c = ?
+loop-at-preserved c =
+    let found = settles c.index-premises-at.result.items _ _ _ c.in-Open.is (rw c.deref.ensures.value at c.in_ok-take_up.ensures) in
+    to_settled _ _ _ _ _ _ _ c.loop-at.added c.loop-at.invariant found.1 found.0 (behind c.args.premises.now c.loop-at.at c.index-premises-at.result c.loop-at-test.true c.loop-at.auto.at c.index-premises-at.is)
 
 pub returns-else-added : goal.returns-else-added
 returns-else-added c = ended (lists c.args.premises.now) c.loop-at.at _ _ c.loop-at-test.false (rw c.if-added.false at c.loop-at.invariant)
