@@ -1,15 +1,15 @@
 -- What is held grows by what follows.
-use Rattle.std.proofs.Common.{◌≡◌, ℕ, ◌+◌, ◌<◌, ◌≤◌, Bool, true, false, List, [], ◌∷◌, ◌++◌, length, get_or, Contains, ◌⊎◌, inl, inr, sym, ap, ◌∙◌, subst, refl, cond, arith, zero, suc}
+use Rattle.std.proofs.Common.{◌≡◌, ℕ, ◌<◌, ◌≤◌, Bool, true, false, List, [], ◌∷◌, ◌++◌, length, get_or, Contains, inl, inr, sym, ap, ◌∙◌, subst, refl, cond, arith, zero, suc}
 use Rattle.std.proofs.lemmas.Bool.{false≢true}
 use Rattle.std.specs.List.{list_any}
 use Rattle.std.proofs.lemmas.List.{append_assoc, append-nil, length-append}
 use Rattle.std.proofs.lemmas.List.Elements.{Contains-push, Contains-push_cases, Contains-append_left}
 use Rattle.std.proofs.lemmas.List.Folds.{Any-from_list_any, list_any_at}
-use Rattle.spec_proofs.specs.Resolution.{Derives, unit, Conflicts, false_clause}
+use Rattle.spec_proofs.specs.Resolution.{Derives, unit, false_clause}
 use Rattle.rule_bool.specs.declared.lits.Lit.{Lit}
 use Rattle.rule_bool.specs.Literals.{lit_complement, has, IsConsistent}
 use Rattle.rule_bool.specs.Findings.{IsFalse, IsUnit, IsTouched}
-use Rattle.rule_bool.specs.Propagation.{IsDerived, IsRefuted, failing, untouched, Follows, Advances}
+use Rattle.rule_bool.specs.Propagation.{IsRefuted, failing, untouched, Follows, Advances}
 use Rattle.rule_bool.proofs.Literals.{decide, Contains-from_has, has-from_Contains}
 use Rattle.rule_bool.proofs.Start.{consistent_more}
 

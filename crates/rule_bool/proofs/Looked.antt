@@ -5,7 +5,7 @@ use Rattle.rule_bool.specs.declared.lits.Lit.{Lit}
 use Rattle.rule_bool.specs.declared.look.Finding.{Finding}
 use Rattle.rule_bool.specs.declared.look.Finding.TheVariants.{False, Unit as Single, Open, True}
 use Rattle.rule_bool.specs.Literals.{lit_complement}
-use Rattle.rule_bool.specs.Findings.{IsFalse, IsUnit, HasTwoOpen, IsTouched, Finds}
+use Rattle.rule_bool.specs.Findings.{IsUnit, HasTwoOpen, IsTouched, Finds}
 
 module _ (held : List Lit) (front : List Lit) (m : Lit) where
   -- what is the case of each literal of the front and of m is the case of each of both

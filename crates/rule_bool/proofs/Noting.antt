@@ -1,5 +1,5 @@
 -- The lists of the clauses in which a literal occurs.
-use Rattle.std.proofs.Common.{◌≡◌, ◌≢◌, ℕ, ◌+◌, ◌<◌, ◌≤◌, ◌==◌, not, zero, suc, Bool, true, false, cond, List, [], ◌∷◌, ◌++◌, length, get_or, set, take, position, Option, Some, None, is_some, slice_get, Contains, All, ◌⊎◌, inl, inr, sym, ap, ◌∙◌, subst, refl, arith, if◌then◌else◌}
+use Rattle.std.proofs.Common.{◌≡◌, ℕ, ◌+◌, ◌<◌, ◌≤◌, ◌==◌, not, zero, suc, Bool, true, false, List, [], ◌∷◌, ◌++◌, length, get_or, set, position, Some, slice_get, Contains, All, inl, inr, sym, ap, ◌∙◌, subst, refl, arith, if◌then◌else◌}
 use Rattle.std.specs.Prelude.{Vec}
 use Rattle.std.specs.declared.alloc.Global.{Global}
 use Rattle.std.specs.List.{list_any}
@@ -56,11 +56,11 @@ found_none keys ls l e k h = contains_by keys l false e (h.0, h.1, h.2)
 module _ (keys : List Lit) (ls : List (List ℕ)) (l : Lit) (paired : length keys ≡ length ls) where
   pub listed_on : (m : Lit) (k : ℕ) → IsListed keys ls m k → IsListed (keys ++ l ∷ []) (ls ++ [] ∷ []) m k
   listed_on m k h = (
-      h.0,
-      omega (arith, h.1, length_push keys l),
-      get_or_append_left keys (l ∷ []) m h.0 h.1 ∙ h.2,
-      subst (λ (ks : List ℕ). Contains ks k) (sym (get_or_append_left ls ([] ∷ []) [] h.0 (omega (arith, h.1, paired)))) h.3,
-    )
+    h.0,
+    omega (arith, h.1, length_push keys l),
+    get_or_append_left keys (l ∷ []) m h.0 h.1 ∙ h.2,
+    subst (λ (ks : List ℕ). Contains ks k) (sym (get_or_append_left ls ([] ∷ []) [] h.0 (omega (arith, h.1, paired)))) h.3,
+  )
 
 -- what an insert leaves
 pub last_of : (keys new : List Lit) (l : Lit) → true ≡ not (list_any (ghosts.eq l) keys) → new ≡ insert_key ghosts.eq keys l → new ≡ keys ++ l ∷ []

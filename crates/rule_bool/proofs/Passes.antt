@@ -1,8 +1,8 @@
 -- Passes over all premises, clause by clause.
-use Rattle.std.proofs.Common.{◌≡◌, ℕ, ◌+◌, ◌-◌, ◌<◌, ◌≤◌, drop, Bool, true, false, List, [], ◌∷◌, ◌++◌, length, get_or, Contains, ◌⊎◌, inl, inr, sym, ap, ◌∙◌, subst, refl, cond, arith, zero, suc}
+use Rattle.std.proofs.Common.{◌≡◌, ℕ, ◌+◌, ◌-◌, ◌<◌, ◌≤◌, drop, Bool, true, false, List, [], ◌∷◌, ◌++◌, length, get_or, Contains, ◌⊎◌, inl, inr, sym, ap, ◌∙◌, subst, arith, zero, suc}
 use Rattle.std.specs.Prelude.{Vec}
 use Rattle.std.specs.declared.alloc.Global.{Global}
-use Rattle.std.proofs.lemmas.List.{drop_more, length-map, get_or-map, length_push, length-append}
+use Rattle.std.proofs.lemmas.List.{drop_more, length-map, get_or-map, length_push}
 use Rattle.rule_bool.specs.declared.lits.Lit.{Lit}
 use Rattle.rule_bool.specs.declared.scan.Pass.TheVariants.{Same}
 use Rattle.rule_bool.specs.Literals.{lists}

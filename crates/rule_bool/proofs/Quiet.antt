@@ -1,5 +1,5 @@
 -- Where nothing more follows, there is no conflict; and clauses count as sets.
-use Rattle.std.proofs.Common.{◌≡◌, ◌≢◌, ℕ, ◌<◌, List, [], ◌∷◌, map, length, get_or, Contains, ◌⊎◌, inl, inr, sym, ap, ◌∙◌, subst, refl, arith, zero, suc}
+use Rattle.std.proofs.Common.{ℕ, ◌<◌, List, [], ◌∷◌, length, get_or, Contains, inl, inr, sym, ◌∙◌, subst, refl, arith, zero, suc}
 use Rattle.std.specs.List.{AllZip}
 use Rattle.spec_proofs.specs.Resolution.{Derives, given, unit, Conflicts, false_clause, both_ways, IsWithin}
 use Rattle.rule_bool.specs.declared.lits.Lit.{Lit}

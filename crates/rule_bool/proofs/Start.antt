@@ -27,13 +27,13 @@ start_more held new l (inr a) ok free = subst (λ (h : List Lit). IsConsistent h
 -- one more literal on both sides
 pub same_more : (held new made : List Lit) (l : Lit) → AddsLast held l new → SameLits held made → SameLits new (made ++ l ∷ [])
 same_more held new made l (inl a) same m = (
-    λ i. Contains-append_left made (l ∷ []) m ((same m).0 (subst (λ (h : List Lit). Contains h m) a.1 i)),
-    λ i. subst (λ (h : List Lit). Contains h m) (sym a.1) (elim (Contains-push_cases made l m i) [ inl was ↦ (same m).1 was | inr e ↦ subst (λ (x : Lit). Contains held x) e a.0 ]),
-  )
+  λ i. Contains-append_left made (l ∷ []) m ((same m).0 (subst (λ (h : List Lit). Contains h m) a.1 i)),
+  λ i. subst (λ (h : List Lit). Contains h m) (sym a.1) (elim (Contains-push_cases made l m i) [ inl was ↦ (same m).1 was | inr e ↦ subst (λ (x : Lit). Contains held x) e a.0 ]),
+)
 same_more held new made l (inr a) same m = (
-    λ i. elim (Contains-push_cases held l m (subst (λ (h : List Lit). Contains h m) a.1 i)) [ inl was ↦ Contains-append_left made (l ∷ []) m ((same m).0 was) | inr e ↦ subst (λ (x : Lit). Contains (made ++ l ∷ []) x) e (Contains-push made l) ],
-    λ i. subst (λ (h : List Lit). Contains h m) (sym a.1) (elim (Contains-push_cases made l m i) [ inl was ↦ Contains-append_left held (l ∷ []) m ((same m).1 was) | inr e ↦ subst (λ (x : Lit). Contains (held ++ l ∷ []) x) e (Contains-push held l) ]),
-  )
+  λ i. elim (Contains-push_cases held l m (subst (λ (h : List Lit). Contains h m) a.1 i)) [ inl was ↦ Contains-append_left made (l ∷ []) m ((same m).0 was) | inr e ↦ subst (λ (x : Lit). Contains (made ++ l ∷ []) x) e (Contains-push made l) ],
+  λ i. subst (λ (h : List Lit). Contains h m) (sym a.1) (elim (Contains-push_cases made l m i) [ inl was ↦ Contains-append_left held (l ∷ []) m ((same m).1 was) | inr e ↦ subst (λ (x : Lit). Contains (held ++ l ∷ []) x) e (Contains-push held l) ]),
+)
 
 module _ (clause : List Lit) (i : ℕ) (l : Lit) (lt : i < length clause) (e : l ≡ get_or clause i l) where
   -- the literals so far and one more

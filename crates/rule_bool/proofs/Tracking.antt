@@ -1,16 +1,16 @@
 -- How many literals of each premise are left.
-use Rattle.std.proofs.Common.{◌≡◌, ◌≢◌, ℕ, ◌+◌, ◌-◌, ◌<◌, ◌≤◌, ◌==◌, zero, suc, Bool, true, false, cond, List, [], ◌∷◌, ◌++◌, length, get_or, set, take, drop, Contains, All, ◌⊎◌, inl, inr, sym, ap, ◌∙◌, subst, refl, arith}
+use Rattle.std.proofs.Common.{◌≡◌, ◌≢◌, ℕ, ◌+◌, ◌-◌, ◌<◌, ◌≤◌, ◌==◌, suc, Bool, true, false, cond, List, [], ◌∷◌, ◌++◌, length, get_or, set, take, drop, Contains, All, inl, inr, sym, ap, ◌∙◌, subst, refl, arith}
 use Rattle.std.proofs.lemmas.Bool.{false≢true, eqb-true, eq-eqb}
 use Rattle.std.proofs.lemmas.Bool.Decides.{nat_tests}
-use Rattle.std.proofs.lemmas.List.{take_more, take-append-drop, get_or-set_same, get_or-set_other, get_or_push, get_or_append_left, get_or_default, take_all}
-use Rattle.std.proofs.lemmas.List.Elements.{Contains-push, Contains-append_left, All-get_or}
+use Rattle.std.proofs.lemmas.List.{take-append-drop, get_or-set_same, get_or-set_other, get_or_push, get_or_append_left, get_or_default}
+use Rattle.std.proofs.lemmas.List.Elements.{Contains-push, Contains-append_left}
 use Rattle.spec_proofs.specs.Resolution.{IsWithin}
 use Rattle.rule_bool.specs.declared.lits.Lit.{Lit}
 use Rattle.rule_bool.specs.Literals.{lit_complement, HasNoTwice, AddsLast}
-use Rattle.rule_bool.specs.Findings.{IsFalse, IsUnit, HasTwoOpen, IsTouched, IsSettled}
-use Rattle.rule_bool.specs.Propagation.{Follows, Advances, IsBounded, IsTracked, AreTracked, TakesUp, Loses, Begins, unseen, times}
+use Rattle.rule_bool.specs.Findings.{IsUnit, HasTwoOpen, IsTouched, IsSettled}
+use Rattle.rule_bool.specs.Propagation.{Advances, IsBounded, IsTracked, AreTracked, TakesUp, unseen, times}
 use Rattle.rule_bool.proofs.Literals.{is_in, adds_new}
-use Rattle.rule_bool.proofs.Advancing.{advances_none, advances_by, advances_on, held_on}
+use Rattle.rule_bool.proofs.Advancing.{held_on}
 use Rattle.rule_bool.proofs.Counting.{unseen_all, lose_none, lose_one, two_count, counted_two, times_there}
 
 -- ---- one premise is taken up
@@ -63,8 +63,10 @@ module _ (premises : List (List Lit)) (old new : List Lit) (left : List ℕ) (i 
     where
       c : List Lit
       c = get_or premises i []
+
       here : IsTracked [] new 0 c n
       here = t.tracked [] 0 (λ m j. absurd (omega (arith, j.1))) (inr (let u = unseen_all c in omega (arith, u)))
+
       go : (b : Bool) → (k == i) ≡ b → IsTracked [] new 0 (get_or premises k []) (get_or (left ++ n ∷ []) k 0)
       go true e =
           let s = eqb-true k i e in
@@ -81,9 +83,11 @@ module _ (total : ℕ) (premises : List (List Lit)) (seen old new : List Lit) (l
     where
       c : List Lit
       c = get_or premises number []
+
       bounded : (more : ℕ) → IsTracked seen old (suc more) c (get_or left number 0) → IsBounded seen old more c (get_or left number 0 - 1)
       bounded more (inl w) = inl w
       bounded more (inr h) = inr (omega (arith, h.1))
+
       go : (b : Bool) → (number == k) ≡ b → IsTracked seen old (cond b (suc (times k rest)) (times k rest)) (get_or premises k []) (get_or left k 0) → IsTracked seen new (times k rest) (get_or premises k []) (get_or (set left number n) k 0)
       go true e was =
           let s = eqb-true number k e in
@@ -103,9 +107,9 @@ module _ (premises : List (List Lit)) (once : All HasNoTwice premises) (held : L
   unseen_then : (seen : List Lit) (k : ℕ) → k < length premises → unseen seen (get_or premises k []) ≤ unseen (seen ++ l ∷ []) (get_or premises k []) + times k losing
   unseen_then seen k lt = elim (is_in (get_or premises k []) (lit_complement l)) [
     | inl i ↦
-      let one = lose_one seen l (get_or premises k []) (once k [] lt) in
-      let there = times_there k losing (complete k lt i) in
-      omega (arith, one, there)
+        let one = lose_one seen l (get_or premises k []) (once k [] lt) in
+        let there = times_there k losing (complete k lt i) in
+        omega (arith, one, there)
     | inr o ↦ let none = lose_none seen l (get_or premises k []) o in omega (arith, none)
   ]
 

@@ -1,5 +1,5 @@
 -- What propagation finds in clauses, under the literals that it holds.
-use Rattle.std.specs.Prelude.{◌≡◌, ◌≢◌, ◌⊎◌, List, Contains}
+use Rattle.std.specs.Prelude.{◌≢◌, ◌⊎◌, List, Contains}
 use Rattle.rule_bool.specs.declared.lits.Lit.{Lit}
 use Rattle.rule_bool.specs.declared.look.Finding.{Finding}
 use Rattle.rule_bool.specs.declared.look.Finding.TheVariants.{False, Unit as Single, Open, True}

@@ -1,10 +1,10 @@
 -- How unit propagation goes on, from premise to premise and from literal to literal.
-use Rattle.std.specs.Prelude.{◌≡◌, ◌⊎◌, ◌+◌, ◌<◌, ◌≤◌, ◌==◌, ℕ, zero, suc, Bool, true, false, if◌then◌else◌, List, [], ◌∷◌, ◌++◌, length, get_or, Contains, Option, Some, None}
+use Rattle.std.specs.Prelude.{◌≡◌, ◌⊎◌, ◌+◌, ◌<◌, ◌≤◌, ◌==◌, ℕ, zero, suc, Bool, true, false, if◌then◌else◌, List, [], ◌∷◌, ◌++◌, length, get_or, Contains}
 use Rattle.std.specs.List.{list_any}
 use Rattle.spec_proofs.specs.Resolution.{Derives, Conflicts, IsWithin}
 use Rattle.rule_bool.specs.declared.lits.Lit.{Lit}
 use Rattle.rule_bool.specs.Literals.{lit_complement, has, IsConsistent}
-use Rattle.rule_bool.specs.Findings.{IsFalse, IsUnit, IsTouched, IsSettled}
+use Rattle.rule_bool.specs.Findings.{IsUnit, IsTouched, IsSettled}
 
 -- all that is held follows from the start
 abbrev pub IsDerived : List (List Lit) → List Lit → List Lit → Type 0

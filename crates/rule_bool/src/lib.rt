@@ -1,4 +1,6 @@
-//! The rules of Alethe on clauses, judged on literals.
+//! Rules of Alethe on clauses, judged on literals.
+//!
+//! `resolves` propagates units over premises in time in proportion to their literals. A plain slow body beside it is what tests compare it with.
 #![tactic(auto)]
 
 mod distinct;
@@ -13,4 +15,3 @@ mod watchers;
 
 pub use lits::{Lit, TermId};
 pub use propagation::resolves;
-pub use scan::resolves_by_scan;

@@ -87,7 +87,8 @@ fn propagate(
 {
     let mut done = 0;
     while done < held.len() {
-        let losing = watchers.of(negated(held.at(done)));
+        let complement = negated(held.at(done));
+        let losing = watchers.of(complement);
         if pass_on(premises, losing, held, left)? {
             return Ok(true);
         }
@@ -113,6 +114,14 @@ fn refutes(alloc: Global, premises: &[Vec<Lit>], held: &mut Held) -> Result<bool
 }
 
 /// Tells whether unit propagation over the premises, from the complement of each literal of the clause, reaches a conflict.
+///
+/// A clause counts as the set of its literals; premises may come in any order, more than once, or for nothing. A clause with a
+/// literal and its complement needs no premise. Time and memory go in proportion to the literals of premises and clause, in any
+/// order, as far as look-ups by hash take a time of their own: each literal that comes to hold is taken out of the premises with
+/// its complement once, and a premise is looked at only where at most one of its literals is left.
+///
+/// `AllocError` comes where memory runs out, which tells nothing of the premises. Nothing is changed.
+/// Source: Alethe specification, rule `resolution`; unit propagation is own.
 pub fn resolves(alloc: Global, premises: &[Vec<Lit>], clause: &[Lit]) -> Result<bool, AllocError>
     ensures { IfOk result (λ yes. MatchBool yes (Resolves lit_complement (lists premises.now) clause.now) (Resolves lit_complement (lists premises.now) clause.now → ⊥)) }
 {

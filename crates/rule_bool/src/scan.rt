@@ -50,7 +50,13 @@ fn pass_over(premises: &[Vec<Lit>], held: &mut Held) -> Result<Pass, AllocError>
 }
 
 /// Tells the same as `resolves`, by passes over the premises until nothing changes.
-pub fn resolves_by_scan(alloc: Global, premises: &[Vec<Lit>], clause: &[Lit]) -> Result<bool, AllocError>
+///
+/// A chain in a bad order takes as many passes as it has steps. Out of memory is the one error. Source: own.
+pub(crate) fn resolves_by_scan(
+    alloc: Global,
+    premises: &[Vec<Lit>],
+    clause: &[Lit],
+) -> Result<bool, AllocError>
     ensures { IfOk result (λ yes. MatchBool yes (Resolves lit_complement (lists premises.now) clause.now) (Resolves lit_complement (lists premises.now) clause.now → ⊥)) }
 {
     let Some(mut held) = start_of(alloc, clause)? else {

@@ -1,6 +1,7 @@
 //! Both ways to propagate, on a table and on many small cases.
 
-use crate::{Lit, TermId, resolves, resolves_by_scan};
+use crate::scan::resolves_by_scan;
+use crate::{Lit, TermId, resolves};
 use std::alloc::{AllocError, Global};
 use std::test::Fail;
 

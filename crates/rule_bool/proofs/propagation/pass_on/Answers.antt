@@ -1,5 +1,5 @@
 -- That each of the premises loses a literal.
-use Rattle.std.proofs.Common.{arith, refl, get_or, ◌∙◌}
+use Rattle.std.proofs.Common.{arith, refl, get_or}
 use Rattle.rule_bool.proofs.Stepping.{losing_none, losing_more, losing_all, refuted_here}
 use Rattle.rule_bool.proofs.propagation.pass_on.Goals as goal
 

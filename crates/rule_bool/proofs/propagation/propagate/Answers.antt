@@ -33,7 +33,7 @@ loop-done-smaller c =
 pub loop-done-preserved : goal.loop-done-preserved
 loop-done-preserved c =
     let went = rw c.if-branch.false at c.in_ok-pass_on.ensures in
-    going_more (lists c.args.premises.now) c.requires.once c.args.watchers.now c.requires.index c.args.held.now c.loop-done.held c.pass_on.new.held c.loop-done.left c.pass_on.new.left c.loop-done.done c.at.result c.of-losing.result.now (omega arith) c.at.ensures (λ k w. c.of-losing.ensures.complete k (subst (λ (x : Lit). Watches c.args.watchers.now x k) (sym c.negated.ensures) w)) c.loop-done.invariant went
+    going_more (lists c.args.premises.now) c.requires.once c.args.watchers.now c.requires.index c.args.held.now c.loop-done.held c.pass_on.new.held c.loop-done.left c.pass_on.new.left c.loop-done.done c.at.result c.of-losing.result.now (omega arith) c.at.ensures (λ k w. c.of-losing.ensures.complete k (subst (λ (x : Lit). Watches c.args.watchers.now x k) (sym c.negated-complement.ensures) w)) c.loop-done.invariant went
 
 pub returns : goal.returns
 returns c = going_all (lists c.args.premises.now) c.requires.once c.args.held.now c.loop-done.held c.loop-done.left c.loop-done.done (omega arith) c.loop-done.invariant

@@ -1,6 +1,6 @@
 -- That the answer says whether there is a conflict.
 use Rattle.spec_proofs.specs.Resolution.{both_ways, given}
-use Rattle.rule_bool.specs.Literals.{lit_complement, lists}
+use Rattle.rule_bool.specs.Literals.{lit_complement}
 use Rattle.rule_bool.proofs.Advancing.{held_on}
 use Rattle.rule_bool.proofs.Quiet.{no_conflict, conflicts_too, sets_there, sets_back, sets_once}
 use Rattle.rule_bool.proofs.propagation.resolves.Goals as goal

@@ -1,5 +1,5 @@
 -- That the passes end in a conflict exactly where there is one.
-use Rattle.std.proofs.Common.{subst, sym, arith, List}
+use Rattle.std.proofs.Common.{subst, arith, List}
 use Rattle.rule_bool.specs.declared.lits.Lit.{Lit}
 use Rattle.rule_bool.specs.Literals.{lit_complement}
 use Rattle.rule_bool.specs.Findings.{IsSettled}

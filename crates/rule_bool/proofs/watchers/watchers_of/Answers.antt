@@ -1,5 +1,5 @@
 -- That each clause is in the lists.
-use Rattle.std.proofs.Common.{arith, ◌∙◌}
+use Rattle.std.proofs.Common.{◌∙◌}
 use Rattle.std.proofs.lemmas.List.{length-map}
 use Rattle.rule_bool.specs.Literals.{lists}
 use Rattle.rule_bool.proofs.Once.{clause_at}
