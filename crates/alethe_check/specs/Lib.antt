@@ -1,5 +1,6 @@
 -- The definitions that contracts cite.
 pub mod Views
+pub mod Members
 pub mod Scripts
 pub mod Loads
 pub mod Shapes

@@ -1,12 +1,14 @@
 -- What is known of a script while it is read. Source: own.
-use Rattle.std.specs.Prelude.{◌≡◌, ℕ, List, map, Option, Some, None, Result, Ok, Err}
+use Rattle.std.specs.Prelude.{◌≡◌, ℕ, List, map, length, nat_lt, Option, Some, None, Result, Ok, Err}
 use Rattle.spec_text.specs.declared.Fault.{Fault}
-use Rattle.spec_text.specs.declared.Fault.TheVariants.{BadShape}
+use Rattle.spec_text.specs.declared.Fault.TheVariants.{BadShape, Full}
 use Rattle.spec_text.specs.Places.{IsPlaceOf}
 use Rattle.spec_text.specs.Trees.{Tree, Trees, none, more, offset_of}
-use Rattle.spec_text.specs.Answers.{Answer, refused}
+use Rattle.spec_text.specs.Answers.{Answer, ◌>>=◌, refused, require}
+use Rattle.spec_text.specs.Bytes.{Name}
+use Rattle.spec_terms.specs.Terms.{Truth, constant}
 use Rattle.spec_scripts.specs.Commands.{Command, SetOption, DeclareConst, Assert, CheckSat, Exit, Verb, sets_option, declares_const, asserts, checks, exits, command_as, verb_of}
-use Rattle.spec_scripts.specs.Stack.{Stack, Assertion, Effect, done, unsupported, check, leave, Taken, step, performed}
+use Rattle.spec_scripts.specs.Stack.{Stack, Assertion, Effect, done, unsupported, check, leave, Taken, step, with_symbol}
 use Rattle.smt_lexer.specs.declared.Refused.{Refused}
 use Rattle.smt_lexer.specs.declared.Refused.TheVariants as refusals
 use Rattle.smt_sexpr.specs.declared.sexpr.Sexpr.{Sexpr}
@@ -67,11 +69,15 @@ pub record IsStack (x : Script) (s : Stack) : Type 0 where
   -- the option
   pub option : s.print_success ≡ x.print_success
 
--- a command was performed, or has a fault and changed nothing
-abbrev pub Performs : (limit at : ℕ) → Stack → Command → Result (Unit {0}) TermStop → Script → Type 0
-Performs limit at s c (Ok u) new = (next : Stack) × (performed limit at s c ≡ Ok next) × IsStack new next
-Performs limit at s c (Err (term_stops.Fault f)) new = (performed limit at s c ≡ Err (located f)) × IsStack new s
-Performs limit at s c (Err term_stops.Memory) new = IsStack new s
+-- the stack is what a command leaves; or the command has a fault and changed nothing; nor did it where memory ran out
+abbrev pub Becomes : Answer Stack → Stack → Result (Unit {0}) TermStop → Script → Type 0
+Becomes left s (Ok u) new = (next : Stack) × (left ≡ Ok next) × IsStack new next
+Becomes left s (Err (term_stops.Fault f)) new = (left ≡ Err (located f)) × IsStack new s
+Becomes left s (Err term_stops.Memory) new = IsStack new s
+
+-- one constant of sort Bool more, if there is room for it
+abbrev pub roomy_symbol : (limit at : ℕ) → Stack → Name → Answer Stack
+roomy_symbol limit at s n = require (nat_lt (length s.symbols) limit) at Full >>= λ room. Ok (with_symbol s (constant n Truth))
 
 -- the command of a tree was taken, or has a fault and changed nothing
 abbrev pub Takes : ℕ → Stack → Tree → Result Took TermStop → Script → Type 0

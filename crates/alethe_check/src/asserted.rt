@@ -2,10 +2,10 @@
 
 ghost use Rattle.std.specs.Prelude.{◌≡◌, ◌++◌, [], ◌∷◌, Contains, MatchBool, OnOk};
 
-use crate::terms::TermId;
 use indexmap::IndexSet;
 use std::alloc::{AllocError, Global};
 use std::marker::Model;
+use term_core::TermId;
 
 /// Terms by their numbers, in the order in which they were asserted.
 #[derive(Drop)]
@@ -16,8 +16,8 @@ pub struct Asserted {
 
 impl Model for Asserted {
     ghost use Rattle.std.specs.Prelude.{List};
-    ghost use Rattle.alethe_check.specs.declared.terms.TermId.{TermId};
-    ghost use Rattle.alethe_check.specs.Tables.{HaveSameMembers};
+    ghost use Rattle.term_core.specs.declared.ids.TermId.{TermId};
+    ghost use Rattle.alethe_check.specs.Members.{HaveSameMembers};
 
     ghost Value = { List TermId };
 

@@ -86,7 +86,7 @@ fn assertion<'a>(text: &'a [u8], items: &'a [Item]) -> Option<ScriptCommand<'a>>
 }
 
 fn alone<'a>(text: &'a [u8], command: ScriptCommand<'a>, items: &'a [Item]) -> Option<ScriptCommand<'a>>
-    ensures { option_map (command_view text.now) result ≡ alone (command_view text.now command) (trees_in text.now items.now) }
+    ensures { option_map (command_view text.now) result ≡ alone (command_view text.now command.entry) (trees_in text.now items.now) }
 {
     want_end(items)?;
     Some(command)

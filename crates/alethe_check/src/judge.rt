@@ -128,18 +128,18 @@ fn judge_row(
     held: &mut Held,
     text: &[u8],
     at: Place,
-    open: usize,
+    lists: usize,
 ) -> Result<Row, Stop>
     requires sound { IsSound held.old }
     requires place { IsPlaceOf text.now at }
-    requires few { open ≤ nesting_limit }
-    ensures judged { JudgesRow text.now open (lexemes_from text.now at.offset) (known_view held.old) result held.new }
+    requires few { lists ≤ nesting_limit }
+    ensures judged { JudgesRow text.now lists (lexemes_from text.now at.offset) (known_view held.old) result held.new }
     ensures sound { OnOk result (IsSound held.new) }
 {
     spec_text::laws::each_text_is_read();
     let mut place = at;
     'commands: loop {
-        let (sexpr, after) = match read_next(alloc, text, place, open) {
+        let (sexpr, after) = match read_next(alloc, text, place, lists) {
             Ok(Next::One(sexpr, after)) => (sexpr, after),
             Ok(Next::Close(after)) => return Ok(Row::Close(after)),
             Ok(Next::End) => return Ok(Row::End),

@@ -6,14 +6,14 @@ ghost use Rattle.std.specs.Prelude.{◌≡◌, ℕ, ◌≤◌, [], Bool, true, f
 ghost use Rattle.spec_text.specs.Bytes.{among, one_of};
 ghost use Rattle.spec_text.specs.Trees.{Tree, offset_of};
 ghost use Rattle.spec_terms.specs.Terms.{Truth};
-ghost use Rattle.spec_scripts.specs.Stack.{Stack, empty_stack, theory_names, names_of, is_kept_name, is_barred, is_taken, new_name, sort_named, atom_sort, sort_in, truth_named, truth_in, is_known_option};
+ghost use Rattle.spec_scripts.specs.Stack.{with_success, performed, Stack, empty_stack, theory_names, names_of, is_kept_name, is_barred, is_taken, new_name, sort_named, atom_sort, sort_in, truth_named, truth_in, is_known_option};
 ghost use Rattle.spec_scripts.specs.Commands.{SetOption, DeclareConst, Assert};
 ghost use Rattle.smt_sexpr.specs.Items.{trees_in, tree_in, tree_of};
 ghost use Rattle.smt_sexpr.specs.Views.{word_view};
 ghost use Rattle.term_core.specs.Tables.{term_at, AreIn};
 ghost use Rattle.alethe_check.specs.Views.{Gives};
 ghost use Rattle.spec_scripts.specs.Stack.{effect_of};
-ghost use Rattle.alethe_check.specs.Scripts.{command_view, effect_meant, IsStack, Performs, Takes, Steps};
+ghost use Rattle.alethe_check.specs.Scripts.{command_view, effect_meant, IsStack, Becomes, roomy_symbol, Takes, Steps};
 
 use crate::asserted::Asserted;
 use crate::commands::{ScriptCommand, refused, script_command};
@@ -144,15 +144,29 @@ fn is_declared(table: &TermTable, name: &[u8]) -> bool
     }
 }
 
-/// The name that a word may declare.
-#[tactic(auto, unfolding(spec_text::specs::Answers::require))]
-fn new_name<'a>(table: &TermTable, word: Word<'a>) -> Result<&'a [u8], TermStop>
-    ensures { Gives (λ b. b.now) result (new_name table.now.symbols (word_view word.entry)) }
+/// Tells whether a word is reserved, or a name that is kept.
+fn is_barred(word: Word<'_>) -> bool
+    ensures { result ≡ is_barred (word_view word.entry) }
 {
-    if is_reserved(word.kind) || is_kept(word.bytes) {
+    is_reserved(word.kind) || is_kept(word.bytes)
+}
+
+/// Tells whether a name is a theory's, or declared.
+fn is_taken(table: &TermTable, name: &[u8]) -> bool
+    ensures { result ≡ is_taken table.now.symbols name.now }
+{
+    is_theory_name(name) || is_declared(table, name)
+}
+
+/// The name that a word may declare.
+fn new_name<'a>(table: &TermTable, word: Word<'a>) -> Result<&'a [u8], TermStop>
+    ensures gives { Gives (λ b. b.now) result (new_name table.now.symbols (word_view word.entry)) }
+    ensures new { IfOk result (λ b. is_taken table.now.symbols b.now ≡ false) }
+{
+    if is_barred(word) {
         return Err(refused(word.at, Fault::Reserved));
     }
-    if is_theory_name(word.bytes) || is_declared(table, word.bytes) {
+    if is_taken(table, word.bytes) {
         return Err(refused(word.at, Fault::Twice));
     }
     Ok(word.bytes)
@@ -217,32 +231,34 @@ fn is_known_option(name: &[u8]) -> bool
     same_bytes(name, b"print-success")
 }
 
+/// Sets the option that is known, by a command at an offset.
+fn set_success(script: &mut Script, at: u64, value: Option<bool>) -> Result<(), TermStop>
+    ensures { (s : Stack) → IsStack script.old s → Becomes (with_success at s value) s result script.new }
+{
+    match value {
+        Some(print) => {
+            script.print_success = print;
+            Ok(())
+        }
+        None => Err(refused(at, Fault::BadShape)),
+    }
+}
+
 /// Sets an option of a command at an offset.
 fn set_option(script: &mut Script, text: &[u8], at: u64, name: &[u8], value: &[Item]) -> Result<(), TermStop>
-    ensures { (limit : ℕ) (s : Stack) → IsStack script.old s → Performs limit at s (SetOption name.now (tree_in text.now value.now)) result script.new }
+    ensures { (limit : ℕ) (s : Stack) → IsStack script.old s → Becomes (performed limit at s (SetOption name.now (tree_in text.now value.now))) s result script.new }
 {
-    if !is_known_option(name) {
-        return Ok(());
+    if is_known_option(name) {
+        return set_success(script, at, truth_in(text, value));
     }
-    let Some(value) = truth_in(text, value) else {
-        return Err(refused(at, Fault::BadShape));
-    };
-    script.print_success = value;
     Ok(())
 }
 
-/// Declares a constant by a command at an offset.
-fn declare(script: &mut Script, text: &[u8], at: u64, word: Word<'_>, sort: &[Item], limit: u64) -> Result<(), TermStop>
-    ensures { (s : Stack) → IsStack script.old s → Performs limit at s (DeclareConst (word_view word.entry) (tree_in text.now sort.now)) result script.new }
+/// Declares a constant of sort Bool under a new name, by a command at an offset, if there is room for it.
+fn declare_name(script: &mut Script, at: u64, name: &[u8], limit: u64) -> Result<(), TermStop>
+    requires { is_taken script.old.table.symbols name.now ≡ false }
+    ensures { (s : Stack) → IsStack script.old s → Becomes (roomy_symbol limit at s name.now) s result script.new }
 {
-    let name = match new_name(&script.table, word) {
-        Ok(name) => name,
-        Err(stop) => return Err(stop),
-    };
-    match sort_in(text, sort) {
-        Ok(()) => {}
-        Err(stop) => return Err(stop),
-    }
     if script.table.symbols().len() >= limit {
         return Err(refused(at, Fault::Full));
     }
@@ -252,9 +268,23 @@ fn declare(script: &mut Script, text: &[u8], at: u64, word: Word<'_>, sort: &[It
     }
 }
 
+/// Declares a constant by a command at an offset.
+fn declare(script: &mut Script, text: &[u8], at: u64, word: Word<'_>, sort: &[Item], limit: u64) -> Result<(), TermStop>
+    ensures { (s : Stack) → IsStack script.old s → Becomes (performed limit at s (DeclareConst (word_view word.entry) (tree_in text.now sort.now))) s result script.new }
+{
+    let name = match new_name(&script.table, word) {
+        Ok(name) => name,
+        Err(stop) => return Err(stop),
+    };
+    match sort_in(text, sort) {
+        Ok(()) => declare_name(script, at, name, limit),
+        Err(stop) => Err(stop),
+    }
+}
+
 /// Asserts the term that the first tree of the items is, by a command at an offset.
 fn assert_term(script: &mut Script, alloc: Global, text: &[u8], at: u64, items: &[Item], limit: u64) -> Result<(), TermStop>
-    ensures { (s : Stack) → IsStack script.old s → Performs limit at s (Assert (tree_in text.now items.now)) result script.new }
+    ensures { (s : Stack) → IsStack script.old s → Becomes (performed limit at s (Assert (tree_in text.now items.now))) s result script.new }
 {
     match terms(alloc, &mut script.table, text, items, at, limit) {
         Ok(read) => match read.first() {
@@ -270,7 +300,7 @@ fn assert_term(script: &mut Script, alloc: Global, text: &[u8], at: u64, items: 
 
 /// Performs a command at an offset.
 fn perform(script: &mut Script, alloc: Global, text: &[u8], at: u64, command: ScriptCommand<'_>, limit: u64) -> Result<(), TermStop>
-    ensures { (s : Stack) → IsStack script.old s → Performs limit at s (command_view text.now command.entry) result script.new }
+    ensures { (s : Stack) → IsStack script.old s → Becomes (performed limit at s (command_view text.now command.entry)) s result script.new }
 {
     match command {
         ScriptCommand::SetOption(name, value) => set_option(script, text, at, name, value),

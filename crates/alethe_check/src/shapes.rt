@@ -233,7 +233,7 @@ fn assume_shape<'a>(text: &'a [u8], items: &'a [Item]) -> Option<Shape<'a>>
 
 /// The items of premises, where they are given.
 fn or_none(premises: Option<&[Item]>) -> &[Item]
-    ensures { (text : List ℕ) → trees_in text result.now ≡ or_none (option_map (trees_view text) premises) }
+    ensures { (text : List ℕ) → trees_in text result.now ≡ or_none (option_map (trees_view text) premises.entry) }
 {
     match premises {
         Some(items) => items,

@@ -1,10 +1,10 @@
 -- What a flat list of items means, item by item.
-use Rattle.std.proofs.Common.{◌≡◌, ℕ, zero, suc, ◌+◌, ◌≤◌, List, [], ◌∷◌, length, take, drop, Some, None, refl, sym, ap, ◌∙◌, ◌⊎◌, inl, inr, arith}
+use Rattle.std.proofs.Common.{◌≡◌, ℕ, zero, suc, ◌+◌, ◌≤◌, List, [], ◌∷◌, length, take, drop, Some, None, refl, sym, ap, ◌∙◌, ◌⊎◌, inl, inr, length-take, arith}
 use Rattle.std.specs.Prelude.{min}
 use Rattle.std.proofs.lemmas.List.{drop_all, take_min}
 use Rattle.spec_text.specs.declared.Kind.{Kind}
 use Rattle.spec_text.specs.declared.Kind.TheVariants.{Numeral}
-use Rattle.spec_text.specs.Trees.{atom, list, none, more}
+use Rattle.spec_text.specs.Trees.{Tree, Trees, atom, list, none, more}
 use Rattle.smt_sexpr.specs.Means.{bytes_at, trees_within, trees_in, first_of, tree_in}
 use Rattle.smt_sexpr.specs.declared.items.Item.{Item}
 use Rattle.smt_sexpr.specs.declared.items.Item.TheVariants.{Atom, List as Group}
@@ -74,6 +74,22 @@ module _ (text : List ℕ) where
       let one : m + 1 ≡ suc m = omega arith in
       let inside : take count (take m is) ≡ take count is = ap (take count) (take_min count is) ∙ take_twice count is in
       rw one (ap (λ ts. Some (first_of ts, trees_in text (drop m is))) (trees_list at end count (take m is)) ∙ ap (λ xs. Some (list at (trees_in text xs) end, trees_in text (drop m is))) inside ∙ ap (λ xs. Some (list at (trees_in text (take count is)) end, trees_in text xs)) (drop_min count is) ∙ ap split_first (sym (trees_list at end count is)))
+
+  -- one tree is its own first
+  alone_by : (ts : Trees) (t : Tree) → ts ≡ more t none → ts ≡ more (first_of ts) none
+  alone_by ts t e = e ∙ ap (λ us. more (first_of us) none) (sym e)
+
+  fewer : (count : ℕ) (is : List Item) → length (take (min count (length is)) is) ≤ count
+  fewer count is = omega (arith, take_fits (min count (length is)) count is, length-take (min count (length is)) is)
+
+  -- the items of the first tree mean no other
+  pub first_alone : (is : List Item) → (is ≡ [] → ⊥) → trees_in text (take (count_first is) is) ≡ more (tree_in text (take (count_first is) is)) none
+  first_alone [] h = absurd (h refl)
+  first_alone (Atom kind at size ∷ is) h = alone_by (trees_in text (Atom kind at size ∷ [])) (atom at kind (bytes_at text kind at size)) (trees_atom kind at size [] ∙ ap (more (atom at kind (bytes_at text kind at size))) trees_none)
+  first_alone (Group at end count ∷ is) h =
+      let m = min count (length is) in
+      let one : m + 1 ≡ suc m = omega arith in
+      rw one (alone_by (trees_in text (Group at end count ∷ take m is)) (list at (trees_in text (take count (take m is))) end) (trees_list at end count (take m is) ∙ ap (λ xs. more (list at (trees_in text (take count (take m is))) end) (trees_in text xs)) (drop_all count (take m is) (fewer count is)) ∙ ap (more (list at (trees_in text (take count (take m is))) end)) trees_none))
 
   pub look_none : (is : List Item) → length is ≡ 0 → atom 0 Numeral [] ≡ tree_in text is
   look_none [] h = ap first_of (sym trees_none)

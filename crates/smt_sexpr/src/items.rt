@@ -2,6 +2,7 @@
 
 ghost use Rattle.std.specs.Prelude.{◌≡◌, ℕ, ◌+◌, ◌<◌, ◌≤◌, List, length, take, drop, option_map, IfSome};
 ghost use Rattle.smt_sexpr.specs.Means.{marks, bytes_at, trees_in, tree_in};
+ghost use Rattle.spec_text.specs.Trees.{more, none};
 ghost use Rattle.smt_sexpr.specs.Items.{split_first, two, seen, count_first, IsShorter};
 
 use smt_lexer::Kind;
@@ -44,6 +45,7 @@ fn first_len(items: &[Item]) -> usize
 /// Source: own.
 pub fn split(items: &[Item]) -> Option<(&[Item], &[Item])>
     ensures first { (text : List ℕ) → option_map (two text) result ≡ split_first (trees_in text items.now) }
+    ensures alone { (text : List ℕ) → IfSome result (λ x. trees_in text x.0.now ≡ more (tree_in text x.0.now) none) }
     ensures less { IfSome result (λ x. length x.1.now < length items.now) }
     ensures within { IfSome result (λ x. length x.0.now ≤ length items.now) }
 {

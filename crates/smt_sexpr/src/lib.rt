@@ -14,6 +14,6 @@ pub use reader::{Next, read_next, read_one};
 pub use sexpr::Sexpr;
 pub use shapes::{
     Word, is_keyword, is_reserved, is_simple, is_symbol, is_word, list_first, list_inside, offset,
-    same_bytes, tree_alone, want, want_end, want_keyword, word_first,
+    passes, same_bytes, tree_alone, want, want_end, want_keyword, word_first,
 };
 pub use smt_lexer::{Fault, Kind, Place, Refusal, Refused};
