@@ -1,2 +1,3 @@
 -- Lemmas.
 pub mod CommandTrees
+pub mod Stacks

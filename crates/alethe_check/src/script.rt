@@ -2,13 +2,15 @@
 //!
 //! The commands are `set-option`, `declare-const` of sort Bool, `assert`, `check-sat` and `exit`.
 
-ghost use Rattle.std.specs.Prelude.{◌≡◌, ℕ, ◌≤◌, [], Bool, true, false, List, length, option_map, IfOk};
+ghost use Rattle.std.specs.Prelude.{◌≡◌, ℕ, ◌≤◌, ◌<◌, [], Bool, true, false, List, length, option_map, IfOk};
 ghost use Rattle.spec_text.specs.Bytes.{among, one_of};
-ghost use Rattle.spec_text.specs.Trees.{Tree, offset_of};
+ghost use Rattle.spec_text.specs.Places.{IsPlaceOf};
+ghost use Rattle.spec_text.specs.Trees.{Tree, more, none, offset_of};
 ghost use Rattle.spec_terms.specs.Terms.{Truth};
 ghost use Rattle.spec_scripts.specs.Stack.{with_success, performed, Stack, empty_stack, theory_names, names_of, is_kept_name, is_barred, is_taken, new_name, sort_named, atom_sort, sort_in, truth_named, truth_in, is_known_option};
 ghost use Rattle.spec_scripts.specs.Commands.{SetOption, DeclareConst, Assert};
-ghost use Rattle.smt_sexpr.specs.Items.{trees_in, tree_in, tree_of};
+ghost use Rattle.smt_sexpr.specs.Items.{tree_of, text_of, start_of};
+ghost use Rattle.smt_sexpr.specs.Items.{trees_in, tree_in};
 ghost use Rattle.smt_sexpr.specs.Views.{word_view};
 ghost use Rattle.term_core.specs.Tables.{term_at, AreIn};
 ghost use Rattle.alethe_check.specs.Views.{Gives};
@@ -17,9 +19,9 @@ ghost use Rattle.alethe_check.specs.Scripts.{command_view, effect_meant, IsStack
 
 use crate::asserted::Asserted;
 use crate::commands::{ScriptCommand, refused, script_command};
-use smt_lexer::{Refusal, Refused, is_one_of};
+use smt_lexer::{Place, Refusal, Refused, is_one_of};
 use smt_sexpr::{
-    Item, Kind, Sexpr, View, Word, is_reserved, is_symbol, look, offset, same_bytes,
+    Item, Kind, Sexpr, View, Word, is_reserved, is_symbol, look, offset, same_bytes, split,
 };
 use sort_check::{TermStop, terms};
 use spec_text::Fault;
@@ -106,15 +108,29 @@ impl Script {
     ) -> Result<Took, Refused>
         ensures steps { (s : Stack) → IsStack self.old s → Steps limit s sexpr.now result self.new }
     {
+        spec_scripts::laws::faults_stand_in_their_command();
+        sexpr.offsets_have_places();
         match take(self, alloc, sexpr.text(), sexpr.items(), limit) {
             Ok(took) => Ok(took),
             Err(TermStop::Fault(fault)) => Err(Refused::Fault(Refusal {
-                place: sexpr.place(fault.offset),
+                place: place_in(sexpr, fault.offset),
                 fault: fault.fault,
             })),
             Err(TermStop::Memory) => Err(Refused::Memory),
         }
     }
+}
+
+/// The place of an offset that stands in an s-expression; of any other offset, where the s-expression begins.
+fn place_in(sexpr: &Sexpr<'_>, offset: u64) -> Place
+    ensures place { IsPlaceOf (text_of sexpr.now) result }
+    ensures offset { start_of sexpr.now ≤ offset → offset < length (text_of sexpr.now) → result.offset ≡ offset }
+{
+    let start = sexpr.start();
+    if start.offset <= offset && offset < sexpr.text().len() as u64 {
+        return sexpr.place(offset);
+    }
+    start
 }
 
 /// Tells whether a name is a theory's.
@@ -282,19 +298,31 @@ fn declare(script: &mut Script, text: &[u8], at: u64, word: Word<'_>, sort: &[It
     }
 }
 
+/// Asserts the term that items mean that are of one tree, by a command at an offset.
+fn assert_alone(script: &mut Script, alloc: Global, text: &[u8], at: u64, items: &[Item], limit: u64) -> Result<(), TermStop>
+    requires { trees_in text.now items.now ≡ more (tree_in text.now items.now) none }
+    ensures { (s : Stack) → IsStack script.old s → Becomes (performed limit at s (Assert (tree_in text.now items.now))) s result script.new }
+{
+    let read = match terms(alloc, &mut script.table, text, items, at, limit) {
+        Ok(read) => read,
+        Err(stop) => return Err(stop),
+    };
+    let Some(id) = read.first() else {
+        return Ok(());
+    };
+    match script.asserted.add(*id) {
+        Ok(()) => Ok(()),
+        Err(_) => Err(TermStop::Memory),
+    }
+}
+
 /// Asserts the term that the first tree of the items is, by a command at an offset.
 fn assert_term(script: &mut Script, alloc: Global, text: &[u8], at: u64, items: &[Item], limit: u64) -> Result<(), TermStop>
     ensures { (s : Stack) → IsStack script.old s → Becomes (performed limit at s (Assert (tree_in text.now items.now))) s result script.new }
 {
-    match terms(alloc, &mut script.table, text, items, at, limit) {
-        Ok(read) => match read.first() {
-            Some(id) => match script.asserted.add(*id) {
-                Ok(()) => Ok(()),
-                Err(_) => Err(TermStop::Memory),
-            },
-            None => Ok(()),
-        },
-        Err(stop) => Err(stop),
+    match split(items) {
+        Some((first, _)) => assert_alone(script, alloc, text, at, first, limit),
+        None => Err(refused(0, Fault::UnknownSymbol)),
     }
 }
 

@@ -43,6 +43,14 @@ impl<'a> Sexpr<'a> {
         self.items.as_slice()
     }
 
+    /// Gives the place of its first byte. Source: own.
+    pub fn start(&self) -> Place
+        ensures place { IsPlaceOf (text_of self.now) result }
+        ensures offset { result.offset ≡ start_of self.now }
+    {
+        self.start
+    }
+
     /// Gives the place of an offset of the text, from its first byte on up to the end of the text. It takes time linear in
     /// the number of bytes between them. Source: own.
     pub fn place(&self, offset: u64) -> Place
