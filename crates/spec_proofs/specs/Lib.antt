@@ -11,3 +11,4 @@ pub mod Judging
 pub mod Good
 pub mod Accepted
 pub mod Examples
+pub mod ExamplesUnread
