@@ -10,3 +10,6 @@ pub mod Models
 pub mod Same
 pub mod Refuting
 pub mod Verdicts
+pub mod Parts
+pub mod Offsets
+pub mod Within

@@ -1,8 +1,9 @@
 //! What the definitions imply. Each law is a function whose contract is the law; it computes nothing.
 
-ghost use Rattle.std.specs.Prelude.{◌≡◌, ◌↔◌, ℕ, Bool, true, List, [], ◌∷◌, map, All, Option, None};
+ghost use Rattle.std.specs.Prelude.{◌≡◌, ◌↔◌, ◌≤◌, ℕ, Bool, true, List, [], ◌∷◌, length, map, All, Option, Some, None, Ok, Err};
 ghost use Rattle.spec_text.specs.Bytes.{Name};
-ghost use Rattle.spec_text.specs.Trees.{Trees};
+ghost use Rattle.spec_text.specs.Trees.{Tree, Trees};
+ghost use Rattle.spec_text.specs.Offsets.{HasOffset};
 ghost use Rattle.spec_terms.specs.Values.{Interpretation, Interprets, truth, table_value};
 ghost use Rattle.spec_terms.specs.Agreement.{value_at};
 ghost use Rattle.spec_terms.specs.Literals.{Clause, complement, literals_of};
@@ -12,10 +13,11 @@ ghost use Rattle.spec_proofs.specs.Resolution.{IsWithin, IsChain};
 ghost use Rattle.spec_proofs.specs.Clauses.{IsResolvent, clause_true};
 ghost use Rattle.spec_proofs.specs.Truths.{Truths, term_true_by};
 ghost use Rattle.spec_proofs.specs.Rules.{IsRight};
-ghost use Rattle.spec_proofs.specs.Commands.{Known, known_at};
+ghost use Rattle.spec_proofs.specs.Commands.{Known, Command, known_at};
+ghost use Rattle.spec_proofs.specs.Known.{command_of};
 ghost use Rattle.spec_proofs.specs.Faults.{Fault};
 ghost use Rattle.spec_proofs.specs.Texts.{Ending, IsProofText};
-ghost use Rattle.spec_proofs.specs.Judging.{FirstFault};
+ghost use Rattle.spec_proofs.specs.Judging.{fault_of, FirstFault};
 ghost use Rattle.spec_proofs.specs.Good.{IsGood};
 ghost use Rattle.spec_proofs.specs.Accepted.{IsAccepted, IsVerdict};
 
@@ -104,4 +106,22 @@ pub fn unsatisfiable_scripts_have_a_proof()
         → (ts : Trees) × IsGood (known_at s) ts }
 {
     spec_scripts::laws::assertions_are_read();
+}
+
+/// States that the fault of a command of a proof stands at the offset of one of its atoms or lists: that of reading it,
+/// and that of a command that is read and isn't right. Source: own.
+pub fn faults_stand_in_their_command()
+    ensures reading { (k : Known) (t : Tree) (f : Fault) → command_of k t ≡ Err f → HasOffset t f.offset }
+    ensures judging { (k : Known) (t : Tree) (c : Command) → command_of k t ≡ Ok c → HasOffset t (fault_of c).offset }
+{
+    spec_terms::faults_stand_in_their_text();
+}
+
+/// States that the fault of a verdict lies in the proof, or at its end. Source: own.
+pub fn faults_stand_in_their_proof()
+    ensures { (script proof : List ℕ) (k : ℕ) (f : Fault) → IsVerdict script k proof (Some f) → f.offset ≤ length proof }
+{
+    spec_text::laws::trees_stand_in_their_text();
+    spec_text::laws::lexical_faults_stand_in_their_text();
+    spec_terms::faults_stand_in_their_text();
 }
