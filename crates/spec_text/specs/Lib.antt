@@ -5,6 +5,7 @@ pub mod Places
 pub mod Trees
 pub mod Faults
 pub mod Readings
+pub mod Printed
 pub mod Lexicon
 pub mod Examples
 pub mod Shapes
