@@ -4,4 +4,5 @@ pub mod Contexts
 pub mod Words
 pub mod Broken
 pub mod Offsets
+pub mod Tokens
 pub mod Reading
