@@ -6,3 +6,5 @@ pub mod Spelling
 pub mod Longest
 pub mod Reading
 pub mod Ends
+pub mod Words
+pub mod Printing

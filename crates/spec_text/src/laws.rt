@@ -1,10 +1,11 @@
 //! Laws of texts, lexemes and trees: functions with empty bodies, whose clauses are proved of the definitions.
 
-ghost use Rattle.std.specs.Prelude.{◌≡◌, ℕ, List, ◌∷◌, Option, None, IfSome};
-ghost use Rattle.spec_text.specs.Lexemes.{Lexeme, first_piece};
+ghost use Rattle.std.specs.Prelude.{◌≡◌, ℕ, List, ◌∷◌, ◌++◌, Option, None, IfSome};
+ghost use Rattle.spec_text.specs.Lexemes.{Lexeme, first_piece, lexemes_from};
 ghost use Rattle.spec_text.specs.Lexicon.{Spells, IsFirst};
-ghost use Rattle.spec_text.specs.Trees.{Trees, IsRead};
+ghost use Rattle.spec_text.specs.Trees.{Tree, Trees, none, more, spelled, IsRead};
 ghost use Rattle.spec_text.specs.Faults.{Located, lexical_fault};
+ghost use Rattle.spec_text.specs.Printed.{printed, SameTree};
 ghost use Rattle.spec_text.specs.Readings.{IsReadUpTo};
 ghost use Rattle.spec_text.specs.declared.Fault.TheVariants.{TooDeep};
 
@@ -27,6 +28,12 @@ pub fn a_read_text_has_no_fault_but_depth()
 /// none. Source: own.
 pub fn a_text_is_read_up_to_one_end()
     ensures { (text : List ℕ) (ts us : Trees) (f g : Option Located) → IsReadUpTo text ts f → IsReadUpTo text us g → (ts ≡ us) × (f ≡ g) }
+{}
+
+/// Says that an s-expression of a text is read back from how it is printed, but for offsets and the bars of symbols.
+/// Source: own.
+pub fn printed_trees_read_back()
+    ensures { (text : List ℕ) (at : ℕ) (t : Tree) (rest : List (ℕ × Lexeme)) → lexemes_from text at ≡ spelled t ++ rest → (u : Tree) × IsRead (printed t) (more u none) × SameTree t u }
 {}
 
 /// Says that the first lexeme of a text is the longest front that the lexicon's table has, and that a text whose first
