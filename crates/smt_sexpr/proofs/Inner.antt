@@ -66,8 +66,8 @@ mutual
   parts_of (more t ts) i h = elim (cases_lt i (length (flat t))) [
     | inl l ↦ part_before (spelled t) (spelled_all ts) (flat t) (flat_all ts) i (omega arith) (part_of t i l)
     | inr l ↦
-      let at : length (flat t) + (i - length (flat t)) ≡ i = omega arith in
-      subst (Part (spelled t ++ spelled_all ts) (flat t ++ flat_all ts)) at (part_behind (spelled t) (spelled_all ts) (flat t) (flat_all ts) (i - length (flat t)) (parts_of ts (i - length (flat t)) (omega (arith, h, length-append (flat t) (flat_all ts)))))
+        let at : length (flat t) + (i - length (flat t)) ≡ i = omega arith in
+        subst (Part (spelled t ++ spelled_all ts) (flat t ++ flat_all ts)) at (part_behind (spelled t) (spelled_all ts) (flat t) (flat_all ts) (i - length (flat t)) (parts_of ts (i - length (flat t)) (omega (arith, h, length-append (flat t) (flat_all ts)))))
   ]
 
 -- the tree of an item stands in the text, at the offsets that the item has
@@ -85,7 +85,7 @@ inner text start is i d read within =
     let rest = drop (length (spelled whole)) (lexemes_from text start) in
     let p = part_of whole i (omega (arith, ap length read.0)) in
     let place : lexemes_from text start ≡ p.front ++ (spelled p.part ++ (p.back ++ rest)) =
-        read.1 ∙ ap (λ zs. zs ++ rest) p.tokens ∙ append_assoc p.front (spelled p.part ++ p.back) rest ∙ ap (λ zs. p.front ++ zs) (append_assoc (spelled p.part) p.back rest) in
+    read.1 ∙ ap (λ zs. zs ++ rest) p.tokens ∙ append_assoc p.front (spelled p.part ++ p.back) rest ∙ ap (λ zs. p.front ++ zs) (append_assoc (spelled p.part) p.back rest) in
     let here : lexemes_from text (offset_of p.part) ≡ spelled p.part ++ (p.back ++ rest) = found p.part p.front (p.back ++ rest) place in
     let after : drop (length (spelled p.part)) (lexemes_from text (offset_of p.part)) ≡ p.back ++ rest = ap (drop (length (spelled p.part))) here ∙ drop_at (spelled p.part) (p.back ++ rest) (length (spelled p.part)) refl in
     let items : drop i is ≡ flat p.part ++ p.behind = ap (drop i) read.0 ∙ p.items in

@@ -108,11 +108,7 @@ fn fits(alloc: Global, read: Result<Next<'_>, Refused>, wanted: Want) -> Result<
     match (read, wanted) {
         (Ok(Next::One(s, after)), Want::One(text, place, behind)) => {
             let printed = is_printed(alloc, &s, 0, text.as_bytes())?;
-            Ok(
-                printed
-                    && is_at(place_at(s.text(), place.0 as usize), place)
-                    && after.offset == behind,
-            )
+            Ok(printed && is_at(s.start, place) && after.offset == behind)
         }
         (Ok(Next::Close(after)), Want::Close(behind)) => Ok(after.offset == behind),
         (Ok(Next::End), Want::End) => Ok(true),
@@ -132,5 +128,168 @@ fn reads_what_stands_next(rt: HostRuntime) -> Result<(), Fail> {
             assert!(rt; fits(rt.alloc(), read, wanted)?, "{text} from {from}");
         }
     }
+    Ok(())
+}
+
+/// So many lists, each in the one before.
+fn nested(alloc: Global, count: usize) -> Result<Vec<u8>, AllocError> {
+    let mut text = Vec::new(alloc);
+    for _ in 0..count {
+        text.push(b'(')?;
+    }
+    for _ in 0..count {
+        text.push(b')')?;
+    }
+    Ok(text)
+}
+
+/// Whether lists nested so deep are read, behind so many that are open; else they are refused at this offset.
+fn nests(alloc: Global, count: usize, open_lists: usize, refused: u64) -> Result<bool, AllocError> {
+    let text = nested(alloc, count)?;
+    match read_next(alloc, &text, start(), open_lists) {
+        Ok(Next::One(s, after)) => Ok(s.items().len() == count && after.offset == 2 * count as u64),
+        Err(Refused::Fault(r)) => {
+            Ok(r.fault == Fault::TooDeep && is_at(r.place, (refused, 1, refused + 1)))
+        }
+        _ => Ok(false),
+    }
+}
+
+#[test]
+fn takes_lists_nested_500_deep(rt: HostRuntime) -> Result<(), Fail> {
+    let alloc = rt.alloc();
+    assert!(rt; nests(alloc, 500, 0, 0)?);
+    assert!(rt; nests(alloc, 501, 0, 500)?);
+    assert!(rt; nests(alloc, 499, 1, 0)?);
+    assert!(rt; nests(alloc, 500, 1, 499)?);
+    assert!(rt; nests(alloc, 1, 500, 0)?);
+    Ok(())
+}
+
+/// Texts, an item of their first s-expression, and how that is printed.
+const PRINTED: [(&str, u64, &str); 22] = [
+    ("a", 0, "a"),
+    ("( a  b\n(\tc ( ) ) )", 0, "(a b (c ()))"),
+    ("( a  b\n(\tc ( ) ) )", 1, "a"),
+    ("( a  b\n(\tc ( ) ) )", 2, "b"),
+    ("( a  b\n(\tc ( ) ) )", 3, "(c ())"),
+    ("( a  b\n(\tc ( ) ) )", 4, "c"),
+    ("( a  b\n(\tc ( ) ) )", 5, "()"),
+    ("(a;b\n;c\n\"d;e\")", 0, "(a \"d;e\")"),
+    (
+        "(\"\" \"a\"\"b\"\"c\" \"(\")",
+        0,
+        "(\"\" \"a\"\"b\"\"c\" \"(\")",
+    ),
+    ("(:k:k|a|b\"c\"(d)e)", 0, "(:k :k a b \"c\" (d) e)"),
+    ("(1 0.50 007)", 0, ""),
+    ("(1 0.50(-7)x7)", 0, "(1 0.50 (-7) x7)"),
+    ("(|a| |a b| || |7| |.7|)", 0, "(a |a b| || |7| .7)"),
+    ("(|let| let |lets| |LET|)", 0, "(|let| let lets LET)"),
+    ("(|_| _ |_a| |!| !)", 0, "(|_| _ _a |!| !)"),
+    (
+        "(|assert| assert |a(b| |\"|)",
+        0,
+        "(|assert| assert |a(b| |\"|)",
+    ),
+    ("(|a;b| |:a| |a\nb|)", 0, "(|a;b| |:a| |a\nb|)"),
+    ("|~!@$%^&*_-+=<>.?/|", 0, "~!@$%^&*_-+=<>.?/"),
+    ("(())(a)", 1, "()"),
+    ("((a b)(c)d)", 1, "(a b)"),
+    ("((a b)(c)d)", 4, "(c)"),
+    ("((a b)(c)d)", 6, "d"),
+];
+
+/// How an item of the first s-expression is printed, nothing where there is none.
+fn prints(alloc: Global, text: &[u8], item: u64, wanted: &[u8]) -> Result<bool, NoMemory> {
+    match read_one(alloc, text, start()) {
+        Ok(Some((s, _))) => is_printed(alloc, &s, item, wanted),
+        _ => Ok(wanted.is_empty()),
+    }
+}
+
+#[test]
+fn prints_each_item(rt: HostRuntime) -> Result<(), Fail> {
+    for (text, item, wanted) in PRINTED {
+        assert!(rt;
+            prints(rt.alloc(), text.as_bytes(), item, wanted.as_bytes())?,
+            "{text}, {item}"
+        );
+    }
+    Ok(())
+}
+
+/// What a sink that takes no more than so many bytes has of a printed text, and whether that was all.
+fn front_is(alloc: Global, text: &[u8], room: u64, wanted: &[u8]) -> Result<bool, NoMemory> {
+    let Ok(Some((s, _))) = read_one(alloc, text, start()) else {
+        return Ok(false);
+    };
+    if s.items().is_empty() {
+        return Ok(false);
+    }
+    let mut out = MemSink::new(alloc, room, 1, Vec::new(alloc))?;
+    let all = print(&s, 0, &mut out).is_ok();
+    Ok(!all && out.written() == wanted)
+}
+
+#[test]
+fn stops_where_the_sink_fails(rt: HostRuntime) -> Result<(), Fail> {
+    let rows = [
+        (0, ""),
+        (1, "("),
+        (4, "(a |"),
+        (8, "(a |b c|"),
+        (9, "(a |b c| "),
+        (10, "(a |b c| ("),
+        (11, "(a |b c| ()"),
+    ];
+    for (room, wanted) in rows {
+        assert!(rt;
+            front_is(rt.alloc(), b"(a|b c|())", room, wanted.as_bytes())?,
+            "{room}"
+        );
+    }
+    Ok(())
+}
+
+/// The parts of `(f :k (|g| "s"))`, by each function that takes an s-expression apart.
+fn is_taken_apart(s: &Sexpr<'_>) -> Option<bool> {
+    let text = s.text();
+    let (at, inside) = list_inside(text, s.items())?;
+    let (f, rest) = word_first(text, inside)?;
+    want(b"f", f)?;
+    let (k, rest) = word_first(text, rest)?;
+    want_keyword(b"k", k)?;
+    let alone = tree_alone(rest)?;
+    let (group, rest) = list_first(text, rest)?;
+    want_end(rest)?;
+    let (g, rest) = word_first(text, group)?;
+    let (string, rest) = word_first(text, rest)?;
+    want_end(rest)?;
+    let words = is_word(b"g", g) && is_symbol(g.kind) && !is_simple(g.kind) && is_simple(f.kind);
+    let others = is_keyword(k.kind) && !is_reserved(k.kind) && !is_word(b"s", string);
+    Some(at == 1 && offset(alone) == 7 && words && others && same_bytes(string.bytes, b"s"))
+}
+
+#[test]
+fn takes_an_s_expression_apart(rt: HostRuntime) -> Result<(), Fail> {
+    let text = b" (f :k\n(|g| \"s\"))";
+    let Ok(Some((s, after))) = read_one(rt.alloc(), text, start()) else {
+        return Err(Fail::from(AllocError));
+    };
+    assert!(rt; is_taken_apart(&s) == Some(true));
+    let wanted = [
+        Item::List(1, 16, 5),
+        Item::Atom(Kind::Simple, 2, 1),
+        Item::Atom(Kind::Keyword, 4, 1),
+        Item::List(7, 15, 2),
+        Item::Atom(Kind::Quoted, 8, 1),
+        Item::Atom(Kind::Text, 12, 1),
+    ];
+    assert!(rt; s.items() == wanted.as_slice());
+    if s.start.offset <= 12 && s.text().len() >= 12 {
+        assert!(rt; is_at(s.place(12), (12, 2, 6)));
+    }
+    assert!(rt; is_at(after, (17, 2, 11)));
     Ok(())
 }
