@@ -12,15 +12,15 @@ abbrev pub IsToken : Lexeme → Type 0
 IsToken (wrong f) = ⊥
 IsToken _ = ⊤
 
--- the offsets rise, from one on up to a last one
+-- the offsets of tokens rise, from one on, and stand before another; nothing follows a fault
 abbrev pub Rise : ℕ → ℕ → List (ℕ × Lexeme) → Type 0
 Rise low high [] = ⊤
-Rise low high ((at, wrong f) ∷ xs) = ⊤
+Rise low high ((at, wrong f) ∷ xs) = xs ≡ []
 Rise low high ((at, _) ∷ xs) = (low ≤ at) × (at < high) × Rise (at + 1) high xs
 
 rise_lower : (low high : ℕ) (xs : List (ℕ × Lexeme)) → Rise (low + 1) high xs → Rise low high xs
 rise_lower low high [] h = tt
-rise_lower low high ((at, wrong f) ∷ xs) h = tt
+rise_lower low high ((at, wrong f) ∷ xs) h = h
 rise_lower low high ((at, blank) ∷ xs) h = (omega (arith, h.0), h.1, h.2)
 rise_lower low high ((at, opens) ∷ xs) h = (omega (arith, h.0), h.1, h.2)
 rise_lower low high ((at, closes) ∷ xs) h = (omega (arith, h.0), h.1, h.2)
@@ -32,7 +32,7 @@ module _ (text : List ℕ) where
     where
       go : (x : Lexeme) → Rise at (length text) (before at (piece x p.size) rest)
       go blank = rise_lower at (length text) rest h
-      go (wrong f) = tt
+      go (wrong f) = refl
       go opens = (omega arith, within, h)
       go closes = (omega arith, within, h)
       go (word k w) = (omega arith, within, h)
@@ -104,3 +104,23 @@ mutual
 -- the offsets of a tree that stands at one
 pub within_text : (text : List ℕ) (at : ℕ) (t : Tree) (rest : List (ℕ × Lexeme)) → lexemes_from text at ≡ spelled t ++ rest → IsWithin at (length text) t
 within_text text at t rest e = (tree_within at (length text) t rest (at, omega arith, subst (Rise at (length text)) e (lexemes_rise text at))).0
+
+-- the offset of a token stands from the first one on, and before the end of the text
+pub begins_within : (text : List ℕ) (from : ℕ) (front : List (ℕ × Lexeme)) (at : ℕ) (x : Lexeme) (rest : List (ℕ × Lexeme)) → lexemes_from text from ≡ front ++ (at, x) ∷ rest → IsToken x → (from ≤ at) × (at < length text)
+begins_within text from front at x rest e token = go from front (subst (Rise from (length text)) e (lexemes_rise text from))
+  where
+    here : (low : ℕ) (x : Lexeme) → IsToken x → Rise low (length text) ((at, x) ∷ rest) → (low ≤ at) × (at < length text)
+    here low (wrong f) token r = absurd token
+    here low blank token r = (r.0, r.1)
+    here low opens token r = (r.0, r.1)
+    here low closes token r = (r.0, r.1)
+    here low (word k w) token r = (r.0, r.1)
+
+    go : (low : ℕ) (front : List (ℕ × Lexeme)) → Rise low (length text) (front ++ (at, x) ∷ rest) → (low ≤ at) × (at < length text)
+    go low [] r = here low x token r
+    go low ((b, wrong f) ∷ []) r = cc
+    go low ((b, wrong f) ∷ (q ∷ front)) r = cc
+    go low ((b, blank) ∷ front) r = let n = go (b + 1) front r.2 in (omega (arith, n.0, r.0), n.1)
+    go low ((b, opens) ∷ front) r = let n = go (b + 1) front r.2 in (omega (arith, n.0, r.0), n.1)
+    go low ((b, closes) ∷ front) r = let n = go (b + 1) front r.2 in (omega (arith, n.0, r.0), n.1)
+    go low ((b, word k w) ∷ front) r = let n = go (b + 1) front r.2 in (omega (arith, n.0, r.0), n.1)

@@ -21,47 +21,7 @@ use Rattle.smt_sexpr.specs.Reads.{BeginsWith, IsFirst}
 use Rattle.smt_sexpr.proofs.Broken.{heads, broken_in}
 use Rattle.smt_sexpr.proofs.Contexts.{spelled_push, open_push, holds_word, holds_begun}
 use Rattle.smt_sexpr.proofs.Offsets.{IsToken, resumes, within_text}
-use Rattle.smt_sexpr.proofs.Flat.{trees_none, trees_atom, trees_list}
-use Rattle.smt_sexpr.proofs.Words.{AreWordsOf, words_stand}
-
--- the words of each tree stand in the text
-abbrev mutual
-  IsIn : List ℕ → Tree → Type 0
-  IsIn text (atom at k w) = w ≡ bytes_at text k at (length w)
-  IsIn text (list at ts end) = AreIn text ts
-
-  AreIn : List ℕ → Trees → Type 0
-  AreIn text none = ⊤
-  AreIn text (more t ts) = IsIn text t × AreIn text ts
-
-mutual
-  in_first : (text : List ℕ) (t : Tree) (rest : List (ℕ × Lexeme)) → AreWordsOf text (spelled t ++ rest) → IsIn text t × AreWordsOf text rest
-  in_first text (atom at k w) rest h = h
-  in_first text (list at ts end) rest h = in_all text ts ((end, closes) ∷ rest) (subst (AreWordsOf text) (append_assoc (spelled_all ts) ((end, closes) ∷ []) rest) h)
-
-  in_all : (text : List ℕ) (ts : Trees) (rest : List (ℕ × Lexeme)) → AreWordsOf text (spelled_all ts ++ rest) → AreIn text ts × AreWordsOf text rest
-  in_all text none rest h = (tt, h)
-  in_all text (more t ts) rest h =
-      let f = in_first text t (spelled_all ts ++ rest) (subst (AreWordsOf text) (append_assoc (spelled t) (spelled_all ts) rest) h) in
-      let r = in_all text ts rest f.1 in
-      ((f.0, r.0), r.1)
-
--- trees whose words stand in the text are what their items mean
-back : (text : List ℕ) (ts : Trees) → AreIn text ts → trees_in text (flat_all ts) ≡ ts
-back text none h = trees_none text
-back text (more (atom at k w) ts) h = trees_atom text k at (length w) (flat_all ts) ∙ ap (λ bs. more (atom at k bs) (trees_in text (flat_all ts))) (sym h.0) ∙ ap (more (atom at k w)) (back text ts h.1)
-back text (more (list at us end) ts) h =
-    let within : take (length (flat_all us)) (flat_all us ++ flat_all ts) ≡ flat_all us = take_at (flat_all us) (flat_all ts) (length (flat_all us)) refl in
-    let rest : drop (length (flat_all us)) (flat_all us ++ flat_all ts) ≡ flat_all ts = drop_at (flat_all us) (flat_all ts) (length (flat_all us)) refl in
-    trees_list text at end (length (flat_all us)) (flat_all us ++ flat_all ts)
-    ∙ ap (λ xs. more (list at (trees_in text xs) end) (trees_in text (drop (length (flat_all us)) (flat_all us ++ flat_all ts)))) within
-    ∙ ap (λ xs. more (list at (trees_in text (flat_all us)) end) (trees_in text xs)) rest
-    ∙ ap (λ t. more (list at t end) (trees_in text (flat_all ts))) (back text us h.0) ∙ ap (more (list at us end)) (back text ts h.1)
-
--- a tree that stands in front is what its items mean
-means_tree : (text : List ℕ) (from : ℕ) (t : Tree) (rest : List (ℕ × Lexeme)) → lexemes_from text from ≡ spelled t ++ rest → trees_in text (flat t) ≡ more t none
-means_tree text from t rest first =
-    ap (trees_in text) (sym (append-nil (flat t))) ∙ back text (more t none) ((in_first text t rest (subst (AreWordsOf text) first (words_stand text from))).0, tt)
+use Rattle.smt_sexpr.proofs.Meaning.{means_tree}
 
 begins_at : (at : ℕ) (x : Lexeme) (ys : List (ℕ × Lexeme)) (t : Tree) (rest : List (ℕ × Lexeme)) → (at, x) ∷ ys ≡ spelled t ++ rest → offset_of t ≡ at
 begins_at at x ys (atom b k w) rest e = sym (heads e).0

@@ -4,3 +4,4 @@ pub mod Items
 pub mod Open
 pub mod Reads
 pub mod Views
+pub mod Printing

@@ -8,6 +8,9 @@ mod items;
 mod reader;
 mod sexpr;
 mod shapes;
+#[cfg(test)]
+mod tests;
+mod write;
 
 pub use items::{Item, View, look, split};
 pub use reader::{Next, read_next, read_one};
@@ -17,3 +20,4 @@ pub use shapes::{
     passes, same_bytes, tree_alone, want, want_end, want_keyword, word_first,
 };
 pub use smt_lexer::{Fault, Kind, Place, Refusal, Refused};
+pub use write::print;

@@ -8,3 +8,5 @@ pub mod Reading
 pub mod Stopping
 pub mod Parsing
 pub mod Offsets
+pub mod Words
+pub mod Printing

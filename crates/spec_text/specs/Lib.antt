@@ -7,6 +7,7 @@ pub mod Offsets
 pub mod Faults
 pub mod Answers
 pub mod Readings
+pub mod Printed
 pub mod Lexicon
 pub mod Examples
 pub mod Shapes

@@ -3,7 +3,8 @@
 ghost use Rattle.std.specs.Prelude.{◌≤◌, length, ◌≡◌, ℕ, ◌+◌, ◌<◌, List, ◌∷◌, ◌++◌, Option, Some, None, IfSome};
 ghost use Rattle.spec_text.specs.Lexemes.{lexemes_from, Lexeme, first_piece};
 ghost use Rattle.spec_text.specs.Lexicon.{Spells, IsFirst};
-ghost use Rattle.spec_text.specs.Trees.{Tree, Trees, spelled, spelled_all, IsRead};
+ghost use Rattle.spec_text.specs.Trees.{Tree, Trees, none, more, spelled, spelled_all, IsRead};
+ghost use Rattle.spec_text.specs.Printed.{printed, SameTree};
 ghost use Rattle.spec_text.specs.Offsets.{AllOffsets, AllOffsetsOf};
 ghost use Rattle.spec_text.specs.Faults.{Located, nesting_limit, first_fault, lexical_fault};
 ghost use Rattle.spec_text.specs.Readings.{StopsAt, depth, AreTrees, IsReadUpTo};
@@ -22,6 +23,12 @@ pub fn a_text_without_fault_is_read()
 /// Says that a text with a reading has no lexical fault but lists nested too deep. Source: own.
 pub fn a_read_text_has_no_fault_but_depth()
     ensures { (text : List ℕ) (ts : Trees) → IsRead text ts → IfSome (lexical_fault text) (λ f. f.fault ≡ TooDeep) }
+{}
+
+/// Says that an s-expression of a text is read back from how it is printed, but for offsets and the bars of symbols.
+/// Source: own.
+pub fn printed_trees_read_back()
+    ensures { (text : List ℕ) (at : ℕ) (t : Tree) (rest : List (ℕ × Lexeme)) → lexemes_from text at ≡ spelled t ++ rest → (u : Tree) × IsRead (printed t) (more u none) × SameTree t u }
 {}
 
 /// Says that the first lexeme of a text is the longest front that the lexicon's table has, and that a text whose first
