@@ -2,3 +2,7 @@
 pub mod Heads
 pub mod Reading
 pub mod Offsets
+-- The lemmas of this crate.
+pub mod SameTerms
+pub mod Members
+pub mod LeastSubterms

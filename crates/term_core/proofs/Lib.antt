@@ -9,3 +9,5 @@ pub mod TermsApart
 pub mod TermsPut
 pub mod TermsLiteral
 pub mod TermsSorted
+pub mod ValueRows
+pub mod ValuesTaken

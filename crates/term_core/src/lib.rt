@@ -11,6 +11,8 @@ mod symbols;
 mod terms;
 #[cfg(test)]
 mod tests;
+mod valuation;
+mod values;
 
 pub use clauses::Clause;
 pub use ids::{Lit, SymbolId, TermId};
@@ -20,3 +22,5 @@ pub use rule_fails::RuleFails;
 pub use sorts::Sort;
 pub use symbols::Symbols;
 pub use terms::TermTable;
+pub use valuation::value;
+pub use values::{Interp, Row, Table, Value, ValueStop};

@@ -1,7 +1,12 @@
 //! Terms by their heads and the numbers of their arguments.
 
+ghost use Rattle.std.specs.Prelude.{◌≡◌, IfOk};
+ghost use Rattle.term_core.specs.Tables.{takes_so_many};
+
 use crate::ids::{SymbolId, TermId};
 use smallvec::SmallVec;
+use std::alloc::Global;
+use world_io::NoMemory;
 
 /// Stands before the arguments of a term.
 ///
@@ -30,6 +35,28 @@ pub enum Head {
     Apply(SymbolId),
 }
 
+impl Head {
+    /// Tells whether the head takes so many arguments, as long as each symbol is a constant.
+    ///
+    /// Source: SMT-LIB 2.6, theory Core.
+    pub fn takes_so_many(self, arguments: &[TermId]) -> bool
+        ensures { result ≡ takes_so_many self arguments.now }
+    {
+        match self {
+            Head::And => true,
+            Head::Or => true,
+            Head::True => arguments.is_empty(),
+            Head::False => arguments.is_empty(),
+            Head::Apply(_) => arguments.is_empty(),
+            Head::Not => arguments.len() == 1,
+            Head::Xor => arguments.len() == 2,
+            Head::Implies => arguments.len() == 2,
+            Head::Equal => arguments.len() == 2,
+            Head::Ite => arguments.len() == 3,
+        }
+    }
+}
+
 /// Lists the arguments of a term by their numbers: up to two of them take no memory of their own.
 ///
 /// Source: own.
@@ -44,4 +71,18 @@ pub struct Node {
     pub head: Head,
     /// The arguments, in their order.
     pub arguments: Arguments,
+}
+
+impl Node {
+    /// Makes a node by a copy of its arguments.
+    ///
+    /// `NoMemory` comes where more than two arguments find no memory. Source: own.
+    pub fn new(alloc: Global, head: Head, arguments: &[TermId]) -> Result<Node, NoMemory>
+        ensures { IfOk result (λ n. (n.head ≡ head) × (n.arguments.items ≡ arguments.now)) }
+    {
+        Ok(Node {
+            head,
+            arguments: SmallVec::from_slice(alloc, arguments)?,
+        })
+    }
 }
