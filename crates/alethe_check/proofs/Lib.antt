@@ -1,3 +1,4 @@
--- Lemmas.
+-- The lemmas of this crate.
 pub mod CommandTrees
 pub mod Stacks
+pub mod Members

@@ -24,7 +24,7 @@ use Rattle.alethe_check.specs.declared.commands.Verb.TheVariants as words
 use Rattle.alethe_check.specs.declared.script.Script.{Script}
 use Rattle.alethe_check.specs.declared.script.Took.{Took}
 use Rattle.alethe_check.specs.declared.script.Took.TheVariants as took
-use Rattle.alethe_check.specs.Views.{located}
+use Rattle.alethe_check.specs.Views.{Fails}
 
 -- a fault at an offset, as the code has it
 abbrev pub command_meant : ℕ → Fault → TermStop
@@ -72,8 +72,7 @@ pub record IsStack (x : Script) (s : Stack) : Type 0 where
 -- the stack is what a command leaves; or the command has a fault and changed nothing; nor did it where memory ran out
 abbrev pub Becomes : Answer Stack → Stack → Result (Unit {0}) TermStop → Script → Type 0
 Becomes left s (Ok u) new = (next : Stack) × (left ≡ Ok next) × IsStack new next
-Becomes left s (Err (term_stops.Fault f)) new = (left ≡ Err (located f)) × IsStack new s
-Becomes left s (Err term_stops.Memory) new = IsStack new s
+Becomes left s (Err stop) new = Fails stop left × IsStack new s
 
 -- one constant of sort Bool more, if there is room for it
 abbrev pub roomy_symbol : (limit at : ℕ) → Stack → Name → Answer Stack
@@ -82,8 +81,7 @@ roomy_symbol limit at s n = require (nat_lt (length s.symbols) limit) at Full >>
 -- the command of a tree was taken, or has a fault and changed nothing
 abbrev pub Takes : ℕ → Stack → Tree → Result Took TermStop → Script → Type 0
 Takes limit s t (Ok answer) new = (d : Taken) × (step limit s t ≡ Ok d) × (effect_meant answer ≡ d.effect) × IsStack new d.stack
-Takes limit s t (Err (term_stops.Fault f)) new = (step limit s t ≡ Err (located f)) × IsStack new s
-Takes limit s t (Err term_stops.Memory) new = IsStack new s
+Takes limit s t (Err stop) new = Fails stop (step limit s t) × IsStack new s
 
 -- a command was taken; or it is refused, for its first fault, with the place in its text, and changed nothing; nor did it where memory ran out
 abbrev pub Steps : ℕ → Stack → Sexpr → Result Took Refused → Script → Type 0

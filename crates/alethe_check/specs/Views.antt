@@ -19,11 +19,15 @@ located f = record { offset = f.offset; fault = f.fault }
 abbrev pub found_view : Found → Fault
 found_view f = fault_at f.offset f.kind
 
+-- the fault is the same; of memory that ran out nothing is said
+abbrev pub Fails : {Y : Type 0} → TermStop → Answer Y → Type 0
+Fails (term_stops.Fault f) read = read ≡ Err (located f)
+Fails term_stops.Memory read = Unit {0}
+
 -- what a function returned, seen by a view, is what is read, or the fault is the same, unless memory ran out
 abbrev pub Gives : {X Y : Type 0} → (X → Y) → Result X TermStop → Answer Y → Type 0
 Gives view (Ok x) read = read ≡ Ok (view x)
-Gives view (Err (term_stops.Fault f)) read = read ≡ Err (located f)
-Gives view (Err term_stops.Memory) read = Unit {0}
+Gives view (Err stop) read = Fails stop read
 
 -- the same of what is read in a proof
 abbrev pub Reads : {X Y : Type 0} → (X → Y) → Result X Stop → Read Y → Type 0

@@ -1,6 +1,6 @@
 //! The asserted terms, in order, with a look-up by hash.
 
-ghost use Rattle.std.specs.Prelude.{◌≡◌, ◌++◌, [], ◌∷◌, Contains, MatchBool, OnOk};
+ghost use Rattle.std.specs.Prelude.{◌≡◌, ◌++◌, [], ◌∷◌, Contains, MatchBool, OnErr, OnOk};
 
 use indexmap::IndexSet;
 use std::alloc::{AllocError, Global};
@@ -44,9 +44,10 @@ impl Asserted {
         self.set.contains(&id)
     }
 
-    /// Puts a term last.
+    /// Puts a term last. Where memory runs out the list is as it was.
     pub fn add(&mut self, id: TermId) -> Result<(), AllocError>
-        ensures { OnOk result (self.new ≡ self.old ++ id ∷ []) }
+        ensures added { OnOk result (self.new ≡ self.old ++ id ∷ []) }
+        ensures same { OnErr result (self.new ≡ self.old) }
     {
         self.list.reserve(1)?;
         match self.set.insert(id) {

@@ -2,7 +2,7 @@
 //!
 //! The commands are `set-option`, `declare-const` of sort Bool, `assert`, `check-sat` and `exit`.
 
-ghost use Rattle.std.specs.Prelude.{◌≡◌, ℕ, ◌≤◌, ◌<◌, [], Bool, true, false, List, length, option_map, IfOk};
+ghost use Rattle.std.specs.Prelude.{◌≡◌, ℕ, ◌≤◌, ◌<◌, [], Bool, true, false, List, length, option_map, IfOk, MatchOption, ◌∷◌};
 ghost use Rattle.spec_text.specs.Bytes.{among, one_of};
 ghost use Rattle.spec_text.specs.Places.{IsPlaceOf};
 ghost use Rattle.spec_text.specs.Trees.{Tree, more, none, offset_of};
@@ -13,6 +13,7 @@ ghost use Rattle.smt_sexpr.specs.Items.{tree_of, text_of, start_of};
 ghost use Rattle.smt_sexpr.specs.Items.{trees_in, tree_in};
 ghost use Rattle.smt_sexpr.specs.Views.{word_view};
 ghost use Rattle.term_core.specs.Tables.{term_at, AreIn};
+ghost use Rattle.term_core.specs.declared.ids.TermId.{TermId};
 ghost use Rattle.alethe_check.specs.Views.{Gives};
 ghost use Rattle.spec_scripts.specs.Stack.{effect_of};
 ghost use Rattle.alethe_check.specs.Scripts.{command_view, effect_meant, IsStack, Becomes, roomy_symbol, Takes, Steps};
@@ -26,7 +27,7 @@ use smt_sexpr::{
 use sort_check::{TermStop, terms};
 use spec_text::Fault;
 use std::alloc::Global;
-use term_core::TermTable;
+use term_core::{TermId, TermTable};
 
 /// What a script has stated: its symbols and terms, its assertions, and its option.
 ///
@@ -298,6 +299,16 @@ fn declare(script: &mut Script, text: &[u8], at: u64, word: Word<'_>, sort: &[It
     }
 }
 
+/// The first of numbers.
+pub(crate) fn first_of(ids: &[TermId]) -> Option<TermId>
+    ensures { MatchOption result (ids.now ≡ []) (λ id. (rest : List TermId) × (ids.now ≡ id ∷ rest)) }
+{
+    match ids.split_first() {
+        Some((id, _)) => Some(*id),
+        None => None,
+    }
+}
+
 /// Asserts the term that items mean that are of one tree, by a command at an offset.
 fn assert_alone(script: &mut Script, alloc: Global, text: &[u8], at: u64, items: &[Item], limit: u64) -> Result<(), TermStop>
     requires { trees_in text.now items.now ≡ more (tree_in text.now items.now) none }
@@ -307,12 +318,12 @@ fn assert_alone(script: &mut Script, alloc: Global, text: &[u8], at: u64, items:
         Ok(read) => read,
         Err(stop) => return Err(stop),
     };
-    let Some(id) = read.first() else {
-        return Ok(());
-    };
-    match script.asserted.add(*id) {
-        Ok(()) => Ok(()),
-        Err(_) => Err(TermStop::Memory),
+    match first_of(&read) {
+        None => Ok(()),
+        Some(id) => match script.asserted.add(id) {
+            Ok(()) => Ok(()),
+            Err(_) => Err(TermStop::Memory),
+        },
     }
 }
 
