@@ -143,14 +143,19 @@ fn nested(alloc: Global, count: usize) -> Result<Vec<u8>, AllocError> {
     Ok(text)
 }
 
-/// Whether lists nested so deep are read, behind so many that are open; else they are refused at this offset.
-fn nests(alloc: Global, count: usize, open_lists: usize, refused: u64) -> Result<bool, AllocError> {
+/// Whether lists nested so deep are read, behind so many that are open; else they are refused at this place.
+fn nests(
+    alloc: Global,
+    count: usize,
+    open_lists: usize,
+    refused: (u64, u64, u64),
+) -> Result<bool, AllocError> {
     let text = nested(alloc, count)?;
     match read_next(alloc, &text, start(), open_lists) {
-        Ok(Next::One(s, after)) => Ok(s.items().len() == count && after.offset == 2 * count as u64),
-        Err(Refused::Fault(r)) => {
-            Ok(r.fault == Fault::TooDeep && is_at(r.place, (refused, 1, refused + 1)))
+        Ok(Next::One(s, after)) => {
+            Ok(s.items().len() == count && after.offset as usize == text.len())
         }
+        Err(Refused::Fault(r)) => Ok(r.fault == Fault::TooDeep && is_at(r.place, refused)),
         _ => Ok(false),
     }
 }
@@ -158,11 +163,12 @@ fn nests(alloc: Global, count: usize, open_lists: usize, refused: u64) -> Result
 #[test]
 fn takes_lists_nested_500_deep(rt: HostRuntime) -> Result<(), Fail> {
     let alloc = rt.alloc();
-    assert!(rt; nests(alloc, 500, 0, 0)?);
-    assert!(rt; nests(alloc, 501, 0, 500)?);
-    assert!(rt; nests(alloc, 499, 1, 0)?);
-    assert!(rt; nests(alloc, 500, 1, 499)?);
-    assert!(rt; nests(alloc, 1, 500, 0)?);
+    let taken = (0, 0, 0);
+    assert!(rt; nests(alloc, 500, 0, taken)?);
+    assert!(rt; nests(alloc, 501, 0, (500, 1, 501))?);
+    assert!(rt; nests(alloc, 499, 1, taken)?);
+    assert!(rt; nests(alloc, 500, 1, (499, 1, 500))?);
+    assert!(rt; nests(alloc, 1, 500, (0, 1, 1))?);
     Ok(())
 }
 
