@@ -13,5 +13,5 @@ mod scan;
 mod tests;
 mod watchers;
 
-pub use lits::{Lit, TermId};
+pub use term_core::{Lit, TermId};
 pub use propagation::resolves;
