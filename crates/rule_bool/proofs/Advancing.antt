@@ -6,7 +6,7 @@ use Rattle.std.proofs.lemmas.List.{append_assoc, append-nil, length-append}
 use Rattle.std.proofs.lemmas.List.Elements.{Contains-push, Contains-push_cases, Contains-append_left}
 use Rattle.std.proofs.lemmas.List.Folds.{Any-from_list_any, list_any_at}
 use Rattle.spec_proofs.specs.Resolution.{Derives, unit, false_clause}
-use Rattle.rule_bool.specs.declared.lits.Lit.{Lit}
+use Rattle.term_core.specs.declared.ids.Lit.{Lit}
 use Rattle.rule_bool.specs.Literals.{lit_complement, has, IsConsistent}
 use Rattle.rule_bool.specs.Findings.{IsFalse, IsUnit, IsTouched}
 use Rattle.rule_bool.specs.Propagation.{IsRefuted, failing, untouched, Follows, Advances}

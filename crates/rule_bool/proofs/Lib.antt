@@ -10,3 +10,6 @@ pub mod Tracking
 pub mod Quiet
 pub mod Passes
 pub mod Stepping
+pub mod Transport
+pub mod Resolvents
+pub mod OnePremise

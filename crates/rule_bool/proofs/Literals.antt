@@ -7,9 +7,9 @@ use Rattle.std.proofs.lemmas.Bool.{false≢true, eqb-true, eq-eqb}
 use Rattle.std.proofs.lemmas.List.Folds.{Any-from_list_any, list_any_at}
 use Rattle.indexmap.specs.IndexSet.{insert_key}
 use Rattle.indexmap.proofs.CallerLemmas.{Contains-list_any}
-use Rattle.rule_bool.specs.declared.lits.TermId.{TermId}
-use Rattle.rule_bool.specs.declared.lits.Lit.{Lit}
-use Rattle.rule_bool.specs.contracts.lits.LitPartialEq.TheImpl.{ghosts}
+use Rattle.term_core.specs.declared.ids.TermId.{TermId}
+use Rattle.term_core.specs.declared.ids.Lit.{Lit}
+use Rattle.term_core.specs.contracts.ids.LitPartialEq.TheImpl.{ghosts}
 use Rattle.rule_bool.specs.Literals.{lit_complement, same_lit, has, AddsLast}
 
 -- the derived `==` says whether two literals are one

@@ -10,8 +10,8 @@ use Rattle.std.proofs.lemmas.List.Elements.{All-nil, All-push, All-set, All-get_
 use Rattle.std.proofs.lemmas.List.Quantifiers.{position-Some}
 use Rattle.std.proofs.lemmas.Option.{slice_get_within, get_or_from_slice_get}
 use Rattle.indexmap.specs.IndexSet.{insert_key}
-use Rattle.rule_bool.specs.declared.lits.Lit.{Lit}
-use Rattle.rule_bool.specs.contracts.lits.LitPartialEq.TheImpl.{ghosts}
+use Rattle.term_core.specs.declared.ids.Lit.{Lit}
+use Rattle.term_core.specs.contracts.ids.LitPartialEq.TheImpl.{ghosts}
 use Rattle.rule_bool.specs.Literals.{HasNoTwice, lists}
 use Rattle.rule_bool.specs.Watching.{IsWhole, IsListed, Places, Notes, IsIndexOf, Watches, AreBelow}
 use Rattle.rule_bool.specs.declared.watchers.Watchers.{Watchers}

@@ -8,8 +8,8 @@ use Rattle.std.proofs.lemmas.List.{get_or-map, length-map, map_push, get_or_defa
 use Rattle.std.proofs.lemmas.List.Elements.{All-from_recursion, all_zip_more}
 use Rattle.std.proofs.lemmas.Map.Keys.{IsDistinct-head, IsDistinct-tail}
 use Rattle.indexmap.specs.IndexSet.{insert_key}
-use Rattle.rule_bool.specs.declared.lits.Lit.{Lit}
-use Rattle.rule_bool.specs.contracts.lits.LitPartialEq.TheImpl.{ghosts}
+use Rattle.term_core.specs.declared.ids.Lit.{Lit}
+use Rattle.term_core.specs.contracts.ids.LitPartialEq.TheImpl.{ghosts}
 use Rattle.rule_bool.specs.Literals.{lists, SameLits, HasNoTwice, IsSetOf}
 use Rattle.rule_bool.proofs.Literals.{is_equal, adds_by}
 use Rattle.rule_bool.proofs.Start.{same_more, taken_more}

@@ -3,7 +3,7 @@ use Rattle.std.proofs.Common.{◌≡◌, ℕ, ◌+◌, ◌-◌, ◌<◌, ◌≤�
 use Rattle.std.specs.Prelude.{Vec}
 use Rattle.std.specs.declared.alloc.Global.{Global}
 use Rattle.std.proofs.lemmas.List.{drop_more, length-map, get_or-map, length_push}
-use Rattle.rule_bool.specs.declared.lits.Lit.{Lit}
+use Rattle.term_core.specs.declared.ids.Lit.{Lit}
 use Rattle.rule_bool.specs.declared.scan.Pass.TheVariants.{Same}
 use Rattle.rule_bool.specs.Literals.{lists}
 use Rattle.rule_bool.specs.Findings.{IsFalse, IsUnit, HasTwoOpen, IsTouched, IsSettled}

@@ -2,7 +2,7 @@
 use Rattle.std.proofs.Common.{ℕ, ◌<◌, List, [], ◌∷◌, length, get_or, Contains, inl, inr, sym, ◌∙◌, subst, refl, arith, zero, suc}
 use Rattle.std.specs.List.{AllZip}
 use Rattle.spec_proofs.specs.Resolution.{Derives, given, unit, Conflicts, false_clause, both_ways, IsWithin}
-use Rattle.rule_bool.specs.declared.lits.Lit.{Lit}
+use Rattle.term_core.specs.declared.ids.Lit.{Lit}
 use Rattle.rule_bool.specs.Literals.{lit_complement, SameLits, HasNoTwice, IsSetOf, IsConsistent}
 use Rattle.rule_bool.specs.Findings.{IsSettled}
 use Rattle.rule_bool.proofs.Literals.{decide}

@@ -2,7 +2,7 @@
 use Rattle.std.proofs.Common.{◌≡◌, ℕ, ◌+◌, ◌<◌, List, [], ◌∷◌, ◌++◌, map, length, get_or, take, drop, Contains, inl, inr, sym, ap, ◌∙◌, subst}
 use Rattle.std.proofs.lemmas.List.{take_more, map-append, length-map, get_or-map, take-append-drop}
 use Rattle.std.proofs.lemmas.List.Elements.{Contains-push, Contains-push_cases, Contains-append_left}
-use Rattle.rule_bool.specs.declared.lits.Lit.{Lit}
+use Rattle.term_core.specs.declared.ids.Lit.{Lit}
 use Rattle.rule_bool.specs.Literals.{lit_complement, SameLits, AddsLast, IsConsistent}
 use Rattle.rule_bool.proofs.Literals.{negation_twice, not_own_negation}
 

@@ -4,7 +4,7 @@ use Rattle.std.specs.Prelude.{Vec}
 use Rattle.std.specs.declared.alloc.Global.{Global}
 use Rattle.std.proofs.lemmas.List.{get_or-map, length-map, length_push, drop_more, drop_all, take_all, take-append-le, length-append}
 use Rattle.spec_proofs.specs.Resolution.{IsWithin}
-use Rattle.rule_bool.specs.declared.lits.Lit.{Lit}
+use Rattle.term_core.specs.declared.ids.Lit.{Lit}
 use Rattle.rule_bool.specs.declared.watchers.Watchers.{Watchers}
 use Rattle.rule_bool.specs.Literals.{lit_complement, lists, HasNoTwice, IsConsistent}
 use Rattle.rule_bool.specs.Watching.{Watches, IsIndexOf}

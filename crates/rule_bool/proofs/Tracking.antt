@@ -5,7 +5,7 @@ use Rattle.std.proofs.lemmas.Bool.Decides.{nat_tests}
 use Rattle.std.proofs.lemmas.List.{take-append-drop, get_or-set_same, get_or-set_other, get_or_push, get_or_append_left, get_or_default}
 use Rattle.std.proofs.lemmas.List.Elements.{Contains-push, Contains-append_left}
 use Rattle.spec_proofs.specs.Resolution.{IsWithin}
-use Rattle.rule_bool.specs.declared.lits.Lit.{Lit}
+use Rattle.term_core.specs.declared.ids.Lit.{Lit}
 use Rattle.rule_bool.specs.Literals.{lit_complement, HasNoTwice, AddsLast}
 use Rattle.rule_bool.specs.Findings.{IsUnit, HasTwoOpen, IsTouched, IsSettled}
 use Rattle.rule_bool.specs.Propagation.{Advances, IsBounded, IsTracked, AreTracked, TakesUp, unseen, times}

@@ -1,6 +1,6 @@
 -- What propagation finds in clauses, under the literals that it holds.
 use Rattle.std.specs.Prelude.{◌≢◌, ◌⊎◌, List, Contains}
-use Rattle.rule_bool.specs.declared.lits.Lit.{Lit}
+use Rattle.term_core.specs.declared.ids.Lit.{Lit}
 use Rattle.rule_bool.specs.declared.look.Finding.{Finding}
 use Rattle.rule_bool.specs.declared.look.Finding.TheVariants.{False, Unit as Single, Open, True}
 use Rattle.rule_bool.specs.Literals.{lit_complement}

@@ -4,3 +4,5 @@ pub mod Findings
 pub mod Watching
 pub mod Propagation
 pub mod Scanning
+pub mod Resolvents
+pub mod Premises

@@ -2,7 +2,7 @@
 use Rattle.std.specs.Prelude.{◌≡◌, ◌⊎◌, ◌+◌, ◌<◌, ◌≤◌, ◌==◌, ℕ, zero, suc, Bool, true, false, if◌then◌else◌, List, [], ◌∷◌, ◌++◌, length, get_or, Contains}
 use Rattle.std.specs.List.{list_any}
 use Rattle.spec_proofs.specs.Resolution.{Derives, Conflicts, IsWithin}
-use Rattle.rule_bool.specs.declared.lits.Lit.{Lit}
+use Rattle.term_core.specs.declared.ids.Lit.{Lit}
 use Rattle.rule_bool.specs.Literals.{lit_complement, has, IsConsistent}
 use Rattle.rule_bool.specs.Findings.{IsUnit, IsTouched, IsSettled}
 

@@ -1,6 +1,6 @@
 -- What passes over all premises come to.
 use Rattle.std.specs.Prelude.{◌≡◌, ◌<◌, List, ◌∷◌, [], ◌++◌, length, Contains}
-use Rattle.rule_bool.specs.declared.lits.Lit.{Lit}
+use Rattle.term_core.specs.declared.ids.Lit.{Lit}
 use Rattle.rule_bool.specs.declared.look.Finding.{Finding}
 use Rattle.rule_bool.specs.declared.look.Finding.TheVariants.{False, Unit as Single, Open, True}
 use Rattle.rule_bool.specs.declared.scan.Pass.{Pass}

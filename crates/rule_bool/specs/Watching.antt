@@ -1,6 +1,6 @@
 -- In which clauses a literal occurs.
 use Rattle.std.specs.Prelude.{◌≡◌, ◌<◌, ℕ, List, [], length, get_or, All, Contains}
-use Rattle.rule_bool.specs.declared.lits.Lit.{Lit}
+use Rattle.term_core.specs.declared.ids.Lit.{Lit}
 use Rattle.rule_bool.specs.declared.watchers.Watchers.{Watchers}
 use Rattle.rule_bool.specs.Literals.{lists, HasNoTwice}
 

@@ -4,7 +4,7 @@ ghost use Rattle.std.specs.Prelude.{IfOk};
 ghost use Rattle.std.specs.List.{AllZip};
 ghost use Rattle.rule_bool.specs.Literals.{IsSetOf, lists};
 
-use crate::lits::Lit;
+use term_core::Lit;
 use indexmap::IndexSet;
 use std::alloc::{AllocError, Global};
 

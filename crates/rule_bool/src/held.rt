@@ -3,7 +3,8 @@
 ghost use Rattle.std.specs.Prelude.{◌≡◌, ◌<◌, ◌↔◌, [], map, length, Contains, IfOk, OnOk, MatchBool, MatchOption, slice_index_or};
 ghost use Rattle.rule_bool.specs.Literals.{lit_complement, AddsLast, IsConsistent};
 
-use crate::lits::{Lit, negated};
+use crate::lits::negated;
+use term_core::Lit;
 use indexmap::IndexSet;
 use std::alloc::{AllocError, Global};
 use std::marker::Model;
@@ -16,7 +17,7 @@ pub(crate) struct Held {
 
 impl Model for Held {
     ghost use Rattle.std.specs.Prelude.{List};
-    ghost use Rattle.rule_bool.specs.declared.lits.Lit.{Lit};
+    ghost use Rattle.term_core.specs.declared.ids.Lit.{Lit};
 
     ghost Value = { List Lit };
 

@@ -8,10 +8,17 @@ mod held;
 mod lits;
 mod look;
 mod propagation;
+mod resolvent;
+mod rule_stop;
+mod rules;
 mod scan;
 #[cfg(test)]
 mod tests;
 mod watchers;
+mod within;
 
-pub use lits::{Lit, TermId};
+pub use term_core::{Lit, TermId};
 pub use propagation::resolves;
+pub use resolvent::resolution;
+pub use rule_stop::RuleStop;
+pub use rules::{rule_contraction, rule_or, rule_reordering, rule_weakening};

@@ -3,18 +3,7 @@
 ghost use Rattle.std.specs.Prelude.{◌≡◌, ◌≢◌, MatchBool};
 ghost use Rattle.rule_bool.specs.Literals.{lit_complement};
 
-/// A term of a table, by its number, from 0. Source: own.
-#[derive(Clone, Copy, Debug, Default, PartialEq, Eq, Hash)]
-pub struct TermId(pub u64);
-
-/// A literal: a term, and whether it is meant positively. Source: own.
-#[derive(Clone, Copy, Debug, Default, PartialEq, Eq, Hash)]
-pub struct Lit {
-    /// The term.
-    pub term: TermId,
-    /// Whether the term itself is meant, and not its negation.
-    pub positive: bool,
-}
+use term_core::Lit;
 
 /// Gives the literal with the other sign.
 pub(crate) fn negated(l: Lit) -> Lit

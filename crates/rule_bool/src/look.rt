@@ -4,7 +4,8 @@ ghost use Rattle.std.specs.Prelude.{◌∷◌, ◌++◌, [], List};
 ghost use Rattle.rule_bool.specs.Findings.{Finds};
 
 use crate::held::Held;
-use crate::lits::{Lit, negated, same};
+use crate::lits::{negated, same};
+use term_core::Lit;
 
 /// What a look at a clause finds.
 #[derive(Clone, Copy, Debug, PartialEq, Eq)]

@@ -9,7 +9,8 @@ ghost use Rattle.rule_bool.specs.Propagation.{TakesUp, IsRefuted, Begins, AreTra
 
 use crate::distinct::distinct_each;
 use crate::held::{Held, start_of};
-use crate::lits::{Lit, negated};
+use crate::lits::negated;
+use term_core::Lit;
 use crate::look::{Finding, look};
 use crate::watchers::{Watchers, watchers_of};
 use std::alloc::{AllocError, Global};

@@ -6,7 +6,7 @@ ghost use Rattle.rule_bool.specs.Literals.{lit_complement, lists};
 ghost use Rattle.rule_bool.specs.Scanning.{Scans, Moves};
 
 use crate::held::{Held, start_of};
-use crate::lits::Lit;
+use term_core::Lit;
 use crate::look::{Finding, look};
 use std::alloc::{AllocError, Global};
 

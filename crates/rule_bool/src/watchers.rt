@@ -4,7 +4,7 @@ ghost use Rattle.std.specs.Prelude.{◌≡◌, ◌<◌, ◌∷◌, [], ℕ, All,
 ghost use Rattle.rule_bool.specs.Literals.{lists};
 ghost use Rattle.rule_bool.specs.Watching.{IsWhole, Watches, AreBelow, Places, Notes, IsIndexOf};
 
-use crate::lits::Lit;
+use term_core::Lit;
 use indexmap::IndexSet;
 use std::alloc::{AllocError, Global};
 

@@ -1,7 +1,7 @@
 -- That each literal is taken out, until a premise is false or nothing more follows.
 use Rattle.std.proofs.Common.{arith, subst, sym, length}
 use Rattle.std.proofs.lemmas.List.{length-map}
-use Rattle.rule_bool.specs.declared.lits.Lit.{Lit}
+use Rattle.term_core.specs.declared.ids.Lit.{Lit}
 use Rattle.rule_bool.specs.Literals.{lists}
 use Rattle.rule_bool.specs.Watching.{Watches}
 use Rattle.rule_bool.proofs.Advancing.{refuted_on}

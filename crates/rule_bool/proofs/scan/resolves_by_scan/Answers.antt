@@ -1,6 +1,6 @@
 -- That the passes end in a conflict exactly where there is one.
 use Rattle.std.proofs.Common.{subst, arith, List}
-use Rattle.rule_bool.specs.declared.lits.Lit.{Lit}
+use Rattle.term_core.specs.declared.ids.Lit.{Lit}
 use Rattle.rule_bool.specs.Literals.{lit_complement}
 use Rattle.rule_bool.specs.Findings.{IsSettled}
 use Rattle.spec_proofs.specs.Resolution.{both_ways, given}
