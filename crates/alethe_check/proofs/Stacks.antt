@@ -1,5 +1,5 @@
 -- What a script states, command by command.
-use Rattle.std.proofs.Common.{◌≡◌, ℕ, Bool, true, false, not, cond, ◌||◌, List, [], ◌∷◌, ◌++◌, map, length, Option, Some, None, refl, sym, ap, ◌∙◌, subst, arith}
+use Rattle.std.proofs.Common.{◌≡◌, ◌<◌, ◌≤◌, ℕ, Bool, true, false, not, cond, ◌||◌, List, [], ◌∷◌, ◌++◌, map, length, Option, Some, None, refl, sym, ap, ◌∙◌, subst, arith}
 use Rattle.std.specs.Prelude.{Result, Ok, Err, Vec, nat_lt, slice_index_or}
 use Rattle.std.specs.Str.{bytes_eq}
 use Rattle.std.proofs.lemmas.List.{map-append}
@@ -22,7 +22,12 @@ use Rattle.sort_check.specs.declared.faults.TermStop.{TermStop}
 use Rattle.sort_check.specs.declared.faults.TermStop.TheVariants as term_stops
 use Rattle.sort_check.specs.Reads.{HasTerms, AnswersTerms}
 use Rattle.term_core.proofs.TermsExtend.{AreIn-kept, clause_at-kept}
-use Rattle.smt_sexpr.specs.Items.{split_first}
+use Rattle.spec_text.specs.declared.Fault.{Fault}
+use Rattle.spec_text.specs.declared.Place.{Place}
+use Rattle.spec_text.specs.Offsets.{AllOffsets, HasOffset, at_offset}
+use Rattle.smt_sexpr.specs.declared.items.Item.{Item}
+use Rattle.smt_sexpr.specs.declared.sexpr.Sexpr.{Sexpr}
+use Rattle.smt_sexpr.specs.Items.{split_first, text_of, items_of, start_of, tree_of, tree_in}
 use Rattle.smt_sexpr.specs.Means.{first_of}
 use Rattle.alethe_check.specs.Views.{located, Fails}
 use Rattle.alethe_check.specs.declared.script.Script.{Script}
@@ -229,3 +234,12 @@ module _ (limit : ℕ) (s : Stack) (t : Tree) where
   unfolding step ◌>>=◌
   command_refused c at (term_stops.Fault f) e here p = ap (λ a. a >>= λ c. performed limit (offset_of t) s c >>= λ next. Ok (let d : Taken = record { effect = effect_of c; stack = next } in d)) e ∙ ap (λ a. a >>= λ next. Ok (let d : Taken = record { effect = effect_of c; stack = next } in d)) (ap (λ n. performed limit n s c) (sym here) ∙ p)
   command_refused c at term_stops.Memory e here p = tt
+
+-- a fault of a command stands in its s-expression, so the place that was made of its offset has that offset
+pub placed_fault : (limit : ℕ) (s : Stack) (x : Sexpr) (text : List ℕ) (items : List Item) (n : ℕ) (f : Fault) (p : Place) → text ≡ text_of x → items ≡ items_of x → step limit s (tree_in text items) ≡ Err (record { offset = n; fault = f })
+    → ((l : ℕ) (u : Stack) (t : Tree) (g : Located) → step l u t ≡ Err g → HasOffset t g.offset)
+    → AllOffsets (λ m. (start_of x ≤ m) × (m < length (text_of x))) (tree_of x) → (start_of x ≤ n → n < length (text_of x) → p.offset ≡ n) → step limit s (tree_of x) ≡ Err (record { offset = p.offset; fault = f })
+placed_fault limit s x text items n f p same_text same_items e stands all placed =
+    let here : step limit s (tree_of x) ≡ Err (record { offset = n; fault = f }) = (λ i. step limit s (tree_in (sym same_text i) (sym same_items i))) ∙ e in
+    let within = at_offset (λ m. (start_of x ≤ m) × (m < length (text_of x))) (tree_of x) n all (stands limit s (tree_of x) (record { offset = n; fault = f }) here) in
+    here ∙ (λ i. Err (record { offset = sym (placed within.0 within.1) i; fault = f }))
