@@ -1,4 +1,13 @@
 -- The lemmas of this crate.
 pub mod CommandTrees
 pub mod Stacks
+pub mod Splitting
+pub mod Keywords
 pub mod Members
+pub mod Entries
+pub mod Faults
+pub mod PremiseLists
+pub mod Images
+pub mod Numbers
+pub mod ReadCommands
+pub mod Within

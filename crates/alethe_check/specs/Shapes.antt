@@ -1,8 +1,8 @@
 -- The shapes of a proof's commands as the code has them. Source: own.
-use Rattle.std.specs.Prelude.{ℕ, List, Option, Some, None, option_map, if◌then◌else◌}
+use Rattle.std.specs.Prelude.{◌≡◌, ℕ, List, Option, Some, None, option_map, if◌then◌else◌}
 use Rattle.std.specs.Borrow.{Bor}
 use Rattle.spec_text.specs.Bytes.{Name}
-use Rattle.spec_text.specs.Trees.{Tree, Trees, atom, list}
+use Rattle.spec_text.specs.Trees.{Tree, Trees, atom, list, none, more}
 use Rattle.spec_text.specs.Shapes.{is_keyword}
 use Rattle.spec_proofs.specs.Commands.{Shape, assumes, steps, Parts}
 use Rattle.smt_sexpr.specs.declared.items.Item.{Item}
@@ -29,6 +29,11 @@ step_view text p = steps (word_view p.name) (trees_in text p.literals.now) (word
 abbrev pub shape_view : List ℕ → CodeShape → Shape
 shape_view text (code.Assume w items) = assumes (word_view w) (tree_in text items.now)
 shape_view text (code.Step p) = step_view text p
+
+-- the items of a term are of one tree
+abbrev pub IsAlone : List ℕ → CodeShape → Type 0
+IsAlone text (code.Assume w items) = trees_in text items.now ≡ more (tree_in text items.now) none
+IsAlone text (code.Step p) = Unit {0}
 
 -- the name of a keyword, and of no other tree
 abbrev pub keyword_in : Tree → Option Name

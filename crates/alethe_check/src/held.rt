@@ -64,6 +64,7 @@ fn find(held: &Held, name: &[u8]) -> Option<u64>
 }
 
 /// The number of the clause of a name that stands at an offset.
+#[tactic(auto, unfolding(spec_proofs::specs::Known::known_clause))]
 fn clause_named(held: &Held, at: u64, name: &[u8]) -> Result<u64, Stop>
     requires { IsSound held.now }
     ensures gives { Reads (clause_numbered held.now) result (known_clause (known_view held.now) at name.now) }
@@ -76,6 +77,7 @@ fn clause_named(held: &Held, at: u64, name: &[u8]) -> Result<u64, Stop>
 }
 
 /// The number of the clause that a premise names.
+#[tactic(auto, unfolding(spec_proofs::specs::Known::premise_of))]
 fn premise(held: &Held, text: &[u8], items: &[Item]) -> Result<u64, Stop>
     requires { IsSound held.now }
     ensures gives { Reads (clause_numbered held.now) result (premise_of (known_view held.now) (tree_in text.now items.now)) }

@@ -1,12 +1,13 @@
 //! The commands of a proof, read from items under what is known before them.
 
-ghost use Rattle.std.specs.Prelude.{◌≡◌, ℕ, IfOk, false};
+ghost use Rattle.std.specs.Prelude.{◌≡◌, ◌≢◌, ◌∷◌, [], length, MatchOption, ℕ, IfOk, false};
 ghost use Rattle.spec_proofs.specs.Known.{known_rule, read_shape, shaped, command_of};
 ghost use Rattle.spec_proofs.specs.Rules.{rule_named};
+ghost use Rattle.spec_text.specs.Trees.{none, more};
 ghost use Rattle.smt_sexpr.specs.Items.{trees_in, tree_in};
 ghost use Rattle.smt_sexpr.specs.Views.{word_view};
 ghost use Rattle.alethe_check.specs.Views.{Reads, rule_meant};
-ghost use Rattle.alethe_check.specs.Shapes.{shape_view, step_view};
+ghost use Rattle.alethe_check.specs.Shapes.{shape_view, step_view, IsAlone};
 ghost use Rattle.alethe_check.specs.Holding.{known_view, IsSound};
 ghost use Rattle.alethe_check.specs.Judging.{command_view, IsReady, assume_view};
 
@@ -85,6 +86,16 @@ fn step<'a>(
     Ok(ReadCommand::Step(at, name, literals, rule, premises))
 }
 
+/// The one term of a list, where it has one.
+fn term_alone(terms: &[TermId]) -> Option<TermId>
+    ensures { MatchOption result (length terms.now ≢ 1) (λ id. terms.now ≡ id ∷ []) }
+{
+    let [id] = terms else {
+        return None;
+    };
+    Some(*id)
+}
+
 /// An assume by its name and the items of its term, in a command at an offset.
 #[tactic(auto, unfolding(spec_proofs::specs::Known::read_shape))]
 fn assume<'a>(
@@ -95,7 +106,8 @@ fn assume<'a>(
     word: Word<'a>,
     items: &[Item],
 ) -> Result<ReadCommand<'a>, Stop>
-    requires { IsSound held.old }
+    requires sound { IsSound held.old }
+    requires alone { trees_in text.now items.now ≡ more (tree_in text.now items.now) none }
     ensures gives { Reads (command_view held.new) result (read_shape (known_view held.old) at (assume_view (word_view word.entry) (tree_in text.now items.now))) }
     ensures same { known_view held.new ≡ known_view held.old }
     ensures sound { IsSound held.new }
@@ -103,8 +115,8 @@ fn assume<'a>(
 {
     let name = fresh_name(held, word)?;
     let read = clause(alloc, held, text, items, at)?;
-    match read.first() {
-        Some(id) => Ok(ReadCommand::Assume(offset(items), name, *id)),
+    match term_alone(&read) {
+        Some(id) => Ok(ReadCommand::Assume(offset(items), name, id)),
         None => Err(fault(at, ProofKind::BadShape)),
     }
 }
@@ -117,7 +129,8 @@ fn by_shape<'a>(
     at: u64,
     shape: Shape<'a>,
 ) -> Result<ReadCommand<'a>, Stop>
-    requires { IsSound held.old }
+    requires sound { IsSound held.old }
+    requires alone { IsAlone text.now shape }
     ensures gives { Reads (command_view held.new) result (read_shape (known_view held.old) at (shape_view text.now shape.entry)) }
     ensures same { known_view held.new ≡ known_view held.old }
     ensures sound { IsSound held.new }

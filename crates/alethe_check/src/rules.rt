@@ -82,7 +82,8 @@ pub fn follows(
     ensures memory { IfErr result (λ e. e ≡ Stop.Memory) }
 {
     match rule {
-        Rule::Resolution | Rule::ThResolution => is_resolved(alloc, held, premises, clause),
+        Rule::Resolution => is_resolved(alloc, held, premises, clause),
+        Rule::ThResolution => is_resolved(alloc, held, premises, clause),
         Rule::Or => Ok(is_opened(held, premises, clause)),
         Rule::Contraction | Rule::Reordering | Rule::Weakening => {
             Ok(is_weaker(held, rule, premises, clause))

@@ -1,10 +1,10 @@
 //! The commands of a proof, read from items by their shape.
 
-ghost use Rattle.std.specs.Prelude.{◌≡◌, ℕ, List, option_map, codes};
+ghost use Rattle.std.specs.Prelude.{◌≡◌, ℕ, List, option_map, codes, IfSome};
 ghost use Rattle.spec_proofs.specs.Commands.{no_parts, symbol_in, list_in, all_symbols, symbols_in, with_rule, with_premises, with_args, with_discharge, with_part, parts_of, or_none, assume_shape, step_shape, shape_by, shape_of};
 ghost use Rattle.smt_sexpr.specs.Items.{trees_in, tree_in};
 ghost use Rattle.smt_sexpr.specs.Views.{word_view};
-ghost use Rattle.alethe_check.specs.Shapes.{trees_view, parts_view, shape_view, keyword_in};
+ghost use Rattle.alethe_check.specs.Shapes.{trees_view, parts_view, shape_view, keyword_in, IsAlone};
 
 use smt_sexpr::{
     Item, View, Word, is_keyword, is_symbol, is_word, list_first, look, passes, same_bytes, split,
@@ -14,7 +14,7 @@ use smt_sexpr::{
 /// A command by its shape: an assume by its name and the items of its term, or a step.
 #[derive(Clone, Copy)]
 pub enum Shape<'a> {
-    /// The name, and the items of the term.
+    /// The name, and the items of the term, which are of one tree.
     Assume(Word<'a>, &'a [Item]),
     /// The parts.
     Step(StepParts<'a>),
@@ -158,7 +158,12 @@ fn with_discharge<'a>(text: &'a [u8], parts: Parts<'a>, items: &'a [Item]) -> Op
 }
 
 /// The parts with a keyword more, by its name and the items of its value.
-fn with_part<'a>(text: &'a [u8], parts: Parts<'a>, name: &[u8], items: &'a [Item]) -> Option<Parts<'a>>
+fn with_part<'a>(
+    text: &'a [u8],
+    parts: Parts<'a>,
+    name: &[u8],
+    items: &'a [Item],
+) -> Option<Parts<'a>>
     ensures { option_map (parts_view text.now) result ≡ with_part (parts_view text.now parts.entry) name.now (tree_in text.now items.now) }
 {
     if same_bytes(name, b"rule") {
@@ -223,12 +228,13 @@ fn parts_of<'a>(text: &'a [u8], items: &'a [Item]) -> Option<Parts<'a>>
 /// An assume, behind its word.
 #[tactic(auto, unfolding(spec_proofs::specs::Commands::assume_shape))]
 fn assume_shape<'a>(text: &'a [u8], items: &'a [Item]) -> Option<Shape<'a>>
-    ensures { option_map (shape_view text.now) result ≡ assume_shape (trees_in text.now items.now) }
+    ensures gives { option_map (shape_view text.now) result ≡ assume_shape (trees_in text.now items.now) }
+    ensures alone { IfSome result (IsAlone text.now) }
 {
     let (name, rest) = word_first(text, items)?;
     passes(is_symbol(name.kind))?;
-    let term = tree_alone(rest)?;
-    Some(Shape::Assume(name, term))
+    tree_alone(rest)?;
+    Some(Shape::Assume(name, rest))
 }
 
 /// The items of premises, where they are given.
@@ -244,7 +250,8 @@ fn or_none(premises: Option<&[Item]>) -> &[Item]
 /// A step, behind its word.
 #[tactic(auto, unfolding(spec_proofs::specs::Commands::step_shape))]
 fn step_shape<'a>(text: &'a [u8], items: &'a [Item]) -> Option<Shape<'a>>
-    ensures { option_map (shape_view text.now) result ≡ step_shape (trees_in text.now items.now) }
+    ensures gives { option_map (shape_view text.now) result ≡ step_shape (trees_in text.now items.now) }
+    ensures alone { IfSome result (IsAlone text.now) }
 {
     let (name, rest) = word_first(text, items)?;
     passes(is_symbol(name.kind))?;
@@ -263,7 +270,8 @@ fn step_shape<'a>(text: &'a [u8], items: &'a [Item]) -> Option<Shape<'a>>
 
 /// A command by its word.
 fn shape_by<'a>(text: &'a [u8], word: Word<'a>, items: &'a [Item]) -> Option<Shape<'a>>
-    ensures { option_map (shape_view text.now) result ≡ shape_by (word_view word.entry, trees_in text.now items.now) }
+    ensures gives { option_map (shape_view text.now) result ≡ shape_by (word_view word.entry, trees_in text.now items.now) }
+    ensures alone { IfSome result (IsAlone text.now) }
 {
     if is_word(b"assume", word) {
         return assume_shape(text, items);
@@ -277,7 +285,8 @@ fn shape_by<'a>(text: &'a [u8], word: Word<'a>, items: &'a [Item]) -> Option<Sha
 /// The shape of a command whose list has these items.
 #[tactic(auto, unfolding(spec_proofs::specs::Commands::shape_of))]
 pub fn shape_of<'a>(text: &'a [u8], items: &'a [Item]) -> Option<Shape<'a>>
-    ensures { option_map (shape_view text.now) result ≡ shape_of (trees_in text.now items.now) }
+    ensures gives { option_map (shape_view text.now) result ≡ shape_of (trees_in text.now items.now) }
+    ensures alone { IfSome result (IsAlone text.now) }
 {
     let (word, rest) = word_first(text, items)?;
     shape_by(text, word, rest)

@@ -1,0 +1,27 @@
+-- Resolution depends on what the premises contain, and on nothing else of them.
+use Rattle.std.proofs.Common.{List, map, Contains, subst}
+use Rattle.std.specs.Prelude.{◌↔◌}
+use Rattle.spec_proofs.specs.Resolution.{Derives, given, unit, Conflicts, false_clause, both_ways, IsWithin}
+use Rattle.spec_proofs.specs.Clauses.{IsResolvent}
+use Rattle.spec_terms.specs.Literals.{Clause, complement, literals_of}
+use Rattle.alethe_check.proofs.Images.{images_within}
+
+module _ {L : Type 0} (other : L → L) (ps qs : List (List L)) (within : IsWithin ps qs) (assumed : List L) where
+  derives_within : (l : L) → Derives other ps assumed l → Derives other qs assumed l
+  derives_within _ (given l i) = given l i
+  derives_within _ (unit c l c_in l_in others) = unit c l (within c c_in) l_in λ m m_in differs. derives_within (other m) (others m m_in differs)
+
+  pub conflicts_within : Conflicts other ps assumed → Conflicts other qs assumed
+  conflicts_within (both_ways l one two) = both_ways l (derives_within l one) (derives_within (other l) two)
+  conflicts_within (false_clause c c_in all) = false_clause c (within c c_in) λ m m_in. derives_within (other m) (all m m_in)
+
+-- a clause that follows from the ones follows from the others too
+pub resolvent_within : (ps qs : List Clause) (c : Clause) → IsWithin ps qs → IsResolvent ps c → IsResolvent qs c
+resolvent_within ps qs c within r = conflicts_within complement (map literals_of ps) (map literals_of qs) (images_within literals_of ps qs within) (map complement (literals_of c)) r
+
+-- of clauses with the same members, the same follows
+pub resolvent_same : (ps qs : List Clause) (c : Clause) → ((d : Clause) → Contains ps d ↔ Contains qs d) → IsResolvent ps c → IsResolvent qs c
+resolvent_same ps qs c same r = resolvent_within ps qs c (λ d. (same d).0) r
+
+pub resolvent_back : (ps qs : List Clause) (c : Clause) → ((d : Clause) → Contains ps d ↔ Contains qs d) → IsResolvent qs c → IsResolvent ps c
+resolvent_back ps qs c same r = resolvent_within qs ps c (λ d. (same d).1) r
