@@ -13,12 +13,14 @@ mod judge;
 mod load;
 mod premises;
 mod proof;
+#[cfg(test)]
+mod proof_tests;
 mod rules;
 pub mod script;
+#[cfg(test)]
+mod script_tests;
 mod shapes;
 mod stop;
-#[cfg(test)]
-mod tests;
 
 use held::at_check;
 use judge::judge;

@@ -65,7 +65,6 @@ fn known_rule(word: Word<'_>) -> Result<Rule, Stop>
 }
 
 /// A step by its parts, at an offset.
-#[tactic(auto, unfolding(spec_proofs::specs::Known::read_shape))]
 fn step<'a>(
     alloc: Global,
     held: &mut Held,
@@ -97,7 +96,6 @@ fn term_alone(terms: &[TermId]) -> Option<TermId>
 }
 
 /// An assume by its name and the items of its term, in a command at an offset.
-#[tactic(auto, unfolding(spec_proofs::specs::Known::read_shape))]
 fn assume<'a>(
     alloc: Global,
     held: &mut Held,
