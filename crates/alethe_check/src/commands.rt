@@ -85,7 +85,11 @@ fn assertion<'a>(text: &'a [u8], items: &'a [Item]) -> Option<ScriptCommand<'a>>
     Some(ScriptCommand::Assert(term))
 }
 
-fn alone<'a>(text: &'a [u8], command: ScriptCommand<'a>, items: &'a [Item]) -> Option<ScriptCommand<'a>>
+fn alone<'a>(
+    text: &'a [u8],
+    command: ScriptCommand<'a>,
+    items: &'a [Item],
+) -> Option<ScriptCommand<'a>>
     ensures { option_map (command_view text.now) result ≡ alone (command_view text.now command.entry) (trees_in text.now items.now) }
 {
     want_end(items)?;
@@ -141,7 +145,12 @@ fn verb_of(text: &[u8], items: &[Item]) -> Option<Verb>
 }
 
 /// The command of a list at an offset: of the first of its trees, and the others.
-fn command_as<'a>(text: &'a [u8], at: u64, head: &'a [Item], rest: &'a [Item]) -> Result<ScriptCommand<'a>, TermStop>
+fn command_as<'a>(
+    text: &'a [u8],
+    at: u64,
+    head: &'a [Item],
+    rest: &'a [Item],
+) -> Result<ScriptCommand<'a>, TermStop>
     ensures { Gives (command_view text.now) result (command_as at (offset_of (tree_in text.now head.now)) (verb_of (tree_in text.now head.now)) (trees_in text.now rest.now)) }
 {
     let Some(verb) = verb_of(text, head) else {

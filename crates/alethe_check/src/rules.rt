@@ -9,9 +9,7 @@ ghost use Rattle.alethe_check.specs.Holding.{IsSound, clauses_numbered, AreNumbe
 use crate::held::Held;
 use crate::premises::{distinct_clauses, single};
 use crate::stop::Stop;
-use rule_bool::{
-    RuleStop, resolution, rule_contraction, rule_or, rule_reordering, rule_weakening,
-};
+use rule_bool::{RuleStop, resolution, rule_contraction, rule_or, rule_reordering, rule_weakening};
 use spec_proofs::Rule;
 use std::alloc::Global;
 use term_core::TermId;

@@ -101,12 +101,7 @@ impl Script {
     /// sort `UnknownSort`, `Reserved`, `BadShape`; for a term `BadShape`, `Reserved`, `UnknownSymbol`, `WrongCount`), then
     /// `Full` at its parenthesis. A command that is refused, or for which memory ran out, changes nothing.
     /// Source: SMT-LIB 2.6, sections 3.9 and 4.2; the order of faults is own.
-    pub fn command(
-        &mut self,
-        alloc: Global,
-        sexpr: &Sexpr<'_>,
-        limit: u64,
-    ) -> Result<Took, Refused>
+    pub fn command(&mut self, alloc: Global, sexpr: &Sexpr<'_>, limit: u64) -> Result<Took, Refused>
         ensures steps { (s : Stack) → IsStack self.old s → Steps limit s sexpr.now result self.new }
     {
         spec_scripts::laws::faults_stand_in_their_command();
@@ -262,7 +257,13 @@ fn set_success(script: &mut Script, at: u64, value: Option<bool>) -> Result<(), 
 }
 
 /// Sets an option of a command at an offset.
-fn set_option(script: &mut Script, text: &[u8], at: u64, name: &[u8], value: &[Item]) -> Result<(), TermStop>
+fn set_option(
+    script: &mut Script,
+    text: &[u8],
+    at: u64,
+    name: &[u8],
+    value: &[Item],
+) -> Result<(), TermStop>
     ensures { (limit : ℕ) (s : Stack) → IsStack script.old s → Becomes (performed limit at s (SetOption name.now (tree_in text.now value.now))) s result script.new }
 {
     if is_known_option(name) {
@@ -286,7 +287,14 @@ fn declare_name(script: &mut Script, at: u64, name: &[u8], limit: u64) -> Result
 }
 
 /// Declares a constant by a command at an offset.
-fn declare(script: &mut Script, text: &[u8], at: u64, word: Word<'_>, sort: &[Item], limit: u64) -> Result<(), TermStop>
+fn declare(
+    script: &mut Script,
+    text: &[u8],
+    at: u64,
+    word: Word<'_>,
+    sort: &[Item],
+    limit: u64,
+) -> Result<(), TermStop>
     ensures { (s : Stack) → IsStack script.old s → Becomes (performed limit at s (DeclareConst (word_view word.entry) (tree_in text.now sort.now))) s result script.new }
 {
     let name = match new_name(&script.table, word) {
@@ -310,7 +318,14 @@ pub(crate) fn first_of(ids: &[TermId]) -> Option<TermId>
 }
 
 /// Asserts the term that items mean that are of one tree, by a command at an offset.
-fn assert_alone(script: &mut Script, alloc: Global, text: &[u8], at: u64, items: &[Item], limit: u64) -> Result<(), TermStop>
+fn assert_alone(
+    script: &mut Script,
+    alloc: Global,
+    text: &[u8],
+    at: u64,
+    items: &[Item],
+    limit: u64,
+) -> Result<(), TermStop>
     requires { trees_in text.now items.now ≡ more (tree_in text.now items.now) none }
     ensures { (s : Stack) → IsStack script.old s → Becomes (performed limit at s (Assert (tree_in text.now items.now))) s result script.new }
 {
@@ -328,7 +343,14 @@ fn assert_alone(script: &mut Script, alloc: Global, text: &[u8], at: u64, items:
 }
 
 /// Asserts the term that the first tree of the items is, by a command at an offset.
-fn assert_term(script: &mut Script, alloc: Global, text: &[u8], at: u64, items: &[Item], limit: u64) -> Result<(), TermStop>
+fn assert_term(
+    script: &mut Script,
+    alloc: Global,
+    text: &[u8],
+    at: u64,
+    items: &[Item],
+    limit: u64,
+) -> Result<(), TermStop>
     ensures { (s : Stack) → IsStack script.old s → Becomes (performed limit at s (Assert (tree_in text.now items.now))) s result script.new }
 {
     match split(items) {
@@ -338,7 +360,14 @@ fn assert_term(script: &mut Script, alloc: Global, text: &[u8], at: u64, items: 
 }
 
 /// Performs a command at an offset.
-fn perform(script: &mut Script, alloc: Global, text: &[u8], at: u64, command: ScriptCommand<'_>, limit: u64) -> Result<(), TermStop>
+fn perform(
+    script: &mut Script,
+    alloc: Global,
+    text: &[u8],
+    at: u64,
+    command: ScriptCommand<'_>,
+    limit: u64,
+) -> Result<(), TermStop>
     ensures { (s : Stack) → IsStack script.old s → Becomes (performed limit at s (command_view text.now command.entry)) s result script.new }
 {
     match command {
@@ -368,7 +397,13 @@ fn answer(command: &ScriptCommand<'_>) -> Took
 }
 
 /// Takes the command that the first tree of the items is.
-fn take(script: &mut Script, alloc: Global, text: &[u8], items: &[Item], limit: u64) -> Result<Took, TermStop>
+fn take(
+    script: &mut Script,
+    alloc: Global,
+    text: &[u8],
+    items: &[Item],
+    limit: u64,
+) -> Result<Took, TermStop>
     ensures { (s : Stack) → IsStack script.old s → Takes limit s (tree_in text.now items.now) result script.new }
 {
     let command = match script_command(text, items) {

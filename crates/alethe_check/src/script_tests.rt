@@ -17,7 +17,12 @@ enum Answer {
 }
 
 /// Runs the commands of a text on a script, and gives the answer to the last; `None` where there is none.
-fn run(alloc: Global, script: &mut Script, text: &[u8], limit: u64) -> Result<Option<Answer>, AllocError> {
+fn run(
+    alloc: Global,
+    script: &mut Script,
+    text: &[u8],
+    limit: u64,
+) -> Result<Option<Answer>, AllocError> {
     let mut at = start();
     let mut last = None;
     loop {
@@ -31,7 +36,11 @@ fn run(alloc: Global, script: &mut Script, text: &[u8], limit: u64) -> Result<Op
         };
         last = match script.command(alloc, &sexpr, limit) {
             Ok(took) => Some(Answer::Took(took)),
-            Err(Refused::Fault(r)) => Some(Answer::Fault(r.fault.name(), r.place.line, r.place.col)),
+            Err(Refused::Fault(r)) => Some(Answer::Fault(
+                r.fault.name(),
+                r.place.line,
+                r.place.col,
+            )),
             Err(Refused::Memory) => return Err(AllocError),
         };
         at = after;
@@ -179,12 +188,28 @@ fn commands_are_answered(rt: HostRuntime) -> Result<(), Fail> {
 /// Limits, commands, and the answer to the last of them.
 const LIMITS: [(u64, &str, Answer); 8] = [
     (4, "(assert (or p q (not p)))", Answer::Took(Took::Done)),
-    (4, "(assert (or p q (not p)))(assert (and p (or p q (not p))))", Answer::Fault("Full", 1, 26)),
-    (4, "(assert (and p (or p q (not p))))(assert p)", Answer::Took(Took::Done)),
-    (4, "(assert (and r (or p q (not p))))", Answer::Fault("UnknownSymbol", 1, 14)),
+    (
+        4,
+        "(assert (or p q (not p)))(assert (and p (or p q (not p))))",
+        Answer::Fault("Full", 1, 26),
+    ),
+    (
+        4,
+        "(assert (and p (or p q (not p))))(assert p)",
+        Answer::Took(Took::Done),
+    ),
+    (
+        4,
+        "(assert (and r (or p q (not p))))",
+        Answer::Fault("UnknownSymbol", 1, 14),
+    ),
     (3, "(declare-const a Bool)", Answer::Took(Took::Done)),
     (2, "(declare-const a Bool)", Answer::Fault("Full", 1, 1)),
-    (2, "(declare-const a U)", Answer::Fault("UnknownSort", 1, 18)),
+    (
+        2,
+        "(declare-const a U)",
+        Answer::Fault("UnknownSort", 1, 18),
+    ),
     (3, " (assert (distinct p q p))", Answer::Fault("Full", 1, 2)),
 ];
 
