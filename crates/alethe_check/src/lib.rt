@@ -7,10 +7,13 @@ ghost use Rattle.spec_proofs.specs.Accepted.{IsAccepted};
 ghost use Rattle.alethe_check.specs.Verdicts.{Answers, Refuses};
 
 mod asserted;
+#[cfg(test)]
+mod check_tests;
 mod commands;
 mod held;
 mod judge;
 mod load;
+mod names;
 mod premises;
 mod proof;
 #[cfg(test)]

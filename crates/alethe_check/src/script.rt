@@ -20,10 +20,9 @@ ghost use Rattle.alethe_check.specs.Scripts.{command_view, effect_meant, IsStack
 
 use crate::asserted::Asserted;
 use crate::commands::{ScriptCommand, refused, script_command};
-use smt_lexer::{Place, Refusal, Refused, is_one_of};
-use smt_sexpr::{
-    Item, Kind, Sexpr, View, Word, is_reserved, is_symbol, look, offset, same_bytes, split,
-};
+use crate::names::{new_name, sort_in};
+use smt_lexer::{Place, Refusal, Refused};
+use smt_sexpr::{Item, Sexpr, View, Word, is_symbol, look, offset, same_bytes, split};
 use sort_check::{TermStop, terms};
 use spec_text::Fault;
 use std::alloc::Global;
@@ -56,28 +55,6 @@ pub enum Took {
     /// It ends the script.
     Exit,
 }
-
-/// The names that the theories have. Source: SMT-LIB 2.6, theories Core and Reals.
-const THEORY_NAMES: [&[u8]; 18] = [
-    b"true",
-    b"false",
-    b"not",
-    b"and",
-    b"or",
-    b"xor",
-    b"=>",
-    b"=",
-    b"distinct",
-    b"ite",
-    b"-",
-    b"+",
-    b"*",
-    b"/",
-    b"<",
-    b"<=",
-    b">",
-    b">=",
-];
 
 impl Script {
     /// Makes the script that has stated nothing. It takes no memory.
@@ -127,85 +104,6 @@ fn place_in(sexpr: &Sexpr<'_>, offset: u64) -> Place
         return sexpr.place(offset);
     }
     start
-}
-
-/// Tells whether a name is a theory's.
-fn is_theory_name(name: &[u8]) -> bool
-    ensures { result ≡ among theory_names name.now }
-{
-    is_one_of(&THEORY_NAMES, name)
-}
-
-/// Tells whether a name begins like those that are kept for solvers.
-fn is_kept(name: &[u8]) -> bool
-    ensures { result ≡ is_kept_name name.now }
-{
-    match name.first() {
-        Some(b) => *b == b'@' || *b == b'.',
-        None => false,
-    }
-}
-
-/// Tells whether a constant of that name is declared.
-fn is_declared(table: &TermTable, name: &[u8]) -> bool
-    ensures { result ≡ among (names_of table.now.symbols) name.now }
-{
-    match table.symbols().find(name) {
-        Some(_) => true,
-        None => false,
-    }
-}
-
-/// Tells whether a word is reserved, or a name that is kept.
-fn is_barred(word: Word<'_>) -> bool
-    ensures { result ≡ is_barred (word_view word.entry) }
-{
-    is_reserved(word.kind) || is_kept(word.bytes)
-}
-
-/// Tells whether a name is a theory's, or declared.
-fn is_taken(table: &TermTable, name: &[u8]) -> bool
-    ensures { result ≡ is_taken table.now.symbols name.now }
-{
-    is_theory_name(name) || is_declared(table, name)
-}
-
-/// The name that a word may declare.
-fn new_name<'a>(table: &TermTable, word: Word<'a>) -> Result<&'a [u8], TermStop>
-    ensures gives { Gives (λ b. b.now) result (new_name table.now.symbols (word_view word.entry)) }
-    ensures new { IfOk result (λ b. is_taken table.now.symbols b.now ≡ false) }
-{
-    if is_barred(word) {
-        return Err(refused(word.at, Fault::Reserved));
-    }
-    if is_taken(table, word.bytes) {
-        return Err(refused(word.at, Fault::Twice));
-    }
-    Ok(word.bytes)
-}
-
-/// Asks that a name is that of a sort: Bool alone so far.
-fn sort_named(at: u64, name: &[u8]) -> Result<(), TermStop>
-    ensures { Gives (λ u. Truth) result (sort_named at name.now) }
-{
-    if same_bytes(name, b"Bool") {
-        return Ok(());
-    }
-    Err(refused(at, Fault::UnknownSort))
-}
-
-/// Asks that the first tree of the items is a sort.
-fn sort_in(text: &[u8], items: &[Item]) -> Result<(), TermStop>
-    ensures { Gives (λ u. Truth) result (sort_in (tree_in text.now items.now)) }
-{
-    match look(text, items) {
-        View::Atom(at, kind, bytes) => match kind {
-            Kind::Simple | Kind::Quoted => sort_named(u64::from(at), bytes),
-            Kind::Reserved => Err(refused(u64::from(at), Fault::Reserved)),
-            _ => Err(refused(u64::from(at), Fault::BadShape)),
-        },
-        View::List(at, _, _) => Err(refused(u64::from(at), Fault::UnknownSort)),
-    }
 }
 
 /// The truth value of a name, where it is one.
