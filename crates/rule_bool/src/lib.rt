@@ -1,6 +1,7 @@
-//! Rules of Alethe on clauses, judged on literals.
+//! Rules of Alethe on clauses of the table of terms.
 //!
-//! `resolves` propagates units over premises in time in proportion to their literals. A plain slow body beside it is what tests compare it with.
+//! A rule on one premise looks for terms by their numbers and takes no memory. `resolution` takes literals, over which `resolves`
+//! propagates units in time in proportion to them; a plain slow body beside it is what tests compare it with.
 #![tactic(auto)]
 
 mod distinct;
@@ -10,6 +11,8 @@ mod look;
 mod propagation;
 mod resolvent;
 mod rule_stop;
+#[cfg(test)]
+mod rule_tests;
 mod rules;
 mod scan;
 #[cfg(test)]

@@ -39,7 +39,20 @@ fn premises_of(
     Ok(found)
 }
 
-/// Judges a step of resolution.
+/// Judges a step of the rule `resolution`, or of `th_resolution`, which is the same.
+///
+/// Any number of premises, in any order, more than once, or for nothing; the conclusion is any clause that unit propagation over them
+/// refutes, beginning with the complement of each of its literals. A literal is a term without its leading negations, with the parity
+/// of their number. A clause counts as the set of its literals, and one with a literal and its complement needs no premise; `false` is
+/// a literal as any other. It is sound, since what is propagated is true where the premises are true and the conclusion is not, and no
+/// literal is true with its complement. Premises and clause give their terms by their numbers in the table.
+///
+/// Time and memory go in proportion to the literals of premises and clause with their negations, in any order, as far as look-ups by
+/// hash take a time of their own.
+///
+/// `Fails` comes exactly where propagation reaches no conflict; `Memory` where memory runs out, which tells nothing of the step.
+/// Nothing is changed. Source: Alethe specification, rules `resolution` and `th_resolution`; unit propagation in the place of a chain
+/// is own.
 pub fn resolution(
     alloc: Global,
     table: &TermTable,

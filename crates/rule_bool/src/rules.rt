@@ -27,7 +27,17 @@ fn disjunction<'a>(table: &'a TermTable, premises: &[Clause]) -> Option<&'a Node
     }
 }
 
-/// Judges a step of the rule `or`.
+/// Judges a step of the rule `or`, which opens a disjunction into its arguments.
+///
+/// One premise, whose one literal is a term `(or t1 .. tn)` as it stands, with any number of arguments; the conclusion has each of
+/// them, in any order, maybe more than once, and maybe others. It is sound, since where the disjunction is true, one of its arguments
+/// is, and with it the conclusion. Premises and clause give their terms by their numbers in the table.
+///
+/// It takes no memory. Time goes in proportion to the lengths where the terms stand in the clause's order, with gaps or repeats, and
+/// is their product at worst.
+///
+/// `RuleFails` comes exactly where the step is not right.
+/// Source: Alethe specification, rule `or`; that order, repeats and further literals are free is own.
 pub fn rule_or(
     table: &TermTable,
     premises: &[Clause],
@@ -69,7 +79,17 @@ fn keeps_literals(
     Err(RuleFails)
 }
 
-/// Judges a step of the rule `contraction`.
+/// Judges a step of the rule `contraction`, which leaves out literals that stand twice.
+///
+/// One premise; the conclusion has each of its literals, as the same terms, in any order, and maybe others. It is sound, since where
+/// the premise is true, one of its literals is, and with it the conclusion. Premises and clause give their terms by their numbers in
+/// the table.
+///
+/// It takes no memory. Time goes in proportion to the lengths where the terms stand in the clause's order, with gaps or repeats, and
+/// is their product at worst.
+///
+/// `RuleFails` comes exactly where the step is not right.
+/// Source: Alethe specification, rule `contraction`; that order and further literals are free is own.
 pub fn rule_contraction(
     table: &TermTable,
     premises: &[Clause],
@@ -83,7 +103,16 @@ pub fn rule_contraction(
     keeps_literals(table, premises, clause)
 }
 
-/// Judges a step of the rule `reordering`.
+/// Judges a step of the rule `reordering`, which gives the literals in another order.
+///
+/// One premise; the conclusion has each of its literals, as the same terms, and maybe others. It is sound, since where the premise is
+/// true, one of its literals is, and with it the conclusion. Premises and clause give their terms by their numbers in the table.
+///
+/// It takes no memory. Time goes in proportion to the lengths where the terms stand in the clause's order, with gaps or repeats, and
+/// is their product at worst.
+///
+/// `RuleFails` comes exactly where the step is not right.
+/// Source: Alethe specification, rule `reordering`; that repeats and further literals are free is own.
 pub fn rule_reordering(
     table: &TermTable,
     premises: &[Clause],
@@ -97,7 +126,17 @@ pub fn rule_reordering(
     keeps_literals(table, premises, clause)
 }
 
-/// Judges a step of the rule `weakening`.
+/// Judges a step of the rule `weakening`, which adds literals.
+///
+/// One premise; the conclusion has each of its literals, as the same terms, at any places among others. It is sound, since where the
+/// premise is true, one of its literals is, and with it the conclusion. Premises and clause give their terms by their numbers in the
+/// table.
+///
+/// It takes no memory. Time goes in proportion to the lengths where the terms stand in the clause's order, with gaps or repeats, and
+/// is their product at worst.
+///
+/// `RuleFails` comes exactly where the step is not right.
+/// Source: Alethe specification, rule `weakening`; that the added literals may stand anywhere is own.
 pub fn rule_weakening(
     table: &TermTable,
     premises: &[Clause],
