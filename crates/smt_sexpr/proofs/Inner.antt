@@ -1,16 +1,15 @@
 -- The tree of an item inside an s-expression.
-use Rattle.std.proofs.Common.{◌≡◌, ℕ, zero, suc, ◌+◌, ◌-◌, ◌<◌, ◌≤◌, ◌⊎◌, inl, inr, List, [], ◌∷◌, ◌++◌, length, get_or, drop, sym, ap, ◌∙◌, refl, subst, append_assoc, append-nil, length-append, get_or-drop, arith}
+use Rattle.std.proofs.Common.{◌≡◌, ℕ, zero, suc, ◌+◌, ◌-◌, ◌<◌, ◌≤◌, inl, inr, List, [], ◌∷◌, ◌++◌, length, get_or, drop, sym, ap, ◌∙◌, refl, subst, append_assoc, append-nil, length-append, get_or-drop, arith}
 use Rattle.std.proofs.lemmas.Bool.{cases_lt}
 use Rattle.std.proofs.lemmas.List.{drop-append-le, drop_at}
 use Rattle.std.proofs.Math.Seq.{drop-append-add}
 use Rattle.spec_text.specs.Lexemes.{Lexeme, opens, closes, word, lexemes_from}
 use Rattle.spec_text.specs.Trees.{Tree, Trees, atom, list, none, more, spelled, spelled_all, offset_of}
 use Rattle.smt_sexpr.specs.declared.items.Item.{Item}
-use Rattle.smt_sexpr.specs.declared.items.Item.TheVariants.{Atom, List as Group}
 use Rattle.smt_sexpr.specs.Means.{first_of, tree_in, flat, flat_all, StandsAt, AreRead}
 use Rattle.smt_sexpr.specs.Printing.{last_of, ends_of, IsTreeFrom}
 use Rattle.smt_sexpr.proofs.Meaning.{means_first}
-use Rattle.smt_sexpr.proofs.Offsets.{Rise, lexemes_rise, resumes, begins_within}
+use Rattle.smt_sexpr.proofs.Offsets.{resumes, begins_within}
 
 -- a tree among others: its tokens among theirs, and its items from an index on
 record Part (xs : List (ℕ × Lexeme)) (is : List Item) (i : ℕ) : Type 0 where

@@ -1,17 +1,17 @@
 -- One token more of a list.
-use Rattle.std.proofs.Common.{◌≡◌, ℕ, zero, suc, ◌+◌, ◌-◌, ◌<◌, ◌≤◌, true, List, [], ◌∷◌, ◌++◌, length, take, drop, Option, sym, ap, ◌∙◌, refl, subst, append_assoc, length-append, append-nil, arith}
-use Rattle.std.specs.Prelude.{nat_lt, ⊤}
+use Rattle.std.proofs.Common.{◌≡◌, ℕ, zero, suc, ◌+◌, ◌-◌, ◌<◌, ◌≤◌, true, List, [], ◌∷◌, ◌++◌, length, drop, Option, sym, ap, ◌∙◌, refl, subst, append_assoc, length-append, append-nil, arith}
+use Rattle.std.specs.Prelude.{nat_lt}
 use Rattle.std.proofs.lemmas.Bool.Decides.{nat_tests}
-use Rattle.std.proofs.lemmas.List.{take_at, drop_at}
+use Rattle.std.proofs.lemmas.List.{drop_at}
 use Rattle.std.proofs.Math.Nat.{le-max_left, le-max_right}
 use Rattle.spec_text.specs.declared.Kind.{Kind}
 use Rattle.spec_text.specs.declared.Place.{Place}
 use Rattle.spec_text.specs.Lexemes.{Lexeme, opens, closes, word, lexemes_from}
 use Rattle.spec_text.specs.Places.{IsPlaceOf}
-use Rattle.spec_text.specs.Trees.{Tree, Trees, atom, list, none, more, spelled, spelled_all, offset_of}
+use Rattle.spec_text.specs.Trees.{Tree, Trees, atom, list, none, more, spelled, offset_of}
 use Rattle.spec_text.specs.Faults.{Located, first_fault, nesting_limit}
 use Rattle.spec_text.specs.Readings.{depth, depth_all, IsBroken}
-use Rattle.smt_sexpr.specs.Means.{bytes_at, trees_in, first_of, tree_in, flat, flat_all, AreRead}
+use Rattle.smt_sexpr.specs.Means.{trees_in, first_of, tree_in, flat, AreRead}
 use Rattle.smt_sexpr.specs.declared.items.Item.{Item}
 use Rattle.smt_sexpr.specs.declared.items.Item.TheVariants.{List as Group}
 use Rattle.smt_sexpr.specs.declared.sexpr.Sexpr.{Sexpr}

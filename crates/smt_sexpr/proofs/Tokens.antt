@@ -1,5 +1,5 @@
 -- What is written of a tree, token by token.
-use Rattle.std.proofs.Common.{◌≡◌, ℕ, suc, ◌+◌, ◌-◌, ◌<◌, ◌≤◌, Bool, true, false, List, [], ◌∷◌, ◌++◌, length, drop, Option, Some, None, sym, ap, ◌∙◌, refl, subst, inl, inr, append_assoc, append-nil, length-append, arith}
+use Rattle.std.proofs.Common.{◌≡◌, ℕ, ◌+◌, ◌-◌, ◌<◌, ◌≤◌, Bool, true, false, List, [], ◌∷◌, ◌++◌, length, drop, Option, Some, None, sym, ap, ◌∙◌, refl, subst, inl, inr, append_assoc, append-nil, length-append, arith}
 use Rattle.std.specs.Prelude.{⊤}
 use Rattle.std.specs.Io.KnownBytes.{Appends}
 use Rattle.spec_text.specs.declared.Place.{Place}
@@ -7,11 +7,10 @@ use Rattle.spec_text.specs.Lexemes.{Lexeme, blank, opens, closes, word, wrong, l
 use Rattle.spec_text.specs.Trees.{Tree, Trees, atom, list, none, more, spelled, spelled_all}
 use Rattle.spec_text.specs.Printed.{printed_word, printed, printed_all}
 use Rattle.world_io.specs.Outside.{AppendsFront}
-use Rattle.world_io.proofs.Pieces.{appends_both, front_after, front_within}
+use Rattle.world_io.proofs.Pieces.{front_after, front_within}
 use Rattle.smt_lexer.specs.declared.TokenKind.{TokenKind}
 use Rattle.smt_lexer.specs.declared.TokenKind.TheVariants as kinds
 use Rattle.smt_lexer.specs.Tokens as lexer
-use Rattle.smt_sexpr.specs.Means.{StandsAt}
 use Rattle.smt_sexpr.specs.Printing.{gap, token_bytes, wants_space, last_of, HasNoToken, IsTreeFrom}
 use Rattle.smt_sexpr.proofs.Broken.{heads}
 use Rattle.smt_sexpr.proofs.Offsets.{IsToken, Rise, lexemes_rise}

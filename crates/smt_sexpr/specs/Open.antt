@@ -1,7 +1,7 @@
 -- What was read so far of an s-expression: the lists that are open, and what stands in each.
 use Rattle.std.specs.Prelude.{◌≡◌, ℕ, List, [], ◌∷◌, ◌++◌, length, ⊤}
 use Rattle.spec_text.specs.Lexemes.{Lexeme, opens}
-use Rattle.spec_text.specs.Trees.{Tree, Trees, atom, list, none, more, spelled_all}
+use Rattle.spec_text.specs.Trees.{Tree, Trees, list, none, more, spelled_all}
 use Rattle.smt_sexpr.specs.declared.items.Item.{Item}
 use Rattle.smt_sexpr.specs.declared.items.Item.TheVariants as items
 use Rattle.smt_sexpr.specs.Means.{flat_all}

@@ -19,9 +19,9 @@ pub struct Sexpr<'a> {
     /// Its items, in the order of the text.
     pub(crate) items: Vec<Item>,
     /// It begins in the text.
-    ghost placed: { IsPlaceOf text.now start },
+    pub ghost placed: { IsPlaceOf text.now start },
     /// Its items are those of a tree that stands there.
-    ghost read: { AreRead text.now start.offset items.items } by { Prim.hlevel props },
+    pub ghost read: { AreRead text.now start.offset items.items } by { Prim.hlevel props },
 }
 
 impl<'a> Sexpr<'a> {

@@ -1,15 +1,15 @@
 -- What is printed of a tree is read back.
-use Rattle.std.proofs.Common.{◌≡◌, ℕ, zero, suc, ◌+◌, ◌-◌, ◌<◌, Bool, true, false, cond, List, [], ◌∷◌, ◌++◌, length, drop, sym, ap, ◌∙◌, refl, subst, append_assoc, append-nil, add-zero, length-append, arith}
+use Rattle.std.proofs.Common.{◌≡◌, ℕ, zero, suc, ◌+◌, ◌-◌, ◌<◌, Bool, true, false, cond, List, [], ◌∷◌, ◌++◌, length, drop, sym, ap, ◌∙◌, refl, append_assoc, append-nil, add-zero, length-append, arith}
 use Rattle.std.specs.Prelude.{◌==◌, ◌&&◌, not, ⊤}
 use Rattle.std.proofs.lemmas.List.{drop_at}
 use Rattle.spec_text.specs.declared.Kind.{Kind}
 use Rattle.spec_text.specs.declared.Kind.TheVariants.{Numeral, Decimal, Text, Simple, Quoted, Reserved, Keyword}
 use Rattle.spec_text.specs.Bytes.{Name, is_digit, is_symbol_byte, among, reserved_words}
-use Rattle.spec_text.specs.Lexemes.{Lexeme, blank, opens, closes, word, wrong, Piece, piece, first_piece, before, lexemes}
-use Rattle.spec_text.specs.Lexicon.{Spells, only_zero, digits, numeral, decimal, string, simple_symbol, reserved_word, quoted_symbol, keyword, BeginsWithout}
+use Rattle.spec_text.specs.Lexemes.{opens, closes, word, Piece, piece, first_piece, before, lexemes}
+use Rattle.spec_text.specs.Lexicon.{only_zero, digits, numeral, decimal, string, simple_symbol, reserved_word, quoted_symbol, keyword, BeginsWithout}
 use Rattle.spec_text.specs.Trees.{Tree, Trees, atom, list, none, more, spelled, spelled_all, IsRead}
-use Rattle.spec_text.specs.Printed.{all_pass, is_bare, printed_symbol, printed_word, printed, printed_all, without_bars, SameTree, SameTrees}
-use Rattle.spec_text.proofs.Tests.{no_front, passes_consists, IsSymbolic, IsSymbolicName, reserved_is_symbolic}
+use Rattle.spec_text.specs.Printed.{all_pass, is_bare, printed_word, printed, printed_all, without_bars, SameTree, SameTrees}
+use Rattle.spec_text.proofs.Tests.{no_front, passes_consists, IsSymbolic, reserved_is_symbolic}
 use Rattle.spec_text.proofs.Spelling.{piece_of, numeral_piece, number_piece, point_piece, string_piece, quoted_piece, symbol_piece, keyword_piece, no_digits}
 use Rattle.spec_text.proofs.Words.{IsWord, HasWords, HaveWords}
 

@@ -1,6 +1,5 @@
 -- What the first token says.
 use Rattle.std.proofs.Common.{◌+◌, arith, ◌∙◌, ap, refl}
-use Rattle.spec_text.specs.Trees.{atom}
 use Rattle.smt_sexpr.proofs.Broken.{nothing_broken, wrong_broken, deep_broken, stray_broken}
 use Rattle.smt_sexpr.proofs.Reading.{begins_with_word, read_there, first_is}
 use Rattle.smt_sexpr.proofs.Words.{close_size}

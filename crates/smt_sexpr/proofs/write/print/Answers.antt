@@ -1,9 +1,6 @@
 -- The item's tree stands in the text, from its first token up to its last.
-use Rattle.std.proofs.Common.{◌≡◌, ℕ, length, drop, arith, ap, sym, ◌∙◌}
-use Rattle.std.specs.Io.KnownBytes.{Appends}
+use Rattle.std.proofs.Common.{arith, ap, ◌∙◌}
 use Rattle.std.proofs.lemmas.Result.{on_ok_weaker, on_err_weaker}
-use Rattle.spec_text.specs.Printed.{printed}
-use Rattle.world_io.specs.Outside.{AppendsFront}
 use Rattle.smt_sexpr.proofs.Inner.{inner, tree_from}
 use Rattle.smt_sexpr.proofs.write.print.Goals as goal
 

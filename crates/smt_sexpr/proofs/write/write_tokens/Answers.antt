@@ -1,9 +1,7 @@
 -- Each token is a part of the tree.
-use Rattle.std.proofs.Common.{◌≡◌, ℕ, List, [], ◌∷◌, ◌++◌, length, ◌+◌, ◌-◌, ◌<◌, ◌≤◌, arith, subst, sym, ap, refl, append-nil}
+use Rattle.std.proofs.Common.{ℕ, [], ◌++◌, arith, subst, sym, refl}
 use Rattle.std.proofs.lemmas.Bool.{false≢true}
 use Rattle.std.proofs.Math.Nat.{sub-zero}
-use Rattle.std.specs.Io.KnownBytes.{Appends}
-use Rattle.spec_text.specs.Trees.{Tree}
 use Rattle.spec_text.specs.Printed.{printed}
 use Rattle.world_io.proofs.Pieces.{appends_both, on_err_of}
 use Rattle.smt_sexpr.specs.Printing.{token_bytes}

@@ -1,5 +1,5 @@
 -- What was written and what is left are the tree, wherever one stands there.
-use Rattle.std.proofs.Common.{ℕ, List, length, ◌+◌, ◌-◌, ◌≤◌}
+use Rattle.std.proofs.Common.{ℕ, List, length, ◌-◌, ◌≤◌}
 use Rattle.std.specs.Io.KnownBytes.{Appends}
 use Rattle.spec_text.specs.Places.{IsPlaceOf}
 use Rattle.spec_text.specs.Trees.{Tree}
