@@ -2,20 +2,22 @@
 """Measures `smt_cli check` on proofs that grow, and checks that each is found valid.
 
     bench/check_chain.py EXECUTABLE              runs all families, prints a table of times and of peak memory
-    bench/check_chain.py EXECUTABLE chain        runs one family: chain, wide or ladder
+    bench/check_chain.py EXECUTABLE chain        runs one family: chain, wide, ladder or opened
     bench/check_chain.py --write FAMILY N SCRIPT PROOF
                                                  writes the two texts of one instance, and runs nothing
 
 The families, each with a number n:
 
 chain   The script asserts p0 to pn and (not pn). From each p(i+1) the proof derives the clause (not pi) or p(i+1), and
-        with it p(i+1) from pi: 2n + 1 steps with at most two premises each. Ten times the steps may cost at most fifteen
-        times the time, else the script ends with status 1.
+        with it p(i+1) from pi: 2n + 1 steps with at most two premises each.
 wide    One clause p1 .. pn, against the assumptions (not p1) .. (not pn), in one step of n + 1 premises. `helpful`
-        has the clause first, so that the pass from the last premise to the first meets it last; `unhelpful` has it last.
+        has the clause first, `unhelpful` has it last.
 ladder  Clauses (not p(i-1)) or (not pi) or p(i+1), against p0, p1 and (not pn), in one step of n + 2 premises. `helpful`
-        has them in the order of a chain of binary resolutions; `unhelpful` the other way round, where each pass over the
-        premises finds one literal alone.
+        has them in the order of a chain of binary resolutions; `unhelpful` the other way round.
+opened  One assertion (or p1 .. pn), which the rule `or` opens, against (not p1) .. (not pn), in the same step of n + 1
+        premises. `helpful` has the opened clause first, `unhelpful` has it last.
+
+In each family ten times n may cost at most fifteen times the time, else the script ends with status 1.
 
 It needs Python 3 and its standard library. Where /usr/bin/time is there it measures memory; else the system's record of
 the child does, which is never below Python's own few megabytes.
@@ -98,10 +100,27 @@ def write_ladder(n, script, proof, helpful):
         step(out, "e", [], premises if helpful else reversed(premises))
 
 
+def write_opened(n, script, proof, helpful):
+    """Writes one disjunction of n constants, opened by the rule `or`, and one step that resolves it away."""
+    names = [f"p{i}" for i in range(1, n + 1)]
+    term = f"(or {' '.join(names)})"
+    write_script(script, names, [term, *(f"(not {name})" for name in names)])
+    with open(proof, "w", encoding="ascii") as out:
+        assume(out, "g", term)
+        out.write(f"(step c (cl {' '.join(names)}) :rule or :premises (g))\n")
+        for i, name in enumerate(names):
+            assume(out, f"h{i}", f"(not {name})")
+        units = [f"h{i}" for i in range(n)]
+        step(out, "e", [], ["c", *units] if helpful else [*units, "c"])
+
+
+SIZES = (1_000, 10_000, 100_000)
+
 FAMILIES = {
-    "chain": (write_chain, (1_000, 10_000, 100_000), (True,)),
-    "wide": (write_wide, (1_000, 10_000), (True, False)),
-    "ladder": (write_ladder, (1_000, 10_000), (True, False)),
+    "chain": (write_chain, SIZES, (True,)),
+    "wide": (write_wide, SIZES, (True, False)),
+    "ladder": (write_ladder, SIZES, (True, False)),
+    "opened": (write_opened, SIZES, (True, False)),
 }
 
 
@@ -139,7 +158,7 @@ def measure(executable, write, n, helpful, folder):
 
 
 def run_family(executable, family, folder):
-    """Prints a row for each instance; tells whether a chain's time grew no more than it may."""
+    """Prints a row for each instance; tells whether the time grew no more than it may."""
     write, sizes, orders = FAMILIES[family]
     is_within = True
     for helpful in orders:
@@ -149,7 +168,7 @@ def run_family(executable, family, folder):
             seconds, memory, size = measure(executable, write, n, helpful, folder)
             ratio = "" if before is None else f"{seconds / before:.1f}"
             print(f"| {family}{order} | {n:,} | {size:,} | {seconds:.3f} | {ratio} | {memory:,} |", flush=True)
-            if family == "chain" and before is not None and seconds > 15 * before:
+            if before is not None and seconds > 15 * before:
                 is_within = False
             before = seconds
     return is_within
@@ -168,7 +187,7 @@ def main(words):
     with tempfile.TemporaryDirectory() as folder:
         within = [run_family(os.path.abspath(words[0]), family, folder) for family in families]
     if not all(within):
-        print("chain: ten times the steps cost more than fifteen times the time", file=sys.stderr)
+        print("ten times n cost more than fifteen times the time", file=sys.stderr)
         return 1
     return 0
 
