@@ -17,7 +17,6 @@ import time
 LIMIT = 2**26
 SCRIPT = "(declare-const p Bool)(assert p)(assert (not p))(check-sat)"
 PROOF = "(assume h1 p)(assume h2 (not p))(step t1 (cl) :rule resolution :premises (h1 h2))"
-NOT_YET = '(error "1:1: NotYet")'
 
 
 def padded(text, size):
@@ -48,15 +47,30 @@ def many_assertions(size):
     return before + "(assert p)" * ((size - len(before) - len(behind)) // 10) + behind
 
 
+def many_pairs(count):
+    """A script with an assertion of so many constants that are to be distinct, beside two that can be refuted."""
+    names = [f"c{i}" for i in range(count)]
+    declared = "".join(f"(declare-const {name} Bool)" for name in names)
+    return f"{declared}(assert (distinct {' '.join(names)}))" + SCRIPT
+
+
+def refused(column, name):
+    return f'(error "1:{column}: {name}")'
+
+
 ROWS = [
     ("script and spaces, 2^26 bytes", lambda: padded(SCRIPT, LIMIT), lambda: PROOF, "valid"),
-    ("one byte more", lambda: padded(SCRIPT, LIMIT + 1), lambda: PROOF, NOT_YET),
+    ("one byte more, behind the check", lambda: padded(SCRIPT, LIMIT + 1), lambda: PROOF, "valid"),
+    ("proof and spaces, 2^26 bytes", lambda: SCRIPT, lambda: padded(PROOF, LIMIT), "valid"),
+    ("one byte more", lambda: SCRIPT, lambda: padded(PROOF, LIMIT + 1), refused(LIMIT + 1, "TooLong")),
     ("script of many assertions", lambda: many_assertions(LIMIT), lambda: PROOF, "valid"),
     ("proof of one clause, literals of one byte", lambda: SCRIPT, lambda: one_clause(LIMIT), "valid"),
     ("proof of one clause, named as often as it is long", lambda: SCRIPT, lambda: many_mentions(LIMIT), "valid"),
-    ("proof of opening parentheses", lambda: SCRIPT, lambda: "(" * LIMIT, NOT_YET),
-    ("proof of empty lists", lambda: SCRIPT, lambda: "()" * (LIMIT // 2), NOT_YET),
-    ("proof of zero bytes", lambda: SCRIPT, lambda: "\0" * LIMIT, NOT_YET),
+    ("proof of opening parentheses", lambda: SCRIPT, lambda: "(" * LIMIT, refused(501, "TooDeep")),
+    ("proof of empty lists", lambda: SCRIPT, lambda: "()" * (LIMIT // 2), refused(3, "BadShape")),
+    ("proof of zero bytes", lambda: SCRIPT, lambda: "\0" * LIMIT, refused(1, "BadChar")),
+    ("script of 4,000 constants that are distinct", lambda: many_pairs(4_000), lambda: PROOF, "valid"),
+    ("script of 20,000 constants that are distinct, refused", lambda: many_pairs(20_000), lambda: PROOF, "valid"),
 ]
 
 
