@@ -13,3 +13,4 @@ pub mod Verdicts
 pub mod Parts
 pub mod Offsets
 pub mod Within
+pub mod Fronts

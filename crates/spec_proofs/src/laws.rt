@@ -4,6 +4,7 @@ ghost use Rattle.std.specs.Prelude.{◌≡◌, ◌↔◌, ◌≤◌, ℕ, Bool, 
 ghost use Rattle.spec_text.specs.Bytes.{Name};
 ghost use Rattle.spec_text.specs.Trees.{Tree, Trees};
 ghost use Rattle.spec_text.specs.Offsets.{HasOffset};
+ghost use Rattle.spec_text.specs.Readings.{front};
 ghost use Rattle.spec_terms.specs.Values.{Interpretation, Interprets, truth, table_value};
 ghost use Rattle.spec_terms.specs.Agreement.{value_at};
 ghost use Rattle.spec_terms.specs.Literals.{Clause, complement, literals_of};
@@ -84,6 +85,13 @@ pub fn verdict_is_one()
     proofs_have_one_reading();
     spec_scripts::laws::checks_have_one_stack();
 }
+
+/// States that a verdict on the fronts of two texts, of 2^26 + 1 bytes each at the most, is the verdict on the whole texts.
+/// Source: own.
+pub fn verdicts_need_a_front_alone()
+    ensures { (script proof : List ℕ) (k : ℕ) (found : Option Fault) → IsVerdict (front script) k (front proof) found
+        → IsVerdict script k proof found }
+{}
 
 /// States that the definition of models is met where it should be: whatever truths names have, some interpretation of the
 /// current symbols gives them to its constants, and where under it the terms of all current assertions have the value
