@@ -1,0 +1,45 @@
+-- A table that grows keeps its terms by their numbers, and what is written with them.
+use Rattle.std.proofs.Common.{◌≡◌, suc, ◌<◌, List, [], ◌∷◌, length, map, get_or, refl, sym, ◌∙◌, ap, subst, arith, length-append}
+use Rattle.std.proofs.lemmas.List.{append-nil, get_or_append_left}
+use Rattle.spec_terms.specs.Terms.{Apply, of, sort_of, head_takes}
+use Rattle.term_core.specs.declared.ids.TermId.{TermId}
+use Rattle.term_core.specs.declared.nodes.Head.{Head as NodeHead}
+use Rattle.term_core.specs.declared.nodes.Head.TheVariants as heads
+use Rattle.term_core.specs.Tables.{TableView, no_term, no_symbol, symbol_at, term_at, IsIn, AreIn, clause_at, head_meant, HasHead, Shape, Fits, shape_term, Extends}
+
+pub Extends-self : (t : TableView) → Extends t t
+Extends-self t = record { more_symbols = []; symbols = sym (append-nil t.symbols); more_terms = []; terms = sym (append-nil t.terms) }
+
+module _ (old new : TableView) (grows : Extends old new) where
+  pub IsIn-kept : (id : TermId) → IsIn old id → IsIn new id
+  IsIn-kept id within = subst (λ l. id.0 < length l) (sym grows.terms) (omega (arith, within, length-append old.terms grows.more_terms))
+
+  pub term_at-kept : (id : TermId) → IsIn old id → term_at new id ≡ term_at old id
+  term_at-kept id within = ap (λ l. get_or l id.0 no_term) grows.terms ∙ get_or_append_left old.terms grows.more_terms no_term id.0 within
+
+  pub AreIn-kept : (ids : List TermId) → AreIn old ids → AreIn new ids
+  AreIn-kept ids within k d lt = IsIn-kept (get_or ids k d) (within k d lt)
+
+  pub clause_at-kept : (ids : List TermId) → AreIn old ids → clause_at new ids ≡ clause_at old ids
+  clause_at-kept [] within = refl
+  clause_at-kept (id ∷ ids) within =
+      λ i. term_at-kept id (within 0 id (omega arith)) i ∷ clause_at-kept ids (λ k d lt. within (suc k) d (omega (arith, lt))) i
+
+  pub HasHead-kept : (h : NodeHead) → HasHead old.symbols h → HasHead new.symbols h
+  HasHead-kept (heads.Apply s) within = subst (λ l. s.0 < length l) (sym grows.symbols) (omega (arith, within, length-append old.symbols grows.more_symbols))
+  HasHead-kept _ within = tt
+
+  pub head_meant-kept : (h : NodeHead) → HasHead old.symbols h → head_meant new.symbols h ≡ head_meant old.symbols h
+  head_meant-kept (heads.Apply s) within =
+      ap Apply (ap (λ l. symbol_at l s) grows.symbols ∙ get_or_append_left old.symbols grows.more_symbols no_symbol s.0 within)
+  head_meant-kept _ within = refl
+
+  pub shape_term-kept : (s : Shape) → Fits old s → shape_term new s ≡ shape_term old s
+  shape_term-kept s f = λ i. of (head_meant-kept s.head f.head i) (clause_at-kept s.arguments f.arguments i)
+
+  pub Fits-kept : (s : Shape) → Fits old s → Fits new s
+  Fits-kept s f = record {
+    head = HasHead-kept s.head f.head;
+    arguments = AreIn-kept s.arguments f.arguments;
+    sorts = (λ i. head_takes (head_meant-kept s.head f.head i) (map sort_of (clause_at-kept s.arguments f.arguments i))) ∙ f.sorts;
+  }

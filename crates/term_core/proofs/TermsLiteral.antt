@@ -1,0 +1,39 @@
+-- The literal of a term.
+use Rattle.std.proofs.Common.{◌≡◌, Bool, true, false, List, not, if◌then◌else◌, refl, ap, sym, ◌∙◌}
+use Rattle.spec_terms.specs.Terms.{Term, of, negated}
+use Rattle.spec_terms.specs.Literals.{Literal, complement, literal_of}
+use Rattle.term_core.specs.declared.nodes.Head.{Head as NodeHead}
+use Rattle.term_core.specs.declared.nodes.Head.TheVariants as heads
+use Rattle.term_core.specs.Tables.{TableView, head_meant, clause_at, positive_literal}
+use Rattle.term_core.specs.declared.ids.TermId.{TermId}
+
+-- a literal, or its complement
+abbrev pub with_parity : Bool → Literal → Literal
+with_parity b l = if b then l else complement l
+
+literal_of-negated : (t : Term) → literal_of (negated t) ≡ complement (literal_of t)
+unfolding literal_of
+literal_of-negated t = refl
+
+complement-twice : (l : Literal) → complement (complement l) ≡ l
+complement-twice l = ap (λ b. record { atom = l.atom; positive = b }) (twice l.positive)
+  where
+    twice : (b : Bool) → not (not b) ≡ b
+    twice true = refl
+    twice false = refl
+
+-- one negation less turns the parity
+pub less : (b : Bool) (t u : Term) (l : Literal) → t ≡ negated u → with_parity b (literal_of t) ≡ l → with_parity (not b) (literal_of u) ≡ l
+less true t u l e h = sym (literal_of-negated u) ∙ ap literal_of (sym e) ∙ h
+less false t u l e h = sym (complement-twice (literal_of u)) ∙ ap complement (sym (literal_of-negated u) ∙ ap literal_of (sym e)) ∙ h
+
+-- what is no negation has the literal of its parity
+pub ends : (b : Bool) (t : Term) (l : Literal) → literal_of t ≡ positive_literal t → with_parity b (literal_of t) ≡ l → record { atom = t; positive = b } ≡ l
+ends true t l own h = sym own ∙ h
+ends false t l own h = ap complement (sym own) ∙ h
+
+-- what has another head in front is no negation
+pub own : (t : TableView) (h : NodeHead) (ids : List TermId) → (h ≡ heads.Not → ⊥) → literal_of (of (head_meant t.symbols h) (clause_at t ids)) ≡ positive_literal (of (head_meant t.symbols h) (clause_at t ids))
+unfolding literal_of
+own t heads.Not ids other = absurd (other refl)
+own t _ ids other = refl

@@ -1,0 +1,4 @@
+-- What a table of terms holds, and the values of its terms.
+pub mod NameLists
+pub mod Tables
+pub mod Valuations

@@ -1,0 +1,26 @@
+//! The terms of a script or a proof: each term once, by its number, with its sort, its literal and its value.
+#![tactic(auto)]
+
+mod clauses;
+mod ids;
+mod names;
+mod nodes;
+mod rule_fails;
+mod sorts;
+mod symbols;
+mod terms;
+#[cfg(test)]
+mod tests;
+mod valuation;
+mod values;
+
+pub use clauses::Clause;
+pub use ids::{Lit, SymbolId, TermId};
+pub use names::Names;
+pub use nodes::{Arguments, Head, Node};
+pub use rule_fails::RuleFails;
+pub use sorts::Sort;
+pub use symbols::Symbols;
+pub use terms::TermTable;
+pub use valuation::value;
+pub use values::{Interp, Row, Table, Value, ValueStop};

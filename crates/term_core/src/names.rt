@@ -1,0 +1,126 @@
+//! Names by their numbers: each name once.
+
+ghost use Rattle.std.specs.Prelude.{◌≡◌, false, ◌<◌, [], ◌∷◌, ◌++◌, length, slice_index_or, MatchOption, OnErr, OnOk};
+ghost use Rattle.spec_text.specs.Bytes.{among};
+ghost use Rattle.term_core.specs.NameLists.{HaveNoTwice};
+
+use indexmap::IndexSet;
+use std::alloc::Global;
+use std::marker::Model;
+use world_io::NoMemory;
+
+/// Holds names in the order in which they came, no two the same.
+///
+/// A look-up is by hash and takes no memory. Source: own.
+#[derive(Drop)]
+pub struct Names {
+    alloc: Global,
+    set: IndexSet<Vec<u8>>,
+}
+
+impl Model for Names {
+    ghost use Rattle.std.specs.Prelude.{List, map};
+    ghost use Rattle.spec_text.specs.Bytes.{Name};
+    ghost use Rattle.term_core.specs.NameLists.{HaveNoTwice};
+
+    ghost Value = { List Name };
+
+    ghost view = { λ n. map (λ v. v.items) n.set.keys };
+
+    ghost invariant = { λ n. HaveNoTwice (map (λ v. v.items) n.set.keys) };
+}
+
+impl Names {
+    /// Makes an empty list of names, which takes no memory before the first name.
+    ///
+    /// Source: own.
+    pub fn new(alloc: Global) -> Names
+        ensures { result ≡ [] }
+    {
+        Names {
+            alloc,
+            set: IndexSet::new(alloc),
+        }
+    }
+
+    /// Counts the names.
+    ///
+    /// Source: own.
+    pub fn len(&self) -> u64
+        ensures { result ≡ length self.now }
+    {
+        self.set.len() as u64
+    }
+
+    /// Finds the number of a name, from 0; `None` where it is none of these.
+    ///
+    /// Source: own.
+    pub fn find(&self, name: &[u8]) -> Option<u64>
+        ensures { MatchOption result (among self.now name.now ≡ false) (λ k. (k < length self.now) × (slice_index_or self.now k [] ≡ name.now)) }
+    {
+        let number = self.set.get_index_of(name)?;
+        Some(number as u64)
+    }
+
+    /// Says the name of a number.
+    ///
+    /// Source: own.
+    pub fn name(&self, number: u64) -> &[u8]
+        requires { number < length self.now }
+        ensures { result.now ≡ slice_index_or self.now number [] }
+    {
+        self.set.as_slice()[number as usize].as_slice()
+    }
+
+    /// States that no name stands twice.
+    ///
+    /// Source: own.
+    pub fn no_name_twice(&self)
+        ensures { HaveNoTwice self.now }
+    {
+        let _ = &self.set;
+    }
+
+    /// Puts a new name last, by a copy of its bytes.
+    ///
+    /// `NoMemory` comes where the copy or its place find no memory; then the names are as they were.
+    /// Source: own.
+    pub fn add(&mut self, name: &[u8]) -> Result<(), NoMemory>
+        requires { among self.old name.now ≡ false }
+        ensures added { OnOk result (self.new ≡ self.old ++ name.now ∷ []) }
+        ensures same { OnErr result (self.new ≡ self.old) }
+    {
+        let copy = name.to_vec(self.alloc)?;
+        self.set.insert(copy)?;
+        Ok(())
+    }
+}
+
+#[cfg(test)]
+mod tests {
+    use super::*;
+    use std::test::Fail;
+
+    #[test]
+    fn finds_names_by_their_numbers(rt: HostRuntime) -> Result<(), Fail> {
+        let mut names = Names::new(rt.alloc());
+        assert!(rt; names.len() == 0);
+        assert!(rt; names.find(b"p") == None);
+        let all = [
+            b"p".as_slice(),
+            b"".as_slice(),
+            b"q p".as_slice(),
+            b"P".as_slice(),
+        ];
+        for (number, name) in all.iter().enumerate() {
+            if names.find(name) == None {
+                assert!(rt; names.add(name).is_ok());
+            }
+            assert!(rt; names.find(name) == Some(number as u64));
+        }
+        assert!(rt; names.len() == 4);
+        assert!(rt; names.find(b"p") == Some(0));
+        assert!(rt; names.find(b"q") == None);
+        Ok(())
+    }
+}

@@ -1,0 +1,47 @@
+//! Terms by their heads and the numbers of their arguments.
+
+use crate::ids::{SymbolId, TermId};
+use smallvec::SmallVec;
+
+/// Stands before the arguments of a term.
+///
+/// Source: SMT-LIB 2.6, section 3.6 and theory Core; `distinct` and chains are read as terms of these.
+#[derive(Clone, Copy, Debug, PartialEq, Eq, Hash)]
+pub enum Head {
+    /// The truth value true, which takes no argument.
+    True,
+    /// The truth value false, which takes no argument.
+    False,
+    /// The negation of its one argument.
+    Not,
+    /// That all of its arguments are true, of which there may be any number.
+    And,
+    /// That one of its arguments is true, of which there may be any number.
+    Or,
+    /// That exactly one of its two arguments is true.
+    Xor,
+    /// That the second of its two arguments is true where the first is.
+    Implies,
+    /// That its two arguments, of one sort, have the same value.
+    Equal,
+    /// The second of its three arguments where the first is true, else the third.
+    Ite,
+    /// The declared symbol of that number, which takes arguments of the sorts that it is declared with.
+    Apply(SymbolId),
+}
+
+/// Lists the arguments of a term by their numbers: up to two of them take no memory of their own.
+///
+/// Source: own.
+pub type Arguments = SmallVec<TermId, 2>;
+
+/// Holds a term by its head, with arguments of the same table.
+///
+/// Source: own.
+#[derive(Drop, Debug, PartialEq, Eq, Hash)]
+pub struct Node {
+    /// What stands before the arguments.
+    pub head: Head,
+    /// The arguments, in their order.
+    pub arguments: Arguments,
+}
