@@ -1,0 +1,6 @@
+-- The lemmas of this crate.
+pub mod Members
+pub mod Subterms
+pub mod Kept
+pub mod Resuming
+pub mod Named
