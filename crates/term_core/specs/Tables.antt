@@ -1,5 +1,5 @@
 -- What a table of terms holds. Source: own.
-use Rattle.std.specs.Prelude.{◌≡◌, ℕ, ◌<◌, true, ◌++◌, ◌∷◌, List, [], length, map, All, slice_index_or, refl}
+use Rattle.std.specs.Prelude.{◌≡◌, ℕ, ◌<◌, Bool, true, false, ◌++◌, ◌∷◌, List, [], length, map, All, slice_index_or, refl}
 use Rattle.std.specs.Coded.{Coded, code_by, coded×, coded_list}
 use Rattle.spec_text.specs.Bytes.{Name}
 use Rattle.spec_terms.specs.Terms.{Sort, Truth, Symbol, constant, Head, True, False, Not, And, Or, Xor, Implies, Equal, Ite, Apply, Term, of, sort_of, head_takes, constant_term}
@@ -190,3 +190,17 @@ pub record IsWhole (symbols : List Symbol) (nodes : List Node) : Type 0 where
 -- the term as it stands
 abbrev pub positive_literal : Term → Literal
 positive_literal t = record { atom = t; positive = true }
+
+-- the head takes so many arguments
+abbrev pub takes_so_many : NodeHead → List TermId → Bool
+takes_so_many heads.And ids = true
+takes_so_many heads.Or ids = true
+takes_so_many heads.True [] = true
+takes_so_many heads.False [] = true
+takes_so_many (heads.Apply s) [] = true
+takes_so_many heads.Not (a ∷ []) = true
+takes_so_many heads.Xor (a ∷ b ∷ []) = true
+takes_so_many heads.Implies (a ∷ b ∷ []) = true
+takes_so_many heads.Equal (a ∷ b ∷ []) = true
+takes_so_many heads.Ite (a ∷ b ∷ c ∷ []) = true
+takes_so_many h ids = false

@@ -1,5 +1,8 @@
 //! Terms by their heads and the numbers of their arguments.
 
+ghost use Rattle.std.specs.Prelude.{◌≡◌};
+ghost use Rattle.term_core.specs.Tables.{takes_so_many};
+
 use crate::ids::{SymbolId, TermId};
 use smallvec::SmallVec;
 
@@ -28,6 +31,28 @@ pub enum Head {
     Ite,
     /// The declared symbol of that number, which takes arguments of the sorts that it is declared with.
     Apply(SymbolId),
+}
+
+impl Head {
+    /// Tells whether the head takes so many arguments, as long as each symbol is a constant.
+    ///
+    /// Source: SMT-LIB 2.6, theory Core.
+    pub fn takes_so_many(self, arguments: &[TermId]) -> bool
+        ensures { result ≡ takes_so_many self arguments.now }
+    {
+        match self {
+            Head::And => true,
+            Head::Or => true,
+            Head::True => arguments.is_empty(),
+            Head::False => arguments.is_empty(),
+            Head::Apply(_) => arguments.is_empty(),
+            Head::Not => arguments.len() == 1,
+            Head::Xor => arguments.len() == 2,
+            Head::Implies => arguments.len() == 2,
+            Head::Equal => arguments.len() == 2,
+            Head::Ite => arguments.len() == 3,
+        }
+    }
 }
 
 /// Lists the arguments of a term by their numbers: up to two of them take no memory of their own.

@@ -1,10 +1,10 @@
 //! The table of terms: each term once, by its number.
 
-ghost use Rattle.std.specs.Prelude.{◌≡◌, ◌⊎◌, ◌<◌, ◌≤◌, [], ◌∷◌, ◌++◌, length, take, None, Some, All, IfOk, OnErr, OnOk, MatchOption, slice_get};
-ghost use Rattle.spec_terms.specs.Terms.{Truth, sort_of, negated};
+ghost use Rattle.std.specs.Prelude.{◌⊎◌, ◌≡◌, map, MatchBool, false, ◌<◌, ◌≤◌, [], ◌∷◌, ◌++◌, length, take, None, Some, All, IfOk, OnErr, OnOk, MatchOption, slice_get};
+ghost use Rattle.spec_terms.specs.Terms.{Truth, sort_of, head_takes, negated};
 ghost use Rattle.spec_terms.specs.Reading.{symbol_named};
 ghost use Rattle.spec_terms.specs.Literals.{literal_of};
-ghost use Rattle.term_core.specs.Tables.{truth_symbol, symbol_at, IsSymbol, term_at, IsIn, literal_at, sort_meant, IsPlaced, node_term, NamesBelow, AreDifferent, Extends, positive_literal};
+ghost use Rattle.term_core.specs.Tables.{truth_symbol, term_at, IsIn, AreIn, HasHead, head_meant, clause_at, Shape, takes_so_many, literal_at, sort_meant, IsPlaced, node_term, NamesBelow, AreDifferent, Extends, positive_literal};
 ghost use Rattle.term_core.specs.declared.ids.TermId.{TermId as Number};
 
 use crate::ids::{Lit, SymbolId, TermId};
@@ -178,5 +178,55 @@ impl TermTable {
         ensures { (id : Number) → IsIn self.now id → sort_of (term_at self.now id) ≡ Truth }
     {
         let _ = &self.symbols;
+    }
+
+    /// States that the number of arguments alone decides whether a head takes them, as long as each symbol has the sort Bool.
+    ///
+    /// Source: own.
+    pub fn counts_decide(&self)
+        ensures { (s : Shape) → HasHead self.now.symbols s.head → AreIn self.now s.arguments
+            → head_takes (head_meant self.now.symbols s.head) (map sort_of (clause_at self.now s.arguments)) ≡ takes_so_many s.head s.arguments }
+    {
+        self.terms_are_truths();
+        self.symbols.are_declared();
+    }
+
+    /// Tells whether what a node names is there, and of sorts that its head takes. It takes no memory.
+    ///
+    /// Source: own.
+    pub fn takes(&self, node: &Node) -> bool
+        ensures { MatchBool result (IsPlaced self.now node.now) (IsPlaced self.now node.now → ⊥) }
+    {
+        self.counts_decide();
+        let arguments = node.arguments.as_slice();
+        if !self.has_head(node.head) {
+            return false;
+        }
+        if !self.has_terms(arguments) {
+            return false;
+        }
+        node.head.takes_so_many(arguments)
+    }
+
+    /// Tells whether a symbol in front is declared.
+    fn has_head(&self, head: Head) -> bool
+        ensures { MatchBool result (HasHead self.now.symbols head) (HasHead self.now.symbols head → ⊥) }
+    {
+        match head {
+            Head::Apply(symbol) => symbol.0 < self.symbols.len(),
+            _ => true,
+        }
+    }
+
+    /// Tells whether each number is one of the table's.
+    fn has_terms(&self, ids: &[TermId]) -> bool
+        ensures { MatchBool result (AreIn self.now ids.now) (AreIn self.now ids.now → ⊥) }
+    {
+        'terms: for id in ids.iter() {
+            if id.0 >= self.len() {
+                return false;
+            }
+        }
+        true
     }
 }

@@ -1,0 +1,8 @@
+-- The numbers so far are of the table's.
+use Rattle.std.proofs.Common.{ℕ, ◌<◌, get_or}
+use Rattle.term_core.specs.declared.ids.TermId.{TermId}
+use Rattle.term_core.specs.Tables.{IsIn}
+use Rattle.term_core.proofs.terms.TermTable.has_terms.Given as goal
+
+abbrev pub invariant-terms : goal.invariant-terms
+invariant-terms l = record { so_far : (k : ℕ) (d : TermId) → k < l.id-index → IsIn l.self (get_or l.ids k d) }
