@@ -1,5 +1,5 @@
 -- The arguments of a function are subterms of its term.
-use Rattle.std.proofs.Common.{◌≡◌, ℕ, ◌<◌, Bool, true, false, Option, Some, None, cond, List, [], ◌∷◌, ◌++◌, length, map, Contains, refl, ap, subst, sym, arith}
+use Rattle.std.proofs.Common.{◌≡◌, ℕ, ◌<◌, Bool, true, false, Option, Some, None, cond, List, [], ◌∷◌, ◌++◌, length, map, get_or, Contains, refl, ap, subst, sym, arith}
 use Rattle.std.specs.Str.{bytes_eq}
 use Rattle.std.proofs.lemmas.Bool.Decides.{nat_tests}
 use Rattle.spec_text.specs.Bytes.{Name}
@@ -31,7 +31,7 @@ pair_keeps h t u = of_keeps h (t ∷ u ∷ [])
 pub unequal_keeps : KeepsBoth unequal
 unequal_keeps t u = subterms_along (t ∷ u ∷ []) (pair Equal t u ∷ []) (unequal t u ∷ []) (pair_keeps Equal t u) (of_keeps Not (pair Equal t u ∷ []))
 
-nothing_kept : (us : List Term) → AreSubterms [] us
+pub nothing_kept : (us : List Term) → AreSubterms [] us
 nothing_kept us t part = absurd (none_there t part)
 
 module _ (d : Term) (f : Term → Term → Term) (both : KeepsBoth f) where
@@ -130,3 +130,13 @@ pub function_keeps : (symbols : List Symbol) (f : Function) (ts : List Term) →
 unfolding rule_of
 function_keeps symbols (Core h) ts few = rule_keeps (look_up theory (name_of h)) (keeps_at theory (name_of h) theory_keeps) ts few
 function_keeps symbols (Declared s) ts few = of_keeps _ ts
+
+pub conjunction_one : (ts : List Term) (d : Term) → length ts ≡ 1 → conjunction ts ≡ get_or ts 0 d
+conjunction_one [] d e = absurd (omega (arith, e))
+conjunction_one (t ∷ []) d e = refl
+conjunction_one (t ∷ u ∷ us) d e = absurd (omega (arith, e))
+
+pub conjunction_more : (ts : List Term) → (length ts ≡ 1 → ⊥) → conjunction ts ≡ of And ts
+conjunction_more [] more = refl
+conjunction_more (t ∷ []) more = absurd (more refl)
+conjunction_more (t ∷ u ∷ us) more = refl

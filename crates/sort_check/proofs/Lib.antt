@@ -4,3 +4,6 @@ pub mod Subterms
 pub mod Kept
 pub mod Resuming
 pub mod Named
+pub mod Errors
+pub mod Growing
+pub mod Folding

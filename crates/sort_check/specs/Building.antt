@@ -1,16 +1,11 @@
 -- What building terms does to the table. Source: own.
-use Rattle.std.specs.Prelude.{◌≡◌, ℕ, zero, suc, ◌<◌, ◌≤◌, ◌++◌, List, [], ◌∷◌, length, slice_index_or, Contains, Result, Ok, Err}
-use Rattle.spec_terms.specs.Terms.{Sort, Truth, Symbol, Term}
+use Rattle.std.specs.Prelude.{◌≡◌, ℕ, ◌<◌, ◌≤◌, ◌++◌, List, [], ◌∷◌, length, slice_index_or, Contains, Result, Ok, Err}
+use Rattle.spec_terms.specs.Terms.{Term}
 use Rattle.spec_terms.specs.Subterms.{subterms_of}
 use Rattle.term_core.specs.declared.ids.TermId.{TermId}
 use Rattle.term_core.specs.Tables.{TableView, no_term, term_at, clause_at, IsIn, AreIn, Extends}
 use Rattle.sort_check.specs.declared.build.BuildStop.{BuildStop}
 use Rattle.sort_check.specs.declared.build.BuildStop.TheVariants.{Crowded, Memory}
-
--- the sort Bool, so many times
-abbrev pub truths : ℕ → List Sort
-truths zero = []
-truths (suc n) = Truth ∷ truths n
 
 -- the terms of a table from a number on are subterms of these
 abbrev pub AreSubtermsFrom : ℕ → List Term → TableView → Type 0

@@ -1,10 +1,10 @@
 //! Puts terms into the table, as long as there is room for them.
 
-ghost use Rattle.std.specs.Prelude.{◌≡◌, true, length};
-ghost use Rattle.spec_terms.specs.Terms.{of, head_takes, Equal as equality};
+ghost use Rattle.std.specs.Prelude.{◌≡◌, true, [], ◌∷◌};
+ghost use Rattle.spec_terms.specs.Terms.{of};
 ghost use Rattle.spec_terms.specs.Theory.{pair, unequal, conjunction};
-ghost use Rattle.term_core.specs.Tables.{HasHead, head_meant, term_at, clause_at, IsIn, AreIn};
-ghost use Rattle.sort_check.specs.Building.{Builds, truths};
+ghost use Rattle.term_core.specs.Tables.{HasHead, head_meant, takes_so_many, term_at, clause_at, IsIn, AreIn};
+ghost use Rattle.sort_check.specs.Building.{Builds};
 ghost use Rattle.sort_check.specs.declared.build.BuildStop.TheVariants as stops;
 
 use std::alloc::{AllocError, AllocFailed, Global};
@@ -55,10 +55,10 @@ pub fn put(
 ) -> Result<TermId, BuildStop>
     requires there { AreIn table.old arguments.now }
     requires head { HasHead table.old.symbols head }
-    requires takes { head_takes (head_meant table.old.symbols head) (truths (length arguments.now)) ≡ true }
+    requires takes { takes_so_many head arguments.now ≡ true }
     ensures { Builds most table.old table.new (of (head_meant table.old.symbols head) (clause_at table.old arguments.now)) result }
 {
-    table.terms_are_truths();
+    table.counts_decide();
     let arguments = Arguments::from_slice(alloc, arguments)?;
     let id = table.put(Node { head, arguments })?;
     if table.len() > most {
@@ -79,7 +79,7 @@ pub fn put_pair(
     requires first { IsIn table.old first }
     requires second { IsIn table.old second }
     requires head { HasHead table.old.symbols head }
-    requires takes { head_takes (head_meant table.old.symbols head) (truths 2) ≡ true }
+    requires takes { takes_so_many head (first ∷ second ∷ []) ≡ true }
     ensures { Builds most table.old table.new (pair (head_meant table.old.symbols head) (term_at table.old first) (term_at table.old second)) result }
 {
     put(alloc, table, head, &[first, second], most)
@@ -111,8 +111,8 @@ pub fn conjoin(
     requires there { AreIn table.old parts.now }
     ensures { Builds most table.old table.new (conjunction (clause_at table.old parts.now)) result }
 {
-    match parts {
-        [part] => Ok(*part),
-        _ => put(alloc, table, Head::And, parts, most),
+    if parts.len() == 1 {
+        return Ok(parts[0]);
     }
+    put(alloc, table, Head::And, parts, most)
 }
