@@ -1,3 +1,6 @@
--- Lemmas on terms: what each head is read as, and what a text is read as.
+-- The lemmas of this crate.
 pub mod Heads
 pub mod Reading
+pub mod SameTerms
+pub mod Members
+pub mod LeastSubterms

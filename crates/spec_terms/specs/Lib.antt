@@ -8,6 +8,7 @@ pub mod Forms
 pub mod Meaning
 pub mod Reading
 pub mod Subterms
+pub mod Subsets
 pub mod Literals
 pub mod Agreement
 pub mod TermCodes

@@ -12,6 +12,8 @@ ghost use Rattle.spec_terms.specs.Meaning.{value_under};
 ghost use Rattle.spec_terms.specs.Reading.{term_in};
 ghost use Rattle.spec_terms.specs.Agreement.{value_at};
 
+pub mod subterms;
+
 /// States that the term which a text is read as has the text's value, under every interpretation.
 /// Source: SMT-LIB 2.6, section 5.3.
 pub fn terms_have_their_texts_value()

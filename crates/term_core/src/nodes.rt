@@ -1,10 +1,12 @@
 //! Terms by their heads and the numbers of their arguments.
 
-ghost use Rattle.std.specs.Prelude.{◌≡◌};
+ghost use Rattle.std.specs.Prelude.{◌≡◌, IfOk};
 ghost use Rattle.term_core.specs.Tables.{takes_so_many};
 
 use crate::ids::{SymbolId, TermId};
 use smallvec::SmallVec;
+use std::alloc::Global;
+use world_io::NoMemory;
 
 /// Stands before the arguments of a term.
 ///
@@ -69,4 +71,18 @@ pub struct Node {
     pub head: Head,
     /// The arguments, in their order.
     pub arguments: Arguments,
+}
+
+impl Node {
+    /// Makes a node by a copy of its arguments.
+    ///
+    /// `NoMemory` comes where more than two arguments find no memory. Source: own.
+    pub fn new(alloc: Global, head: Head, arguments: &[TermId]) -> Result<Node, NoMemory>
+        ensures { IfOk result (λ n. (n.head ≡ head) × (n.arguments.items ≡ arguments.now)) }
+    {
+        Ok(Node {
+            head,
+            arguments: SmallVec::from_slice(alloc, arguments)?,
+        })
+    }
 }

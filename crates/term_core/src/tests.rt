@@ -1,1 +1,248 @@
-//! Tests.
+//! Tests of the table: each node once, literals, cuts, and values against truth tables.
+
+use crate::{
+    Arguments, Head, Interp, Lit, Node, Row, Sort, SymbolId, Symbols, Table, TermId, TermTable,
+    Value, value,
+};
+use std::alloc::Global;
+use std::test::Fail;
+use world_io::NoMemory;
+
+const A: TermId = TermId(0);
+
+const B: TermId = TermId(1);
+
+const C: TermId = TermId(2);
+
+/// Makes a table with the constants `a`, `b` and `c`, whose terms have the numbers 0 to 2.
+fn table_of_three(alloc: Global) -> Result<TermTable, NoMemory> {
+    let mut table = TermTable::new(alloc);
+    let names = [b"a".as_slice(), b"b".as_slice(), b"c".as_slice()];
+    for name in names.iter() {
+        if table.symbols().find(name) == None {
+            let symbol = table.declare(name)?;
+            put(alloc, &mut table, Head::Apply(symbol), &[])?;
+        }
+    }
+    Ok(table)
+}
+
+/// Puts a term; `None` where the table does not take it.
+fn put(
+    alloc: Global,
+    table: &mut TermTable,
+    head: Head,
+    arguments: &[TermId],
+) -> Result<Option<TermId>, NoMemory> {
+    let node = Node::new(alloc, head, arguments)?;
+    if table.takes(&node) {
+        Ok(Some(table.put(node)?))
+    } else {
+        Ok(None)
+    }
+}
+
+#[test]
+fn puts_each_node_once(rt: HostRuntime) -> Result<(), Fail> {
+    let alloc = rt.alloc();
+    let mut table = table_of_three(alloc).expect(&rt, "memory");
+    let rows = [
+        (Head::Apply(SymbolId(1)), [].as_slice(), Some(1)),
+        (Head::True, [].as_slice(), Some(3)),
+        (Head::False, [].as_slice(), Some(4)),
+        (Head::Not, [A].as_slice(), Some(5)),
+        (Head::And, [A, B].as_slice(), Some(6)),
+        (Head::Or, [A, B].as_slice(), Some(7)),
+        (Head::Xor, [A, B].as_slice(), Some(8)),
+        (Head::Implies, [A, B].as_slice(), Some(9)),
+        (Head::Equal, [A, B].as_slice(), Some(10)),
+        (Head::Ite, [A, B, C].as_slice(), Some(11)),
+        (Head::And, [B, A].as_slice(), Some(12)),
+        (Head::And, [A, B, C].as_slice(), Some(13)),
+        (Head::And, [].as_slice(), Some(14)),
+        (Head::Or, [].as_slice(), Some(15)),
+        (Head::And, [A].as_slice(), Some(16)),
+        (Head::And, [TermId(16), TermId(16)].as_slice(), Some(17)),
+        (Head::Not, [].as_slice(), None),
+        (Head::Not, [A, B].as_slice(), None),
+        (Head::True, [A].as_slice(), None),
+        (Head::Xor, [A].as_slice(), None),
+        (Head::Ite, [A, B].as_slice(), None),
+        (Head::Apply(SymbolId(3)), [].as_slice(), None),
+        (Head::Apply(SymbolId(0)), [A].as_slice(), None),
+        (Head::And, [A, TermId(99)].as_slice(), None),
+    ];
+    for _ in 0..2 {
+        for (head, arguments, number) in rows.iter() {
+            let id = put(alloc, &mut table, *head, arguments).expect(&rt, "memory");
+            assert!(rt; id == number.map(|n| TermId(n)));
+            if let Some(id) = id {
+                assert!(rt; id.0 < table.len());
+                assert!(rt; table.sort(id) == Sort::Bool);
+                assert!(rt; table.node(id).head == *head);
+                assert!(rt; table.node(id).arguments.as_slice() == *arguments);
+            }
+        }
+    }
+    assert!(rt; table.len() == 18);
+    Ok(())
+}
+
+#[test]
+fn finds_symbols_by_their_names(rt: HostRuntime) -> Result<(), Fail> {
+    let alloc = rt.alloc();
+    let mut symbols = Symbols::new(alloc);
+    let names = [b"p".as_slice(), b"q p".as_slice(), b"P".as_slice()];
+    for (number, name) in names.iter().enumerate() {
+        assert!(rt; symbols.find(name) == None);
+        assert!(rt; symbols.add(name) == Ok(SymbolId(number as u64)));
+    }
+    for (number, name) in names.iter().enumerate() {
+        let id = SymbolId(number as u64);
+        assert!(rt; symbols.find(name) == Some(id));
+        assert!(rt; id.0 < symbols.len());
+        assert!(rt; symbols.name(id) == *name);
+    }
+    assert!(rt; symbols.len() == 3);
+    assert!(rt; symbols.find(b"Q") == None);
+    Ok(())
+}
+
+#[test]
+fn takes_negations_off_and_cuts(rt: HostRuntime) -> Result<(), Fail> {
+    let alloc = rt.alloc();
+    let mut table = table_of_three(alloc).expect(&rt, "memory");
+    // The arguments of the terms from 3 on, and each one's literal.
+    let rows = [
+        (Head::Not, [C].as_slice(), C, false),
+        (Head::Not, [TermId(3)].as_slice(), C, true),
+        (Head::Not, [TermId(4)].as_slice(), C, false),
+        (Head::And, [TermId(5)].as_slice(), TermId(6), true),
+        (Head::Not, [TermId(6)].as_slice(), TermId(6), false),
+    ];
+    for (head, arguments, term, positive) in rows.iter() {
+        let id = put(alloc, &mut table, *head, arguments).expect(&rt, "memory");
+        if let Some(id) = id {
+            assert!(rt; id.0 < table.len());
+            let literal = table.literal(id);
+            assert!(rt;
+                literal
+                    == Lit {
+                        term: *term,
+                        positive: *positive
+                    }
+            );
+        }
+    }
+    assert!(rt; table.len() == 8);
+    assert!(rt; 4 <= table.len());
+    table.cut(4);
+    assert!(rt; table.len() == 4);
+    assert!(rt; table.symbols().find(b"c") == Some(SymbolId(2)));
+    let id = put(alloc, &mut table, Head::Not, &[TermId(3)]).expect(&rt, "memory");
+    assert!(rt; id == Some(TermId(4)));
+    Ok(())
+}
+
+/// Makes the tables of three constants of which `a`, `b` and `c` have these truth values.
+fn interp_of(alloc: Global, truths: [bool; 3]) -> Result<Interp, NoMemory> {
+    let mut tables = Vec::new(alloc);
+    for truth in truths.iter() {
+        tables.push(Table {
+            rows: Vec::new(alloc),
+            default: Value::Bool(*truth),
+        })?;
+    }
+    Ok(Interp { tables })
+}
+
+#[test]
+fn gives_the_values_of_truth_tables(rt: HostRuntime) -> Result<(), Fail> {
+    let alloc = rt.alloc();
+    let mut table = table_of_three(alloc).expect(&rt, "memory");
+    // The columns: a term, and its truth where a, b, c are 000, 001, 010, up to 111.
+    let rows = [
+        (Head::Apply(SymbolId(0)), [].as_slice(), b"00001111"),
+        (Head::Apply(SymbolId(1)), [].as_slice(), b"00110011"),
+        (Head::Apply(SymbolId(2)), [].as_slice(), b"01010101"),
+        (Head::True, [].as_slice(), b"11111111"),
+        (Head::False, [].as_slice(), b"00000000"),
+        (Head::Not, [A].as_slice(), b"11110000"),
+        (Head::And, [A, B, C].as_slice(), b"00000001"),
+        (Head::Or, [A, B, C].as_slice(), b"01111111"),
+        (Head::And, [].as_slice(), b"11111111"),
+        (Head::Or, [].as_slice(), b"00000000"),
+        // (xor a b c), from the left
+        (Head::Xor, [A, B].as_slice(), b"00111100"),
+        (Head::Xor, [TermId(10), C].as_slice(), b"01101001"),
+        // (=> a b c), from the right
+        (Head::Implies, [B, C].as_slice(), b"11011101"),
+        (Head::Implies, [A, TermId(12)].as_slice(), b"11111101"),
+        // (= a b c), by neighbours
+        (Head::Equal, [A, B].as_slice(), b"11000011"),
+        (Head::Equal, [B, C].as_slice(), b"10011001"),
+        (Head::And, [TermId(14), TermId(15)].as_slice(), b"10000001"),
+        // (distinct a b c), by all pairs
+        (Head::Equal, [A, C].as_slice(), b"10100101"),
+        (Head::Not, [TermId(14)].as_slice(), b"00111100"),
+        (Head::Not, [TermId(17)].as_slice(), b"01011010"),
+        (Head::Not, [TermId(15)].as_slice(), b"01100110"),
+        (
+            Head::And,
+            [TermId(18), TermId(19), TermId(20)].as_slice(),
+            b"00000000",
+        ),
+        (Head::Ite, [A, B, C].as_slice(), b"01010011"),
+    ];
+    for (head, arguments, _) in rows.iter() {
+        assert!(rt; put(alloc, &mut table, *head, arguments).is_ok());
+    }
+    assert!(rt; table.len() == 23);
+    for at in 0..8 {
+        let truths = [at / 4 == 1, at / 2 % 2 == 1, at % 2 == 1];
+        let interp = interp_of(alloc, truths).expect(&rt, "memory");
+        assert!(rt; table.symbols().len() <= interp.tables.len() as u64);
+        for (number, (_, _, want)) in rows.iter().enumerate() {
+            let id = TermId(number as u64);
+            assert!(rt; id.0 < table.len());
+            let truth = want[at] == b'1';
+            assert!(rt; value(alloc, &table, &interp, id) == Ok(Value::Bool(truth)));
+        }
+    }
+    Ok(())
+}
+
+/// Makes a row of these truth values.
+fn row_of(alloc: Global, arguments: &[Value], truth: bool) -> Result<Row, NoMemory> {
+    Ok(Row {
+        arguments: Vec::from_slice(alloc, arguments)?,
+        value: Value::Bool(truth),
+    })
+}
+
+#[test]
+fn takes_the_first_row_that_fits(rt: HostRuntime) -> Result<(), Fail> {
+    let alloc = rt.alloc();
+    let (yes, no) = (Value::Bool(true), Value::Bool(false));
+    let (both, first, second) = ([yes, no], [no], [yes]);
+    let rows = [
+        (both.as_slice(), true),
+        (both.as_slice(), false),
+        (first.as_slice(), true),
+        (second.as_slice(), false),
+    ];
+    let mut table = Table {
+        rows: Vec::new(alloc),
+        default: no,
+    };
+    for (arguments, truth) in rows.iter() {
+        let row = row_of(alloc, arguments, *truth).expect(&rt, "memory");
+        assert!(rt; table.rows.push(row).is_ok());
+    }
+    assert!(rt; table.value_at(&[yes, no]) == yes);
+    assert!(rt; table.value_at(&[no]) == yes);
+    assert!(rt; table.value_at(&[yes]) == no);
+    assert!(rt; table.value_at(&[]) == no);
+    assert!(rt; table.value_at(&[no, yes]) == no);
+    Ok(())
+}
