@@ -6,4 +6,5 @@ pub mod Resuming
 pub mod Named
 pub mod Errors
 pub mod Growing
+pub mod Putting
 pub mod Folding

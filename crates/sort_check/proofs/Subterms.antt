@@ -2,7 +2,7 @@
 use Rattle.std.proofs.Common.{◌≡◌, ℕ, ◌<◌, false, List, [], ◌∷◌, ◌++◌, length, Contains, refl, subst, sym}
 use Rattle.spec_terms.specs.Terms.{Head, Term, Terms, app, of, list_of, terms_of}
 use Rattle.spec_terms.specs.Subterms.{subterms_of, fit_in}
-use Rattle.term_core.specs.Tables.{AreDifferent}
+use Rattle.spec_terms.proofs.LeastSubterms.{least_of, no_room}
 use Rattle.sort_check.proofs.Members.{here, there, only, each_of}
 
 -- each of these is a subterm of those
@@ -10,16 +10,13 @@ abbrev pub AreSubterms : List Term → List Term → Type 0
 AreSubterms ts us = (t : Term) → Contains ts t → Contains (subterms_of us) t
 
 pub self_subterms : (us : List Term) → AreSubterms us us
-self_subterms us t h = ?
+self_subterms us = (least_of us).there
 
 pub argument_subterm : (us : List Term) (h : Head) (ts : Terms) (t : Term) → Contains (subterms_of us) (app h ts) → Contains (list_of ts) t → Contains (subterms_of us) t
-argument_subterm us h ts t whole part = ?
+argument_subterm us h ts t whole part = (least_of us).closed (app h ts) whole t part
 
 pub least_subterms : (ts us : List Term) → AreSubterms ts us → AreSubterms (subterms_of ts) us
-least_subterms ts us h t part = ?
-
-pub crowded_out : (room : ℕ) (us xs : List Term) → AreDifferent xs → AreSubterms xs us → room < length xs → fit_in room us ≡ false
-crowded_out room us xs apart within many = ?
+least_subterms ts us h = (least_of ts).least (subterms_of us) h (least_of us).closed
 
 -- what they are subterms of may be subterms in turn
 pub subterms_along : (ts us vs : List Term) → AreSubterms ts us → AreSubterms us vs → AreSubterms ts vs
