@@ -6,5 +6,6 @@ pub mod Resuming
 pub mod Named
 pub mod Errors
 pub mod Growing
+pub mod Counts
 pub mod Putting
 pub mod Folding

@@ -1,10 +1,11 @@
 -- Terms that are put one after the other, and their numbers.
-use Rattle.std.proofs.Common.{◌≡◌, ℕ, ◌<◌, List, [], ◌∷◌, ◌++◌, length, map, All, Contains, refl, sym, ap, ◌∙◌, subst, append_assoc, append-nil, arith}
+use Rattle.std.proofs.Common.{◌≡◌, ℕ, ◌<◌, List, [], ◌∷◌, ◌++◌, ◌-◌, length, take, drop, get_or, map, All, Contains, refl, sym, ap, ◌∙◌, subst, append_assoc, append-nil, arith}
 use Rattle.std.specs.Prelude.{Result, Ok, Err}
-use Rattle.std.proofs.lemmas.List.{map-append}
+use Rattle.std.proofs.lemmas.List.{map-append, take_rest}
 use Rattle.std.proofs.lemmas.List.Elements.{All-head, All-tail, All-push, Contains-append_left, Contains-append_right, Contains-append_cases}
 use Rattle.spec_terms.specs.Terms.{Term}
 use Rattle.spec_terms.specs.Lists.{all_pairs}
+use Rattle.spec_terms.specs.Theory.{conjunction}
 use Rattle.term_core.specs.declared.ids.TermId.{TermId}
 use Rattle.term_core.specs.Tables.{TableView, term_at, IsIn, AreIn, clause_at, Extends}
 use Rattle.term_core.proofs.TermsExtend.{term_at-kept}
@@ -13,7 +14,8 @@ use Rattle.sort_check.specs.declared.build.BuildStop.TheVariants.{Crowded, Memor
 use Rattle.sort_check.specs.Building.{Grows, Means, AllMean, Builds, PutsAll}
 use Rattle.sort_check.proofs.Members.{here, only}
 use Rattle.sort_check.proofs.Subterms.{AreSubterms, member_subterms, self_subterms}
-use Rattle.sort_check.proofs.Growing.{grows_same, grows_along, grows_by, all_mean_kept}
+use Rattle.sort_check.proofs.Growing.{grows_same, grows_along, grows_by, all_mean_kept, builds_after}
+use Rattle.sort_check.proofs.Kept.{conjunction_keeps}
 
 -- Numbers of the terms that were put, behind those that there were, and the terms that come.
 pub record IsPut (old now : TableView) (before : List TermId) (all : List Term) (parts : List TermId) (rest : List Term) : Type 0 where
@@ -107,3 +109,16 @@ with_each f t us = map-append (λ p. f p.0 p.1) (map (λ u. (t, u)) us) (all_pai
     each : (us : List Term) → map (λ p. f p.0 p.1) (map {B = Term × Term} (λ u. (t, u)) us) ≡ map (f t) us
     each [] = refl
     each (u ∷ us) = ap (λ vs. f t u ∷ vs) (each us)
+
+-- the conjunction of terms that were put
+pub conjoined : (most : ℕ) (a b c : TableView) (ts : List Term) (parts : List TermId) (r : Result TermId BuildStop) → PutsAll most a b [] parts ts (Ok tt) → Builds most b c (conjunction (clause_at b parts)) r → Builds most a c (conjunction ts) r
+conjoined most a b c ts parts r h k = builds_after most a b c ts (conjunction ts) r h.grows (conjunction_keeps ts) (subst (λ us. Builds most b c (conjunction us) r) h.ends.terms k)
+
+pub not_conjoined : (most : ℕ) (a b : TableView) (ts : List Term) (parts : List TermId) (e : BuildStop) → PutsAll most a b [] parts ts (Err e) → Builds most a b (conjunction ts) (Err e)
+not_conjoined most a b ts parts Crowded h = record { grows = grows_by a b ts (conjunction ts ∷ []) h.grows (conjunction_keeps ts); ends = h.ends }
+not_conjoined most a b ts parts Memory h = record { grows = grows_by a b ts (conjunction ts ∷ []) h.grows (conjunction_keeps ts); ends = tt }
+
+-- a list is its first item and the others
+pub first_and_others : (ids : List TermId) (d : TermId) → 0 < length ids → get_or ids 0 d ∷ take (length ids - 1) (drop 1 ids) ≡ ids
+first_and_others [] d some = absurd (omega (arith, some))
+first_and_others (id ∷ ids) d some = ap (λ rest. id ∷ rest) (take_rest (id ∷ ids) 1)

@@ -163,6 +163,7 @@ fn distinct(
 }
 
 /// Builds the term of a function of theory Core before arguments that it takes.
+#[tactic(auto, unfolding(crate::specs::Heads::rule_of))]
 fn build_core(
     alloc: Global,
     table: &mut TermTable,
