@@ -6,6 +6,7 @@ pub mod Resuming
 pub mod Named
 pub mod Errors
 pub mod Growing
+pub mod Stacking
 pub mod Counts
 pub mod Putting
 pub mod Folding

@@ -21,17 +21,17 @@ pub record Stack (crowded : Bool) (most : ℕ) (table : TableView) (ts : List Te
   pub stand : Stand crowded most table ts ids
 
 -- how a value ends: the term's number, none where the table is crowded, or memory ran out
-abbrev pub EndsValue : ℕ → TableView → Term → Result (Option TermId) NoMemory → Type 0
-EndsValue most new t (Ok (Some id)) = Means new t id
-EndsValue most new t (Ok None) = most < length new.terms
-EndsValue most new t (Err e) = Unit {0}
+abbrev pub EndsValue : Bool → ℕ → TableView → Term → Result (Option TermId) NoMemory → Type 0
+EndsValue crowded most new t (Ok (Some id)) = (crowded ≡ false) × Means new t id
+EndsValue crowded most new t (Ok None) = most < length new.terms
+EndsValue crowded most new t (Err e) = Unit {0}
 
--- The value of a term: the table grows by its subterms.
-pub record IsValue (most : ℕ) (old new : TableView) (t : Term) (result : Result (Option TermId) NoMemory) : Type 0 where
-  -- the table has its subterms, unless it is crowded
+-- The value of a term: the table grows by its subterms alone.
+pub record IsValue (crowded : Bool) (most : ℕ) (old new : TableView) (t : Term) (result : Result (Option TermId) NoMemory) : Type 0 where
+  -- what came is one of its subterms
   pub grows : Grows (t ∷ []) old new
   -- its number, or why there is none
-  pub ends : EndsValue most new t result
+  pub ends : EndsValue crowded most new t result
 
 -- how putting a term in the place of its arguments ends
 abbrev pub EndsReplacing : ℕ → TableView → List Term → List TermId → Result Bool NoMemory → Type 0
@@ -40,7 +40,7 @@ EndsReplacing most new ts ids (Err e) = Unit {0}
 
 -- A term in the place of all from one on.
 pub record Replaces (most : ℕ) (old new : TableView) (ts : List Term) (start : ℕ) (t : Term) (ids : List TermId) (result : Result Bool NoMemory) : Type 0 where
-  -- the table has its subterms, unless it is crowded
+  -- what came is one of the term's subterms
   pub grows : Grows (t ∷ []) old new
   -- the stack, or out of memory
   pub ends : EndsReplacing most new (take start ts ++ t ∷ []) ids result

@@ -24,7 +24,7 @@ fn value(
 ) -> Result<Option<TermId>, NoMemory>
     requires there { (ts : List Term) × Stand crowded most table.old ts values.now }
     requires takes { Takes table.old.symbols function (length values.now) }
-    ensures { (ts : List Term) → Stand crowded most table.old ts values.now → IsValue most table.old table.new (function_term table.old.symbols function ts) result }
+    ensures { (ts : List Term) → Stand crowded most table.old ts values.now → IsValue crowded most table.old table.new (function_term table.old.symbols function ts) result }
 {
     if crowded {
         return Ok(None);
