@@ -6,6 +6,8 @@ pub mod Resuming
 pub mod Named
 pub mod Errors
 pub mod Growing
+pub mod Left
+pub mod Reading
 pub mod Stacking
 pub mod Counts
 pub mod Putting
