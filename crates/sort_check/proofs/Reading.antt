@@ -177,3 +177,10 @@ split_more (more u vs) us t e =
 pub split_none : (ts : Trees) → None ≡ split_first ts → ts ≡ none
 split_none none e = refl
 split_none (more t ts) e = absurd (let wrong = e in cc)
+
+pub next_is : (text : List ℕ) (rest behind : List Item) (t u : Tree) → Some (u, trees_in text behind) ≡ split_first (trees_in text rest) → t ≡ u → trees_in text rest ≡ more t (trees_in text behind)
+next_is text rest behind t u e same = split_more (trees_in text rest) (trees_in text behind) u e ∙ ap (λ v. more v (trees_in text behind)) (sym same)
+
+-- the innermost open list
+pub opens_last : (text : List ℕ) (fs gs : List Frame) (f : Frame) → fs ≡ gs ++ f ∷ [] → opens_of text fs ≡ opens_of text gs ++ open_of text f ∷ []
+opens_last text fs gs f e = ap (opens_of text) e ∙ map-append (open_of text) gs (f ∷ [])
