@@ -11,3 +11,7 @@ pub mod TermsLiteral
 pub mod TermsSorted
 pub mod ValueRows
 pub mod ValuesTaken
+pub mod Images
+pub mod TermsClosed
+pub mod NumbersAdded
+pub mod TermsCounted

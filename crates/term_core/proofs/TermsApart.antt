@@ -53,7 +53,7 @@ head_in (app h ts) = h
 abbrev terms_in : Term → List Term
 terms_in (app h ts) = list_of ts
 
-list_back : (ts : List Term) → list_of (terms_of ts) ≡ ts
+pub list_back : (ts : List Term) → list_of (terms_of ts) ≡ ts
 list_back [] = refl
 list_back (t ∷ ts) = ap (λ us. t ∷ us) (list_back ts)
 

@@ -27,11 +27,6 @@ pub less : (b : Bool) (t u : Term) (l : Literal) → t ≡ negated u → with_pa
 less true t u l e h = sym (literal_of-negated u) ∙ ap literal_of (sym e) ∙ h
 less false t u l e h = sym (complement-twice (literal_of u)) ∙ ap complement (sym (literal_of-negated u) ∙ ap literal_of (sym e)) ∙ h
 
--- what is no negation has the literal of its parity
-pub ends : (b : Bool) (t : Term) (l : Literal) → literal_of t ≡ positive_literal t → with_parity b (literal_of t) ≡ l → record { atom = t; positive = b } ≡ l
-ends true t l own h = sym own ∙ h
-ends false t l own h = ap complement (sym own) ∙ h
-
 -- what has another head in front is no negation
 pub own : (t : TableView) (h : NodeHead) (ids : List TermId) → (h ≡ heads.Not → ⊥) → literal_of (of (head_meant t.symbols h) (clause_at t ids)) ≡ positive_literal (of (head_meant t.symbols h) (clause_at t ids))
 unfolding literal_of

@@ -1,9 +1,9 @@
 -- Terms of truths have the sort Bool.
-use Rattle.std.proofs.Common.{◌≡◌, ℕ, suc, ◌<◌, Bool, true, false, MatchBool, true≢false, ◌&&◌, List, [], ◌∷◌, ◌++◌, length, map, All, get_or, refl, sym, ap, ◌∙◌, inl, inr, arith}
+use Rattle.std.proofs.Common.{◌≡◌, ℕ, suc, Bool, true, false, MatchBool, true≢false, List, [], ◌∷◌, ◌++◌, length, map, All, get_or, refl, sym, ap, ◌∙◌, inl, inr, arith}
 use Rattle.std.proofs.lemmas.List.Elements.{All-push}
 use Rattle.std.proofs.lemmas.Bool.{cases_lt}
 use Rattle.std.proofs.lemmas.List.{get_or_past}
-use Rattle.spec_terms.specs.Terms.{Symbol, Truth, Term, terms_of, Sort, sort_of, second_sort, all_same, same_sort, same_sorts, head_takes, Not, Xor, Implies, Equal, Ite}
+use Rattle.spec_terms.specs.Terms.{Symbol, Truth, Term, terms_of, Sort, sort_of, second_sort, all_same, same_sorts, head_takes}
 use Rattle.term_core.specs.declared.ids.TermId.{TermId}
 use Rattle.term_core.specs.declared.ids.SymbolId.{SymbolId}
 use Rattle.term_core.specs.declared.nodes.Head.{Head as NodeHead}

@@ -2,3 +2,4 @@
 pub mod NameLists
 pub mod Tables
 pub mod Valuations
+pub mod Counting

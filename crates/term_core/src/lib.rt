@@ -2,6 +2,7 @@
 #![tactic(auto)]
 
 mod clauses;
+mod count;
 mod ids;
 mod names;
 mod nodes;
@@ -15,6 +16,7 @@ mod valuation;
 mod values;
 
 pub use clauses::Clause;
+pub use count::fit_in;
 pub use ids::{Lit, SymbolId, TermId};
 pub use names::Names;
 pub use nodes::{Arguments, Head, Node};

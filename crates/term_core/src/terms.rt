@@ -3,6 +3,7 @@
 ghost use Rattle.std.specs.Prelude.{◌⊎◌, ◌≡◌, map, MatchBool, false, ◌<◌, ◌≤◌, [], ◌∷◌, ◌++◌, length, take, None, Some, All, IfOk, OnErr, OnOk, MatchOption, slice_get};
 ghost use Rattle.spec_terms.specs.Terms.{Truth, sort_of, head_takes, negated};
 ghost use Rattle.spec_terms.specs.Reading.{symbol_named};
+ghost use Rattle.spec_terms.specs.Subsets.{IsClosed};
 ghost use Rattle.spec_terms.specs.Literals.{literal_of};
 ghost use Rattle.term_core.specs.Tables.{truth_symbol, term_at, IsIn, AreIn, HasHead, head_meant, clause_at, Shape, takes_so_many, literal_at, sort_meant, IsPlaced, node_term, NamesBelow, AreDifferent, Extends, positive_literal};
 ghost use Rattle.term_core.specs.declared.ids.TermId.{TermId as Number};
@@ -171,6 +172,15 @@ impl TermTable {
         let _ = &self.symbols;
     }
 
+    /// States that the arguments of the table's terms are among them.
+    ///
+    /// Source: own.
+    pub fn terms_are_closed(&self)
+        ensures { IsClosed self.now.terms }
+    {
+        let _ = &self.symbols;
+    }
+
     /// States that each term has the sort Bool, as long as each symbol has.
     ///
     /// Source: own.
@@ -218,8 +228,10 @@ impl TermTable {
         }
     }
 
-    /// Tells whether each number is one of the table's.
-    fn has_terms(&self, ids: &[TermId]) -> bool
+    /// Tells whether each number is one of the table's. It takes no memory.
+    ///
+    /// Source: own.
+    pub fn has_terms(&self, ids: &[TermId]) -> bool
         ensures { MatchBool result (AreIn self.now ids.now) (AreIn self.now ids.now → ⊥) }
     {
         'terms: for id in ids.iter() {

@@ -2,7 +2,7 @@
 
 use crate::{
     Arguments, Head, Interp, Lit, Node, Row, Sort, SymbolId, Symbols, Table, TermId, TermTable,
-    Value, value,
+    Value, fit_in, value,
 };
 use std::alloc::Global;
 use std::test::Fail;
@@ -244,5 +244,42 @@ fn takes_the_first_row_that_fits(rt: HostRuntime) -> Result<(), Fail> {
     assert!(rt; table.value_at(&[yes]) == no);
     assert!(rt; table.value_at(&[]) == no);
     assert!(rt; table.value_at(&[no, yes]) == no);
+    Ok(())
+}
+
+#[test]
+fn counts_each_subterm_once(rt: HostRuntime) -> Result<(), Fail> {
+    let alloc = rt.alloc();
+    let mut table = table_of_three(alloc).expect(&rt, "memory");
+    let rows = [
+        (Head::And, [A, B].as_slice()),
+        (Head::Or, [TermId(3), C, TermId(3)].as_slice()),
+        (Head::Not, [TermId(4)].as_slice()),
+        (Head::True, [].as_slice()),
+        (Head::Not, [A].as_slice()),
+    ];
+    for (head, arguments) in rows.iter() {
+        assert!(rt; put(alloc, &mut table, *head, arguments).is_ok());
+    }
+    assert!(rt; table.len() == 8);
+    // Terms, and how many different subterms they have together.
+    let rows = [
+        ([].as_slice(), 0),
+        ([A].as_slice(), 1),
+        ([A, A].as_slice(), 1),
+        ([A, B].as_slice(), 2),
+        ([TermId(3)].as_slice(), 3),
+        ([TermId(4)].as_slice(), 5),
+        ([TermId(5)].as_slice(), 6),
+        ([TermId(6)].as_slice(), 1),
+        ([TermId(7), TermId(3)].as_slice(), 4),
+        ([TermId(5), TermId(6), TermId(7)].as_slice(), 8),
+    ];
+    for (ids, number) in rows.iter() {
+        for room in 0..10 {
+            assert!(rt; table.has_terms(ids));
+            assert!(rt; fit_in(alloc, &table, ids, room) == Ok(*number <= room));
+        }
+    }
     Ok(())
 }

@@ -1,5 +1,5 @@
 -- What is there fits exactly where its head takes so many.
-use Rattle.std.proofs.Common.{◌≡◌, ap, ◌∙◌, subst}
+use Rattle.std.proofs.Common.{ap, ◌∙◌, subst}
 use Rattle.term_core.specs.Tables.{AreIn, shape_of, takes_so_many}
 use Rattle.term_core.proofs.TermsSorted.{fits_by_count}
 use Rattle.term_core.proofs.terms.TermTable.takes.Goals as goal

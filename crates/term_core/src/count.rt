@@ -1,0 +1,68 @@
+//! Whether terms have few subterms.
+
+ghost use Rattle.std.specs.Prelude.{◌≡◌, [], IfOk, OnOk};
+ghost use Rattle.spec_terms.specs.Subterms.{fit_in};
+ghost use Rattle.term_core.specs.Tables.{AreIn, clause_at};
+ghost use Rattle.term_core.specs.Counting.{Adds};
+
+use crate::ids::TermId;
+use crate::terms::TermTable;
+use indexmap::IndexSet;
+use spec_terms::subterms::{subterms_are_counted, subterms_are_least};
+use std::alloc::Global;
+use world_io::NoMemory;
+
+/// Tells whether terms have no more than `room` different subterms, all together.
+///
+/// Where the table has no more terms it answers at once, and else as soon as more were seen; its time and memory go with
+/// the number of these subterms and their arguments. `NoMemory` comes where they find no memory, and says nothing of
+/// their number. Source: own.
+pub fn fit_in(alloc: Global, table: &TermTable, ids: &[TermId], room: u64) -> Result<bool, NoMemory>
+    requires { AreIn table.now ids.now }
+    ensures { IfOk result (λ yes. yes ≡ fit_in room (clause_at table.now ids.now)) }
+{
+    table.terms_are_closed();
+    subterms_are_counted();
+    if table.len() <= room {
+        return Ok(true);
+    }
+    let mut seen = IndexSet::new(alloc);
+    add_all(&mut seen, ids)?;
+    count(table, ids, room, &mut seen)
+}
+
+/// Sees the arguments of what is seen, until there are no others or too many.
+fn count(
+    table: &TermTable,
+    ids: &[TermId],
+    room: u64,
+    seen: &mut IndexSet<TermId>,
+) -> Result<bool, NoMemory>
+    requires there { AreIn table.now ids.now }
+    requires start { Adds [] ids.now seen.old.keys }
+    ensures { IfOk result (λ yes. yes ≡ fit_in room (clause_at table.now ids.now)) }
+{
+    subterms_are_least();
+    subterms_are_counted();
+    table.numbers_tell_terms();
+    let mut done = 0;
+    'seen: while done < seen.len() {
+        if seen.len() as u64 > room {
+            return Ok(false);
+        }
+        let id = seen.as_slice()[done];
+        add_all(seen, table.node(id).arguments.as_slice())?;
+        done += 1;
+    }
+    Ok(seen.len() as u64 <= room)
+}
+
+/// Puts numbers behind those that are there, each once.
+fn add_all(seen: &mut IndexSet<TermId>, ids: &[TermId]) -> Result<(), NoMemory>
+    ensures { OnOk result (Adds seen.old.keys ids.now seen.new.keys) }
+{
+    'ids: for id in ids.iter() {
+        seen.insert(*id)?;
+    }
+    Ok(())
+}
