@@ -1,22 +1,18 @@
 -- Names with their clauses.
 use Rattle.std.proofs.Common.{◌≡◌, ℕ, zero, suc, ◌<◌, Bool, true, false, cond, ◌||◌, List, [], ◌∷◌, ◌++◌, map, length, get_or, All, Some, None, refl, sym, ap, ◌∙◌, arith}
-use Rattle.std.specs.Prelude.{Vec}
-use Rattle.std.specs.declared.alloc.Global.{Global}
 use Rattle.std.specs.Str.{bytes_eq}
 use Rattle.std.proofs.lemmas.Bool.{false≢true}
-use Rattle.std.proofs.lemmas.List.{map-append}
 use Rattle.spec_text.specs.Bytes.{Name, among}
 use Rattle.spec_terms.specs.Terms.{Term}
-use Rattle.spec_proofs.specs.Clauses.{Clause}
-use Rattle.spec_proofs.specs.Commands.{Entry, Known, clause_of, entry_names}
-use Rattle.spec_proofs.specs.Faults.{with_entry}
-use Rattle.alethe_check.specs.declared.terms.TermId.{TermId}
-use Rattle.alethe_check.specs.NameLists.{HaveNoTwice}
-use Rattle.alethe_check.specs.Tables.{TableView, symbol_of, symbols_of, term_at, clause_at, AreIn, Extends}
-use Rattle.alethe_check.specs.Findings.{lists, clauses_at}
-use Rattle.alethe_check.specs.Knowing.{entries_of}
-use Rattle.alethe_check.proofs.NamesApart.{bytes_same, same_bytes, not_there}
-use Rattle.alethe_check.proofs.TermsExtend.{clause_at-kept}
+use Rattle.spec_proofs.specs.Commands.{Entry, Known}
+use Rattle.spec_proofs.specs.Known.{clause_of, entry_names}
+use Rattle.spec_proofs.specs.Judging.{with_entry}
+use Rattle.term_core.specs.declared.ids.TermId.{TermId}
+use Rattle.term_core.specs.NameLists.{HaveNoTwice}
+use Rattle.term_core.specs.Tables.{TableView, term_at, clause_at, AreIn, Extends}
+use Rattle.term_core.proofs.NamesApart.{bytes_same, same_bytes, not_there}
+use Rattle.term_core.proofs.TermsExtend.{clause_at-kept}
+use Rattle.alethe_check.specs.Holding.{entries_of}
 
 module _ (t : TableView) where
   pub find_none : (ns : List Name) (cs : List (List TermId)) (n : Name) → among ns n ≡ false → clause_of (entries_of t ns cs) n ≡ None
@@ -50,11 +46,19 @@ module _ (t : TableView) where
   names_of_entries (n ∷ ns) [] l = absurd (omega arith)
   names_of_entries (n ∷ ns) (c ∷ cs) l = ap (λ ms. n ∷ ms) (names_of_entries ns cs (omega arith))
 
-  pub entries_push : (ns : List Name) (cs : List (List TermId)) (n : Name) (c : List TermId) → length ns ≡ length cs → entries_of t (ns ++ n ∷ []) (cs ++ c ∷ []) ≡ entries_of t ns cs ++ (record { name = n; clause = clause_at t c }) ∷ []
+  entries_push : (ns : List Name) (cs : List (List TermId)) (n : Name) (c : List TermId) → length ns ≡ length cs → entries_of t (ns ++ n ∷ []) (cs ++ c ∷ []) ≡ entries_of t ns cs ++ (record { name = n; clause = clause_at t c }) ∷ []
   entries_push [] [] n c l = refl
   entries_push [] (d ∷ cs) n c l = absurd (omega arith)
   entries_push (m ∷ ns) [] n c l = absurd (omega arith)
   entries_push (m ∷ ns) (d ∷ cs) n c l = ap (λ es. (let e : Entry = record { name = m; clause = clause_at t d } in e) ∷ es) (entries_push ns cs n c (omega arith))
+
+  -- what is known, with one name more
+  pub known_more : (asserted : List Term) (ns next : List Name) (cs more : List (List TermId)) (n : Name) (c : List TermId) → length ns ≡ length cs → next ≡ ns ++ n ∷ [] → more ≡ cs ++ c ∷ []
+      → (let k : Known = record { symbols = t.symbols; asserted = asserted; entries = entries_of t next more } in k) ≡ with_entry (record { symbols = t.symbols; asserted = asserted; entries = entries_of t ns cs }) n (clause_at t c)
+  known_more asserted ns next cs more n c l a b =
+      let e : entries_of t next more ≡ entries_of t ns cs ++ (record { name = n; clause = clause_at t c }) ∷ [] =
+      (λ i. entries_of t (a i) (b i)) ∙ entries_push ns cs n c l in
+      λ i. record { symbols = t.symbols; asserted = asserted; entries = e i }
 
 module _ (old new : TableView) (grows : Extends old new) where
   entries_kept : (ns : List Name) (cs : List (List TermId)) → All (λ c. AreIn old c) cs → entries_of new ns cs ≡ entries_of old ns cs
@@ -62,25 +66,16 @@ module _ (old new : TableView) (grows : Extends old new) where
   entries_kept (n ∷ ns) [] h = refl
   entries_kept (n ∷ ns) (c ∷ cs) h =
       let one : clause_at new c ≡ clause_at old c = clause_at-kept old new grows c (h 0 c (omega arith)) in
-      let rest = entries_kept ns cs (λ k d l. h (suc k) d (omega arith)) in
+      let rest = entries_kept ns cs (λ k d l. h (suc k) d (omega (arith, l))) in
       λ i. (record { name = n; clause = one i }) ∷ rest i
 
   -- what is known is the same in a table that grew
-  pub known_kept : (ids : List TermId) (ns : List Name) (vs : List (Vec TermId Global)) (k : Known) → new.constants ≡ old.constants → AreIn old ids → All (λ c. AreIn old c) (lists vs)
-      → k ≡ record { symbols = symbols_of old; asserted = map (term_at old) ids; entries = entries_of old ns (lists vs) } → record { symbols = symbols_of new; asserted = map (term_at new) ids; entries = entries_of new ns (lists vs) } ≡ k
-  known_kept ids ns vs k cs asserted clauses e =
-      let s : symbols_of new ≡ symbols_of old = ap (map symbol_of) cs in
+  pub known_kept : (ids : List TermId) (ns : List Name) (cs : List (List TermId)) → new.symbols ≡ old.symbols → AreIn old ids → All (λ c. AreIn old c) cs
+      → (let k : Known = record { symbols = new.symbols; asserted = map (term_at new) ids; entries = entries_of new ns cs } in k) ≡ record { symbols = old.symbols; asserted = map (term_at old) ids; entries = entries_of old ns cs }
+  known_kept ids ns cs s asserted clauses =
       let a : map (term_at new) ids ≡ map (term_at old) ids = clause_at-kept old new grows ids asserted in
-      let c = entries_kept ns (lists vs) clauses in
-      (λ i. record { symbols = s i; asserted = a i; entries = c i }) ∙ sym e
-
-pub known_more : (t : TableView) (asserted : List Term) (ns next : List Name) (vs more : List (Vec TermId Global)) (n : Name) (v : Vec TermId Global) → length ns ≡ length (lists vs) → next ≡ ns ++ n ∷ [] → more ≡ vs ++ v ∷ []
-    → (let k : Known = record { symbols = symbols_of t; asserted = asserted; entries = entries_of t next (lists more) } in k) ≡ with_entry (record { symbols = symbols_of t; asserted = asserted; entries = entries_of t ns (lists vs) }) n (clause_at t v.items)
-known_more t asserted ns next vs more n v l a b =
-    let to_items : Vec TermId Global → List TermId = λ w. w.items in
-    let e : entries_of t next (lists more) ≡ entries_of t ns (lists vs) ++ (record { name = n; clause = clause_at t v.items }) ∷ [] =
-    (λ i. entries_of t (a i) (lists (b i))) ∙ ap (entries_of t (ns ++ n ∷ [])) (map-append to_items vs (v ∷ [])) ∙ entries_push t ns (lists vs) n v.items l in
-    λ i. record { symbols = symbols_of t; asserted = asserted; entries = e i }
+      let c = entries_kept ns cs clauses in
+      λ i. record { symbols = s i; asserted = a i; entries = c i }
 
 pub is_among : (ns : List Name) (n : Name) (k : ℕ) → k < length ns → get_or ns k [] ≡ n → among ns n ≡ true
 is_among ns n k l e = go (among ns n) refl
@@ -88,13 +83,3 @@ is_among ns n k l e = go (among ns n) refl
     go : (b : Bool) → among ns n ≡ b → b ≡ true
     go true q = refl
     go false q = absurd (not_there ns n k q l e)
-
--- the images of numbers, with one more
-pub images_push : {A : Type 0} (f : ℕ → A) (ks more : List ℕ) (k : ℕ) → more ≡ ks ++ k ∷ [] → map f more ≡ map f ks ++ f k ∷ []
-images_push f ks more k e = ap (map f) e ∙ map-append f ks (k ∷ [])
-
--- the clauses of vectors, with one more
-pub clauses_push : (t : TableView) (vs more : List (Vec TermId Global)) (v : Vec TermId Global) → more ≡ vs ++ v ∷ [] → clauses_at t more ≡ clauses_at t vs ++ clause_at t v.items ∷ []
-clauses_push t vs more v e =
-    let to_clause : Vec TermId Global → Clause = λ w. clause_at t w.items in
-    ap (map to_clause) e ∙ map-append to_clause vs (v ∷ [])

@@ -7,9 +7,9 @@ use Rattle.std.proofs.lemmas.List.Folds.{list_any_at}
 use Rattle.std.proofs.lemmas.List.Elements.{Contains-push, Contains-push_cases, Contains-append_left}
 use Rattle.indexmap.specs.IndexSet.{insert_key}
 use Rattle.indexmap.proofs.CallerLemmas.{Contains-list_any}
-use Rattle.alethe_check.specs.declared.terms.TermId.{TermId}
-use Rattle.alethe_check.specs.contracts.terms.TermIdPartialEq.TheImpl.{ghosts}
-use Rattle.alethe_check.specs.Tables.{HaveSameMembers}
+use Rattle.term_core.specs.declared.ids.TermId.{TermId}
+use Rattle.term_core.specs.contracts.ids.TermIdPartialEq.TheImpl.{ghosts}
+use Rattle.alethe_check.specs.Members.{HaveSameMembers}
 
 equal_is : (a b : TermId) → ghosts.eq a b ≡ true → a ≡ b
 equal_is a b h = search rules

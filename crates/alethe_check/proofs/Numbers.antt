@@ -1,24 +1,21 @@
 -- Numbers of clauses: a set of them, and the clauses that they are of.
-use Rattle.std.proofs.Common.{◌≡◌, ℕ, ◌+◌, ◌<◌, Bool, true, false, nat_eq, List, [], ◌∷◌, ◌++◌, length, get_or, take, All, Contains, inl, inr, refl, sym, ap, ◌∙◌, subst, if◌then◌else◌, arith}
-use Rattle.std.specs.Prelude.{◌↔◌, Vec, Result, Ok, Err, IfOk}
-use Rattle.std.specs.declared.alloc.Global.{Global}
+use Rattle.std.proofs.Common.{◌≡◌, ℕ, ◌+◌, ◌<◌, Bool, true, false, nat_eq, List, [], ◌∷◌, ◌++◌, length, map, get_or, take, All, Contains, inl, inr, refl, sym, ap, ◌∙◌, subst, if◌then◌else◌, arith}
+use Rattle.std.specs.Prelude.{◌↔◌}
 use Rattle.std.specs.List.{list_any}
 use Rattle.std.proofs.lemmas.Bool.Decides.{nat_tests}
-use Rattle.std.proofs.lemmas.List.{get_or-map, length-map, map_more, take_more}
+use Rattle.std.proofs.lemmas.List.{map_more, take_more}
 use Rattle.std.proofs.lemmas.List.Elements.{All-contains, All-push, Contains-get_or, Contains-push, Contains-push_cases, Contains-append_left}
 use Rattle.indexmap.specs.IndexSet.{insert_key}
 use Rattle.indexmap.proofs.CallerLemmas.{Contains-list_any}
-use Rattle.spec_proofs.specs.Clauses.{Clause}
-use Rattle.alethe_check.specs.declared.terms.TermId.{TermId}
+use Rattle.spec_terms.specs.Literals.{Clause}
+use Rattle.term_core.specs.declared.ids.TermId.{TermId}
+use Rattle.term_core.specs.Tables.{clause_at, AreIn}
 use Rattle.alethe_check.specs.declared.held.Held.{Held}
-use Rattle.alethe_check.specs.Tables.{clause_at, AreIn}
-use Rattle.alethe_check.specs.Findings.{lists, clauses_at}
-use Rattle.alethe_check.specs.Knowing.{IsSound, clause_numbered, clauses_numbered, AreNumbers}
-use Rattle.alethe_check.proofs.Entries.{clauses_push}
-use Rattle.alethe_check.proofs.Within.{images_within}
+use Rattle.alethe_check.specs.Holding.{IsSound, clause_numbered, clauses_numbered, AreNumbers}
+use Rattle.alethe_check.proofs.Images.{images_within, images_push}
 
 -- the same numbers are in both
-abbrev pub SameNumbers : List ℕ → List ℕ → Type 0
+abbrev SameNumbers : List ℕ → List ℕ → Type 0
 SameNumbers xs ys = (k : ℕ) → Contains xs k ↔ Contains ys k
 
 one_number : (a b : ℕ) → nat_eq a b ≡ true → a ≡ b
@@ -44,33 +41,26 @@ set_more old new front k e same = go (list_any (nat_eq k) old) refl
 pub taken_more : (old new numbers : List ℕ) (i d : ℕ) → i < length numbers → new ≡ insert_key nat_eq old (get_or numbers i d) → SameNumbers old (take i numbers) → SameNumbers new (take (i + 1) numbers)
 taken_more old new numbers i d lt e same = subst (λ ks. SameNumbers new ks) (sym (take_more numbers i d lt)) (set_more old new (take i numbers) (get_or numbers i d) e same)
 
-module _ (h : Held) (numbers : List ℕ) (i d : ℕ) (vs new : List (Vec TermId Global)) (v stored : Vec TermId Global) (lt : i < length numbers) (there : AreNumbers h numbers)
-    (at : stored ≡ get_or h.clauses.items (get_or numbers i d) stored) (copy : v.items ≡ stored.items) (e : new ≡ vs ++ v ∷ []) where
+module _ (h : Held) (numbers : List ℕ) (i d : ℕ) (copies new : List (List TermId)) (c : List TermId) (lt : i < length numbers) (there : AreNumbers h numbers)
+    (at : c ≡ get_or h.clauses.items (get_or numbers i d) []) (e : new ≡ copies ++ c ∷ []) where
   -- a copied clause is that of its number
-  stored_there : get_or (lists h.clauses.items) (get_or numbers i d) [] ≡ v.items
-  stored_there =
-      let to_items : Vec TermId Global → List TermId = λ w. w.items in
-      let below = there i d lt in
-      get_or-map to_items h.clauses.items (get_or numbers i d) stored [] (omega (arith, below, length-map h.clauses.items to_items)) ∙ ap to_items (sym at) ∙ sym copy
+  pub copies_more : map (clause_at h.table) copies ≡ clauses_numbered h (take i numbers) → map (clause_at h.table) new ≡ clauses_numbered h (take (i + 1) numbers)
+  copies_more same = images_push (clause_at h.table) copies new c e ∙ (λ j. same j ++ clause_at h.table (at j) ∷ []) ∙ sym (map_more (clause_numbered h) numbers i d lt)
 
-  pub copies_more : clauses_at h.table vs ≡ clauses_numbered h (take i numbers) → clauses_at h.table new ≡ clauses_numbered h (take (i + 1) numbers)
-  copies_more same = clauses_push h.table vs new v e ∙ (λ j. same j ++ clause_at h.table (sym stored_there j) ∷ []) ∙ sym (map_more (clause_numbered h) numbers i d lt)
-
-  pub copies_there : IsSound h → All (λ (p : Vec TermId Global). AreIn h.table p.items) vs → All (λ (p : Vec TermId Global). AreIn h.table p.items) new
-  copies_there sound all = subst (λ (ws : List (Vec TermId Global)). All (λ (p : Vec TermId Global). AreIn h.table p.items) ws) (sym e)
-      (All-push (λ (p : Vec TermId Global). AreIn h.table p.items) vs v all (subst (λ (ids : List TermId). AreIn h.table ids) stored_there (sound.clauses (get_or numbers i d) [] (there i d lt))))
+  pub copies_there : IsSound h → All (λ p. AreIn h.table p) copies → All (λ p. AreIn h.table p) new
+  copies_there sound all = subst (λ (ps : List (List TermId)). All (λ p. AreIn h.table p) ps) (sym e)
+      (All-push (λ p. AreIn h.table p) copies c all (subst (λ (ids : List TermId). AreIn h.table ids) (sym at) (sound.clauses (get_or numbers i d) [] (there i d lt))))
 
 module _ (h : Held) (slice set numbers : List ℕ) (e : slice ≡ set) (same : SameNumbers set numbers) where
   -- each number taken is that of a clause
   pub numbers_taken : AreNumbers h numbers → AreNumbers h slice
-  numbers_taken all k d lt = All-contains (λ n. n < length (lists h.clauses.items)) numbers (get_or slice k d) all ((same (get_or slice k d)).0 (subst (λ xs. Contains xs (get_or slice k d)) e (Contains-get_or slice k d lt)))
+  numbers_taken all k d lt = All-contains (λ n. n < length h.clauses.items) numbers (get_or slice k d) all ((same (get_or slice k d)).0 (subst (λ xs. Contains xs (get_or slice k d)) e (Contains-get_or slice k d lt)))
 
   -- the clauses of the numbers taken are the clauses of all
-  pub clauses_taken : {E : Type 0} (r : Result (Vec (Vec TermId Global) Global) E) → IfOk r (λ v. clauses_at h.table v.items ≡ clauses_numbered h slice)
-      → IfOk r (λ v. (c : Clause) → Contains (clauses_at h.table v.items) c ↔ Contains (clauses_numbered h numbers) c)
-  clauses_taken (Ok v) s = λ c.
-      let all : clauses_at h.table v.items ≡ clauses_numbered h set = s ∙ ap (clauses_numbered h) e in (
+  pub clauses_taken : (copies : List (List TermId)) → map (clause_at h.table) copies ≡ clauses_numbered h slice
+      → (c : Clause) → Contains (map (clause_at h.table) copies) c ↔ Contains (clauses_numbered h numbers) c
+  clauses_taken copies s c =
+      let all : map (clause_at h.table) copies ≡ clauses_numbered h set = s ∙ ap (clauses_numbered h) e in (
         λ i. images_within (clause_numbered h) set numbers (λ k. (same k).0) c (subst (λ (cs : List Clause). Contains cs c) all i),
         λ i. subst (λ (cs : List Clause). Contains cs c) (sym all) (images_within (clause_numbered h) numbers set (λ k. (same k).1) c i),
       )
-  clauses_taken (Err x) s = tt

@@ -2,8 +2,9 @@
 use Rattle.std.proofs.Common.{List, map, Contains, subst}
 use Rattle.std.specs.Prelude.{◌↔◌}
 use Rattle.spec_proofs.specs.Resolution.{Derives, given, unit, Conflicts, false_clause, both_ways, IsWithin}
-use Rattle.spec_proofs.specs.Clauses.{Clause, complement, literals_of, IsResolvent}
-use Rattle.alethe_check.proofs.Transport.{to_image, from_image}
+use Rattle.spec_proofs.specs.Clauses.{IsResolvent}
+use Rattle.spec_terms.specs.Literals.{Clause, complement, literals_of}
+use Rattle.alethe_check.proofs.Images.{images_within}
 
 module _ {L : Type 0} (other : L → L) (ps qs : List (List L)) (within : IsWithin ps qs) (assumed : List L) where
   derives_within : (l : L) → Derives other ps assumed l → Derives other qs assumed l
@@ -13,10 +14,6 @@ module _ {L : Type 0} (other : L → L) (ps qs : List (List L)) (within : IsWith
   pub conflicts_within : Conflicts other ps assumed → Conflicts other qs assumed
   conflicts_within (both_ways l one two) = both_ways l (derives_within l one) (derives_within (other l) two)
   conflicts_within (false_clause c c_in all) = false_clause c (within c c_in) λ m m_in. derives_within (other m) (all m m_in)
-
--- images of what the one list has are images of what the other has
-pub images_within : {A B : Type 0} (f : A → B) (xs ys : List A) → IsWithin xs ys → IsWithin (map f xs) (map f ys)
-images_within {A} {B} f xs ys within y i = let h = from_image f xs y i in subst (λ (z : B). Contains (map f ys) z) h.2 (to_image f ys h.0 (within h.0 h.1))
 
 -- a clause that follows from the ones follows from the others too
 pub resolvent_within : (ps qs : List Clause) (c : Clause) → IsWithin ps qs → IsResolvent ps c → IsResolvent qs c

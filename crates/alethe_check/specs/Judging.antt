@@ -1,93 +1,118 @@
--- Commands of a proof as the code has them, and what judging comes to.
-use Rattle.std.specs.Prelude.{◌≡◌, ℕ, ◌≤◌, true, false, List, length, Option, Some, None, option_map, IfSome, Result, Ok, Err, codes}
+-- Commands of a proof as the code has them, and what judging comes to. Source: own.
+use Rattle.std.specs.Prelude.{◌≡◌, ◌≢◌, ◌⊎◌, ℕ, ◌+◌, Bool, true, false, List, [], ◌∷◌, length, Option, Some, None, Result, Ok, Err}
 use Rattle.spec_text.specs.Bytes.{among}
-use Rattle.spec_text.specs.Trees.{Trees, IsRead}
-use Rattle.spec_text.specs.Shapes.{◌>>=◌, Word, first_word, first_list, no_tree, wanted, wanted_keyword}
-use Rattle.spec_scripts.specs.Plain.{IsWithinLimits}
-use Rattle.spec_proofs.specs.declared.Rule.TheVariants.{Resolution}
-use Rattle.spec_proofs.specs.declared.ProofKind.TheVariants.{NoEmptyClause}
-use Rattle.spec_proofs.specs.Commands.{Known, Command, Assume, Step, new_name, terms_of, premises_of}
-use Rattle.spec_proofs.specs.Faults.{Fault, fault_at, IsRightAfter, HasEmptyClause, with_command, fault_of, FirstFault}
-use Rattle.spec_proofs.specs.Accepted.{is_plain}
+use Rattle.spec_text.specs.declared.Place.{Place}
+use Rattle.spec_text.specs.Places.{IsPlaceOf}
+use Rattle.spec_text.specs.Lexemes.{Lexeme, opens, closes, lexemes_from}
+use Rattle.spec_text.specs.Faults.{Located}
+use Rattle.spec_text.specs.Readings.{IsBroken, AreTrees, StopsAt, is_long}
+use Rattle.spec_text.specs.Shapes.{Word}
+use Rattle.spec_text.specs.Trees.{Tree, Trees, none}
+use Rattle.spec_proofs.specs.Faults.{Fault, Read}
+use Rattle.spec_proofs.specs.Commands.{Known, Command, Assume, Step, Shape, assumes}
+use Rattle.spec_proofs.specs.Texts.{Ending, complete, broken, left_over, EndsBehind, AreCommands, IsProofText, ending_fault}
+use Rattle.spec_proofs.specs.Judging.{IsRightAfter, with_command, fault_of, EndsBy, FirstFault}
+use Rattle.smt_lexer.specs.declared.Refusal.{Refusal}
+use Rattle.term_core.specs.Tables.{term_at, clause_at, IsIn, AreIn}
 use Rattle.alethe_check.specs.declared.held.Held.{Held}
 use Rattle.alethe_check.specs.declared.proof.ReadCommand.{ReadCommand}
 use Rattle.alethe_check.specs.declared.proof.ReadCommand.TheVariants as code
-use Rattle.alethe_check.specs.declared.proof.StepParts as code_parts
-use Rattle.alethe_check.specs.declared.judge.Found.{Found}
-use Rattle.alethe_check.specs.declared.shapes.Unread.{Unread}
-use Rattle.alethe_check.specs.declared.shapes.Unread.TheVariants as unread
-use Rattle.alethe_check.specs.Items.{trees_in}
-use Rattle.alethe_check.specs.Tables.{term_at, clause_at, IsIn, AreIn}
-use Rattle.alethe_check.specs.Knowing.{known_view, clauses_numbered, AreNumbers}
-use Rattle.alethe_check.specs.Views.{word_view}
+use Rattle.alethe_check.specs.declared.judge.Row.{Row}
+use Rattle.alethe_check.specs.declared.judge.Row.TheVariants as rows
+use Rattle.alethe_check.specs.declared.judge.End.{End}
+use Rattle.alethe_check.specs.declared.judge.End.TheVariants as ends
+use Rattle.alethe_check.specs.declared.stop.Stop.{Stop}
+use Rattle.alethe_check.specs.declared.stop.Stop.TheVariants as stops
+use Rattle.alethe_check.specs.Views.{found_view}
+use Rattle.alethe_check.specs.Holding.{known_view, clauses_numbered, AreNumbers}
 
--- A step by its shape: its name, its literals, its premises.
-pub record StepParts : Type 0 where
-  pub name : Word
-  pub literals : Trees
-  pub premises : Trees
-
--- i (cl t ..) :rule resolution :premises (p ..)
-unfoldable pub step_shape : Trees → Option StepParts
-step_shape ts = do
-  i ← first_word ts
-  c ← first_list i.1
-  cl ← first_word c.0
-  is_cl ← wanted (codes "cl") cl.0
-  r ← first_word c.1
-  is_rule ← wanted_keyword (codes "rule") r.0
-  name ← first_word r.1
-  is_resolution ← wanted (codes "resolution") name.0
-  p ← first_word name.1
-  is_premises ← wanted_keyword (codes "premises") p.0
-  l ← first_list p.1
-  end ← no_tree l.1
-  Some (record { name = i.0; literals = cl.1; premises = l.0 })
-
--- what the parts of a step say
-unfoldable pub read_step : Known → ℕ → StepParts → Option Command
-read_step k at p = do
-  n ← new_name k p.name
-  ls ← terms_of k p.literals
-  ps ← premises_of k p.premises
-  Some (Step at n ls Resolution ps)
-
-abbrev pub parts_view : List ℕ → code_parts.StepParts → StepParts
-parts_view text p = record { name = word_view p.name; literals = trees_in text p.literals.now; premises = trees_in text p.premises.now }
+-- an assume by its shape
+abbrev pub assume_view : Word → Tree → Shape
+assume_view w t = assumes w t
 
 -- a command in the words of the definitions
 abbrev pub command_view : Held → ReadCommand → Command
 command_view h (code.Assume at name id) = Assume at name.now (term_at h.table id)
-command_view h (code.Step at name clause premises) = Step at name.now (clause_at h.table clause.items) Resolution (clauses_numbered h premises.items)
+command_view h (code.Step at name clause rule premises) = Step at name.now (clause_at h.table clause.items) rule (clauses_numbered h premises.items)
 
 -- the name is new, and the terms and the premises are there
 abbrev pub IsReady : Held → ReadCommand → Type 0
 IsReady h (code.Assume at name id) = (among h.names name.now ≡ false) × IsIn h.table id
-IsReady h (code.Step at name clause premises) = (among h.names name.now ≡ false) × AreIn h.table clause.items × AreNumbers h premises.items
+IsReady h (code.Step at name clause rule premises) = (among h.names name.now ≡ false) × AreIn h.table clause.items × AreNumbers h premises.items
 
-abbrev pub found_view : Found → Fault
-found_view f = fault_at f.offset f.kind
+-- a command is right, and is known now; or it is not read, or not right
+abbrev pub JudgesOne : Known → Read Command → Result (Unit {0}) Stop → Held → Type 0
+JudgesOne k read (Ok u) new = (c : Command) × (read ≡ Ok c) × IsRightAfter k c × (known_view new ≡ with_command k c)
+JudgesOne k read (Err (stops.Fault f)) new = (read ≡ Err (found_view f)) ⊎ ((c : Command) × (read ≡ Ok c) × (IsRightAfter k c → ⊥) × (found_view f ≡ fault_of c))
+JudgesOne k read (Err stops.Memory) new = Unit {0}
 
--- the first fault after one more command: the one found before, or that of the command
-abbrev pub NextFault : Known → Command → Option Found → Option Found → Type 0
-NextFault k c (Some f) next = next ≡ Some f
-NextFault k c None None = IsRightAfter k c
-NextFault k c None (Some g) = (IsRightAfter k c → ⊥) × (found_view g ≡ fault_of c)
+-- a fault of the text, by its offset
+abbrev pub refusal_view : Refusal → Located
+refusal_view r = record { offset = r.place.offset; fault = r.fault }
 
--- the command was judged and added, or the tree is none
-abbrev pub JudgesOne : Known → Option Command → Option Found → Result (Option Found) Unread → Held → Type 0
-JudgesOne k read found (Ok next) new = (c : Command) × (read ≡ Some c) × (known_view new ≡ with_command k c) × NextFault k c found next
-JudgesOne k read found (Err unread.NotPlain) new = read ≡ None
-JudgesOne k read found (Err unread.Memory) new = Unit {0}
+-- behind a row of commands in n open lists the text ends, or the innermost list, right before a place, or it cannot be read on
+abbrev pub RowEnds : List ℕ → ℕ → Row → List (ℕ × Lexeme) → Type 0
+RowEnds text n rows.End rest = (n ≡ 0) × (rest ≡ [])
+RowEnds text n (rows.Close after) rest = (n ≢ 0) × (at : ℕ) × (rest ≡ (at, closes) ∷ lexemes_from text after.offset) × IsPlaceOf text after
+RowEnds text n (rows.Broken r) rest = IsBroken (length text) n rest (refusal_view r)
 
--- a plain proof and its first fault, or none; or it isn't plain
-abbrev pub JudgesAll : List ℕ → Known → Result (Option Found) Unread → Type 0
-JudgesAll text k (Ok found) = IsWithinLimits text × ((ts : Trees) × IsRead text ts × (is_plain k ts ≡ true) × FirstFault k (length text) ts (option_map found_view found)) × IfSome found (λ f. f.offset ≤ length text)
-JudgesAll text k (Err unread.NotPlain) = IsWithinLimits text → (ts : Trees) → IsRead text ts → is_plain k ts ≡ true → ⊥
-JudgesAll text k (Err unread.Memory) = Unit {0}
+-- what the first fault is behind commands is that of all of them
+abbrev pub Follows : Known → Trees → Known → Type 0
+Follows k ts now = (end : ℕ) (ending found : Option Fault) → EndsBy now end ending found → FirstFault k end ending ts found
 
--- the first fault after the last command
-abbrev pub Finishes : Known → ℕ → Option Found → Option Found → Type 0
-Finishes k end (Some f) last = last ≡ Some f
-Finishes k end None None = HasEmptyClause k
-Finishes k end None (Some g) = (HasEmptyClause k → ⊥) × (found_view g ≡ fault_at end NoEmptyClause)
+-- whatever comes behind the commands, this is their first fault
+abbrev pub HasFault : Known → Trees → Fault → Type 0
+HasFault k ts f = (end : ℕ) (ending : Option Fault) → FirstFault k end ending ts (Some f)
+
+-- a row of commands in n open lists, from lexemes on: all are right, and then it ends; or one has a fault
+abbrev pub JudgesRow : List ℕ → ℕ → List (ℕ × Lexeme) → Known → Result Row Stop → Held → Type 0
+JudgesRow text n xs k (Ok row) new = (ts : Trees) × (rest : List (ℕ × Lexeme)) × AreTrees n xs ts rest × RowEnds text n row rest × Follows k ts (known_view new)
+JudgesRow text n xs k (Err (stops.Fault f)) new = (ts : Trees) × (rest : List (ℕ × Lexeme)) × AreTrees n xs ts rest × StopsAt (length text) n rest × HasFault k ts (found_view f)
+JudgesRow text n xs k (Err stops.Memory) new = Unit {0}
+
+-- what comes behind the commands, in the words of the definitions
+abbrev pub end_meant : End → Ending
+end_meant ends.Complete = complete
+end_meant (ends.Broken r) = broken (refusal_view r)
+end_meant (ends.LeftOver at) = left_over at
+
+-- a parenthesis is in front
+abbrev pub begins_parenthesis : List (ℕ × Lexeme) → Bool
+begins_parenthesis ((at, opens) ∷ xs) = true
+begins_parenthesis ((at, closes) ∷ xs) = true
+begins_parenthesis xs = false
+
+-- what comes behind the list of commands
+abbrev pub Leaves : List ℕ → List (ℕ × Lexeme) → Result End Stop → Type 0
+Leaves text xs (Ok e) = EndsBehind (length text) xs (end_meant e)
+Leaves text xs (Err (stops.Fault f)) = ⊥
+Leaves text xs (Err stops.Memory) = Unit {0}
+
+-- all the commands, in a list or not: all are right, and then something ends them; or one has a fault
+abbrev pub JudgesCommands : Bool → List ℕ → List (ℕ × Lexeme) → Known → Result End Stop → Held → Type 0
+JudgesCommands listed text xs k (Ok e) new = (ts : Trees) × AreCommands listed (length text) xs ts (end_meant e) × Follows k ts (known_view new)
+JudgesCommands listed text xs k (Err (stops.Fault f)) new = (ts : Trees) × (e : Ending) × AreCommands listed (length text) xs ts e × HasFault k ts (found_view f)
+JudgesCommands listed text xs k (Err stops.Memory) new = Unit {0}
+
+-- a text's commands and their ending have this first fault, or none
+pub record IsJudgedFrom (k : Known) (text : List ℕ) (found : Option Fault) : Type 0 where
+  -- the commands
+  pub commands : Trees
+  -- what comes behind them
+  pub ending : Ending
+  -- they are those of the text
+  pub read : IsProofText text commands ending
+  -- their first fault
+  pub fault : FirstFault k (length text) (ending_fault (is_long text) ending) commands found
+
+-- a proof was judged
+abbrev pub JudgesAll : List ℕ → Known → Result (Unit {0}) Stop → Type 0
+JudgesAll text k (Ok u) = IsJudgedFrom k text None
+JudgesAll text k (Err (stops.Fault f)) = IsJudgedFrom k text (Some (found_view f))
+JudgesAll text k (Err stops.Memory) = Unit {0}
+
+-- what is said at the end of the commands
+abbrev pub Finishes : Known → List ℕ → Option Fault → Result (Unit {0}) Stop → Type 0
+Finishes k text ending (Ok u) = EndsBy k (length text) ending None
+Finishes k text ending (Err (stops.Fault f)) = EndsBy k (length text) ending (Some (found_view f))
+Finishes k text ending (Err stops.Memory) = Unit {0}

@@ -1,13 +1,9 @@
--- The definitions that the private parts speak in.
-pub mod NameLists
-pub mod Tables
-pub mod Items
+-- The definitions that contracts cite.
 pub mod Views
+pub mod Members
 pub mod Scripts
-pub mod Findings
-pub mod Open
-pub mod Reads
-pub mod Verdicts
 pub mod Loads
-pub mod Knowing
+pub mod Shapes
+pub mod Holding
 pub mod Judging
+pub mod Verdicts

@@ -1,38 +1,45 @@
--- What the values that reading returns mean.
+-- What the values that reading returns mean. Source: own.
 use Rattle.std.specs.Prelude.{◌≡◌, ℕ, List, Option, Some, None, Result, Ok, Err}
-use Rattle.std.specs.Borrow.{Bor}
-use Rattle.spec_text.specs.Trees.{Tree, Trees}
-use Rattle.spec_text.specs.Shapes.{Word}
-use Rattle.alethe_check.specs.declared.sexpr.Item.{Item}
-use Rattle.alethe_check.specs.declared.shapes.Unread.{Unread}
-use Rattle.alethe_check.specs.declared.shapes.Unread.TheVariants as unread
-use Rattle.alethe_check.specs.declared.shapes.Word as code
-use Rattle.alethe_check.specs.Items.{trees_in, tree_in}
+use Rattle.spec_text.specs.Faults.{Located}
+use Rattle.spec_text.specs.Answers.{Answer}
+use Rattle.spec_proofs.specs.declared.Rule.{Rule}
+use Rattle.spec_proofs.specs.Faults.{Fault, Read, fault_at, term_kind}
+use Rattle.sort_check.specs.declared.TermFault.{TermFault}
+use Rattle.sort_check.specs.declared.TermStop.{TermStop}
+use Rattle.sort_check.specs.declared.TermStop.TheVariants as term_stops
+use Rattle.alethe_check.specs.declared.stop.Found.{Found}
+use Rattle.alethe_check.specs.declared.stop.Stop.{Stop}
+use Rattle.alethe_check.specs.declared.stop.Stop.TheVariants as stops
 
--- the reason why there is nothing
-abbrev pub Fails : {Y : Type 0} → Unread → Option Y → Type 0
-Fails unread.Memory read = Unit {0}
-Fails unread.NotPlain read = read ≡ None
+-- a fault of reading, by its offset
+abbrev pub located : TermFault → Located
+located f = record { offset = f.offset; fault = f.fault }
 
--- what a function returned, seen by a view, is what is read, unless memory ran out
-abbrev pub Gives : {X Y : Type 0} → (X → Y) → Result X Unread → Option Y → Type 0
-Gives view (Ok x) read = read ≡ Some (view x)
-Gives view (Err e) read = Fails e read
+-- a fault of a proof, by its offset
+abbrev pub found_view : Found → Fault
+found_view f = fault_at f.offset f.kind
 
-abbrev pub same : {X : Type 0} → X → X
-same x = x
+-- the fault is the same; of memory that ran out nothing is said
+abbrev pub Fails : {Y : Type 0} → TermStop → Answer Y → Type 0
+Fails (term_stops.Fault f) read = read ≡ Err (located f)
+Fails term_stops.Memory read = Unit {0}
 
-abbrev pub word_view : code.Word → Word
-word_view w = record { kind = w.kind; bytes = w.bytes.now }
+-- what a function returned, seen by a view, is what is read, or the fault is the same, unless memory ran out
+abbrev pub Gives : {X Y : Type 0} → (X → Y) → Result X TermStop → Answer Y → Type 0
+Gives view (Ok x) read = read ≡ Ok (view x)
+Gives view (Err stop) read = Fails stop read
 
-abbrev pub word_rest : List ℕ → code.Word × Bor (List Item) → Word × Trees
-word_rest text x = (word_view x.0, trees_in text x.1.now)
+-- the same of what is read in a proof
+abbrev pub Reads : {X Y : Type 0} → (X → Y) → Result X Stop → Read Y → Type 0
+Reads view (Ok x) read = read ≡ Ok (view x)
+Reads view (Err (stops.Fault f)) read = read ≡ Err (found_view f)
+Reads view (Err stops.Memory) read = Unit {0}
 
-abbrev pub list_rest : List ℕ → Bor (List Item) × Bor (List Item) → Trees × Trees
-list_rest text x = (trees_in text x.0.now, trees_in text x.1.now)
+-- the stop that a stop of reading terms is in a proof
+abbrev pub stop_meant : TermStop → Stop
+stop_meant (term_stops.Fault f) = stops.Fault (record { offset = f.offset; kind = term_kind f.fault })
+stop_meant term_stops.Memory = stops.Memory
 
-abbrev pub tree_of : List ℕ → Bor (List Item) → Tree
-tree_of text x = tree_in text x.now
-
-abbrev pub inside_view : List ℕ → ℕ × Bor (List Item) → ℕ × Trees
-inside_view text x = (x.0, trees_in text x.1.now)
+-- a rule is itself
+abbrev pub rule_meant : Rule → Rule
+rule_meant r = r

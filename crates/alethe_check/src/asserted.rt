@@ -1,11 +1,11 @@
 //! The asserted terms, in order, with a look-up by hash.
 
-ghost use Rattle.std.specs.Prelude.{◌≡◌, ◌++◌, [], ◌∷◌, Contains, MatchBool, OnOk};
+ghost use Rattle.std.specs.Prelude.{◌≡◌, ◌++◌, [], ◌∷◌, Contains, MatchBool, OnErr, OnOk};
 
-use crate::terms::TermId;
 use indexmap::IndexSet;
 use std::alloc::{AllocError, Global};
 use std::marker::Model;
+use term_core::TermId;
 
 /// Terms by their numbers, in the order in which they were asserted.
 #[derive(Drop)]
@@ -16,8 +16,8 @@ pub struct Asserted {
 
 impl Model for Asserted {
     ghost use Rattle.std.specs.Prelude.{List};
-    ghost use Rattle.alethe_check.specs.declared.terms.TermId.{TermId};
-    ghost use Rattle.alethe_check.specs.Tables.{HaveSameMembers};
+    ghost use Rattle.term_core.specs.declared.ids.TermId.{TermId};
+    ghost use Rattle.alethe_check.specs.Members.{HaveSameMembers};
 
     ghost Value = { List TermId };
 
@@ -44,9 +44,10 @@ impl Asserted {
         self.set.contains(&id)
     }
 
-    /// Puts a term last.
+    /// Puts a term last. Where memory runs out the list is as it was.
     pub fn add(&mut self, id: TermId) -> Result<(), AllocError>
-        ensures { OnOk result (self.new ≡ self.old ++ id ∷ []) }
+        ensures added { OnOk result (self.new ≡ self.old ++ id ∷ []) }
+        ensures same { OnErr result (self.new ≡ self.old) }
     {
         self.list.reserve(1)?;
         match self.set.insert(id) {

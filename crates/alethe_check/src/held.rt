@@ -1,33 +1,38 @@
 //! What is known of a proof while it is judged: the script's terms, and the clauses of the commands so far.
 
-ghost use Rattle.std.specs.Prelude.{◌≡◌, ◌<◌, ◌++◌, ◌∷◌, [], List, map, length, IfOk, IfErr, OnOk, All, MatchOption, MatchBool, Contains, None, Some, false, if◌then◌else◌};
+ghost use Rattle.std.specs.Prelude.{◌≡◌, ◌<◌, ◌++◌, ◌∷◌, [], List, map, length, IfOk, IfErr, OnOk, OnErr, MatchOption, MatchBool, Contains, None, Some, false};
 ghost use Rattle.spec_text.specs.Bytes.{among};
-ghost use Rattle.spec_text.specs.Shapes.{each, is_symbol};
-ghost use Rattle.spec_terms.specs.Reading.{term_of};
-ghost use Rattle.spec_proofs.specs.Commands.{clause_of, entry_names, new_name, premise_of, premises_of, terms_of};
-ghost use Rattle.spec_proofs.specs.Faults.{with_entry};
-ghost use Rattle.alethe_check.specs.Tables.{symbols_of, term_at, clause_at, IsIn, AreIn, Extends};
-ghost use Rattle.alethe_check.specs.Findings.{lists};
-ghost use Rattle.alethe_check.specs.Items.{trees_in, tree_in};
-ghost use Rattle.alethe_check.specs.Views.{Gives, word_view};
-ghost use Rattle.alethe_check.specs.Knowing.{known_view, IsSound, clause_numbered, clauses_numbered, AreNumbers};
+ghost use Rattle.spec_proofs.specs.Known.{clause_of, entry_names, fresh_name, clause_in, known_clause, premise_of, premises_of};
+ghost use Rattle.spec_proofs.specs.Judging.{with_entry};
+ghost use Rattle.smt_sexpr.specs.Items.{trees_in, tree_in};
+ghost use Rattle.smt_sexpr.specs.Views.{word_view};
+ghost use Rattle.term_core.specs.Tables.{term_at, clause_at, IsIn, AreIn};
+ghost use Rattle.spec_proofs.specs.Faults.{term_kind};
+ghost use Rattle.alethe_check.specs.Views.{Reads, stop_meant};
+ghost use Rattle.alethe_check.specs.Holding.{known_view, IsSound, clause_numbered, clauses_numbered, AreNumbers};
 
 use crate::asserted::Asserted;
-use crate::names::Names;
-use crate::script::{Script, read_term};
-use crate::sexpr::{Item, View, look, split};
-use crate::shapes::{Unread, Word, is_simple, is_symbol};
-use crate::terms::{TermId, TermTable};
-use spec_text::Kind;
+use crate::load::TERM_LIMIT;
+use crate::script::Script;
+use crate::stop::{Found, Stop, fault};
+use smt_sexpr::{Item, View, Word, look, split};
+use sort_check::{TermFault, TermStop, terms};
+use spec_proofs::ProofKind;
+use spec_text::Fault;
 use std::alloc::Global;
+use term_core::{Clause, Names, TermId, TermTable};
 
 /// What is known. The clause of a name stands at the name's number.
 #[derive(Drop)]
 pub struct Held {
+    /// The terms so far.
     pub table: TermTable,
+    /// The current assertions.
     pub asserted: Asserted,
+    /// The names of the commands so far.
     pub names: Names,
-    pub clauses: Vec<Vec<TermId>>,
+    /// Their clauses.
+    pub clauses: Vec<Clause>,
 }
 
 /// Says what is known at a script's check, before the first command of a proof.
@@ -45,36 +50,11 @@ pub fn at_check(alloc: Global, script: Script) -> Held
     }
 }
 
-/// The terms that the trees of the items are.
-fn read_clause(
-    alloc: Global,
-    table: &mut TermTable,
-    text: &[u8],
-    items: &[Item],
-) -> Result<Vec<TermId>, Unread>
-    ensures gives { Gives (λ v. clause_at table.new v.items) result (each (term_of (symbols_of table.old)) (trees_in text.now items.now)) }
-    ensures there { IfOk result (λ v. AreIn table.new v.items) }
-    ensures kept { Extends table.old table.new × (table.new.constants ≡ table.old.constants) }
-{
-    let mut made = Vec::new(alloc);
-    let mut rest = items;
-    'literals: loop {
-        let Some((first, others)) = split(rest) else {
-            return Ok(made);
-        };
-        match read_term(table, text, first) {
-            Ok(id) => made.push(id)?,
-            Err(e) => return Err(e),
-        }
-        rest = others;
-    }
-}
-
 /// The number of a name's clause.
 fn find(held: &Held, name: &[u8]) -> Option<u64>
     requires { IsSound held.now }
     ensures { MatchOption result (clause_of (known_view held.now).entries name.now ≡ None)
-        (λ k. (clause_of (known_view held.now).entries name.now ≡ Some (clause_numbered held.now k)) × (k < length (lists held.now.clauses.items))) }
+        (λ k. (clause_of (known_view held.now).entries name.now ≡ Some (clause_numbered held.now k)) × (k < length held.now.clauses.items)) }
 {
     held.names.no_name_twice();
     match held.names.find(name) {
@@ -83,30 +63,29 @@ fn find(held: &Held, name: &[u8]) -> Option<u64>
     }
 }
 
-/// The number of a symbol's clause.
-fn clause_named(held: &Held, kind: Kind, name: &[u8]) -> Result<u64, Unread>
+/// The number of the clause of a name that stands at an offset.
+#[tactic(auto, unfolding(spec_proofs::specs::Known::known_clause))]
+fn clause_named(held: &Held, at: u64, name: &[u8]) -> Result<u64, Stop>
     requires { IsSound held.now }
-    ensures gives { Gives (clause_numbered held.now) result (if is_symbol kind then clause_of (known_view held.now).entries name.now else None) }
-    ensures there { IfOk result (λ k. k < length (lists held.now.clauses.items)) }
+    ensures gives { Reads (clause_numbered held.now) result (known_clause (known_view held.now) at name.now) }
+    ensures there { IfOk result (λ k. k < length held.now.clauses.items) }
 {
-    if is_symbol(kind) {
-        return match find(held, name) {
-            Some(number) => Ok(number),
-            None => Err(Unread::NotPlain),
-        };
+    match find(held, name) {
+        Some(number) => Ok(number),
+        None => Err(fault(at, ProofKind::UnknownPremise)),
     }
-    Err(Unread::NotPlain)
 }
 
 /// The number of the clause that a premise names.
-fn premise(held: &Held, text: &[u8], items: &[Item]) -> Result<u64, Unread>
+#[tactic(auto, unfolding(spec_proofs::specs::Known::premise_of))]
+fn premise(held: &Held, text: &[u8], items: &[Item]) -> Result<u64, Stop>
     requires { IsSound held.now }
-    ensures gives { Gives (clause_numbered held.now) result (premise_of (known_view held.now) (tree_in text.now items.now)) }
-    ensures there { IfOk result (λ k. k < length (lists held.now.clauses.items)) }
+    ensures gives { Reads (clause_numbered held.now) result (premise_of (known_view held.now) (tree_in text.now items.now)) }
+    ensures there { IfOk result (λ k. k < length held.now.clauses.items) }
 {
     match look(text, items) {
-        View::List(_, _, _) => Err(Unread::NotPlain),
-        View::Atom(_, kind, bytes) => clause_named(held, kind, bytes),
+        View::Atom(at, _, bytes) => clause_named(held, u64::from(at), bytes),
+        View::List(at, _, _) => Err(fault(u64::from(at), ProofKind::BadShape)),
     }
 }
 
@@ -116,9 +95,9 @@ pub fn read_premises(
     held: &Held,
     text: &[u8],
     items: &[Item],
-) -> Result<Vec<u64>, Unread>
+) -> Result<Vec<u64>, Stop>
     requires { IsSound held.now }
-    ensures gives { Gives (λ v. clauses_numbered held.now v.items) result (premises_of (known_view held.now) (trees_in text.now items.now)) }
+    ensures gives { Reads (λ v. clauses_numbered held.now v.items) result (premises_of (known_view held.now) (trees_in text.now items.now)) }
     ensures there { IfOk result (λ v. AreNumbers held.now v.items) }
 {
     let mut made = Vec::new(alloc);
@@ -129,7 +108,7 @@ pub fn read_premises(
         };
         match premise(held, text, first) {
             Ok(number) => made.push(number)?,
-            Err(e) => return Err(e),
+            Err(stop) => return Err(stop),
         }
         rest = others;
     }
@@ -148,44 +127,57 @@ fn has_name(held: &Held, name: &[u8]) -> bool
 }
 
 /// The name that a new command may have.
-pub fn fresh_name<'a>(held: &Held, word: Word<'a>) -> Result<&'a [u8], Unread>
+#[tactic(auto, unfolding(spec_proofs::specs::Known::fresh_name))]
+pub fn fresh_name<'a>(held: &Held, word: Word<'a>) -> Result<&'a [u8], Stop>
     requires { IsSound held.now }
-    ensures gives { Gives (λ b. b.now) result (new_name (known_view held.now) (word_view word.entry)) }
+    ensures gives { Reads (λ b. b.now) result (fresh_name (known_view held.now) (word_view word.entry)) }
     ensures new { IfOk result (λ b. among held.now.names b.now ≡ false) }
 {
-    if is_simple(word.kind) && !has_name(held, word.bytes) {
-        return Ok(word.bytes);
+    if has_name(held, word.bytes) {
+        return Err(fault(word.at, ProofKind::TwiceName));
     }
-    Err(Unread::NotPlain)
+    Ok(word.bytes)
 }
 
-/// The term that the first tree of the items is.
-pub fn term(held: &mut Held, text: &[u8], items: &[Item]) -> Result<TermId, Unread>
-    requires { IsSound held.old }
-    ensures gives { Gives (term_at held.new.table) result (term_of (known_view held.old).symbols (tree_in text.now items.now)) }
-    ensures there { IfOk result (λ id. IsIn held.new.table id) }
-    ensures same { known_view held.new ≡ known_view held.old }
-    ensures names { held.new.names ≡ held.old.names }
-    ensures sound { IsSound held.new }
+/// What a fault of reading a term is in a proof.
+fn term_kind(fault: Fault) -> ProofKind
+    ensures { result ≡ term_kind fault }
 {
-    read_term(&mut held.table, text, items)
+    match fault {
+        Fault::BadShape => ProofKind::BadShape,
+        other => ProofKind::Term(other),
+    }
 }
 
-/// The terms that the trees of the items are.
+/// The stop that a stop of reading terms is in a proof.
+fn in_proof(stop: TermStop) -> Stop
+    ensures { result ≡ stop_meant stop }
+{
+    match stop {
+        TermStop::Fault(f) => fault(f.offset, term_kind(f.fault)),
+        TermStop::Memory => Stop::Memory,
+    }
+}
+
+/// The terms that the trees of the items are, in a command at an offset.
 pub fn clause(
     alloc: Global,
     held: &mut Held,
     text: &[u8],
     items: &[Item],
-) -> Result<Vec<TermId>, Unread>
+    at: u64,
+) -> Result<Vec<TermId>, Stop>
     requires { IsSound held.old }
-    ensures gives { Gives (λ v. clause_at held.new.table v.items) result (terms_of (known_view held.old) (trees_in text.now items.now)) }
+    ensures gives { Reads (λ v. clause_at held.new.table v.items) result (clause_in (known_view held.old) at (trees_in text.now items.now)) }
     ensures there { IfOk result (λ v. AreIn held.new.table v.items) }
     ensures same { known_view held.new ≡ known_view held.old }
     ensures names { held.new.names ≡ held.old.names }
     ensures sound { IsSound held.new }
 {
-    read_clause(alloc, &mut held.table, text, items)
+    match terms(alloc, &mut held.table, text, items, at, TERM_LIMIT) {
+        Ok(read) => Ok(read),
+        Err(stop) => Err(in_proof(stop)),
+    }
 }
 
 /// Says whether a term is asserted.
@@ -199,19 +191,19 @@ pub fn is_asserted(held: &Held, id: TermId) -> bool
 }
 
 /// Adds a command's name with its clause.
-pub fn add(held: &mut Held, name: &[u8], clause: Vec<TermId>) -> Result<(), Unread>
+pub fn add(held: &mut Held, name: &[u8], clause: Clause) -> Result<(), Stop>
     requires sound { IsSound held.old }
     requires new { among held.old.names name.now ≡ false }
-    requires there { AreIn held.old.table clause.items }
-    ensures added { OnOk result (known_view held.new ≡ with_entry (known_view held.old) name.now (clause_at held.old.table clause.items)) }
+    requires there { AreIn held.old.table clause }
+    ensures added { OnOk result (known_view held.new ≡ with_entry (known_view held.old) name.now (clause_at held.old.table clause)) }
     ensures sound { OnOk result (IsSound held.new) }
-    ensures memory { IfErr result (λ e. e ≡ Unread.Memory) }
+    ensures memory { IfErr result (λ e. e ≡ Stop.Memory) }
 {
     match held.names.add(name) {
         Ok(()) => {
             held.clauses.push(clause)?;
             Ok(())
         }
-        Err(_) => Err(Unread::Memory),
+        Err(_) => Err(Stop::Memory),
     }
 }

@@ -1,76 +1,70 @@
-//! Reads whole scripts.
+//! Reads a script up to a check.
 
-ghost use Rattle.std.specs.Prelude.{◌≡◌, ℕ, List};
+ghost use Rattle.std.specs.Prelude.{◌≡◌, ℕ, ◌≤◌, List, length, take};
+ghost use Rattle.spec_text.specs.Readings.{text_limit, kept, is_long};
 ghost use Rattle.spec_text.specs.Places.{IsPlaceOf};
-ghost use Rattle.spec_scripts.specs.Commands.{command_of};
-ghost use Rattle.spec_scripts.specs.Stack.{Stack};
-ghost use Rattle.alethe_check.specs.Items.{tree_in};
-ghost use Rattle.alethe_check.specs.Scripts.{IsStack, Takes};
-ghost use Rattle.alethe_check.specs.Loads.{NextIs, EndsAt, Loads};
+ghost use Rattle.spec_scripts.specs.Stack.{Stack, term_limit};
+ghost use Rattle.alethe_check.specs.Scripts.{IsStack, Steps};
+ghost use Rattle.alethe_check.specs.Loads.{Loads};
 
-use crate::reader::{Sexpr, read_one};
-use crate::script::{Script, Took, empty, take};
-use crate::shapes::Unread;
-use smt_lexer::{Place, Refused, start};
+use crate::script::{Script, Took};
+use smt_lexer::{Refused, start};
+use smt_sexpr::read_one;
 use std::alloc::Global;
+use world_io::NoMemory;
 
-/// How many bytes a text may have.
-pub const TEXT_LIMIT: usize = 67_108_864;
+/// How many bytes of a text are read.
+const TEXT_LIMIT: usize = 1 << 26;
 
-/// Reads the next s-expression; a fault means that the text isn't plain.
-pub fn next_sexpr(alloc: Global, text: &[u8], at: Place) -> Result<Option<(Sexpr, Place)>, Unread>
-    requires { IsPlaceOf text.now at }
-    ensures { NextIs text.now at result }
+/// The most constants that may be declared, and the most different subterms of one command's terms.
+pub const TERM_LIMIT: u64 = 1 << 24;
+
+/// The bytes of a text that are read: its first 2^26.
+pub fn kept(text: &[u8]) -> &[u8]
+    ensures { result.now ≡ kept text.now }
 {
-    match read_one(alloc, text, at) {
-        Ok(read) => Ok(read),
-        Err(Refused::Fault(_)) => Err(Unread::NotPlain),
-        Err(Refused::Memory) => Err(Unread::Memory),
-    }
-}
-
-/// Asks that nothing but white space and comments is left.
-fn want_nothing(alloc: Global, text: &[u8], at: Place) -> Result<(), Unread>
-    requires { IsPlaceOf text.now at }
-    ensures { EndsAt text.now at result }
-{
-    match next_sexpr(alloc, text, at) {
-        Ok(None) => Ok(()),
-        Ok(Some(_)) => Err(Unread::NotPlain),
-        Err(e) => Err(e),
-    }
-}
-
-/// Takes the command that an s-expression is.
-fn take_sexpr(script: &mut Script, text: &[u8], sexpr: &Sexpr) -> Result<Took, Unread>
-    ensures { (s : Stack) → IsStack script.old s → Takes s (command_of (tree_in text.now sexpr.now.items.items)) result script.new }
-{
-    take(script, text, &sexpr.items)
-}
-
-/// Reads a plain script up to its one check, which stands last.
-pub fn read_script(alloc: Global, text: &[u8]) -> Result<Script, Unread>
-    ensures { Loads text.now result }
-{
-    spec_text::laws::a_text_without_fault_is_read();
     if text.len() > TEXT_LIMIT {
-        return Err(Unread::NotPlain);
+        return &text[..TEXT_LIMIT];
     }
-    let mut script = empty(alloc);
-    let mut at = start();
+    text
+}
+
+/// Tells whether a text has more bytes than are read.
+pub fn is_long(text: &[u8]) -> bool
+    ensures { result ≡ is_long text.now }
+{
+    text.len() > TEXT_LIMIT
+}
+
+/// Runs the commands of a script up to its `at`-th check, counted from 1, and gives what is current there: `None` where
+/// the script ends before it. Commands that are refused change nothing, and are passed over.
+pub fn current_at(alloc: Global, text: &[u8], at: u64) -> Result<Option<Script>, NoMemory>
+    ensures { Loads text.now at result }
+{
+    spec_text::laws::each_text_is_read();
+    let text = kept(text);
+    let mut script = Script::new(alloc);
+    let mut place = start();
+    let mut left = at;
     'commands: loop {
-        let (sexpr, after) = match next_sexpr(alloc, text, at) {
+        let (sexpr, after) = match read_one(alloc, text, place) {
             Ok(Some(read)) => read,
-            Ok(None) => return Err(Unread::NotPlain),
-            Err(e) => return Err(e),
+            Ok(None) => return Ok(None),
+            Err(Refused::Fault(_)) => return Ok(None),
+            Err(Refused::Memory) => return Err(NoMemory),
         };
-        match take_sexpr(&mut script, text, &sexpr) {
-            Ok(Took::Taken) => at = after,
-            Ok(Took::Check) => match want_nothing(alloc, text, after) {
-                Ok(()) => return Ok(script),
-                Err(e) => return Err(e),
-            },
-            Err(e) => return Err(e),
+        match script.command(alloc, &sexpr, TERM_LIMIT) {
+            Ok(Took::Check) => {
+                if left == 1 {
+                    return Ok(Some(script));
+                }
+                left = left.saturating_sub(1);
+            }
+            Ok(Took::Exit) => return Ok(None),
+            Ok(_) => {}
+            Err(Refused::Fault(_)) => {}
+            Err(Refused::Memory) => return Err(NoMemory),
         }
+        place = after;
     }
 }

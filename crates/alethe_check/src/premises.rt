@@ -1,15 +1,14 @@
-//! The clauses of a step's premises, each once.
+//! The clauses of a step's premises.
 
-ghost use Rattle.std.specs.Prelude.{◌≡◌, ℕ, ◌↔◌, All, Contains, IfOk};
-ghost use Rattle.spec_proofs.specs.Clauses.{Clause};
-ghost use Rattle.alethe_check.specs.Tables.{AreIn};
-ghost use Rattle.alethe_check.specs.Findings.{clauses_at};
-ghost use Rattle.alethe_check.specs.Knowing.{IsSound, clauses_numbered, AreNumbers};
+ghost use Rattle.std.specs.Prelude.{◌≡◌, ◌≢◌, ◌<◌, [], slice_index_or, ℕ, ◌↔◌, All, Contains, IfOk, length, map, MatchOption};
+ghost use Rattle.spec_terms.specs.Literals.{Clause as Meant};
+ghost use Rattle.term_core.specs.Tables.{AreIn, clause_at};
+ghost use Rattle.alethe_check.specs.Holding.{IsSound, clauses_numbered, AreNumbers};
 
 use crate::held::Held;
-use crate::terms::TermId;
 use indexmap::IndexSet;
 use std::alloc::{AllocError, Global};
+use term_core::Clause;
 
 /// Takes each number once, in the order of first mention.
 fn distinct(alloc: Global, numbers: &[u64]) -> Result<IndexSet<u64>, AllocError>
@@ -25,16 +24,24 @@ fn distinct(alloc: Global, numbers: &[u64]) -> Result<IndexSet<u64>, AllocError>
     Ok(taken)
 }
 
+/// Copies the clause of a number.
+fn clause_of(alloc: Global, held: &Held, number: u64) -> Result<Clause, AllocError>
+    requires { number < length held.now.clauses.items }
+    ensures { IfOk result (λ c. c ≡ slice_index_or held.now.clauses.items number []) }
+{
+    Ok(Clause::from(held.clauses[number as usize].as_slice().to_vec(alloc)?))
+}
+
 /// Copies the clause of each number, in order.
-fn clauses_of(alloc: Global, held: &Held, numbers: &[u64]) -> Result<Vec<Vec<TermId>>, AllocError>
+fn clauses_of(alloc: Global, held: &Held, numbers: &[u64]) -> Result<Vec<Clause>, AllocError>
     requires sound { IsSound held.now }
     requires numbers { AreNumbers held.now numbers.now }
-    ensures same { IfOk result (λ v. clauses_at held.now.table v.items ≡ clauses_numbered held.now numbers.now) }
-    ensures there { IfOk result (λ v. All (λ p. AreIn held.now.table p.items) v.items) }
+    ensures same { IfOk result (λ v. map (clause_at held.now.table) v.items ≡ clauses_numbered held.now numbers.now) }
+    ensures there { IfOk result (λ v. All (λ p. AreIn held.now.table p) v.items) }
 {
     let mut made = Vec::new(alloc);
     for number in numbers {
-        let clause = held.clauses[*number as usize].to_vec(alloc)?;
+        let clause = clause_of(alloc, held, *number)?;
         made.push(clause)?;
     }
     Ok(made)
@@ -48,12 +55,25 @@ pub fn distinct_clauses(
     alloc: Global,
     held: &Held,
     numbers: &[u64],
-) -> Result<Vec<Vec<TermId>>, AllocError>
+) -> Result<Vec<Clause>, AllocError>
     requires sound { IsSound held.now }
     requires numbers { AreNumbers held.now numbers.now }
-    ensures same { IfOk result (λ v. (c : Clause) → Contains (clauses_at held.now.table v.items) c ↔ Contains (clauses_numbered held.now numbers.now) c) }
-    ensures there { IfOk result (λ v. All (λ p. AreIn held.now.table p.items) v.items) }
+    ensures same { IfOk result (λ v. (c : Meant) → Contains (map (clause_at held.now.table) v.items) c ↔ Contains (clauses_numbered held.now numbers.now) c) }
+    ensures there { IfOk result (λ v. All (λ p. AreIn held.now.table p) v.items) }
 {
     let taken = distinct(alloc, numbers)?;
     clauses_of(alloc, held, taken.as_slice())
+}
+
+/// Lends the clause of the one number, as a list of one; `None` where there is none, or more than one.
+pub fn single<'a>(held: &'a Held, numbers: &[u64]) -> Option<&'a [Clause]>
+    requires sound { IsSound held.now }
+    requires numbers { AreNumbers held.now numbers.now }
+    ensures { MatchOption result (length numbers.now ≢ 1) (λ cs. (map (clause_at held.now.table) cs.now ≡ clauses_numbered held.now numbers.now) × (length numbers.now ≡ 1) × All (λ p. AreIn held.now.table p) cs.now) }
+{
+    let [number] = numbers else {
+        return None;
+    };
+    let at = *number as usize;
+    Some(&held.clauses[at..at + 1])
 }

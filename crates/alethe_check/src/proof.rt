@@ -1,156 +1,164 @@
-//! The commands of a proof, read from items.
+//! The commands of a proof, read from items under what is known before them.
 
-ghost use Rattle.std.specs.Prelude.{◌≡◌, IfOk, false};
-ghost use Rattle.spec_proofs.specs.Commands.{assume_of, step_of, command_by, command_of};
-ghost use Rattle.alethe_check.specs.Items.{trees_in, tree_in};
-ghost use Rattle.alethe_check.specs.Views.{Gives, word_view};
-ghost use Rattle.alethe_check.specs.Knowing.{known_view, IsSound};
-ghost use Rattle.alethe_check.specs.Judging.{step_shape, read_step, parts_view, command_view, IsReady};
+ghost use Rattle.std.specs.Prelude.{◌≡◌, ◌≢◌, ◌∷◌, [], length, MatchOption, ℕ, IfOk, false};
+ghost use Rattle.spec_proofs.specs.Known.{known_rule, read_shape, shaped, command_of};
+ghost use Rattle.spec_proofs.specs.Rules.{rule_named};
+ghost use Rattle.spec_text.specs.Trees.{none, more};
+ghost use Rattle.smt_sexpr.specs.Items.{trees_in, tree_in};
+ghost use Rattle.smt_sexpr.specs.Views.{word_view};
+ghost use Rattle.alethe_check.specs.Views.{Reads, rule_meant};
+ghost use Rattle.alethe_check.specs.Shapes.{shape_view, step_view, IsAlone};
+ghost use Rattle.alethe_check.specs.Holding.{known_view, IsSound};
+ghost use Rattle.alethe_check.specs.Judging.{command_view, IsReady, assume_view};
 
-use crate::held::{Held, clause, fresh_name, read_premises, term};
-use crate::sexpr::Item;
-use crate::shapes::{
-    Unread, Word, is_word, list_first, list_inside, offset, tree_alone, want, want_end,
-    want_keyword, word_first,
-};
-use crate::terms::TermId;
+use crate::held::{Held, clause, fresh_name, read_premises};
+use crate::shapes::{Shape, StepParts, shape_of};
+use crate::stop::{Stop, fault};
+use smt_sexpr::{Item, View, Word, look, offset, same_bytes};
+use spec_proofs::{ProofKind, Rule};
 use std::alloc::Global;
+use term_core::TermId;
 
-/// A command: an assumed term with the offset of its text, or a step with its offset, clause and the numbers of its
-/// premises' clauses.
+/// A command that is read.
 #[derive(Drop)]
 pub enum ReadCommand<'a> {
+    /// The offset of the term's text, the name, and the term that is assumed.
     Assume(u64, &'a [u8], TermId),
-    Step(u64, &'a [u8], Vec<TermId>, Vec<u64>),
+    /// The offset of the step, its name, its clause, its rule, and the numbers of its premises' clauses.
+    Step(u64, &'a [u8], Vec<TermId>, Rule, Vec<u64>),
 }
 
-/// A step by its shape.
-#[derive(Clone, Copy)]
-pub struct StepParts<'a> {
-    pub name: Word<'a>,
-    pub literals: &'a [Item],
-    pub premises: &'a [Item],
-}
-
-#[tactic(auto, unfolding(crate::specs::Judging::step_shape))]
-fn parts_of<'a>(text: &'a [u8], items: &'a [Item]) -> Result<StepParts<'a>, Unread>
-    ensures { Gives (parts_view text.now) result (step_shape (trees_in text.now items.now)) }
+/// The rule of a name.
+fn rule_named(name: &[u8]) -> Option<Rule>
+    ensures { result ≡ rule_named name.now }
 {
-    let (name, rest) = word_first(text, items)?;
-    let (clause, rest) = list_first(text, rest)?;
-    let (cl, literals) = word_first(text, clause)?;
-    want(b"cl", cl)?;
-    let (key, rest) = word_first(text, rest)?;
-    want_keyword(b"rule", key)?;
-    let (rule, rest) = word_first(text, rest)?;
-    want(b"resolution", rule)?;
-    let (key, rest) = word_first(text, rest)?;
-    want_keyword(b"premises", key)?;
-    let (premises, rest) = list_first(text, rest)?;
-    want_end(text, rest)?;
-    Ok(StepParts {
-        name,
-        literals,
-        premises,
-    })
+    if same_bytes(b"or", name) {
+        return Some(Rule::Or);
+    }
+    if same_bytes(b"contraction", name) {
+        return Some(Rule::Contraction);
+    }
+    if same_bytes(b"reordering", name) {
+        return Some(Rule::Reordering);
+    }
+    if same_bytes(b"weakening", name) {
+        return Some(Rule::Weakening);
+    }
+    if same_bytes(b"resolution", name) {
+        return Some(Rule::Resolution);
+    }
+    if same_bytes(b"th_resolution", name) {
+        return Some(Rule::ThResolution);
+    }
+    None
 }
 
-/// What the parts of a step say.
-#[tactic(auto, unfolding(crate::specs::Judging::read_step))]
-fn step_by<'a>(
+/// The rule of a word, where it is one.
+#[tactic(auto, unfolding(spec_proofs::specs::Known::known_rule))]
+fn known_rule(word: Word<'_>) -> Result<Rule, Stop>
+    ensures { Reads rule_meant result (known_rule (word_view word.entry)) }
+{
+    match rule_named(word.bytes) {
+        Some(rule) => Ok(rule),
+        None => Err(fault(word.at, ProofKind::UnknownRule)),
+    }
+}
+
+/// A step by its parts, at an offset.
+fn step<'a>(
     alloc: Global,
     held: &mut Held,
     text: &[u8],
     at: u64,
     parts: StepParts<'a>,
-) -> Result<ReadCommand<'a>, Unread>
+) -> Result<ReadCommand<'a>, Stop>
     requires { IsSound held.old }
-    ensures gives { Gives (command_view held.new) result (read_step (known_view held.old) at (parts_view text.now parts.entry)) }
+    ensures gives { Reads (command_view held.new) result (read_shape (known_view held.old) at (step_view text.now parts.entry)) }
     ensures same { known_view held.new ≡ known_view held.old }
     ensures sound { IsSound held.new }
     ensures ready { IfOk result (λ c. IsReady held.new c) }
 {
     let name = fresh_name(held, parts.name)?;
-    let literals = clause(alloc, held, text, parts.literals)?;
+    let literals = clause(alloc, held, text, parts.literals, at)?;
+    let rule = known_rule(parts.rule)?;
     let premises = read_premises(alloc, held, text, parts.premises)?;
-    Ok(ReadCommand::Step(at, name, literals, premises))
+    Ok(ReadCommand::Step(at, name, literals, rule, premises))
 }
 
-/// A step, behind its word.
-fn step<'a>(
+/// The one term of a list, where it has one.
+fn term_alone(terms: &[TermId]) -> Option<TermId>
+    ensures { MatchOption result (length terms.now ≢ 1) (λ id. terms.now ≡ id ∷ []) }
+{
+    let [id] = terms else {
+        return None;
+    };
+    Some(*id)
+}
+
+/// An assume by its name and the items of its term, in a command at an offset.
+fn assume<'a>(
     alloc: Global,
     held: &mut Held,
-    text: &'a [u8],
-    at: u64,
-    items: &'a [Item],
-) -> Result<ReadCommand<'a>, Unread>
-    requires { IsSound held.old }
-    ensures gives { Gives (command_view held.new) result (step_of (known_view held.old) at (trees_in text.now items.now)) }
-    ensures same { known_view held.new ≡ known_view held.old }
-    ensures sound { IsSound held.new }
-    ensures ready { IfOk result (λ c. IsReady held.new c) }
-{
-    match parts_of(text, items) {
-        Ok(parts) => step_by(alloc, held, text, at, parts),
-        Err(e) => Err(e),
-    }
-}
-
-/// An assume, behind its word.
-#[tactic(auto, unfolding(spec_proofs::specs::Commands::assume_of))]
-fn assume<'a>(held: &mut Held, text: &'a [u8], items: &'a [Item]) -> Result<ReadCommand<'a>, Unread>
-    requires { IsSound held.old }
-    ensures gives { Gives (command_view held.new) result (assume_of (known_view held.old) (trees_in text.now items.now)) }
-    ensures same { known_view held.new ≡ known_view held.old }
-    ensures sound { IsSound held.new }
-    ensures ready { IfOk result (λ c. IsReady held.new c) }
-{
-    let (word, rest) = word_first(text, items)?;
-    let tree = tree_alone(text, rest)?;
-    let name = fresh_name(held, word)?;
-    let id = term(held, text, tree)?;
-    Ok(ReadCommand::Assume(offset(text, tree), name, id))
-}
-
-/// A command by its word.
-fn by_word<'a>(
-    alloc: Global,
-    held: &mut Held,
-    text: &'a [u8],
+    text: &[u8],
     at: u64,
     word: Word<'a>,
-    items: &'a [Item],
-) -> Result<ReadCommand<'a>, Unread>
-    requires { IsSound held.old }
-    ensures gives { Gives (command_view held.new) result (command_by (known_view held.old) at (word_view word.entry, trees_in text.now items.now)) }
+    items: &[Item],
+) -> Result<ReadCommand<'a>, Stop>
+    requires sound { IsSound held.old }
+    requires alone { trees_in text.now items.now ≡ more (tree_in text.now items.now) none }
+    ensures gives { Reads (command_view held.new) result (read_shape (known_view held.old) at (assume_view (word_view word.entry) (tree_in text.now items.now))) }
     ensures same { known_view held.new ≡ known_view held.old }
     ensures sound { IsSound held.new }
     ensures ready { IfOk result (λ c. IsReady held.new c) }
 {
-    if is_word(b"assume", word) {
-        return assume(held, text, items);
+    let name = fresh_name(held, word)?;
+    let read = clause(alloc, held, text, items, at)?;
+    match term_alone(&read) {
+        Some(id) => Ok(ReadCommand::Assume(offset(items), name, id)),
+        None => Err(fault(at, ProofKind::BadShape)),
     }
-    if is_word(b"step", word) {
-        return step(alloc, held, text, at, items);
+}
+
+/// A command by its shape, at an offset.
+fn by_shape<'a>(
+    alloc: Global,
+    held: &mut Held,
+    text: &'a [u8],
+    at: u64,
+    shape: Shape<'a>,
+) -> Result<ReadCommand<'a>, Stop>
+    requires sound { IsSound held.old }
+    requires alone { IsAlone text.now shape }
+    ensures gives { Reads (command_view held.new) result (read_shape (known_view held.old) at (shape_view text.now shape.entry)) }
+    ensures same { known_view held.new ≡ known_view held.old }
+    ensures sound { IsSound held.new }
+    ensures ready { IfOk result (λ c. IsReady held.new c) }
+{
+    match shape {
+        Shape::Assume(word, items) => assume(alloc, held, text, at, word, items),
+        Shape::Step(parts) => step(alloc, held, text, at, parts),
     }
-    Err(Unread::NotPlain)
 }
 
 /// The command that the first tree of the items is.
-#[tactic(auto, unfolding(spec_proofs::specs::Commands::command_of))]
+#[tactic(auto, unfolding(spec_proofs::specs::Known::command_of, spec_proofs::specs::Known::shaped))]
 pub fn proof_command<'a>(
     alloc: Global,
     held: &mut Held,
     text: &'a [u8],
     items: &'a [Item],
-) -> Result<ReadCommand<'a>, Unread>
+) -> Result<ReadCommand<'a>, Stop>
     requires { IsSound held.old }
-    ensures gives { Gives (command_view held.new) result (command_of (known_view held.old) (tree_in text.now items.now)) }
+    ensures gives { Reads (command_view held.new) result (command_of (known_view held.old) (tree_in text.now items.now)) }
     ensures same { known_view held.new ≡ known_view held.old }
     ensures sound { IsSound held.new }
     ensures ready { IfOk result (λ c. IsReady held.new c) }
 {
-    let (at, inside) = list_inside(text, items)?;
-    let (word, rest) = word_first(text, inside)?;
-    by_word(alloc, held, text, at, word, rest)
+    match look(text, items) {
+        View::Atom(at, _, _) => Err(fault(u64::from(at), ProofKind::BadShape)),
+        View::List(at, inside, _) => match shape_of(text, inside) {
+            Some(shape) => by_shape(alloc, held, text, u64::from(at), shape),
+            None => Err(fault(u64::from(at), ProofKind::BadShape)),
+        },
+    }
 }

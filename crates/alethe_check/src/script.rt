@@ -1,125 +1,60 @@
-//! A script's declarations and assertions, command by command.
+//! A script's commands, one call for each: what stands behind it, or its first fault.
+//!
+//! The commands are `set-option`, `declare-const` of sort Bool, `assert`, `check-sat` and `exit`.
 
-ghost use Rattle.std.specs.Prelude.{◌≡◌, ℕ, ◌<◌, ◌≤◌, [], Bool, true, false, List, length, IfOk, IfErr, OnOk};
+ghost use Rattle.std.specs.Prelude.{◌≡◌, ℕ, ◌≤◌, ◌<◌, [], Bool, true, false, List, length, option_map, IfOk, MatchOption, ◌∷◌};
 ghost use Rattle.spec_text.specs.Bytes.{among, one_of};
-ghost use Rattle.spec_text.specs.Shapes.{only_tree};
-ghost use Rattle.spec_terms.specs.Reading.{term_of, constant_of};
-ghost use Rattle.spec_scripts.specs.Commands.{command_of};
-ghost use Rattle.spec_scripts.specs.Stack.{Stack, may_declare, names_of, theory_names, is_kept_name};
-ghost use Rattle.alethe_check.specs.Tables.{symbols_of, term_at, IsIn, Extends};
-ghost use Rattle.alethe_check.specs.Items.{trees_in, tree_in};
-ghost use Rattle.alethe_check.specs.Views.{Gives, word_view, tree_of};
-ghost use Rattle.alethe_check.specs.Scripts.{Strips, negand_of, nots, IsStack, Declares, Asserts, Takes};
+ghost use Rattle.spec_text.specs.Places.{IsPlaceOf};
+ghost use Rattle.spec_text.specs.Trees.{Tree, more, none, offset_of};
+ghost use Rattle.spec_terms.specs.Terms.{Truth};
+ghost use Rattle.spec_scripts.specs.Stack.{with_success, performed, Stack, empty_stack, theory_names, names_of, is_kept_name, is_barred, is_taken, new_name, sort_named, atom_sort, sort_in, truth_named, truth_in, is_known_option};
+ghost use Rattle.spec_scripts.specs.Commands.{SetOption, DeclareConst, Assert};
+ghost use Rattle.smt_sexpr.specs.Items.{tree_of, text_of, start_of};
+ghost use Rattle.smt_sexpr.specs.Items.{trees_in, tree_in};
+ghost use Rattle.smt_sexpr.specs.Views.{word_view};
+ghost use Rattle.term_core.specs.Tables.{term_at, AreIn};
+ghost use Rattle.term_core.specs.declared.ids.TermId.{TermId};
+ghost use Rattle.alethe_check.specs.Views.{Gives};
+ghost use Rattle.spec_scripts.specs.Stack.{effect_of};
+ghost use Rattle.alethe_check.specs.Scripts.{command_view, effect_meant, IsStack, Becomes, roomy_symbol, Takes, Steps};
 
 use crate::asserted::Asserted;
-use crate::commands::{ScriptCommand, script_command};
-use crate::sexpr::{Item, View, look};
-use crate::shapes::{Unread, Word, is_simple, is_symbol, same_bytes, tree_alone, want, word_first};
-use crate::terms::{Node, TermId, TermTable};
-use smt_lexer::is_one_of;
+use crate::commands::{ScriptCommand, refused, script_command};
+use smt_lexer::{Place, Refusal, Refused, is_one_of};
+use smt_sexpr::{
+    Item, Kind, Sexpr, View, Word, is_reserved, is_symbol, look, offset, same_bytes, split,
+};
+use sort_check::{TermStop, terms};
+use spec_text::Fault;
 use std::alloc::Global;
+use term_core::{TermId, TermTable};
 
-/// What a script has stated: its constants, its terms, and those that it asserts.
+/// What a script has stated: its symbols and terms, its assertions, and its option.
+///
+/// Contracts see it as a `Stack` of the definitions, by the relation `IsStack`. Source: SMT-LIB 2.6, section 4.1.4.
 #[derive(Drop)]
 pub struct Script {
-    pub table: TermTable,
-    pub asserted: Asserted,
+    /// The terms, and the declared symbols.
+    pub(crate) table: TermTable,
+    /// The assertions, oldest first.
+    pub(crate) asserted: Asserted,
+    /// Whether commands that are taken are answered `success`.
+    pub(crate) print_success: bool,
 }
 
-/// What a command of a script was.
+/// What a command that was taken is answered.
+///
+/// Source: SMT-LIB 2.6, section 4.1.
 #[derive(Clone, Copy, Debug, PartialEq, Eq)]
 pub enum Took {
-    /// It was taken, and the script goes on.
-    Taken,
-    /// It asks for a check.
+    /// It is done: the answer is `success`, where that is printed.
+    Done,
+    /// Its option is not known: the answer is `unsupported`.
+    Unsupported,
+    /// It asks for a check of what is asserted.
     Check,
-}
-
-/// Makes the script that has stated nothing.
-pub fn empty(alloc: Global) -> Script
-    ensures table { result.table ≡ record { constants = []; terms = [] } }
-    ensures none { result.asserted ≡ [] }
-{
-    Script {
-        table: TermTable::new(alloc),
-        asserted: Asserted::new(alloc),
-    }
-}
-
-/// The items of the term under a `not`.
-#[tactic(auto, unfolding(crate::specs::Scripts::negand_of))]
-fn negand<'a>(text: &'a [u8], items: &'a [Item]) -> Result<&'a [Item], Unread>
-    ensures gives { Gives (tree_of text.now) result (negand_of (trees_in text.now items.now)) }
-    ensures less { IfOk result (λ x. length x.now ≤ length items.now) }
-{
-    let (head, rest) = word_first(text, items)?;
-    want(b"not", head)?;
-    tree_alone(text, rest)
-}
-
-/// The word at the bottom of negations, and their number.
-fn stripped<'a>(text: &'a [u8], items: &'a [Item]) -> Result<(Word<'a>, usize), Unread>
-    ensures { Strips (tree_in text.now items.now) result }
-{
-    let mut rest = items;
-    let mut count = 0;
-    'negations: loop {
-        match look(text, rest) {
-            View::Atom(_, kind, bytes) => return Ok((Word { kind, bytes }, count)),
-            View::List(_, inside, _) => match negand(text, inside) {
-                Ok(term) => rest = term,
-                Err(e) => return Err(e),
-            },
-        }
-        count += 1;
-    }
-}
-
-/// The term of a word that is a declared constant.
-fn constant(table: &mut TermTable, word: Word<'_>) -> Result<TermId, Unread>
-    ensures gives { Gives (term_at table.new) result (constant_of (symbols_of table.old) word.entry.kind word.entry.bytes.now) }
-    ensures there { IfOk result (λ id. IsIn table.new id) }
-    ensures kept { Extends table.old table.new × (table.new.constants ≡ table.old.constants) }
-{
-    if !is_symbol(word.kind) {
-        return Err(Unread::NotPlain);
-    }
-    let Some(number) = table.constant(word.bytes) else {
-        return Err(Unread::NotPlain);
-    };
-    match table.put(Node::Constant(number)) {
-        Ok(id) => Ok(id),
-        Err(_) => Err(Unread::Memory),
-    }
-}
-
-/// A term under so many negations.
-fn wrapped(table: &mut TermTable, id: TermId, count: usize) -> Result<TermId, Unread>
-    requires { IsIn table.old id }
-    ensures means { IfOk result (λ r. term_at table.new r ≡ nots count (term_at table.old id)) }
-    ensures there { IfOk result (λ r. IsIn table.new r) }
-    ensures kept { Extends table.old table.new × (table.new.constants ≡ table.old.constants) }
-    ensures memory { IfErr result (λ e. e ≡ Unread.Memory) }
-{
-    let mut made = id;
-    for k in 0..count {
-        made = match table.put(Node::Not(made)) {
-            Ok(next) => next,
-            Err(_) => return Err(Unread::Memory),
-        };
-    }
-    Ok(made)
-}
-
-/// The term that the first tree of the items is.
-pub fn read_term(table: &mut TermTable, text: &[u8], items: &[Item]) -> Result<TermId, Unread>
-    ensures gives { Gives (term_at table.new) result (term_of (symbols_of table.old) (tree_in text.now items.now)) }
-    ensures there { IfOk result (λ id. IsIn table.new id) }
-    ensures kept { Extends table.old table.new × (table.new.constants ≡ table.old.constants) }
-{
-    let (word, count) = stripped(text, items)?;
-    let bottom = constant(table, word)?;
-    wrapped(table, bottom, count)
+    /// It ends the script.
+    Exit,
 }
 
 /// The names that the theories have. Source: SMT-LIB 2.6, theories Core and Reals.
@@ -144,14 +79,64 @@ const THEORY_NAMES: [&[u8]; 18] = [
     b">=",
 ];
 
-/// Says whether a name is a theory's.
+impl Script {
+    /// Makes the script that has stated nothing. It takes no memory.
+    ///
+    /// Source: own.
+    pub fn new(alloc: Global) -> Script
+        ensures { IsStack result empty_stack }
+    {
+        Script {
+            table: TermTable::new(alloc),
+            asserted: Asserted::new(alloc),
+            print_success: true,
+        }
+    }
+
+    /// Takes the command that an s-expression is, and says what it is answered.
+    ///
+    /// `limit` is the most constants that may be declared, and the most different subterms that the term of one command
+    /// may have. `Fault` has the command's first fault and its place in the text: its head (`UnknownCommand`), then its own
+    /// shape (`BadShape` at its parenthesis), then its parts in reading order (for a new name `Reserved`, `Twice`; for a
+    /// sort `UnknownSort`, `Reserved`, `BadShape`; for a term `BadShape`, `Reserved`, `UnknownSymbol`, `WrongCount`), then
+    /// `Full` at its parenthesis. A command that is refused, or for which memory ran out, changes nothing.
+    /// Source: SMT-LIB 2.6, sections 3.9 and 4.2; the order of faults is own.
+    pub fn command(&mut self, alloc: Global, sexpr: &Sexpr<'_>, limit: u64) -> Result<Took, Refused>
+        ensures steps { (s : Stack) → IsStack self.old s → Steps limit s sexpr.now result self.new }
+    {
+        spec_scripts::laws::faults_stand_in_their_command();
+        sexpr.offsets_have_places();
+        match take(self, alloc, sexpr.text(), sexpr.items(), limit) {
+            Ok(took) => Ok(took),
+            Err(TermStop::Fault(fault)) => Err(Refused::Fault(Refusal {
+                place: place_in(sexpr, fault.offset),
+                fault: fault.fault,
+            })),
+            Err(TermStop::Memory) => Err(Refused::Memory),
+        }
+    }
+}
+
+/// The place of an offset that stands in an s-expression; of any other offset, where the s-expression begins.
+fn place_in(sexpr: &Sexpr<'_>, offset: u64) -> Place
+    ensures place { IsPlaceOf (text_of sexpr.now) result }
+    ensures offset { start_of sexpr.now ≤ offset → offset < length (text_of sexpr.now) → result.offset ≡ offset }
+{
+    let start = sexpr.start();
+    if start.offset <= offset && offset < sexpr.text().len() as u64 {
+        return sexpr.place(offset);
+    }
+    start
+}
+
+/// Tells whether a name is a theory's.
 fn is_theory_name(name: &[u8]) -> bool
     ensures { result ≡ among theory_names name.now }
 {
     is_one_of(&THEORY_NAMES, name)
 }
 
-/// Says whether a name begins like those that are kept for solvers.
+/// Tells whether a name begins like those that are kept for solvers.
 fn is_kept(name: &[u8]) -> bool
     ensures { result ≡ is_kept_name name.now }
 {
@@ -161,67 +146,272 @@ fn is_kept(name: &[u8]) -> bool
     }
 }
 
-/// Says whether a constant of that name is declared.
+/// Tells whether a constant of that name is declared.
 fn is_declared(table: &TermTable, name: &[u8]) -> bool
-    ensures { result ≡ among (names_of (symbols_of table.now)) name.now }
+    ensures { result ≡ among (names_of table.now.symbols) name.now }
 {
-    match table.constant(name) {
+    match table.symbols().find(name) {
         Some(_) => true,
         None => false,
     }
 }
 
-/// Says whether a word may be declared as a new constant.
-fn may_declare(table: &TermTable, word: Word<'_>) -> bool
-    ensures { result ≡ may_declare (symbols_of table.now) (word_view word.entry) }
+/// Tells whether a word is reserved, or a name that is kept.
+fn is_barred(word: Word<'_>) -> bool
+    ensures { result ≡ is_barred (word_view word.entry) }
 {
-    is_simple(word.kind)
-        && !is_theory_name(word.bytes)
-        && !is_kept(word.bytes)
-        && !is_declared(table, word.bytes)
+    is_reserved(word.kind) || is_kept(word.bytes)
 }
 
-/// Declares a constant.
-fn declare(script: &mut Script, word: Word<'_>) -> Result<(), Unread>
-    ensures { (s : Stack) → IsStack script.old s → Declares s (word_view word.entry) result script.new }
+/// Tells whether a name is a theory's, or declared.
+fn is_taken(table: &TermTable, name: &[u8]) -> bool
+    ensures { result ≡ is_taken table.now.symbols name.now }
 {
-    if !may_declare(&script.table, word) {
-        return Err(Unread::NotPlain);
-    }
-    match script.table.declare(word.bytes) {
-        Ok(()) => Ok(()),
-        Err(_) => Err(Unread::Memory),
-    }
+    is_theory_name(name) || is_declared(table, name)
 }
 
-/// Asserts the term that the first tree of the items is.
-fn assert_term(script: &mut Script, text: &[u8], items: &[Item]) -> Result<(), Unread>
-    ensures { (s : Stack) → IsStack script.old s → Asserts s (tree_in text.now items.now) result script.new }
+/// The name that a word may declare.
+fn new_name<'a>(table: &TermTable, word: Word<'a>) -> Result<&'a [u8], TermStop>
+    ensures gives { Gives (λ b. b.now) result (new_name table.now.symbols (word_view word.entry)) }
+    ensures new { IfOk result (λ b. is_taken table.now.symbols b.now ≡ false) }
 {
-    match read_term(&mut script.table, text, items) {
-        Ok(id) => match script.asserted.add(id) {
-            Ok(()) => Ok(()),
-            Err(_) => Err(Unread::Memory),
+    if is_barred(word) {
+        return Err(refused(word.at, Fault::Reserved));
+    }
+    if is_taken(table, word.bytes) {
+        return Err(refused(word.at, Fault::Twice));
+    }
+    Ok(word.bytes)
+}
+
+/// Asks that a name is that of a sort: Bool alone so far.
+fn sort_named(at: u64, name: &[u8]) -> Result<(), TermStop>
+    ensures { Gives (λ u. Truth) result (sort_named at name.now) }
+{
+    if same_bytes(name, b"Bool") {
+        return Ok(());
+    }
+    Err(refused(at, Fault::UnknownSort))
+}
+
+/// Asks that the first tree of the items is a sort.
+fn sort_in(text: &[u8], items: &[Item]) -> Result<(), TermStop>
+    ensures { Gives (λ u. Truth) result (sort_in (tree_in text.now items.now)) }
+{
+    match look(text, items) {
+        View::Atom(at, kind, bytes) => match kind {
+            Kind::Simple | Kind::Quoted => sort_named(u64::from(at), bytes),
+            Kind::Reserved => Err(refused(u64::from(at), Fault::Reserved)),
+            _ => Err(refused(u64::from(at), Fault::BadShape)),
         },
-        Err(e) => Err(e),
+        View::List(at, _, _) => Err(refused(u64::from(at), Fault::UnknownSort)),
+    }
+}
+
+/// The truth value of a name, where it is one.
+fn truth_named(name: &[u8]) -> Option<bool>
+    ensures { result ≡ truth_named name.now }
+{
+    if same_bytes(name, b"true") {
+        return Some(true);
+    }
+    if same_bytes(name, b"false") {
+        return Some(false);
+    }
+    None
+}
+
+/// The truth value that the first tree of the items is, where it is one.
+fn truth_in(text: &[u8], items: &[Item]) -> Option<bool>
+    ensures { result ≡ truth_in (tree_in text.now items.now) }
+{
+    match look(text, items) {
+        View::Atom(_, kind, bytes) => {
+            if is_symbol(kind) {
+                return truth_named(bytes);
+            }
+            None
+        }
+        View::List(_, _, _) => None,
+    }
+}
+
+/// Tells whether an option is known.
+fn is_known_option(name: &[u8]) -> bool
+    ensures { result ≡ is_known_option name.now }
+{
+    same_bytes(name, b"print-success")
+}
+
+/// Sets the option that is known, by a command at an offset.
+fn set_success(script: &mut Script, at: u64, value: Option<bool>) -> Result<(), TermStop>
+    ensures { (s : Stack) → IsStack script.old s → Becomes (with_success at s value) s result script.new }
+{
+    match value {
+        Some(print) => {
+            script.print_success = print;
+            Ok(())
+        }
+        None => Err(refused(at, Fault::BadShape)),
+    }
+}
+
+/// Sets an option of a command at an offset.
+fn set_option(
+    script: &mut Script,
+    text: &[u8],
+    at: u64,
+    name: &[u8],
+    value: &[Item],
+) -> Result<(), TermStop>
+    ensures { (limit : ℕ) (s : Stack) → IsStack script.old s → Becomes (performed limit at s (SetOption name.now (tree_in text.now value.now))) s result script.new }
+{
+    if is_known_option(name) {
+        return set_success(script, at, truth_in(text, value));
+    }
+    Ok(())
+}
+
+/// Declares a constant of sort Bool under a new name, by a command at an offset, if there is room for it.
+fn declare_name(script: &mut Script, at: u64, name: &[u8], limit: u64) -> Result<(), TermStop>
+    requires { is_taken script.old.table.symbols name.now ≡ false }
+    ensures { (s : Stack) → IsStack script.old s → Becomes (roomy_symbol limit at s name.now) s result script.new }
+{
+    if script.table.symbols().len() >= limit {
+        return Err(refused(at, Fault::Full));
+    }
+    match script.table.declare(name) {
+        Ok(_) => Ok(()),
+        Err(_) => Err(TermStop::Memory),
+    }
+}
+
+/// Declares a constant by a command at an offset.
+fn declare(
+    script: &mut Script,
+    text: &[u8],
+    at: u64,
+    word: Word<'_>,
+    sort: &[Item],
+    limit: u64,
+) -> Result<(), TermStop>
+    ensures { (s : Stack) → IsStack script.old s → Becomes (performed limit at s (DeclareConst (word_view word.entry) (tree_in text.now sort.now))) s result script.new }
+{
+    let name = match new_name(&script.table, word) {
+        Ok(name) => name,
+        Err(stop) => return Err(stop),
+    };
+    match sort_in(text, sort) {
+        Ok(()) => declare_name(script, at, name, limit),
+        Err(stop) => Err(stop),
+    }
+}
+
+/// The first of numbers.
+pub(crate) fn first_of(ids: &[TermId]) -> Option<TermId>
+    ensures { MatchOption result (ids.now ≡ []) (λ id. (rest : List TermId) × (ids.now ≡ id ∷ rest)) }
+{
+    match ids.split_first() {
+        Some((id, _)) => Some(*id),
+        None => None,
+    }
+}
+
+/// Asserts the term that items mean that are of one tree, by a command at an offset.
+fn assert_alone(
+    script: &mut Script,
+    alloc: Global,
+    text: &[u8],
+    at: u64,
+    items: &[Item],
+    limit: u64,
+) -> Result<(), TermStop>
+    requires { trees_in text.now items.now ≡ more (tree_in text.now items.now) none }
+    ensures { (s : Stack) → IsStack script.old s → Becomes (performed limit at s (Assert (tree_in text.now items.now))) s result script.new }
+{
+    let read = match terms(alloc, &mut script.table, text, items, at, limit) {
+        Ok(read) => read,
+        Err(stop) => return Err(stop),
+    };
+    match first_of(&read) {
+        None => Ok(()),
+        Some(id) => match script.asserted.add(id) {
+            Ok(()) => Ok(()),
+            Err(_) => Err(TermStop::Memory),
+        },
+    }
+}
+
+/// Asserts the term that the first tree of the items is, by a command at an offset.
+fn assert_term(
+    script: &mut Script,
+    alloc: Global,
+    text: &[u8],
+    at: u64,
+    items: &[Item],
+    limit: u64,
+) -> Result<(), TermStop>
+    ensures { (s : Stack) → IsStack script.old s → Becomes (performed limit at s (Assert (tree_in text.now items.now))) s result script.new }
+{
+    match split(items) {
+        Some((first, _)) => assert_alone(script, alloc, text, at, first, limit),
+        None => Err(refused(0, Fault::UnknownSymbol)),
+    }
+}
+
+/// Performs a command at an offset.
+fn perform(
+    script: &mut Script,
+    alloc: Global,
+    text: &[u8],
+    at: u64,
+    command: ScriptCommand<'_>,
+    limit: u64,
+) -> Result<(), TermStop>
+    ensures { (s : Stack) → IsStack script.old s → Becomes (performed limit at s (command_view text.now command.entry)) s result script.new }
+{
+    match command {
+        ScriptCommand::SetOption(name, value) => set_option(script, text, at, name, value),
+        ScriptCommand::DeclareConst(word, sort) => declare(script, text, at, word, sort, limit),
+        ScriptCommand::Assert(items) => assert_term(script, alloc, text, at, items, limit),
+        ScriptCommand::CheckSat => Ok(()),
+        ScriptCommand::Exit => Ok(()),
+    }
+}
+
+/// What a command is answered that was taken.
+fn answer(command: &ScriptCommand<'_>) -> Took
+    ensures { (text : List ℕ) → effect_meant result ≡ effect_of (command_view text command.now) }
+{
+    match command {
+        ScriptCommand::SetOption(name, _) => {
+            if is_known_option(name) {
+                return Took::Done;
+            }
+            Took::Unsupported
+        }
+        ScriptCommand::DeclareConst(_, _) | ScriptCommand::Assert(_) => Took::Done,
+        ScriptCommand::CheckSat => Took::Check,
+        ScriptCommand::Exit => Took::Exit,
     }
 }
 
 /// Takes the command that the first tree of the items is.
-pub fn take(script: &mut Script, text: &[u8], items: &[Item]) -> Result<Took, Unread>
-    ensures { (s : Stack) → IsStack script.old s → Takes s (command_of (tree_in text.now items.now)) result script.new }
+fn take(
+    script: &mut Script,
+    alloc: Global,
+    text: &[u8],
+    items: &[Item],
+    limit: u64,
+) -> Result<Took, TermStop>
+    ensures { (s : Stack) → IsStack script.old s → Takes limit s (tree_in text.now items.now) result script.new }
 {
-    match script_command(text, items) {
-        Ok(ScriptCommand::PrintNoSuccess) => Ok(Took::Taken),
-        Ok(ScriptCommand::DeclareConst(word)) => match declare(script, word) {
-            Ok(()) => Ok(Took::Taken),
-            Err(e) => Err(e),
-        },
-        Ok(ScriptCommand::Assert(term)) => match assert_term(script, text, term) {
-            Ok(()) => Ok(Took::Taken),
-            Err(e) => Err(e),
-        },
-        Ok(ScriptCommand::CheckSat) => Ok(Took::Check),
-        Err(e) => Err(e),
+    let command = match script_command(text, items) {
+        Ok(command) => command,
+        Err(stop) => return Err(stop),
+    };
+    match perform(script, alloc, text, offset(items), command, limit) {
+        Ok(()) => Ok(answer(&command)),
+        Err(stop) => Err(stop),
     }
 }

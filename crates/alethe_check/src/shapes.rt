@@ -1,189 +1,293 @@
-//! The steps in which commands are read from items.
+//! The commands of a proof, read from items by their shape.
 
-ghost use Rattle.std.specs.Prelude.{◌≡◌, ℕ, ◌<◌, ◌≤◌, length, IfOk};
-ghost use Rattle.std.specs.Str.{bytes_eq};
-ghost use Rattle.spec_text.specs.Shapes.{first_word, first_list, only_tree, no_tree, inside_of, is_word, is_keyword, is_reserved, is_simple, is_symbol, wanted, wanted_keyword};
-ghost use Rattle.spec_text.specs.Trees.{offset_of};
-ghost use Rattle.alethe_check.specs.Items.{trees_in, tree_in};
-ghost use Rattle.alethe_check.specs.Views.{Gives, same, word_view, word_rest, list_rest, tree_of, inside_view};
-ghost use Rattle.alethe_check.specs.declared.shapes.Unread.TheVariants as unread;
+ghost use Rattle.std.specs.Prelude.{◌≡◌, ℕ, List, option_map, codes, IfSome};
+ghost use Rattle.spec_proofs.specs.Commands.{no_parts, symbol_in, list_in, all_symbols, symbols_in, with_rule, with_premises, with_args, with_discharge, with_part, parts_of, or_none, assume_shape, step_shape, shape_by, shape_of};
+ghost use Rattle.smt_sexpr.specs.Items.{trees_in, tree_in};
+ghost use Rattle.smt_sexpr.specs.Views.{word_view};
+ghost use Rattle.alethe_check.specs.Shapes.{trees_view, parts_view, shape_view, keyword_in, IsAlone};
 
-use crate::sexpr::{Item, View, look, split};
-use spec_text::Kind;
-use std::alloc::{AllocError, AllocFailed};
+use smt_sexpr::{
+    Item, View, Word, is_keyword, is_symbol, is_word, list_first, look, passes, same_bytes, split,
+    tree_alone, want, word_first,
+};
 
-/// Why a text isn't read.
-#[derive(Clone, Copy, Debug, PartialEq, Eq)]
-pub enum Unread {
-    /// It has not the form that is asked for.
-    NotPlain,
-    /// Out of memory.
-    Memory,
-}
-
-impl From<AllocError> for Unread {
-    ghost from_gives = { λ _ e. e ≡ unread.Memory };
-
-    fn from(_e: AllocError) -> Unread {
-        Unread::Memory
-    }
-}
-
-impl<T: Drop> From<AllocFailed<T>> for Unread {
-    ghost from_gives = { λ _ e. e ≡ unread.Memory };
-
-    fn from(_e: AllocFailed<T>) -> Unread {
-        Unread::Memory
-    }
-}
-
-/// An atom by its kind and its own bytes.
+/// A command by its shape: an assume by its name and the items of its term, or a step.
 #[derive(Clone, Copy)]
-pub struct Word<'a> {
-    pub kind: Kind,
-    pub bytes: &'a [u8],
+pub enum Shape<'a> {
+    /// The name, and the items of the term, which are of one tree.
+    Assume(Word<'a>, &'a [Item]),
+    /// The parts.
+    Step(StepParts<'a>),
 }
 
-/// Whether two lists of bytes are equal.
-pub fn same_bytes(a: &[u8], b: &[u8]) -> bool
-    ensures { result ≡ bytes_eq a.now b.now }
-{
-    a == b
+/// A step by its shape.
+#[derive(Clone, Copy)]
+pub struct StepParts<'a> {
+    /// The name.
+    pub name: Word<'a>,
+    /// The items of the literals.
+    pub literals: &'a [Item],
+    /// The rule's name.
+    pub rule: Word<'a>,
+    /// The items of the premises' names.
+    pub premises: &'a [Item],
 }
 
-/// Whether a kind is that of symbols, with bars or without.
-pub fn is_symbol(kind: Kind) -> bool
-    ensures { result ≡ is_symbol kind }
-{
-    match kind {
-        Kind::Simple | Kind::Quoted => true,
-        _ => false,
-    }
+/// What the keywords of a step say.
+#[derive(Clone, Copy)]
+struct Parts<'a> {
+    /// The rule's name.
+    rule: Option<Word<'a>>,
+    /// The items of the premises' names.
+    premises: Option<&'a [Item]>,
+    /// Whether there are arguments.
+    args: bool,
+    /// Whether there are discharged assumptions.
+    discharge: bool,
 }
 
-/// Whether a kind is that of symbols without bars.
-pub fn is_simple(kind: Kind) -> bool
-    ensures { result ≡ is_simple kind }
-{
-    match kind {
-        Kind::Simple => true,
-        _ => false,
-    }
-}
-
-fn is_keyword(kind: Kind) -> bool
-    ensures { result ≡ is_keyword kind }
-{
-    match kind {
-        Kind::Keyword => true,
-        _ => false,
-    }
-}
-
-/// Whether a kind is that of reserved words.
-pub fn is_reserved(kind: Kind) -> bool
-    ensures { result ≡ is_reserved kind }
-{
-    match kind {
-        Kind::Reserved => true,
-        _ => false,
-    }
-}
-
-/// Whether a word is this symbol.
-pub fn is_word(name: &[u8], word: Word<'_>) -> bool
-    ensures { result ≡ is_word name.now (word_view word.entry) }
-{
-    is_symbol(word.kind) && same_bytes(word.bytes, name)
-}
-
-/// Asks for this symbol.
-pub fn want(name: &[u8], word: Word<'_>) -> Result<(), Unread>
-    ensures { Gives same result (wanted name.now (word_view word.entry)) }
-{
-    if is_word(name, word) {
-        return Ok(());
-    }
-    Err(Unread::NotPlain)
-}
-
-/// Asks for this keyword.
-pub fn want_keyword(name: &[u8], word: Word<'_>) -> Result<(), Unread>
-    ensures { Gives same result (wanted_keyword name.now (word_view word.entry)) }
-{
-    if is_keyword(word.kind) && same_bytes(word.bytes, name) {
-        return Ok(());
-    }
-    Err(Unread::NotPlain)
-}
-
-/// The atom in front, and the items behind it.
-pub fn word_first<'a>(text: &'a [u8], items: &'a [Item]) -> Result<(Word<'a>, &'a [Item]), Unread>
-    ensures gives { Gives (word_rest text.now) result (first_word (trees_in text.now items.now)) }
-    ensures less { IfOk result (λ x. length x.1.now < length items.now) }
-{
-    let Some((first, rest)) = split(items) else {
-        return Err(Unread::NotPlain);
-    };
-    match look(text, first) {
-        View::Atom(_, kind, bytes) => Ok((Word { kind, bytes }, rest)),
-        View::List(_, _, _) => Err(Unread::NotPlain),
-    }
-}
-
-/// The items in the list in front, and the items behind it.
-pub fn list_first<'a>(text: &'a [u8], items: &'a [Item]) -> Result<(&'a [Item], &'a [Item]), Unread>
-    ensures { Gives (list_rest text.now) result (first_list (trees_in text.now items.now)) }
-{
-    let Some((first, rest)) = split(items) else {
-        return Err(Unread::NotPlain);
-    };
-    match look(text, first) {
-        View::Atom(_, _, _) => Err(Unread::NotPlain),
-        View::List(_, inside, _) => Ok((inside, rest)),
-    }
-}
-
-/// The items of the one tree there is.
-pub fn tree_alone<'a>(text: &[u8], items: &'a [Item]) -> Result<&'a [Item], Unread>
-    ensures gives { Gives (tree_of text.now) result (only_tree (trees_in text.now items.now)) }
-    ensures less { IfOk result (λ x. length x.now ≤ length items.now) }
-{
-    let Some((first, rest)) = split(items) else {
-        return Err(Unread::NotPlain);
-    };
-    match split(rest) {
-        Some(_) => Err(Unread::NotPlain),
-        None => Ok(first),
-    }
-}
-
-/// Asks that there is nothing more.
-pub fn want_end(text: &[u8], items: &[Item]) -> Result<(), Unread>
-    ensures { Gives same result (no_tree (trees_in text.now items.now)) }
-{
-    match split(items) {
-        Some(_) => Err(Unread::NotPlain),
-        None => Ok(()),
-    }
-}
-
-/// A list's offset, and the items in it.
-pub fn list_inside<'a>(text: &'a [u8], items: &'a [Item]) -> Result<(u64, &'a [Item]), Unread>
-    ensures { Gives (inside_view text.now) result (inside_of (tree_in text.now items.now)) }
+/// The symbol that the first tree of the items is.
+fn symbol_in<'a>(text: &'a [u8], items: &'a [Item]) -> Option<Word<'a>>
+    ensures { option_map word_view result ≡ symbol_in (tree_in text.now items.now) }
 {
     match look(text, items) {
-        View::Atom(_, _, _) => Err(Unread::NotPlain),
-        View::List(at, inside, _) => Ok((u64::from(at), inside)),
+        View::Atom(at, kind, bytes) => {
+            if is_symbol(kind) {
+                return Some(Word {
+                    at: u64::from(at),
+                    kind,
+                    bytes,
+                });
+            }
+            None
+        }
+        View::List(_, _, _) => None,
     }
 }
 
-/// The offset of a tree's first byte.
-pub fn offset(text: &[u8], items: &[Item]) -> u64
-    ensures { result ≡ offset_of (tree_in text.now items.now) }
+/// The items of the list that the first tree of the items is.
+fn list_in<'a>(text: &'a [u8], items: &'a [Item]) -> Option<&'a [Item]>
+    ensures { option_map (trees_view text.now) result ≡ list_in (tree_in text.now items.now) }
 {
     match look(text, items) {
-        View::Atom(at, _, _) => u64::from(at),
-        View::List(at, _, _) => u64::from(at),
+        View::Atom(_, _, _) => None,
+        View::List(_, inside, _) => Some(inside),
     }
+}
+
+/// Tells whether each tree of the items is a symbol.
+fn all_symbols(text: &[u8], items: &[Item]) -> bool
+    ensures { result ≡ all_symbols (trees_in text.now items.now) }
+{
+    let mut rest = items;
+    'symbols: loop {
+        let Some((first, others)) = split(rest) else {
+            return true;
+        };
+        match look(text, first) {
+            View::Atom(_, kind, _) => {
+                if !is_symbol(kind) {
+                    return false;
+                }
+            }
+            View::List(_, _, _) => return false,
+        }
+        rest = others;
+    }
+}
+
+/// The items of the list of symbols that the first tree of the items is.
+fn symbols_in<'a>(text: &'a [u8], items: &'a [Item]) -> Option<&'a [Item]>
+    ensures { option_map (trees_view text.now) result ≡ symbols_in (tree_in text.now items.now) }
+{
+    let inside = list_in(text, items)?;
+    passes(all_symbols(text, inside))?;
+    Some(inside)
+}
+
+fn with_rule<'a>(text: &'a [u8], parts: Parts<'a>, items: &'a [Item]) -> Option<Parts<'a>>
+    ensures { option_map (parts_view text.now) result ≡ with_rule (parts_view text.now parts.entry) (tree_in text.now items.now) }
+{
+    passes(parts.rule.is_none())?;
+    let rule = symbol_in(text, items)?;
+    Some(Parts {
+        rule: Some(rule),
+        premises: parts.premises,
+        args: parts.args,
+        discharge: parts.discharge,
+    })
+}
+
+fn with_premises<'a>(text: &'a [u8], parts: Parts<'a>, items: &'a [Item]) -> Option<Parts<'a>>
+    ensures { option_map (parts_view text.now) result ≡ with_premises (parts_view text.now parts.entry) (tree_in text.now items.now) }
+{
+    passes(parts.premises.is_none())?;
+    let premises = symbols_in(text, items)?;
+    Some(Parts {
+        rule: parts.rule,
+        premises: Some(premises),
+        args: parts.args,
+        discharge: parts.discharge,
+    })
+}
+
+fn with_args<'a>(text: &'a [u8], parts: Parts<'a>, items: &'a [Item]) -> Option<Parts<'a>>
+    ensures { option_map (parts_view text.now) result ≡ with_args (parts_view text.now parts.entry) (tree_in text.now items.now) }
+{
+    passes(!parts.args)?;
+    list_in(text, items)?;
+    Some(Parts {
+        rule: parts.rule,
+        premises: parts.premises,
+        args: true,
+        discharge: parts.discharge,
+    })
+}
+
+fn with_discharge<'a>(text: &'a [u8], parts: Parts<'a>, items: &'a [Item]) -> Option<Parts<'a>>
+    ensures { option_map (parts_view text.now) result ≡ with_discharge (parts_view text.now parts.entry) (tree_in text.now items.now) }
+{
+    passes(!parts.discharge)?;
+    symbols_in(text, items)?;
+    Some(Parts {
+        rule: parts.rule,
+        premises: parts.premises,
+        args: parts.args,
+        discharge: true,
+    })
+}
+
+/// The parts with a keyword more, by its name and the items of its value.
+fn with_part<'a>(
+    text: &'a [u8],
+    parts: Parts<'a>,
+    name: &[u8],
+    items: &'a [Item],
+) -> Option<Parts<'a>>
+    ensures { option_map (parts_view text.now) result ≡ with_part (parts_view text.now parts.entry) name.now (tree_in text.now items.now) }
+{
+    if same_bytes(name, b"rule") {
+        return with_rule(text, parts, items);
+    }
+    if same_bytes(name, b"premises") {
+        return with_premises(text, parts, items);
+    }
+    if same_bytes(name, b"args") {
+        return with_args(text, parts, items);
+    }
+    if same_bytes(name, b"discharge") {
+        return with_discharge(text, parts, items);
+    }
+    None
+}
+
+/// The name of the keyword that the first tree of the items is.
+fn keyword_in<'a>(text: &'a [u8], items: &'a [Item]) -> Option<&'a [u8]>
+    ensures { option_map (λ b. b.now) result ≡ keyword_in (tree_in text.now items.now) }
+{
+    match look(text, items) {
+        View::Atom(_, kind, bytes) => {
+            if is_keyword(kind) {
+                return Some(bytes);
+            }
+            None
+        }
+        View::List(_, _, _) => None,
+    }
+}
+
+/// What keywords and their values say, in any order, each at most once.
+fn parts_of<'a>(text: &'a [u8], items: &'a [Item]) -> Option<Parts<'a>>
+    ensures { option_map (parts_view text.now) result ≡ parts_of no_parts (trees_in text.now items.now) }
+{
+    let mut parts = Parts {
+        rule: None,
+        premises: None,
+        args: false,
+        discharge: false,
+    };
+    let mut rest = items;
+    'parts: loop {
+        let Some((key, behind)) = split(rest) else {
+            return Some(parts);
+        };
+        let Some((value, others)) = split(behind) else {
+            return None;
+        };
+        let Some(name) = keyword_in(text, key) else {
+            return None;
+        };
+        match with_part(text, parts, name, value) {
+            Some(next) => parts = next,
+            None => return None,
+        }
+        rest = others;
+    }
+}
+
+/// An assume, behind its word.
+#[tactic(auto, unfolding(spec_proofs::specs::Commands::assume_shape))]
+fn assume_shape<'a>(text: &'a [u8], items: &'a [Item]) -> Option<Shape<'a>>
+    ensures gives { option_map (shape_view text.now) result ≡ assume_shape (trees_in text.now items.now) }
+    ensures alone { IfSome result (IsAlone text.now) }
+{
+    let (name, rest) = word_first(text, items)?;
+    passes(is_symbol(name.kind))?;
+    tree_alone(rest)?;
+    Some(Shape::Assume(name, rest))
+}
+
+/// The items of premises, where they are given.
+fn or_none(premises: Option<&[Item]>) -> &[Item]
+    ensures { (text : List ℕ) → trees_in text result.now ≡ or_none (option_map (trees_view text) premises.entry) }
+{
+    match premises {
+        Some(items) => items,
+        None => &[],
+    }
+}
+
+/// A step, behind its word.
+#[tactic(auto, unfolding(spec_proofs::specs::Commands::step_shape))]
+fn step_shape<'a>(text: &'a [u8], items: &'a [Item]) -> Option<Shape<'a>>
+    ensures gives { option_map (shape_view text.now) result ≡ step_shape (trees_in text.now items.now) }
+    ensures alone { IfSome result (IsAlone text.now) }
+{
+    let (name, rest) = word_first(text, items)?;
+    passes(is_symbol(name.kind))?;
+    let (clause, rest) = list_first(text, rest)?;
+    let (cl, literals) = word_first(text, clause)?;
+    want(b"cl", cl)?;
+    let parts = parts_of(text, rest)?;
+    let rule = parts.rule?;
+    Some(Shape::Step(StepParts {
+        name,
+        literals,
+        rule,
+        premises: or_none(parts.premises),
+    }))
+}
+
+/// A command by its word.
+fn shape_by<'a>(text: &'a [u8], word: Word<'a>, items: &'a [Item]) -> Option<Shape<'a>>
+    ensures gives { option_map (shape_view text.now) result ≡ shape_by (word_view word.entry, trees_in text.now items.now) }
+    ensures alone { IfSome result (IsAlone text.now) }
+{
+    if is_word(b"assume", word) {
+        return assume_shape(text, items);
+    }
+    if is_word(b"step", word) {
+        return step_shape(text, items);
+    }
+    None
+}
+
+/// The shape of a command whose list has these items.
+#[tactic(auto, unfolding(spec_proofs::specs::Commands::shape_of))]
+pub fn shape_of<'a>(text: &'a [u8], items: &'a [Item]) -> Option<Shape<'a>>
+    ensures gives { option_map (shape_view text.now) result ≡ shape_of (trees_in text.now items.now) }
+    ensures alone { IfSome result (IsAlone text.now) }
+{
+    let (word, rest) = word_first(text, items)?;
+    shape_by(text, word, rest)
 }

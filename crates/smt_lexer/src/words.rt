@@ -2,7 +2,10 @@
 
 ghost use Rattle.std.specs.Prelude.{◌≡◌};
 ghost use Rattle.spec_text.specs.Bytes.{among, reserved_words};
+ghost use Rattle.spec_text.specs.Printed.{is_bare};
 ghost use Rattle.smt_lexer.specs.Classes.{texts_of};
+
+use crate::bytes::{Class, front_len};
 
 /// The words that are no symbols without bars.
 const RESERVED: [&[u8]; 43] = [
@@ -68,4 +71,21 @@ pub fn is_reserved(name: &[u8]) -> bool
     ensures { result ≡ among reserved_words name.now }
 {
     is_one_of(&RESERVED, name)
+}
+
+/// Says whether a name may stand as a symbol without bars: bytes of symbols, the first of them no digit, that are no
+/// reserved word. Source: SMT-LIB 2.6, section 3.1.
+pub fn is_bare(name: &[u8]) -> bool
+    ensures { result ≡ is_bare name.now }
+{
+    let Some((first, _)) = name.split_first() else {
+        return false;
+    };
+    if first.is_ascii_digit() {
+        return false;
+    }
+    if front_len(name, Class::Symbol) < name.len() {
+        return false;
+    }
+    !is_reserved(name)
 }

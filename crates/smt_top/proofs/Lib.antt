@@ -1,3 +1,5 @@
 -- Lemmas on the parts of a run.
 pub mod Verdicts
 pub mod Statuses
+pub mod Numbers
+pub mod Asked

@@ -1,5 +1,5 @@
 -- From what was written for two texts to the end of a run.
-use Rattle.std.proofs.Common.{◌≡◌, ℕ, List, Some, IfSome, refl}
+use Rattle.std.proofs.Common.{◌≡◌, ℕ, List, Some, IfSome}
 use Rattle.smt_top.specs.declared.status.Status.{Status}
 use Rattle.smt_top.specs.declared.status.Status.TheVariants.{Done, Refused, Words, Memory, ReadFault, WriteFault}
 use Rattle.smt_top.specs.Words.{Names}
@@ -12,6 +12,6 @@ pub ends_with : (status : Status) (n : Names) (holds : Holdings) (reads : Reads)
 ends_with Done n holds reads out script proof s p r = (script, proof, s, p, r)
 ends_with Refused n holds reads out script proof s p r = (script, proof, s, p, r)
 ends_with Words n holds reads out script proof s p r = absurd r
-ends_with Memory n holds reads out script proof s p r = (refl, r)
+ends_with Memory n holds reads out script proof s p r = r
 ends_with ReadFault n holds reads out script proof s p r = absurd r
 ends_with WriteFault n holds reads out script proof s p r = (r.0, (script, proof, s, p, r.1))

@@ -1,5 +1,5 @@
 -- What the parts of a run promise. Source: own.
-use Rattle.std.specs.Prelude.{ℕ, List, Option, Some, Result, Ok, Err}
+use Rattle.std.specs.Prelude.{◌≡◌, ℕ, List, Option, Some, None, Result, Ok, Err, ⊤}
 use Rattle.std.specs.Io.KnownBytes.{Appends, Keeps}
 use Rattle.world_io.specs.Outside.{Rose, AppendsFront}
 use Rattle.world_io.specs.declared.fault.Failed.{Failed}
@@ -9,7 +9,11 @@ use Rattle.alethe_check.specs.declared.ProofStop.{ProofStop}
 use Rattle.alethe_check.specs.Verdicts.{Answers}
 use Rattle.smt_top.specs.declared.status.Status.{Status}
 use Rattle.smt_top.specs.declared.status.Status.TheVariants.{Done, Refused, Memory, WriteFault}
+use Rattle.smt_top.specs.declared.words.Request.{Request}
+use Rattle.smt_top.specs.declared.words.WordsStop.{WordsStop}
+use Rattle.smt_top.specs.declared.words.WordsStop.TheVariants as stop
 use Rattle.smt_top.specs.Ends.{IsValid, Writes}
+use Rattle.smt_top.specs.Words.{Names}
 use Rattle.smt_top.specs.Output.{valid, error_line, output_of}
 
 -- what was judged, and for an accepted proof that nothing makes the script true
@@ -29,3 +33,13 @@ Reports Refused script proof out = (f : Fault) × IsVerdict script proof (Some f
 Reports Memory script proof out = Keeps out.old out.new
 Reports WriteFault script proof out = Rose out.faults_old out.faults_new × ((found : Option Fault) × IsVerdict script proof found × AppendsFront out.old out.new (output_of proof found))
 Reports _ script proof out = ⊥
+
+-- what a request asks for
+abbrev pub asked_by : Request → Names
+asked_by r = record { script = r.names.script.now; proof = r.names.proof.now; at = r.at }
+
+-- what the words ask for, or that they ask for nothing, unless memory was wanting
+abbrev pub Asks : Option Names → Result Request WordsStop → Type 0
+Asks names (Ok r) = names ≡ Some (asked_by r)
+Asks names (Err stop.Wrong) = names ≡ None
+Asks names (Err stop.Memory) = ⊤

@@ -69,6 +69,6 @@ abbrev pub Ends : Status → Option Names → Holdings → Reads → Writes → 
 Ends Done names holds reads out = OnTexts names holds (λ script proof. IsValid script proof × Appends out.old out.new valid)
 Ends Refused names holds reads out = OnTexts names holds (λ script proof. (f : Fault) × IsVerdict script proof (Some f) × Appends out.old out.new (error_line proof f))
 Ends Words names holds reads out = (names ≡ None) × Appends out.old out.new usage
-Ends Memory names holds reads out = IsSome names × Keeps out.old out.new
+Ends Memory names holds reads out = Keeps out.old out.new
 Ends ReadFault names holds reads out = IsSome names × Rose reads.old reads.new × Keeps out.old out.new
 Ends WriteFault names holds reads out = Rose out.faults_old out.faults_new × WritesFront names holds out

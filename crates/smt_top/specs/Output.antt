@@ -5,7 +5,7 @@ use Rattle.spec_proofs.specs.Faults.{Fault, fault_name}
 
 -- how the words are to be
 abbrev pub usage : List ℕ
-usage = codes "usage: smt_cli check SCRIPT PROOF\n"
+usage = codes "usage: smt_cli check [--at K] SCRIPT PROOF\n"
 
 -- the proof is accepted
 abbrev pub valid : List ℕ

@@ -9,15 +9,15 @@ use crate::Status;
 use crate::output::write_usage;
 use crate::read::read_both;
 use crate::verdict::{judge, report};
-use crate::words::names_of;
+use crate::words::{WordsStop, words_of};
 use std::alloc::Global;
 use world_io::{ReadStop, Shelf, Sink};
 
-/// Runs the words `check SCRIPT PROOF`, which stand behind the program's name: judges the proof against the script.
+/// Runs the words `check [--at K] SCRIPT PROOF`, which stand behind the program's name: judges the proof against the script.
 ///
 /// Both texts are read whole, the script first, before anything is judged. Then the verdict is written: `valid`, or the
-/// proof's first fault with its line and column. A text of more than 2^26 bytes is not taken so far. All other words
-/// give the usage text.
+/// proof's first fault with its line and column. A text of more than 2^26 bytes is not taken so far, and whatever K is,
+/// the script's first check is the one that is judged so far. All other words give the usage text.
 ///
 /// `Memory` comes where an allocation was refused, `ReadFault` where the shelf failed; nothing was then written.
 /// `WriteFault` comes where the sink failed, with a front written. Source: own.
@@ -30,13 +30,17 @@ pub fn run<F: Shelf, K: Sink>(alloc: Global, words: &[String], shelf: &mut F, ou
     ensures found { ((s : F) → IsSome (F.left s)) → BothHold (named words.now) (F.holds shelf.old) ⊎ ((result ≡ Status.ReadFault) ⊎ (result ≡ Status.Memory)) }
     ensures write { (most : ℕ) → K.has_room out.old most → longest_line ≤ most → result ≢ Status.WriteFault }
 {
-    let Some(names) = names_of(words) else {
-        return match write_usage(out) {
-            Ok(()) => Status::Words,
-            Err(_) => Status::WriteFault,
-        };
+    let request = match words_of(alloc, words) {
+        Ok(request) => request,
+        Err(WordsStop::Wrong) => {
+            return match write_usage(out) {
+                Ok(()) => Status::Words,
+                Err(_) => Status::WriteFault,
+            };
+        }
+        Err(WordsStop::Memory) => return Status::Memory,
     };
-    match read_both(alloc, shelf, names) {
+    match read_both(alloc, shelf, request.names) {
         Ok(texts) => report(judge(alloc, &texts), out),
         Err(ReadStop::Failed) => Status::ReadFault,
         Err(ReadStop::Memory) => Status::Memory,

@@ -26,7 +26,7 @@ pub fn run_in_memory(
     ensures done { result ≡ Status.Done → OnNamed (named words.now) shelf.old.texts (λ script proof. IsValid script proof × (out.new.written ≡ out.old.written ++ valid)) }
     ensures refused { result ≡ Status.Refused → OnNamed (named words.now) shelf.old.texts (λ script proof. (f : Fault) × IsVerdict script proof (Some f) × (out.new.written ≡ out.old.written ++ error_line proof f)) }
     ensures words { result ≡ Status.Words → (named words.now ≡ None) × (out.new.written ≡ out.old.written ++ usage) }
-    ensures memory { result ≡ Status.Memory → IsSome (named words.now) × (out.new.written ≡ out.old.written) }
+    ensures memory { result ≡ Status.Memory → out.new.written ≡ out.old.written }
     ensures read_fault { result ≡ Status.ReadFault → IsSome (named words.now) × Rose shelf.old.faults shelf.new.faults × (out.new.written ≡ out.old.written) }
     ensures write_fault { result ≡ Status.WriteFault → Rose out.old.faults out.new.faults × GrowsByRight (named words.now) shelf.old.texts out.old.written out.new.written }
     ensures read { shelf.old.failing ≡ [] → 0 < shelf.old.most → BothHold (named words.now) (text_named shelf.old.texts) → result ≢ Status.ReadFault }

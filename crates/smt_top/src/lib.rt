@@ -14,6 +14,8 @@ mod verdict;
 #[cfg(test)]
 mod verdict_tests;
 mod words;
+#[cfg(test)]
+mod words_tests;
 
 pub use check_run::run;
 pub use in_memory::run_in_memory;

@@ -12,7 +12,7 @@ use itoa::Buffer;
 use world_io::{Failed, Sink, write_all, write_pieces};
 
 /// How the words are to be.
-const USAGE: &[u8] = b"usage: smt_cli check SCRIPT PROOF\n";
+const USAGE: &[u8] = b"usage: smt_cli check [--at K] SCRIPT PROOF\n";
 
 /// That the proof is accepted.
 const VALID: &[u8] = b"valid\n";

@@ -10,7 +10,7 @@ use alethe_check::{Place, ProofFault, ProofKind, ProofStop};
 use std::test::Fail;
 use world_io::{Bytes, ReadEnd, Shelf};
 
-const USAGE: &str = "usage: smt_cli check SCRIPT PROOF\n";
+const USAGE: &str = "usage: smt_cli check [--at K] SCRIPT PROOF\n";
 
 #[test]
 fn statuses_have_their_numbers(rt: HostRuntime) -> Result<(), Fail> {
@@ -37,7 +37,7 @@ fn other_words_give_the_usage_text(rt: HostRuntime) -> Result<(), Fail> {
         &["check", "a", "b", "c"],
         &["check", "-a", "b"],
         &["check", "a", "-b"],
-        &["check", "-", "b"],
+        &["check", "--at", "0", "a", "b"],
         &["--help"],
         &["solve", "x"],
         &["solve", "a", "b"],

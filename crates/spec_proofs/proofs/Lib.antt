@@ -1,1 +1,15 @@
-
+-- The lemmas of this crate.
+pub mod Resolution
+pub mod Rules
+pub mod Chains
+pub mod Steps
+pub mod Good
+pub mod Judging
+pub mod Endings
+pub mod Models
+pub mod Same
+pub mod Refuting
+pub mod Verdicts
+pub mod Parts
+pub mod Offsets
+pub mod Within

@@ -1,12 +1,9 @@
 -- The commands of a proof, read under what is known before them: its shape, its name, its terms, its rule, its premises. Source: Alethe specification, commands; the order of faults, and keywords in any order, are own.
-use Rattle.std.specs.Prelude.{ℕ, Bool, true, false, not, ◌&&◌, List, [], ◌∷◌, map, Option, Some, None, Ok, Err, codes, if◌then◌else◌}
+use Rattle.std.specs.Prelude.{ℕ, Bool, true, false, not, ◌&&◌, List, [], map, Option, Some, None, codes, if◌then◌else◌}
 use Rattle.std.specs.Str.{bytes_eq}
-use Rattle.spec_text.specs.declared.Kind.{Kind}
-use Rattle.spec_text.specs.declared.Fault.TheVariants.{Full}
-use Rattle.spec_text.specs.Bytes.{Name, among}
-use Rattle.spec_text.specs.Trees.{Tree, Trees, atom, list, none, more, offset_of}
+use Rattle.spec_text.specs.Bytes.{Name}
+use Rattle.spec_text.specs.Trees.{Tree, Trees, atom, list, none, more}
 use Rattle.spec_text.specs.Shapes.{◌>>=◌, Word, passes, first_word, first_list, only_tree, is_symbol, is_keyword, is_word, wanted}
-use Rattle.spec_text.specs.Answers.{Answer}
 use Rattle.spec_terms.specs.Terms.{Symbol, Term}
 use Rattle.spec_terms.specs.Literals.{Clause}
 use Rattle.spec_scripts.specs.Stack.{Stack, Assertion}

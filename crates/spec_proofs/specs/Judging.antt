@@ -1,5 +1,5 @@
 -- Which commands are right, and the first fault of a proof. Source: Alethe specification; the faults are own.
-use Rattle.std.specs.Prelude.{◌≡◌, ℕ, List, [], ◌∷◌, ◌++◌, Any, ◌⊎◌, Option, Some, None, Result, Ok, Err, Contains}
+use Rattle.std.specs.Prelude.{◌≡◌, ℕ, [], ◌∷◌, ◌++◌, Any, ◌⊎◌, Option, Some, None, Ok, Err, Contains}
 use Rattle.spec_text.specs.Bytes.{Name}
 use Rattle.spec_text.specs.Trees.{Trees, none, more}
 use Rattle.spec_terms.specs.Literals.{Clause}

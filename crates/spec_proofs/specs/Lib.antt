@@ -1,6 +1,7 @@
 -- What proofs are, and when they are accepted.
 pub mod Resolution
 pub mod Clauses
+pub mod Truths
 pub mod Rules
 pub mod Faults
 pub mod Commands
@@ -9,3 +10,5 @@ pub mod Texts
 pub mod Judging
 pub mod Good
 pub mod Accepted
+pub mod Examples
+pub mod ExamplesUnread

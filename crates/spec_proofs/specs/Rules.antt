@@ -1,7 +1,7 @@
 -- The rules by which a step follows from earlier clauses. Source: Alethe specification, rules; where a rule takes more than is written there, own.
 use Rattle.std.specs.Prelude.{List, [], ◌∷◌, Option, codes}
 use Rattle.spec_text.specs.Bytes.{Name}
-use Rattle.spec_terms.specs.Terms.{Or, Term, Terms, app, list_of}
+use Rattle.spec_terms.specs.Terms.{Or, app, list_of}
 use Rattle.spec_terms.specs.Theory.{look_up}
 use Rattle.spec_terms.specs.Literals.{Clause}
 use Rattle.spec_proofs.specs.declared.Rule.{Rule}

@@ -5,7 +5,7 @@ use Rattle.spec_text.specs.Lexemes.{Lexeme, opens, closes, word, lexemes}
 use Rattle.spec_text.specs.Trees.{Tree, Trees, none, more, offset_of}
 use Rattle.spec_text.specs.Shapes.{is_symbol}
 use Rattle.spec_text.specs.Faults.{Located}
-use Rattle.spec_text.specs.Readings.{IsBroken, AreTrees, kept, is_long, too_long, at_limit}
+use Rattle.spec_text.specs.Readings.{IsBroken, AreTrees, kept, too_long, at_limit}
 use Rattle.spec_proofs.specs.declared.ProofKind.TheVariants.{BadShape}
 use Rattle.spec_proofs.specs.Faults.{Fault, fault_at, text_fault}
 

@@ -1,19 +1,23 @@
 //! What the definitions imply. Each law is a function whose contract is the law; it computes nothing.
 
-ghost use Rattle.std.specs.Prelude.{◌≡◌, ◌↔◌, ℕ, Bool, true, List, ◌∷◌, map, All, Option, None};
+ghost use Rattle.std.specs.Prelude.{◌≡◌, ◌↔◌, ◌≤◌, ℕ, Bool, true, List, [], ◌∷◌, length, map, All, Option, Some, None, Ok, Err};
 ghost use Rattle.spec_text.specs.Bytes.{Name};
-ghost use Rattle.spec_text.specs.Trees.{Trees};
-ghost use Rattle.spec_terms.specs.Values.{Interpretation, Interprets, truth};
+ghost use Rattle.spec_text.specs.Trees.{Tree, Trees};
+ghost use Rattle.spec_text.specs.Offsets.{HasOffset};
+ghost use Rattle.spec_terms.specs.Values.{Interpretation, Interprets, truth, table_value};
+ghost use Rattle.spec_terms.specs.Agreement.{value_at};
 ghost use Rattle.spec_terms.specs.Literals.{Clause, complement, literals_of};
-ghost use Rattle.spec_scripts.specs.Stack.{Stack, IsCurrent, HasNoModel};
+ghost use Rattle.spec_scripts.specs.Stack.{Stack, Assertion, IsCurrent, MakesTrue, HasNoModel};
 ghost use Rattle.spec_proofs.specs.declared.Rule.{Rule};
 ghost use Rattle.spec_proofs.specs.Resolution.{IsWithin, IsChain};
 ghost use Rattle.spec_proofs.specs.Clauses.{IsResolvent, clause_true};
+ghost use Rattle.spec_proofs.specs.Truths.{Truths, term_true_by};
 ghost use Rattle.spec_proofs.specs.Rules.{IsRight};
-ghost use Rattle.spec_proofs.specs.Commands.{Known};
+ghost use Rattle.spec_proofs.specs.Commands.{Known, Command, known_at};
+ghost use Rattle.spec_proofs.specs.Known.{command_of};
 ghost use Rattle.spec_proofs.specs.Faults.{Fault};
 ghost use Rattle.spec_proofs.specs.Texts.{Ending, IsProofText};
-ghost use Rattle.spec_proofs.specs.Judging.{FirstFault};
+ghost use Rattle.spec_proofs.specs.Judging.{fault_of, FirstFault};
 ghost use Rattle.spec_proofs.specs.Good.{IsGood};
 ghost use Rattle.spec_proofs.specs.Accepted.{IsAccepted, IsVerdict};
 
@@ -79,4 +83,45 @@ pub fn verdict_is_one()
     first_fault_is_one();
     proofs_have_one_reading();
     spec_scripts::laws::checks_have_one_stack();
+}
+
+/// States that the definition of models is met where it should be: whatever truths names have, some interpretation of the
+/// current symbols gives them to its constants, and where under it the terms of all current assertions have the value
+/// true, it makes the current expressions true. Source: own.
+pub fn satisfied_scripts_have_a_model()
+    ensures { (script : List ℕ) (k : ℕ) (s : Stack) (v : Name → Bool) → IsCurrent script k s
+        → (i : Interpretation) × Interprets i s.symbols × ((n : Name) → table_value i n [] ≡ truth (v n))
+        × (All (λ (a : Assertion). value_at i a.term ≡ truth true) s.assertions → MakesTrue i script k) }
+{
+    spec_scripts::laws::assertions_are_read();
+    spec_scripts::laws::assertions_have_their_texts_value();
+}
+
+/// States that goodness is not asked in vain: where at a check no truths of the terms below negations make all current
+/// assertions true, there is a good proof. It is given by its trees: its text may be longer than a text may be.
+/// Source: own.
+pub fn unsatisfiable_scripts_have_a_proof()
+    ensures truths { (script : List ℕ) (k : ℕ) (s : Stack) → IsCurrent script k s
+        → ((v : Truths) → All (λ (a : Assertion). term_true_by v a.term ≡ true) s.assertions → ⊥)
+        → (ts : Trees) × IsGood (known_at s) ts }
+{
+    spec_scripts::laws::assertions_are_read();
+}
+
+/// States that the fault of a command of a proof stands at the offset of one of its atoms or lists: that of reading it,
+/// and that of a command that is read and isn't right. Source: own.
+pub fn faults_stand_in_their_command()
+    ensures reading { (k : Known) (t : Tree) (f : Fault) → command_of k t ≡ Err f → HasOffset t f.offset }
+    ensures judging { (k : Known) (t : Tree) (c : Command) → command_of k t ≡ Ok c → HasOffset t (fault_of c).offset }
+{
+    spec_terms::faults_stand_in_their_text();
+}
+
+/// States that the fault of a verdict lies in the proof, or at its end. Source: own.
+pub fn faults_stand_in_their_proof()
+    ensures { (script proof : List ℕ) (k : ℕ) (f : Fault) → IsVerdict script k proof (Some f) → f.offset ≤ length proof }
+{
+    spec_text::laws::trees_stand_in_their_text();
+    spec_text::laws::lexical_faults_stand_in_their_text();
+    spec_terms::faults_stand_in_their_text();
 }

@@ -6,6 +6,9 @@ ghost use Rattle.spec_proofs.specs.Faults.{fault_name, fault_number};
 
 use spec_text::Fault;
 
+pub mod examples;
+pub mod laws;
+
 /// Names a rule by which a step follows from earlier clauses. Source: Alethe specification, rules.
 #[derive(Clone, Copy, Debug, PartialEq, Eq)]
 pub enum Rule {

@@ -1,6 +1,5 @@
 -- The commands of a script that there are so far, by their own shape. Source: SMT-LIB 2.6, section 3.9.
-use Rattle.std.specs.Prelude.{ℕ, Bool, true, false, ◌&&◌, ◌||◌, List, [], ◌∷◌, Option, Some, None, Ok, codes, if◌then◌else◌}
-use Rattle.std.specs.Str.{bytes_eq}
+use Rattle.std.specs.Prelude.{ℕ, Bool, ◌||◌, List, [], ◌∷◌, Option, Some, None, Ok, codes, if◌then◌else◌}
 use Rattle.spec_text.specs.declared.Kind.{Kind}
 use Rattle.spec_text.specs.declared.Fault.TheVariants.{BadShape, UnknownCommand}
 use Rattle.spec_text.specs.Bytes.{Name}

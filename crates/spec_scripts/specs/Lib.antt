@@ -2,3 +2,4 @@
 pub mod Commands
 pub mod Stack
 pub mod Current
+pub mod Examples

@@ -1,9 +1,8 @@
 -- What stands after commands, what is current at a check, and what makes it true. Source: SMT-LIB 2.6, section 4.1.4; the order of faults and the limits are own.
-use Rattle.std.specs.Prelude.{◌≡◌, ℕ, zero, suc, ◌^◌, Bool, true, false, not, ◌&&◌, ◌||◌, List, [], ◌∷◌, ◌++◌, length, map, All, Option, Some, None, Ok, Err, codes, nat_lt, if◌then◌else◌}
+use Rattle.std.specs.Prelude.{◌≡◌, ℕ, zero, suc, ◌^◌, Bool, true, false, not, ◌||◌, List, [], ◌∷◌, ◌++◌, length, map, All, Option, Some, None, Ok, Err, codes, nat_lt, if◌then◌else◌}
 use Rattle.std.specs.Str.{bytes_eq}
 use Rattle.spec_text.specs.declared.Kind.{Kind}
 use Rattle.spec_text.specs.declared.Kind.TheVariants.{Simple, Quoted, Reserved as word_kind}
-use Rattle.spec_text.specs.declared.Fault.{Fault}
 use Rattle.spec_text.specs.declared.Fault.TheVariants.{BadShape, UnknownSort, Twice, Reserved, Full}
 use Rattle.spec_text.specs.Bytes.{Name, one_of, among}
 use Rattle.spec_text.specs.Faults.{Located}

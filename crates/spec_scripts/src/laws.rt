@@ -1,10 +1,14 @@
 //! What the definitions imply. Each law is a function whose contract is the law; it computes nothing.
 
-ghost use Rattle.std.specs.Prelude.{◌≡◌, ℕ, List, All, ◌⊎◌};
+ghost use Rattle.std.specs.Prelude.{◌≡◌, ℕ, true, List, [], ◌∷◌, All, Err};
+ghost use Rattle.spec_text.specs.Trees.{Tree};
+ghost use Rattle.spec_text.specs.Faults.{Located};
+ghost use Rattle.spec_text.specs.Offsets.{HasOffset};
 ghost use Rattle.spec_terms.specs.Values.{Interpretation};
 ghost use Rattle.spec_terms.specs.Meaning.{value_under};
 ghost use Rattle.spec_terms.specs.Agreement.{value_at, HaveOwnNames};
-ghost use Rattle.spec_scripts.specs.Stack.{Stack, Assertion, IsCurrent, HasNoCheck};
+ghost use Rattle.spec_terms.specs.Subterms.{fit_in};
+ghost use Rattle.spec_scripts.specs.Stack.{Stack, Assertion, term_limit, step, IsCurrent, HasNoCheck};
 ghost use Rattle.spec_scripts.specs.Current.{IsReadStack};
 
 /// States that what is current at a check is determined by the text and the check's number, and that a text which ends
@@ -16,10 +20,12 @@ pub fn checks_have_one_stack()
     spec_text::laws::a_text_is_read_up_to_one_end();
 }
 
-/// States that the current symbols are declared constants, and that the term of each current assertion is that of its
-/// text under all of them. Source: own.
+/// States that the current symbols are declared constants, that the term of each current assertion is that of its text
+/// under all of them, and that there is room for it. Source: own.
 pub fn assertions_are_read()
     ensures read { (text : List ℕ) (k : ℕ) (s : Stack) → IsCurrent text k s → IsReadStack s }
+    ensures room { (text : List ℕ) (k : ℕ) (s : Stack) → IsCurrent text k s
+        → All (λ (a : Assertion). fit_in term_limit (a.term ∷ []) ≡ true) s.assertions }
     ensures own { (s : Stack) → IsReadStack s → HaveOwnNames s.symbols }
 {}
 
@@ -31,4 +37,11 @@ pub fn assertions_have_their_texts_value()
 {
     spec_terms::terms_have_their_texts_value();
     assertions_are_read();
+}
+
+/// States that the fault of a command of a script stands at the offset of one of its atoms or lists. Source: own.
+pub fn faults_stand_in_their_command()
+    ensures { (limit : ℕ) (s : Stack) (t : Tree) (f : Located) → step limit s t ≡ Err f → HasOffset t f.offset }
+{
+    spec_terms::faults_stand_in_their_text();
 }

@@ -12,3 +12,4 @@ pub mod Subsets
 pub mod Literals
 pub mod Agreement
 pub mod TermCodes
+pub mod Examples

@@ -4,12 +4,14 @@
 //! `specs/`.
 #![tactic(auto)]
 
-ghost use Rattle.std.specs.Prelude.{◌≡◌, List, Ok};
-ghost use Rattle.spec_text.specs.Trees.{Tree};
+ghost use Rattle.std.specs.Prelude.{◌≡◌, List, Ok, Err};
+ghost use Rattle.spec_text.specs.Trees.{Tree, Trees};
+ghost use Rattle.spec_text.specs.Faults.{Located};
+ghost use Rattle.spec_text.specs.Offsets.{HasOffset, HaveOffset};
 ghost use Rattle.spec_terms.specs.Terms.{Symbol, Term};
 ghost use Rattle.spec_terms.specs.Values.{Interpretation};
 ghost use Rattle.spec_terms.specs.Meaning.{value_under};
-ghost use Rattle.spec_terms.specs.Reading.{term_in};
+ghost use Rattle.spec_terms.specs.Reading.{term_in, terms_in};
 ghost use Rattle.spec_terms.specs.Agreement.{value_at};
 
 pub mod subterms;
@@ -19,4 +21,11 @@ pub mod subterms;
 pub fn terms_have_their_texts_value()
     ensures { (symbols : List Symbol) (t : Tree) (u : Term) → term_in symbols t ≡ Ok u
         → (i : Interpretation) → value_under i t ≡ value_at i u }
+{}
+
+/// States that the first fault of a text that is no term, or of several texts, stands at the offset of one of their atoms
+/// or lists. Source: own.
+pub fn faults_stand_in_their_text()
+    ensures one { (symbols : List Symbol) (t : Tree) (f : Located) → term_in symbols t ≡ Err f → HasOffset t f.offset }
+    ensures all { (symbols : List Symbol) (ts : Trees) (f : Located) → terms_in symbols ts ≡ Err f → HaveOffset ts f.offset }
 {}

@@ -6,3 +6,7 @@ pub mod Spelling
 pub mod Longest
 pub mod Reading
 pub mod Stopping
+pub mod Parsing
+pub mod Offsets
+pub mod Words
+pub mod Printing

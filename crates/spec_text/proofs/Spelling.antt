@@ -23,7 +23,7 @@ comment_piece : (bs rest : List ℕ) → Consists is_in_comment bs → first_pie
 unfolding first_piece
 comment_piece bs rest h = ap (λ (xs : List ℕ). piece blank (1 + length xs)) (front_of_run is_in_comment bs rest h)
 
-numeral_piece : (ds : List ℕ) → IsNumeral ds → (rest : List ℕ) → BeginsWithout is_digit rest → piece_of (ds ++ rest) ≡ number ds rest
+pub numeral_piece : (ds : List ℕ) → IsNumeral ds → (rest : List ℕ) → BeginsWithout is_digit rest → piece_of (ds ++ rest) ≡ number ds rest
 unfolding first_piece
 numeral_piece _ only_zero rest h = refl
 numeral_piece _ (digits d ds some run) rest h =
@@ -40,20 +40,20 @@ ended_piece : (rest : List ℕ) (n : ℕ) (x : Lexeme) → BeginsWithout is_symb
 ended_piece [] n x h = refl
 ended_piece (b ∷ bs) n x h = rw h refl
 
-no_digits : (rest : List ℕ) → BeginsWithout is_symbol_byte rest → BeginsWithout is_digit rest
+pub no_digits : (rest : List ℕ) → BeginsWithout is_symbol_byte rest → BeginsWithout is_digit rest
 no_digits [] h = tt
 no_digits (b ∷ bs) h = no_digit b h
 
 second : (t : Bool) (p q : Piece) → t ≡ false → cond t p q ≡ q
 second t p q e = rw e refl
 
-number_piece : (ds rest : List ℕ) → BeginsWithout is_symbol_byte rest → number ds rest ≡ piece (word Numeral ds) (length ds)
+pub number_piece : (ds rest : List ℕ) → BeginsWithout is_symbol_byte rest → number ds rest ≡ piece (word Numeral ds) (length ds)
 number_piece ds [] h = refl
 number_piece ds (b ∷ bs) h =
     let no_point : (b == 46) ≡ false = another_byte is_symbol_byte b 46 h refl in
     second (b == 46) _ _ no_point ∙ ended_piece (b ∷ bs) (length ds) (word Numeral ds) h
 
-point_piece : (ds : List ℕ) (f : ℕ) (fs rest : List ℕ) → Consists is_digit (f ∷ fs) → BeginsWithout is_symbol_byte rest → number ds (46 ∷ f ∷ fs ++ rest) ≡ piece (word Decimal (ds ++ 46 ∷ f ∷ fs)) (length (ds ++ 46 ∷ f ∷ fs))
+pub point_piece : (ds : List ℕ) (f : ℕ) (fs rest : List ℕ) → Consists is_digit (f ∷ fs) → BeginsWithout is_symbol_byte rest → number ds (46 ∷ f ∷ fs ++ rest) ≡ piece (word Decimal (ds ++ 46 ∷ f ∷ fs)) (length (ds ++ 46 ∷ f ∷ fs))
 point_piece ds f fs rest run h =
     let here : front is_digit (f ∷ fs ++ rest) ≡ f ∷ fs = front_of_run is_digit (f ∷ fs) rest run ∙ ap (λ (xs : List ℕ). f ∷ fs ++ xs) (no_front is_digit rest (no_digits rest h)) ∙ append-nil (f ∷ fs) in
     let size : length ds + 1 + length (f ∷ fs) ≡ length (ds ++ 46 ∷ f ∷ fs) = omega (arith, length-append ds (46 ∷ f ∷ fs)) in
@@ -71,17 +71,17 @@ inside_body _ (byte b bs other inside) rest h =
     rw no_quote (ap (option_map (λ (body : List ℕ). b ∷ body)) (inside_body bs inside rest h))
 inside_body _ (pair bs inside) rest h = ap (option_map (λ (body : List ℕ). 34 ∷ 34 ∷ body)) (inside_body bs inside rest h)
 
-string_piece : (bs rest : List ℕ) → IsInside bs → BeginsWithout (λ b. b == 34) rest → first_piece 34 ((bs ++ 34 ∷ []) ++ rest) ≡ piece (word Text bs) (length bs + 2)
+pub string_piece : (bs rest : List ℕ) → IsInside bs → BeginsWithout (λ b. b == 34) rest → first_piece 34 ((bs ++ 34 ∷ []) ++ rest) ≡ piece (word Text bs) (length bs + 2)
 unfolding first_piece
 string_piece bs rest inside h = rw (append_assoc bs (34 ∷ []) rest, inside_body bs inside rest h) refl
 
-quoted_piece : (bs rest : List ℕ) → Consists is_in_bars bs → first_piece 124 ((bs ++ 124 ∷ []) ++ rest) ≡ piece (word Quoted bs) (length bs + 2)
+pub quoted_piece : (bs rest : List ℕ) → Consists is_in_bars bs → first_piece 124 ((bs ++ 124 ∷ []) ++ rest) ≡ piece (word Quoted bs) (length bs + 2)
 unfolding first_piece
 quoted_piece bs rest run =
     let here : front is_in_bars (bs ++ 124 ∷ rest) ≡ bs = front_of_run is_in_bars bs (124 ∷ rest) run ∙ append-nil bs in
     rw (append_assoc bs (124 ∷ []) rest, here, drop_at bs (124 ∷ rest) (length bs) refl) refl
 
-symbol_piece : (b : ℕ) (bs rest : List ℕ) → IsSymbolic b bs → first_piece b (bs ++ rest) ≡ symbol (b ∷ bs ++ front is_symbol_byte rest)
+pub symbol_piece : (b : ℕ) (bs rest : List ℕ) → IsSymbolic b bs → first_piece b (bs ++ rest) ≡ symbol (b ∷ bs ++ front is_symbol_byte rest)
 unfolding first_piece
 symbol_piece b bs rest h =
     let yes_symbol : is_symbol_byte b ≡ true = h.run.0 in
@@ -96,7 +96,7 @@ symbol_piece b bs rest h =
     let no_colon : (b == 58) ≡ false = other_byte is_symbol_byte b 58 yes_symbol refl in
     rw (yes_symbol, no_blank, no_comment, no_open, no_close, no_zero, no_number, no_quote, no_bar, no_colon, front_of_run is_symbol_byte bs rest h.run.1) refl
 
-keyword_piece : (b : ℕ) (bs rest : List ℕ) → Consists is_symbol_byte (b ∷ bs) → first_piece 58 (b ∷ bs ++ rest) ≡ piece (word Keyword (b ∷ bs ++ front is_symbol_byte rest)) (length (b ∷ bs ++ front is_symbol_byte rest) + 1)
+pub keyword_piece : (b : ℕ) (bs rest : List ℕ) → Consists is_symbol_byte (b ∷ bs) → first_piece 58 (b ∷ bs ++ rest) ≡ piece (word Keyword (b ∷ bs ++ front is_symbol_byte rest)) (length (b ∷ bs ++ front is_symbol_byte rest) + 1)
 unfolding first_piece
 keyword_piece b bs rest run = rw (front_of_run is_symbol_byte (b ∷ bs) rest run) refl
 

@@ -5,6 +5,7 @@ use Rattle.std.specs.Str.{bytes_eq}
 use Rattle.std.proofs.lemmas.Bool.Decides.{nat_tests}
 use Rattle.std.proofs.lemmas.Slice.Eq.{bytes_eq-Decides}
 use Rattle.spec_text.specs.Bytes.{Name, one_of, is_blank, is_digit, is_letter, is_symbol_byte, front, among, reserved_words}
+use Rattle.spec_text.specs.Printed.{all_pass}
 use Rattle.spec_text.specs.Lexicon.{Consists, BeginsWithout}
 
 -- a byte that differs from another in a test is another byte
@@ -57,13 +58,9 @@ front_then_rest test (b ∷ bs) = go (test b) (front_then_rest test bs)
     go false h = refl
 
 -- what a symbol without bars looks like
-abbrev passes : (ℕ → Bool) → List ℕ → Bool
-passes test [] = true
-passes test (b ∷ bs) = test b && passes test bs
-
 abbrev is_symbolic : Name → Bool
 is_symbolic [] = false
-is_symbolic (b ∷ bs) = not (is_digit b) && passes is_symbol_byte (b ∷ bs)
+is_symbolic (b ∷ bs) = not (is_digit b) && all_pass is_symbol_byte (b ∷ bs)
 
 abbrev are_symbolic : List Name → Bool
 are_symbolic [] = true
@@ -83,10 +80,10 @@ among_symbolic (m ∷ ms) n a e =
     go true same s f k = ap is_symbolic (sym (same refl)) ∙ s
     go false same s f k = f k
 
-passes_consists : (test : ℕ → Bool) (bs : List ℕ) → passes test bs ≡ true → Consists test bs
+pub passes_consists : (test : ℕ → Bool) (bs : List ℕ) → all_pass test bs ≡ true → Consists test bs
 passes_consists test [] e = tt
 passes_consists test (b ∷ bs) e =
-    let parts = both (test b) (passes test bs) e in
+    let parts = both (test b) (all_pass test bs) e in
     (parts.0, passes_consists test bs parts.1)
 
 -- a byte of symbols that is no digit, and bytes of symbols behind it
@@ -108,5 +105,5 @@ reserved_is_symbolic n e = go n (among_symbolic reserved_words n refl e)
     go : (n : Name) → is_symbolic n ≡ true → IsSymbolicName n
     go [] k = cc
     go (b ∷ bs) k =
-        let parts = both (not (is_digit b)) (passes is_symbol_byte (b ∷ bs)) k in
+        let parts = both (not (is_digit b)) (all_pass is_symbol_byte (b ∷ bs)) k in
         record { no_number = opposite (is_digit b) parts.0; run = passes_consists is_symbol_byte (b ∷ bs) parts.1 }

@@ -1,11 +1,13 @@
 //! Laws of texts, lexemes and trees: functions with empty bodies, whose clauses are proved of the definitions.
 
-ghost use Rattle.std.specs.Prelude.{◌≡◌, ℕ, ◌+◌, ◌<◌, List, ◌∷◌, ◌++◌, Option, None, IfSome};
-ghost use Rattle.spec_text.specs.Lexemes.{Lexeme, first_piece};
+ghost use Rattle.std.specs.Prelude.{◌≤◌, length, ◌≡◌, ℕ, ◌+◌, ◌<◌, List, ◌∷◌, ◌++◌, Option, Some, None, IfSome};
+ghost use Rattle.spec_text.specs.Lexemes.{lexemes_from, Lexeme, first_piece};
 ghost use Rattle.spec_text.specs.Lexicon.{Spells, IsFirst};
-ghost use Rattle.spec_text.specs.Trees.{Tree, Trees, spelled, IsRead};
-ghost use Rattle.spec_text.specs.Faults.{Located, nesting_limit, lexical_fault};
-ghost use Rattle.spec_text.specs.Readings.{depth, AreTrees, IsReadUpTo};
+ghost use Rattle.spec_text.specs.Trees.{Tree, Trees, none, more, spelled, spelled_all, IsRead};
+ghost use Rattle.spec_text.specs.Printed.{printed, SameTree};
+ghost use Rattle.spec_text.specs.Offsets.{AllOffsets, AllOffsetsOf};
+ghost use Rattle.spec_text.specs.Faults.{Located, nesting_limit, first_fault, lexical_fault};
+ghost use Rattle.spec_text.specs.Readings.{StopsAt, depth, AreTrees, IsReadUpTo};
 ghost use Rattle.spec_text.specs.declared.Fault.TheVariants.{TooDeep};
 
 /// Says that a text has one reading at most. Source: SMT-LIB 2.6, section 3.2.
@@ -21,6 +23,12 @@ pub fn a_text_without_fault_is_read()
 /// Says that a text with a reading has no lexical fault but lists nested too deep. Source: own.
 pub fn a_read_text_has_no_fault_but_depth()
     ensures { (text : List ℕ) (ts : Trees) → IsRead text ts → IfSome (lexical_fault text) (λ f. f.fault ≡ TooDeep) }
+{}
+
+/// Says that an s-expression of a text is read back from how it is printed, but for offsets and the bars of symbols.
+/// Source: own.
+pub fn printed_trees_read_back()
+    ensures { (text : List ℕ) (at : ℕ) (t : Tree) (rest : List (ℕ × Lexeme)) → lexemes_from text at ≡ spelled t ++ rest → (u : Tree) × IsRead (printed t) (more u none) × SameTree t u }
 {}
 
 /// Says that the first lexeme of a text is the longest front that the lexicon's table has, and that a text whose first
@@ -47,4 +55,27 @@ pub fn lexemes_are_read_up_to_one_end()
         → ((t : Tree) (ys : List (ℕ × Lexeme)) → rest ≡ spelled t ++ ys → nesting_limit < n + depth t)
         → ((t : Tree) (ys : List (ℕ × Lexeme)) → others ≡ spelled t ++ ys → nesting_limit < n + depth t)
         → (ts ≡ us) × (rest ≡ others) }
+{}
+
+/// Says that each text is s-expressions, from each offset on and behind so many open lists, up to what stops their reading.
+/// Source: own.
+pub fn each_text_is_read()
+    ensures { (text : List ℕ) (at n : ℕ) → n ≤ nesting_limit
+        → (ts : Trees) × (rest : List (ℕ × Lexeme)) × AreTrees n (lexemes_from text at) ts rest × StopsAt (length text) n rest }
+{}
+
+/// Says that the offsets of trees lie in the text that they stand in, from the offset on from which it was read: that of
+/// one tree in front, and of trees behind other lexemes. Source: own.
+pub fn trees_stand_in_their_text()
+    ensures first { (text : List ℕ) (at : ℕ) (t : Tree) (rest : List (ℕ × Lexeme)) → lexemes_from text at ≡ spelled t ++ rest
+        → AllOffsets (λ n. (at ≤ n) × (n < length text)) t }
+    ensures all { (text : List ℕ) (at : ℕ) (earlier rest : List (ℕ × Lexeme)) (ts : Trees)
+        → lexemes_from text at ≡ earlier ++ (spelled_all ts ++ rest) → AllOffsetsOf (λ n. (at ≤ n) × (n < length text)) ts }
+{}
+
+/// Says that the first fault of lexemes of a text lies in the text or at its end, behind whatever other lexemes and
+/// however many open lists. Source: own.
+pub fn lexical_faults_stand_in_their_text()
+    ensures { (text : List ℕ) (at n : ℕ) (earlier rest : List (ℕ × Lexeme)) (f : Located) → lexemes_from text at ≡ earlier ++ rest
+        → first_fault nesting_limit (length text) n rest ≡ Some f → f.offset ≤ length text }
 {}

@@ -1,7 +1,16 @@
-use Rattle.std.proofs.Common.{refl}
-use Rattle.alethe_check.specs.Knowing.{known_view}
+-- What was read, in a table that grew, or the fault.
+use Rattle.std.proofs.Common.{Vec, Global}
+use Rattle.term_core.specs.declared.ids.TermId.{TermId}
+use Rattle.term_core.specs.Tables.{clause_at}
 use Rattle.alethe_check.proofs.Entries.{known_kept}
+use Rattle.alethe_check.proofs.Faults.{proof_read, proof_stopped}
 use Rattle.alethe_check.proofs.held.clause.Goals as goal
 
-pub returns-clause-same : goal.returns-clause-same
-returns-clause-same c = known_kept c.args.held.now.table c.read_clause.new.table c.read_clause.ensures.kept.0 c.args.held.now.asserted c.args.held.now.names c.args.held.now.clauses.items (known_view c.args.held.now) c.read_clause.ensures.kept.1 c.requires.asserted c.requires.clauses refl
+pub returns-in-Ok-clause-gives : goal.returns-in-Ok-clause-gives
+returns-in-Ok-clause-gives c = proof_read _ _ c.in-Ok.ensures.answer.terms
+
+pub returns-in-Ok-clause-same : goal.returns-in-Ok-clause-same
+returns-in-Ok-clause-same c = known_kept c.args.held.now.table c.terms.new.table c.in-Ok.ensures.answer.keeps.extends c.args.held.now.asserted c.args.held.now.names c.args.held.now.clauses.items c.in-Ok.ensures.answer.keeps.symbols c.requires.asserted c.requires.clauses
+
+pub returns-in-Err-clause-gives : goal.returns-in-Err-clause-gives
+returns-in-Err-clause-gives c = proof_stopped {X = Vec TermId Global} (λ v. clause_at c.terms.new.table v.items) c.args.held.now.table c.terms.new.table _ c.in-Err.stop c.in_proof.result c.in_proof.ensures c.in-Err.ensures.answer

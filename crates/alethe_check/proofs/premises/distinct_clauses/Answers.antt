@@ -1,4 +1,7 @@
 -- The clauses of the numbers taken are those of all.
+use Rattle.std.proofs.Common.{List, Vec, Global}
+use Rattle.std.proofs.lemmas.Result.{IfOk-weaker}
+use Rattle.term_core.specs.declared.ids.TermId.{TermId}
 use Rattle.alethe_check.proofs.Numbers.{numbers_taken, clauses_taken}
 use Rattle.alethe_check.proofs.premises.distinct_clauses.Goals as goal
 
@@ -6,4 +9,4 @@ pub clauses_of-requires-clause-numbers : goal.clauses_of-requires-clause-numbers
 clauses_of-requires-clause-numbers c = numbers_taken c.args.held.now _ c.in_ok-taken.taken.keys c.args.numbers.now c.as_slice.ensures.keys c.in_ok-taken.ensures c.requires.numbers
 
 pub returns-clause-same : goal.returns-clause-same
-returns-clause-same c = clauses_taken c.args.held.now _ c.in_ok-taken.taken.keys c.args.numbers.now c.as_slice.ensures.keys c.in_ok-taken.ensures c.clauses_of.result c.clauses_of.ensures.same
+returns-clause-same c = IfOk-weaker _ _ _ (λ (v : Vec (List TermId) Global) h. clauses_taken c.args.held.now _ c.in_ok-taken.taken.keys c.args.numbers.now c.as_slice.ensures.keys c.in_ok-taken.ensures v.items h) c.clauses_of.ensures.same

@@ -1,5 +1,6 @@
-use Rattle.alethe_check.proofs.Stacks.{asserted_more}
+use Rattle.smt_sexpr.specs.Items.{tree_in, trees_in}
+use Rattle.alethe_check.proofs.Stacks.{no_first, nothing_asserted}
 use Rattle.alethe_check.proofs.script.assert_term.Goals as goal
 
-pub returns-in-Ok-add : goal.returns-in-Ok-add
-returns-in-Ok-add c s h = asserted_more c.args.script.now (record { table = c.read_term.new.table; asserted = c.add.new.self }) c.in-Ok.id s _ c.in-Ok.ensures.kept.0 c.in-Ok.ensures.kept.1 c.in-Ok.ensures.there c.in-Ok.ensures.gives c.in-Ok-add.ensures h
+pub returns-in-None : goal.returns-in-None
+returns-in-None c s h = rw c.refused.ensures (nothing_asserted c.args.limit c.args.at s (tree_in c.args.text.now c.args.items.now) (no_first (trees_in c.args.text.now c.args.items.now) (c.in-None.ensures.first c.args.text.now)), h)

@@ -1,0 +1,60 @@
+-- Premises read one by one.
+use Rattle.std.proofs.Common.{◌≡◌, List, [], ◌∷◌, ◌++◌, None, Some, refl, sym, ap, ◌∙◌, append_assoc, append-nil}
+use Rattle.std.specs.Prelude.{Ok, Err}
+use Rattle.spec_text.specs.Trees.{Tree, Trees, none, more}
+use Rattle.spec_text.specs.Answers.{◌>>=◌}
+use Rattle.spec_terms.specs.Literals.{Clause}
+use Rattle.spec_proofs.specs.Faults.{Fault, Read}
+use Rattle.spec_proofs.specs.Commands.{Known}
+use Rattle.spec_proofs.specs.Known.{premise_of, premises_of}
+use Rattle.smt_sexpr.specs.Items.{split_first}
+use Rattle.alethe_check.specs.declared.stop.Stop.{Stop}
+use Rattle.alethe_check.specs.declared.stop.Stop.TheVariants as stops
+use Rattle.alethe_check.specs.Views.{found_view, Reads}
+use Rattle.alethe_check.proofs.Splitting.{split_end, split_more}
+
+-- what was read before stands in front
+abbrev pub with_front : {A : Type 0} → List A → Read (List A) → Read (List A)
+with_front xs (Ok ys) = Ok (xs ++ ys)
+with_front xs (Err e) = Err e
+
+pub with_nothing : {A : Type 0} (r : Read (List A)) → with_front [] r ≡ r
+with_nothing (Ok ys) = refl
+with_nothing (Err e) = refl
+
+with_more : {A : Type 0} (xs : List A) (x : A) (r : Read (List A)) → with_front xs (r >>= λ ys. Ok (x ∷ ys)) ≡ with_front (xs ++ x ∷ []) r
+unfolding ◌>>=◌
+with_more xs x (Ok ys) = ap (λ zs. Ok zs) (sym (append_assoc xs (x ∷ []) ys))
+with_more xs x (Err e) = refl
+
+module _ (k : Known) where
+  none_left : premises_of k none ≡ Ok []
+  unfolding premises_of
+  none_left = refl
+
+  first_left : (t : Tree) (ts : Trees) → premises_of k (more t ts) ≡ (premise_of k t >>= λ c. premises_of k ts >>= λ cs. Ok (c ∷ cs))
+  unfolding premises_of
+  first_left t ts = refl
+
+  first_is : (t : Tree) (ts : Trees) (c : Clause) → premise_of k t ≡ Ok c → premises_of k (more t ts) ≡ (premises_of k ts >>= λ cs. Ok (c ∷ cs))
+  unfolding ◌>>=◌
+  first_is t ts c e = first_left t ts ∙ ap (λ r. r >>= λ d. premises_of k ts >>= λ cs. Ok (d ∷ cs)) e
+
+  first_fails : (t : Tree) (ts : Trees) (f : Fault) → premise_of k t ≡ Err f → premises_of k (more t ts) ≡ Err f
+  unfolding ◌>>=◌
+  first_fails t ts f e = first_left t ts ∙ ap (λ r. r >>= λ d. premises_of k ts >>= λ cs. Ok (d ∷ cs)) e
+
+  module _ (cs : List Clause) (ts : Trees) (all : Read (List Clause)) (before : with_front cs (premises_of k ts) ≡ all) where
+    pub premises_end : None ≡ split_first ts → all ≡ Ok cs
+    premises_end e = sym before ∙ ap (λ us. with_front cs (premises_of k us)) (split_end ts e) ∙ ap (with_front cs) none_left ∙ ap (λ ds. Ok ds) (append-nil cs)
+
+    module _ (t : Tree) (us : Trees) (split : Some (t, us) ≡ split_first ts) where
+      next : with_front cs (premises_of k (more t us)) ≡ all
+      next = ap (λ vs. with_front cs (premises_of k vs)) (sym (split_more ts us t split)) ∙ before
+
+      pub premises_more : (c : Clause) → premise_of k t ≡ Ok c → with_front (cs ++ c ∷ []) (premises_of k us) ≡ all
+      premises_more c e = sym (with_more cs c (premises_of k us)) ∙ ap (with_front cs) (sym (first_is t us c e)) ∙ next
+
+      pub premises_fail : {X Y : Type 0} (one : X → Clause) (view : Y → List Clause) (s : Stop) → Reads one (Err s) (premise_of k t) → Reads view (Err s) all
+      premises_fail one view (stops.Fault f) e = sym next ∙ ap (with_front cs) (first_fails t us (found_view f) e)
+      premises_fail one view stops.Memory e = tt

@@ -1,7 +1,0 @@
-use Rattle.std.proofs.Common.{◌≡◌, drop}
-use Rattle.alethe_check.specs.Findings.{lists}
-use Rattle.alethe_check.specs.Knowing.{some_empty}
-use Rattle.alethe_check.proofs.judge.any_empty.Given as goal
-
-abbrev pub invariant-loop-clause : goal.invariant-loop-clause
-invariant-loop-clause l = some_empty (lists (drop l.clause-index l.clauses)) ≡ some_empty (lists l.clauses)

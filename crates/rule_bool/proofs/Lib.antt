@@ -1,0 +1,15 @@
+-- The lemmas of this crate.
+pub mod Literals
+pub mod Start
+pub mod Looked
+pub mod Advancing
+pub mod Once
+pub mod Noting
+pub mod Counting
+pub mod Tracking
+pub mod Quiet
+pub mod Passes
+pub mod Stepping
+pub mod Transport
+pub mod Resolvents
+pub mod OnePremise

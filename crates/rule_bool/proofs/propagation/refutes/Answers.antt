@@ -1,0 +1,27 @@
+-- That it goes on to the end.
+use Rattle.rule_bool.proofs.Advancing.{refuted_on, advances_on}
+use Rattle.rule_bool.proofs.Stepping.{begun_counted, begun_tracked}
+use Rattle.rule_bool.proofs.propagation.refutes.Goals as goal
+
+pub propagate-requires : goal.propagate-requires
+propagate-requires c =
+    let begun = rw c.in-Some.is at c.in_ok-left.ensures in
+    record {
+      counted = begun_counted c.args.premises.now _ _ _ _ c.deref_mut.ensures.value begun;
+      once = c.requires.once;
+      index = c.in_ok-watchers.ensures;
+      consistent = begun.advances.consistent c.requires.consistent;
+      tracked = begun_tracked c.args.premises.now _ _ _ _ c.deref_mut.ensures.value begun;
+    }
+
+pub returns-then-branch : goal.returns-then-branch
+returns-then-branch c =
+    let begun = rw c.in-Some.is at c.in_ok-left.ensures in
+    let refuted = rw c.if-branch.true at c.in_ok-propagate.ensures in
+    refuted_on _ _ _ begun.advances refuted
+
+pub returns : goal.returns
+returns c =
+    let begun = rw c.in-Some.is at c.in_ok-left.ensures in
+    let quiet = rw c.if-branch.false at c.in_ok-propagate.ensures in
+    record { advances = advances_on _ _ _ _ begun.advances quiet.advances; settled = quiet.settled }

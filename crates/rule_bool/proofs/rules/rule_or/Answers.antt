@@ -1,0 +1,9 @@
+-- That the clause has the arguments of the disjunction, or lacks one.
+use Rattle.rule_bool.proofs.OnePremise.{opened, not_opened}
+use Rattle.rule_bool.proofs.rules.rule_or.Goals as goal
+
+pub returns-then-has_each : goal.returns-then-has_each
+returns-then-has_each c = opened c.args.table.now c.args.premises.now c.args.clause.now _ c.in-Some.ensures (rw c.as_slice.ensures at c.if-has_each.ensures)
+
+pub returns : goal.returns
+returns c = not_opened c.args.table.now c.args.premises.now c.args.clause.now _ c.in-Some.ensures c.numbers_tell_terms.ensures c.requires.clause (rw c.as_slice.ensures at c.if-has_each.ensures)

@@ -1,0 +1,83 @@
+//! The literals that hold, in the order in which they came to.
+
+ghost use Rattle.std.specs.Prelude.{◌≡◌, ◌<◌, ◌↔◌, [], map, length, Contains, IfOk, OnOk, MatchBool, MatchOption, slice_index_or};
+ghost use Rattle.rule_bool.specs.Literals.{lit_complement, AddsLast, IsConsistent};
+
+use crate::lits::negated;
+use term_core::Lit;
+use indexmap::IndexSet;
+use std::alloc::{AllocError, Global};
+use std::marker::Model;
+
+/// The literals that hold, each once, in the order in which they were added.
+#[derive(Drop)]
+pub(crate) struct Held {
+    literals: IndexSet<Lit>,
+}
+
+impl Model for Held {
+    ghost use Rattle.std.specs.Prelude.{List};
+    ghost use Rattle.term_core.specs.declared.ids.Lit.{Lit};
+
+    ghost Value = { List Lit };
+
+    ghost view = { λ h. h.literals.keys };
+}
+
+impl Held {
+    /// Makes the set of no literals.
+    pub(crate) fn new(alloc: Global) -> Held
+        ensures { result ≡ [] }
+    {
+        Held {
+            literals: IndexSet::new(alloc),
+        }
+    }
+
+    /// Counts the literals.
+    pub(crate) fn len(&self) -> usize
+        ensures { result ≡ length self.now }
+    {
+        self.literals.len()
+    }
+
+    /// Gives the literal that was added after so many others.
+    pub(crate) fn at(&self, index: usize) -> Lit
+        requires { index < length self.now }
+        ensures { result ≡ slice_index_or self.now index result }
+    {
+        self.literals.as_slice()[index]
+    }
+
+    /// Tells whether a literal holds.
+    pub(crate) fn contains(&self, l: Lit) -> bool
+        ensures { MatchBool result (Contains self.now l) (Contains self.now l → ⊥) }
+    {
+        self.literals.contains(&l)
+    }
+
+    /// Adds a literal as the last, unless it holds.
+    pub(crate) fn add(&mut self, l: Lit) -> Result<(), AllocError>
+        ensures { OnOk result (AddsLast self.old l self.new) }
+    {
+        match self.literals.insert(l) {
+            Ok(_) => Ok(()),
+            Err(_) => Err(AllocError),
+        }
+    }
+}
+
+/// Gives the complement of each literal of the clause, or nothing where it has a literal with its complement.
+pub(crate) fn start_of(alloc: Global, clause: &[Lit]) -> Result<Option<Held>, AllocError>
+    ensures { IfOk result (λ o. MatchOption o ((l : Lit) × Contains (map lit_complement clause.now) l × Contains (map lit_complement clause.now) (lit_complement l))
+        (λ held. ((l : Lit) → Contains held l ↔ Contains (map lit_complement clause.now) l) × IsConsistent held)) }
+{
+    let mut held = Held::new(alloc);
+    for l in clause {
+        if held.contains(*l) {
+            return Ok(None);
+        }
+        held.add(negated(*l))?;
+    }
+    Ok(Some(held))
+}

@@ -1,0 +1,61 @@
+//! Resolution of clauses of the table of terms.
+
+ghost use Rattle.std.specs.Prelude.{map, IfOk, All, MatchResult};
+ghost use Rattle.spec_proofs.specs.Clauses.{IsResolvent};
+ghost use Rattle.term_core.specs.Tables.{AreIn, clause_at};
+ghost use Rattle.rule_bool.specs.Literals.{lists};
+ghost use Rattle.rule_bool.specs.Resolvents.{Means, MeansEach, Stops};
+
+use crate::propagation::resolves;
+use crate::rule_stop::RuleStop;
+use std::alloc::{AllocError, Global};
+use term_core::{Clause, Lit, TermId, TermTable};
+
+/// Gives the literal of each term.
+fn literals_of(alloc: Global, table: &TermTable, clause: &[TermId]) -> Result<Vec<Lit>, AllocError>
+    requires { AreIn table.now clause.now }
+    ensures { IfOk result (λ v. Means table.now v.items (clause_at table.now clause.now)) }
+{
+    let mut literals = Vec::new(alloc);
+    for id in clause {
+        literals.push(table.literal(*id))?;
+    }
+    Ok(literals)
+}
+
+/// Gives the literals of each premise.
+fn premises_of(
+    alloc: Global,
+    table: &TermTable,
+    premises: &[Clause],
+) -> Result<Vec<Vec<Lit>>, AllocError>
+    requires { All (AreIn table.now) premises.now }
+    ensures { IfOk result (λ v. MeansEach table.now (lists v.items) (map (clause_at table.now) premises.now)) }
+{
+    let mut found = Vec::new(alloc);
+    for premise in premises {
+        found.push(literals_of(alloc, table, premise.as_slice())?)?;
+    }
+    Ok(found)
+}
+
+/// Judges a step of resolution.
+pub fn resolution(
+    alloc: Global,
+    table: &TermTable,
+    premises: &[Clause],
+    clause: &[TermId],
+) -> Result<(), RuleStop>
+    requires premises { All (AreIn table.now) premises.now }
+    requires clause { AreIn table.now clause.now }
+    ensures { MatchResult result (λ _. IsResolvent (map (clause_at table.now) premises.now) (clause_at table.now clause.now))
+        (λ stop. Stops stop (IsResolvent (map (clause_at table.now) premises.now) (clause_at table.now clause.now))) }
+{
+    let found = premises_of(alloc, table, premises)?;
+    let wanted = literals_of(alloc, table, clause)?;
+    table.numbers_tell_terms();
+    if resolves(alloc, &found, &wanted)? {
+        return Ok(());
+    }
+    Err(RuleStop::Fails)
+}

@@ -1,0 +1,112 @@
+//! Rules on one premise.
+
+ghost use Rattle.std.specs.Prelude.{map, All, MatchOption, MatchResult};
+ghost use Rattle.spec_proofs.specs.declared.Rule.TheVariants as rules;
+ghost use Rattle.spec_proofs.specs.Rules.{IsOr, IsWeakening, IsRight};
+ghost use Rattle.term_core.specs.Tables.{AreIn, clause_at};
+ghost use Rattle.rule_bool.specs.Premises.{IsDisjunctionAlone, HasNoDisjunctionAlone};
+
+use crate::within::has_each;
+use term_core::{Clause, Head, Node, RuleFails, TermId, TermTable};
+
+/// Gives the one literal of the one premise where that is a disjunction.
+fn disjunction<'a>(table: &'a TermTable, premises: &[Clause]) -> Option<&'a Node>
+    requires { All (AreIn table.now) premises.now }
+    ensures { MatchOption result (HasNoDisjunctionAlone table.now premises.now) (λ node. IsDisjunctionAlone table.now premises.now node.now.arguments.items) }
+{
+    let [premise] = premises else {
+        return None;
+    };
+    let [id] = premise.as_slice() else {
+        return None;
+    };
+    let node = table.node(*id);
+    match node.head {
+        Head::Or => Some(node),
+        _ => None,
+    }
+}
+
+/// Judges a step of the rule `or`.
+pub fn rule_or(
+    table: &TermTable,
+    premises: &[Clause],
+    clause: &[TermId],
+) -> Result<(), RuleFails>
+    requires premises { All (AreIn table.now) premises.now }
+    requires clause { AreIn table.now clause.now }
+    ensures { MatchResult result (λ _. IsRight rules.Or (map (clause_at table.now) premises.now) (clause_at table.now clause.now))
+        (λ _. IsRight rules.Or (map (clause_at table.now) premises.now) (clause_at table.now clause.now) → ⊥) }
+{
+    table.numbers_tell_terms();
+    let Some(node) = disjunction(table, premises) else {
+        return Err(RuleFails);
+    };
+    if has_each(clause, node.arguments.as_slice()) {
+        return Ok(());
+    }
+    Err(RuleFails)
+}
+
+/// Judges whether there is one premise, whose literals the clause has.
+fn keeps_literals(
+    table: &TermTable,
+    premises: &[Clause],
+    clause: &[TermId],
+) -> Result<(), RuleFails>
+    requires premises { All (AreIn table.now) premises.now }
+    requires clause { AreIn table.now clause.now }
+    ensures { MatchResult result (λ _. IsWeakening (map (clause_at table.now) premises.now) (clause_at table.now clause.now))
+        (λ _. IsWeakening (map (clause_at table.now) premises.now) (clause_at table.now clause.now) → ⊥) }
+{
+    table.numbers_tell_terms();
+    let [premise] = premises else {
+        return Err(RuleFails);
+    };
+    if has_each(clause, premise.as_slice()) {
+        return Ok(());
+    }
+    Err(RuleFails)
+}
+
+/// Judges a step of the rule `contraction`.
+pub fn rule_contraction(
+    table: &TermTable,
+    premises: &[Clause],
+    clause: &[TermId],
+) -> Result<(), RuleFails>
+    requires premises { All (AreIn table.now) premises.now }
+    requires clause { AreIn table.now clause.now }
+    ensures { MatchResult result (λ _. IsRight rules.Contraction (map (clause_at table.now) premises.now) (clause_at table.now clause.now))
+        (λ _. IsRight rules.Contraction (map (clause_at table.now) premises.now) (clause_at table.now clause.now) → ⊥) }
+{
+    keeps_literals(table, premises, clause)
+}
+
+/// Judges a step of the rule `reordering`.
+pub fn rule_reordering(
+    table: &TermTable,
+    premises: &[Clause],
+    clause: &[TermId],
+) -> Result<(), RuleFails>
+    requires premises { All (AreIn table.now) premises.now }
+    requires clause { AreIn table.now clause.now }
+    ensures { MatchResult result (λ _. IsRight rules.Reordering (map (clause_at table.now) premises.now) (clause_at table.now clause.now))
+        (λ _. IsRight rules.Reordering (map (clause_at table.now) premises.now) (clause_at table.now clause.now) → ⊥) }
+{
+    keeps_literals(table, premises, clause)
+}
+
+/// Judges a step of the rule `weakening`.
+pub fn rule_weakening(
+    table: &TermTable,
+    premises: &[Clause],
+    clause: &[TermId],
+) -> Result<(), RuleFails>
+    requires premises { All (AreIn table.now) premises.now }
+    requires clause { AreIn table.now clause.now }
+    ensures { MatchResult result (λ _. IsRight rules.Weakening (map (clause_at table.now) premises.now) (clause_at table.now clause.now))
+        (λ _. IsRight rules.Weakening (map (clause_at table.now) premises.now) (clause_at table.now clause.now) → ⊥) }
+{
+    keeps_literals(table, premises, clause)
+}

@@ -1,0 +1,72 @@
+//! Unit propagation by passes over all premises: plain, and slow where many passes are needed.
+
+ghost use Rattle.std.specs.Prelude.{IfOk, MatchBool};
+ghost use Rattle.spec_proofs.specs.Resolution.{Resolves};
+ghost use Rattle.rule_bool.specs.Literals.{lit_complement, lists};
+ghost use Rattle.rule_bool.specs.Scanning.{Scans, Moves};
+
+use crate::held::{Held, start_of};
+use term_core::Lit;
+use crate::look::{Finding, look};
+use std::alloc::{AllocError, Global};
+
+/// What a pass over the premises comes to.
+#[derive(Clone, Copy, Debug, PartialEq, Eq)]
+enum Pass {
+    /// A premise is false.
+    Conflict,
+    /// Some literals were added.
+    Added,
+    /// Nothing was added.
+    Same,
+}
+
+/// Looks at a clause, and adds the literal that follows from it.
+fn take_up(clause: &[Lit], held: &mut Held) -> Result<Finding, AllocError>
+    ensures { IfOk result (λ found. Scans clause.now held.old held.new found) }
+{
+    match look(clause, held) {
+        Finding::Unit(l) => {
+            held.add(l)?;
+            Ok(Finding::Unit(l))
+        }
+        found => Ok(found),
+    }
+}
+
+/// Takes up each premise once, from the last to the first, until one is false.
+fn pass_over(premises: &[Vec<Lit>], held: &mut Held) -> Result<Pass, AllocError>
+    ensures { IfOk result (λ p. Moves (lists premises.now) (lists premises.now) held.old held.new p) }
+{
+    let mut added = false;
+    for at in (0..premises.len()).rev() {
+        match take_up(&premises[at], held)? {
+            Finding::False => return Ok(Pass::Conflict),
+            Finding::Unit(_) => added = true,
+            Finding::Open | Finding::True => {}
+        }
+    }
+    Ok(if added { Pass::Added } else { Pass::Same })
+}
+
+/// Tells the same as `resolves`, by passes over the premises until nothing changes.
+///
+/// A chain in a bad order takes as many passes as it has steps. Out of memory is the one error. Source: own.
+pub(crate) fn resolves_by_scan(
+    alloc: Global,
+    premises: &[Vec<Lit>],
+    clause: &[Lit],
+) -> Result<bool, AllocError>
+    ensures { IfOk result (λ yes. MatchBool yes (Resolves lit_complement (lists premises.now) clause.now) (Resolves lit_complement (lists premises.now) clause.now → ⊥)) }
+{
+    let Some(mut held) = start_of(alloc, clause)? else {
+        return Ok(true);
+    };
+    loop {
+        match pass_over(premises, &mut held)? {
+            Pass::Conflict => return Ok(true),
+            Pass::Added => {}
+            Pass::Same => return Ok(false),
+        }
+    }
+}

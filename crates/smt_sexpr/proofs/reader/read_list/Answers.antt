@@ -1,0 +1,67 @@
+-- What each token comes to.
+use Rattle.std.proofs.Common.{◌≡◌, ◌+◌, [], ◌∷◌, length, arith, ap, refl, length-append}
+use Rattle.smt_sexpr.proofs.Broken.{nothing_broken, wrong_broken, deep_broken}
+use Rattle.smt_sexpr.proofs.Contexts.{none_of}
+use Rattle.smt_sexpr.proofs.Reading.{reading_begins, stops, opened, word_within, closed_within, closed_whole}
+use Rattle.smt_sexpr.proofs.reader.read_list.Goals as goal
+
+pub tokens-init : goal.tokens-init
+tokens-init c = record {
+  reading = rw (c.new-outer.ensures.items, c.in_ok-innermost.ensures.index, c.new-items.ensures.items) (reading_begins c.args.text.now c.args.open_lists c.args.start c.args.behind.offset c.begin_list.new.items.items c.requires.room (rw c.new-items.ensures.items at c.in_ok-innermost.ensures.items));
+  room = omega (arith, ap length c.new-outer.ensures.items);
+  place = c.requires.behind;
+  later = omega arith;
+}
+
+pub returns-in-Err : goal.returns-in-Err
+returns-in-Err c = (stops _ _ _ _ _ _ c.tokens.invariant.reading _ (wrong_broken _ _ _ _ _ c.in-Err.ensures.0), c.in-Err.ensures.1)
+
+pub returns-in-End : goal.returns-in-End
+returns-in-End c =
+    let t = rw c.in-End.is at c.in-Ok.ensures.0 in
+    rw c.refused.ensures (rw t.place_end (stops _ _ _ _ _ _ c.tokens.invariant.reading _ (nothing_broken _ _ _ t.nothing (omega (arith, length-append c.tokens.outer.items (c.tokens.innermost ∷ []))))), c.in-Ok.ensures.1)
+
+pub returns-then-open_lists-len-ge-NESTING_LIMIT : goal.returns-then-open_lists-len-ge-NESTING_LIMIT
+returns-then-open_lists-len-ge-NESTING_LIMIT c =
+    let t = rw c.in-Open.is at c.in-Ok.ensures.0 in
+    rw c.refused-then-open_lists-len-ge-NESTING_LIMIT.ensures (stops _ _ _ _ _ _ c.tokens.invariant.reading _ (deep_broken _ _ _ _ _ t.first (omega (arith, c.if-open_lists-len-ge-NESTING_LIMIT.true, c.tokens.outer.ok.0, length-append c.tokens.outer.items (c.tokens.innermost ∷ [])))), c.in-Ok.ensures.1)
+
+pub returns-in_default : goal.returns-in_default
+returns-in_default c =
+    let t = rw c.in-Close.is at c.in-Ok.ensures.0 in
+    let none_left : c.tokens.outer.items ≡ [] = none_of c.tokens.outer.items (omega (arith, c.in_default.ensures.cases.0, c.tokens.outer.ok.0)) in
+    let ended = c.in_ok-end_list-in-Close.ensures c.tokens.invariant.reading.context c.tokens.outer.items c.tokens.invariant.reading.holds in (
+      closed_whole _ _ _ _ _ _ c.tokens.invariant.reading _ _ c.in-Ok.read.1 refl c.in-Ok.ensures.2 t.first c.end_list.new.items.items (omega (arith, ap length none_left, length-append c.tokens.outer.items (c.tokens.innermost ∷ []))) (rw none_left at ended),
+      omega (arith, t.behind, t.longer, c.tokens.invariant.later),
+    )
+
+pub tokens-preserved-in_ok-innermost-in-Open : goal.tokens-preserved-in_ok-innermost-in-Open
+tokens-preserved-in_ok-innermost-in-Open c =
+    let t = rw c.in-Open.is at c.in-Ok.ensures.0 in
+    record {
+      reading = rw c.in_ok-push-in-Open.ensures.items (opened _ _ _ _ _ _ c.tokens.invariant.reading _ _ t.first (omega (arith, c.if-open_lists-len-ge-NESTING_LIMIT.false, c.tokens.outer.ok.0, length-append c.tokens.outer.items (c.tokens.innermost ∷ []))) _ _ c.in_ok-innermost-in-Open.ensures.items c.in_ok-innermost-in-Open.ensures.index);
+      room = omega (arith, c.if-open_lists-len-ge-NESTING_LIMIT.false, c.tokens.outer.ok.0, ap length c.in_ok-push-in-Open.ensures.items, length-append c.tokens.outer.items (c.tokens.innermost ∷ []));
+      place = c.in-Ok.ensures.2;
+      later = omega (arith, t.behind, t.longer, c.tokens.invariant.later);
+    }
+
+pub tokens-preserved-in-Some : goal.tokens-preserved-in-Some
+tokens-preserved-in-Some c =
+    let t = rw c.in-Close.is at c.in-Ok.ensures.0 in
+    let more : length c.tokens.outer.items ≡ length c.pop.new.self.items + 1 = omega (arith, ap length c.in-Some.ensures.items, length-append c.pop.new.self.items (c.in-Some.list ∷ [])) in
+    record {
+      reading = rw (← c.in-Some.ensures.items) (closed_within _ _ _ _ _ _ c.tokens.invariant.reading _ _ t.first _ _ (length-append c.tokens.outer.items (c.tokens.innermost ∷ [])) (omega arith) (c.in_ok-end_list-in-Close.ensures _ _ c.tokens.invariant.reading.holds));
+      room = omega (arith, c.tokens.invariant.room);
+      place = c.in-Ok.ensures.2;
+      later = omega (arith, t.behind, t.longer, c.tokens.invariant.later);
+    }
+
+pub tokens-preserved : goal.tokens-preserved
+tokens-preserved c =
+    let t = rw c.in-Word.is at c.in-Ok.ensures.0 in
+    record {
+      reading = word_within _ _ _ _ _ _ c.tokens.invariant.reading _ _ _ _ t.first (omega (arith, length-append c.tokens.outer.items (c.tokens.innermost ∷ []))) (omega (arith, length-append c.tokens.outer.items (c.tokens.innermost ∷ []))) _ c.in_ok-add_word-in-Word.ensures;
+      room = c.tokens.invariant.room;
+      place = c.in-Ok.ensures.2;
+      later = omega (arith, t.behind, t.longer);
+    }

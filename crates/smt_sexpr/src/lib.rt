@@ -1,0 +1,23 @@
+//! Reads the s-expressions of a text, one after the other, and looks into them.
+//!
+//! An s-expression is kept as a flat list of items in the order of its text, so nothing here recurses on depth. Lists may
+//! be nested 500 deep.
+#![tactic(auto)]
+
+mod items;
+mod reader;
+mod sexpr;
+mod shapes;
+#[cfg(test)]
+mod tests;
+mod write;
+
+pub use items::{Item, View, look, split};
+pub use reader::{Next, read_next, read_one};
+pub use sexpr::Sexpr;
+pub use shapes::{
+    Word, is_keyword, is_reserved, is_simple, is_symbol, is_word, list_first, list_inside, offset,
+    passes, same_bytes, tree_alone, want, want_end, want_keyword, word_first,
+};
+pub use smt_lexer::{Fault, Kind, Place, Refusal, Refused};
+pub use write::print;

@@ -1,0 +1,207 @@
+//! Reads s-expressions from bytes.
+
+ghost use Rattle.std.specs.Prelude.{◌≡◌, ℕ, ◌+◌, ◌<◌, ◌∷◌, [], ◌++◌, List, length, IfOk, OnOk};
+ghost use Rattle.spec_text.specs.Places.{IsPlaceOf};
+ghost use Rattle.spec_text.specs.Trees.{atom};
+ghost use Rattle.spec_text.specs.Faults.{nesting_limit};
+ghost use Rattle.smt_sexpr.specs.Means.{flat};
+ghost use Rattle.smt_sexpr.specs.declared.items.Item.TheVariants as item;
+ghost use Rattle.smt_sexpr.specs.Open.{Context, closed, Holds};
+ghost use Rattle.smt_sexpr.specs.Reads.{ReadsNext, ReadsOne, ReadsList};
+ghost use Rattle.smt_lexer.specs.declared.Refused.TheVariants as refused;
+
+use crate::items::Item;
+use crate::sexpr::Sexpr;
+use smt_lexer::{Fault, Kind, Place, Refusal, Refused, TokenKind, next};
+use std::alloc::{AllocError, Global};
+
+/// What stands next in a text. Source: SMT-LIB 2.6, section 3.2.
+#[derive(Drop)]
+pub enum Next<'a> {
+    /// An s-expression, and the place right behind it.
+    One(Sexpr<'a>, Place),
+    /// The parenthesis that closes the innermost open list: the place right behind it.
+    Close(Place),
+    /// The end of the text, where no list is open.
+    End,
+}
+
+/// How many lists may be open at once.
+const NESTING_LIMIT: usize = 500;
+
+/// A number of 32 bits. Items are kept small; what stands beyond 4 GiB of a text is answered out of memory.
+fn narrow(n: u64) -> Result<u32, AllocError>
+    ensures { IfOk result (λ m. m ≡ n) }
+{
+    match u32::try_from(n) {
+        Ok(m) => Ok(m),
+        Err(_) => Err(AllocError),
+    }
+}
+
+/// Adds a word.
+fn add_word(items: &mut Vec<Item>, at: u64, kind: Kind, bytes: &[u8]) -> Result<(), AllocError>
+    ensures { OnOk result (items.new.items ≡ items.old.items ++ flat (atom at kind bytes.now)) }
+{
+    let at = narrow(at)?;
+    let size = narrow(bytes.len() as u64)?;
+    items.push(Item::Atom(kind, at, size))?;
+    Ok(())
+}
+
+/// Begins a list, and gives the index of its item, which has no end and no number yet.
+fn begin_list(items: &mut Vec<Item>, at: u64) -> Result<usize, AllocError>
+    ensures index { IfOk result (λ n. n ≡ length items.old.items) }
+    ensures items { OnOk result (items.new.items ≡ items.old.items ++ item.List at 0 0 ∷ []) }
+{
+    let at = narrow(at)?;
+    let index = items.len();
+    items.push(Item::List(at, 0, 0))?;
+    Ok(index)
+}
+
+/// Ends the list whose item has an index.
+fn end_list(items: &mut Vec<Item>, index: usize, end: u64) -> Result<(), AllocError>
+    ensures { OnOk result ((context : Context) (open_at : List ℕ) → Holds context items.old.items (open_at ++ index ∷ []) → Holds (closed context end) items.new.items open_at) }
+{
+    let end = narrow(end)?;
+    if index < items.len() {
+        let below = narrow((items.len() - index - 1) as u64)?;
+        if let Item::List(at, _, _) = items[index] {
+            items[index] = Item::List(at, end, below);
+        }
+    }
+    Ok(())
+}
+
+/// A refusal at a place.
+fn refused(place: Place, fault: Fault) -> Refused
+    ensures { result ≡ refused.Fault (record { place = place; fault = fault }) }
+{
+    Refused::Fault(Refusal { place, fault })
+}
+
+/// Reads the rest of a list, of which the opening parenthesis was read, behind so many others that are open. Gives its
+/// items, and the place right behind it.
+fn read_list(
+    alloc: Global,
+    text: &[u8],
+    start: u64,
+    behind: Place,
+    open_lists: usize,
+) -> Result<(Vec<Item>, Place), Refused>
+    requires behind { IsPlaceOf text.now behind }
+    requires room { open_lists < nesting_limit }
+    ensures { ReadsList text.now open_lists start behind result }
+{
+    let mut items = Vec::new(alloc);
+    let mut outer: Vec<usize> = Vec::new(alloc);
+    let mut innermost = begin_list(&mut items, start)?;
+    let mut place = behind;
+    'tokens: loop {
+        let (token, after) = match next(text, place) {
+            Ok(read) => read,
+            Err(refusal) => return Err(Refused::Fault(refusal)),
+        };
+        match token.lexeme {
+            TokenKind::End => return Err(refused(token.place, Fault::UnclosedList)),
+            TokenKind::Open => {
+                if open_lists + outer.len() + 1 >= NESTING_LIMIT {
+                    return Err(refused(token.place, Fault::TooDeep));
+                }
+                outer.push(innermost)?;
+                innermost = begin_list(&mut items, token.place.offset)?;
+            }
+            TokenKind::Close => {
+                end_list(&mut items, innermost, token.place.offset)?;
+                let Some(list) = outer.pop() else {
+                    return Ok((items, after));
+                };
+                innermost = list;
+            }
+            TokenKind::Word(kind, bytes) => {
+                add_word(&mut items, token.place.offset, kind, bytes)?;
+            }
+        }
+        place = after;
+    }
+}
+
+/// Gives the items of a word.
+fn read_word(alloc: Global, at: u64, kind: Kind, bytes: &[u8]) -> Result<Vec<Item>, AllocError>
+    ensures { IfOk result (λ v. v.items ≡ flat (atom at kind bytes.now)) }
+{
+    let mut items = Vec::new(alloc);
+    add_word(&mut items, at, kind, bytes)?;
+    Ok(items)
+}
+
+/// Reads what stands next in a text from a place on, where so many lists are open: an s-expression, or the end of the
+/// innermost of them, or, where none is open, nothing but white space and comments up to the end. An `Err` has the first
+/// fault behind the place, of those that stand before the end of an s-expression: a byte that begins no token or cannot
+/// follow one (`BadChar`), a string or a quoted symbol that does not end (`UnclosedString`, `UnclosedQuote`, at its first
+/// byte), the end of the text where a list is open (`UnclosedList`), a closing parenthesis where none is (`StrayClose`),
+/// or the opening parenthesis that would be the 501st open one, those of before counted (`TooDeep`). Or it is out of
+/// memory, which also comes where an offset or a size is 2^32 or more. The text may be read on from any place that an
+/// `Ok` has. Source: SMT-LIB 2.6, section 3.2; limits and faults are own.
+pub fn read_next<'a>(
+    alloc: Global,
+    text: &'a [u8],
+    at: Place,
+    open_lists: usize,
+) -> Result<Next<'a>, Refused>
+    requires { IsPlaceOf text.now at }
+    ensures { ReadsNext text.now at open_lists result }
+{
+    let (token, after) = match next(text, at) {
+        Ok(read) => read,
+        Err(refusal) => return Err(Refused::Fault(refusal)),
+    };
+    match token.lexeme {
+        TokenKind::End => {
+            if open_lists > 0 {
+                return Err(refused(token.place, Fault::UnclosedList));
+            }
+            Ok(Next::End)
+        }
+        TokenKind::Open => {
+            if open_lists >= NESTING_LIMIT {
+                return Err(refused(token.place, Fault::TooDeep));
+            }
+            let start = token.place;
+            match read_list(alloc, text, start.offset, after, open_lists) {
+                Ok((items, end)) => Ok(Next::One(Sexpr { text, start, items }, end)),
+                Err(reason) => Err(reason),
+            }
+        }
+        TokenKind::Close => {
+            if open_lists == 0 {
+                return Err(refused(token.place, Fault::StrayClose));
+            }
+            Ok(Next::Close(after))
+        }
+        TokenKind::Word(kind, bytes) => {
+            let start = token.place;
+            let items = read_word(alloc, start.offset, kind, bytes)?;
+            Ok(Next::One(Sexpr { text, start, items }, after))
+        }
+    }
+}
+
+/// Reads the next s-expression from a place of a text on, where no list is open, and gives it with the place right behind
+/// it, or `None` where only white space and comments are left. An `Err` is that of `read_next` with no open list.
+/// Source: SMT-LIB 2.6, section 3.2; limits and faults are own.
+pub fn read_one<'a>(
+    alloc: Global,
+    text: &'a [u8],
+    at: Place,
+) -> Result<Option<(Sexpr<'a>, Place)>, Refused>
+    requires { IsPlaceOf text.now at }
+    ensures { ReadsOne text.now at result }
+{
+    match read_next(alloc, text, at, 0) {
+        Ok(Next::One(s, after)) => Ok(Some((s, after))),
+        Ok(Next::Close(_) | Next::End) => Ok(None),
+        Err(reason) => Err(reason),
+    }
+}

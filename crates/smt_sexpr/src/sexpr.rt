@@ -1,0 +1,72 @@
+//! S-expressions with the text that they stand in.
+
+ghost use Rattle.spec_text.specs.Places.{IsPlaceOf};
+ghost use Rattle.smt_sexpr.specs.Means.{AreRead};
+ghost use Rattle.std.proofs.Props.{props};
+
+use crate::items::Item;
+use smt_lexer::{Place, place_after};
+use spec_text::laws::trees_stand_in_their_text;
+
+/// An s-expression, by the text that it was read from. It means one tree, whose offsets are those of the text.
+/// Source: SMT-LIB 2.6, section 3.2.
+#[derive(Drop)]
+pub struct Sexpr<'a> {
+    /// The whole text that it stands in.
+    pub(crate) text: &'a [u8],
+    /// The place of its first byte.
+    pub(crate) start: Place,
+    /// Its items, in the order of the text.
+    pub(crate) items: Vec<Item>,
+    /// It begins in the text.
+    ghost placed: { IsPlaceOf text.now start },
+    /// Its items are those of a tree that stands there.
+    ghost read: { AreRead text.now start.offset items.items } by { Prim.hlevel props },
+}
+
+impl<'a> Sexpr<'a> {
+    ghost use Rattle.std.specs.Prelude.{◌≡◌, ◌≤◌, ◌<◌, length};
+    ghost use Rattle.spec_text.specs.Offsets.{AllOffsets};
+    ghost use Rattle.smt_sexpr.specs.Items.{text_of, items_of, start_of, tree_of};
+
+    /// Lends the whole text that it was read from. Source: own.
+    pub fn text(&self) -> &'a [u8]
+        ensures { result.now ≡ text_of self.now }
+    {
+        self.text
+    }
+
+    /// Lends its items, which mean the one tree that it is. Source: own.
+    pub fn items(&self) -> &[Item]
+        ensures { result.now ≡ items_of self.now }
+    {
+        self.items.as_slice()
+    }
+
+    /// Gives the place of its first byte. Source: own.
+    pub fn start(&self) -> Place
+        ensures place { IsPlaceOf (text_of self.now) result }
+        ensures offset { result.offset ≡ start_of self.now }
+    {
+        self.start
+    }
+
+    /// Gives the place of an offset of the text, from its first byte on up to the end of the text. It takes time linear in
+    /// the number of bytes between them. Source: own.
+    pub fn place(&self, offset: u64) -> Place
+        requires behind { start_of self.now ≤ offset }
+        requires within { offset ≤ length (text_of self.now) }
+        ensures place { IsPlaceOf (text_of self.now) result }
+        ensures offset { result.offset ≡ offset }
+    {
+        place_after(self.text, self.start, (offset - self.start.offset) as usize)
+    }
+
+    /// States that each offset of its tree lies in the text, from its own first byte on, and so has a place. It computes
+    /// nothing. Source: own.
+    pub fn offsets_have_places(&self)
+        ensures { AllOffsets (λ n. (start_of self.now ≤ n) × (n < length (text_of self.now))) (tree_of self.now) }
+    {
+        trees_stand_in_their_text();
+    }
+}

@@ -1,0 +1,117 @@
+-- One command after the other: what is made known is true, and the first fault is one.
+use Rattle.std.proofs.Common.{◌≡◌, ℕ, Bool, true, false, ◌||◌, List, [], ◌∷◌, Option, Some, None, cond, All, inl, inr, refl, sym, ap, ◌∙◌, subst}
+use Rattle.std.specs.Prelude.{Ok, Err}
+use Rattle.std.specs.Str.{bytes_eq}
+use Rattle.std.proofs.lemmas.Bool.{false≢true}
+use Rattle.std.proofs.lemmas.List.Elements.{All-head, All-tail, All-cons, All-nil, All-push, All-contains}
+use Rattle.spec_text.specs.Bytes.{Name}
+use Rattle.spec_text.specs.Trees.{Tree, Trees, atom, list, none, more}
+use Rattle.spec_terms.specs.Terms.{Term}
+use Rattle.spec_terms.specs.Values.{Interpretation}
+use Rattle.spec_terms.specs.Literals.{Clause}
+use Rattle.spec_proofs.specs.declared.Rule.{Rule}
+use Rattle.spec_proofs.specs.declared.ProofKind.TheVariants.{BadShape, UnknownPremise}
+use Rattle.spec_proofs.specs.Clauses.{term_true, clause_true}
+use Rattle.spec_proofs.specs.Rules.{IsRight}
+use Rattle.spec_proofs.specs.Faults.{Fault, Read, wrong}
+use Rattle.spec_proofs.specs.Commands.{Known, Entry, Command, Assume, Step, Shape, assumes, steps, shape_of}
+use Rattle.spec_proofs.specs.Known.{clause_of, fresh_name, clause_in, known_rule, premise_of, premises_of, term_alone, read_shape, shaped, command_of}
+use Rattle.spec_proofs.specs.Judging.{with_command, fault_of, IsRightAfter, HasEmptyClause, EndsBy, FaultBy, FirstFault}
+use Rattle.spec_proofs.proofs.Steps.{answer, went, in_turn, clause_by, known_by}
+
+module _ (i : Interpretation) where
+  abbrev IsTrue : Clause → Type 0
+  IsTrue c = clause_true i c ≡ true
+
+  abbrev pub EntryTrue : Entry → Type 0
+  EntryTrue e = clause_true i e.clause ≡ true
+
+  abbrev pub TermTrue : Term → Type 0
+  TermTrue t = term_true i t ≡ true
+
+  -- a clause that is found is true, where all of them are
+  named_true : (at : ℕ) (es : List Entry) (n : Name) (c : Clause) → All EntryTrue es → clause_by at (clause_of es n) ≡ Ok c → IsTrue c
+  named_true at [] n c h e = absurd (answer (wrong at UnknownPremise) c e)
+  named_true at (x ∷ es) n c h e = go (bytes_eq x.name n) (named_true at es n c (All-tail EntryTrue x es h)) e
+    where
+      go : (b : Bool) → (clause_by at (clause_of es n) ≡ Ok c → IsTrue c) → clause_by at (cond b (Some x.clause) (clause_of es n)) ≡ Ok c → IsTrue c
+      go true rest s = subst IsTrue (answer (Ok x.clause) c s) (All-head EntryTrue x es h)
+      go false rest s = rest s
+
+  premise_true : (k : Known) (t : Tree) (c : Clause) → All EntryTrue k.entries → premise_of k t ≡ Ok c → IsTrue c
+  unfolding premise_of
+  premise_true k (list at ts end) c h e = absurd (answer (wrong at BadShape) c e)
+  premise_true k (atom at kind n) c h e = named_true at k.entries n c h (sym (known_by k at n) ∙ e)
+
+  premises_true : (k : Known) (ts : Trees) (cs : List Clause) → All EntryTrue k.entries → premises_of k ts ≡ Ok cs → All IsTrue cs
+  unfolding premises_of
+  premises_true k none cs h e = subst (All IsTrue) (answer (Ok []) cs e) (All-nil IsTrue)
+  premises_true k (more t ts) cs h e =
+      let a = went (premise_of k t) _ cs e in
+      let b = went (premises_of k ts) _ cs a.then in
+      subst (All IsTrue) (answer (Ok (a.first ∷ b.first)) cs b.then) (All-cons IsTrue a.first b.first (premise_true k t a.first h a.was) (premises_true k ts b.first h b.was))
+
+  -- the premises of a step that is read are true
+  abbrev PremisesTrue : Read Command → Type 0
+  PremisesTrue (Ok (Step at n c r ps)) = All IsTrue ps
+  PremisesTrue _ = Unit {0}
+
+  shape_premises : (k : Known) (at : ℕ) (s : Shape) → All EntryTrue k.entries → PremisesTrue (read_shape k at s)
+  unfolding read_shape
+  shape_premises k at (assumes h t) es =
+      in_turn PremisesTrue (λ _. tt) (fresh_name k h) _ λ n _.
+      in_turn PremisesTrue (λ _. tt) (clause_in k at (more t none)) _ λ us _.
+      in_turn PremisesTrue (λ _. tt) (term_alone at us) _ λ u _. tt
+  shape_premises k at (steps n ls r ps) es =
+      in_turn PremisesTrue (λ _. tt) (fresh_name k n) _ λ m _.
+      in_turn PremisesTrue (λ _. tt) (clause_in k at ls) _ λ c _.
+      in_turn PremisesTrue (λ _. tt) (known_rule r) _ λ rule _.
+      in_turn PremisesTrue (λ _. tt) (premises_of k ps) _ λ qs e. premises_true k ps qs es e
+
+  command_premises : (k : Known) (t : Tree) → All EntryTrue k.entries → PremisesTrue (command_of k t)
+  unfolding command_of
+  command_premises k (atom at kind n) h = tt
+  command_premises k (list at ts end) h = in_turn PremisesTrue (λ _. tt) (shaped at (shape_of ts)) _ λ s _. shape_premises k at s h
+
+  -- no clause that is true is empty
+  none_empty : (k : Known) → All EntryTrue k.entries → HasEmptyClause k → ⊥
+  none_empty k h empty = false≢true (sym (ap (clause_true i) empty.4) ∙ All-contains EntryTrue k.entries empty.1 h (empty.0, empty.2, empty.3))
+
+  module _ (law : (rule : Rule) (premises : List Clause) (clause : Clause) → All IsTrue premises → IsRight rule premises clause → IsTrue clause) where
+    -- a command that is right makes known what is true
+    right_true : (k : Known) (c : Command) → PremisesTrue (Ok c) → IsRightAfter k c → All EntryTrue k.entries → All TermTrue k.asserted → All EntryTrue (with_command k c).entries × All TermTrue (with_command k c).asserted
+    right_true k (Assume at n t) ps right es ts =
+        let one : clause_true i (t ∷ []) ≡ true = ap (λ b. b || false) (All-contains TermTrue k.asserted t ts right) in
+        (All-push EntryTrue k.entries (record { name = n; clause = t ∷ [] }) es one, ts)
+    right_true k (Step at n c r ps) true_ones right es ts = (All-push EntryTrue k.entries (record { name = n; clause = c }) es (law r ps c true_ones right), ts)
+
+    -- where all assertions and clauses are true, no proof from there is without a fault
+    pub sound : (k : Known) (end : ℕ) (ts : Trees) → All EntryTrue k.entries → All TermTrue k.asserted → FirstFault k end None ts None → ⊥
+    unfolding FirstFault
+    sound k end none es given h = none_empty k es h
+    sound k end (more t ts) es given h = go (command_of k t) (command_premises k t es) h (λ next. sound next end ts)
+      where
+        go : (o : Read Command) → PremisesTrue o → FaultBy k o (λ next. FirstFault next end None ts None) None → ((next : Known) → All EntryTrue next.entries → All TermTrue next.asserted → FirstFault next end None ts None → ⊥) → ⊥
+        go (Err f) ps h rec = let none : None ≡ Some f = h in cc
+        go (Ok c) ps (inl right) rec = let a = right_true k c ps right.0 es given in rec (with_command k c) a.0 a.1 right.1
+        go (Ok c) ps (inr x) rec = let none : None ≡ Some (fault_of c) = x.1 in cc
+
+ends_one : (k : Known) (end : ℕ) (ending a b : Option Fault) → EndsBy k end ending a → EndsBy k end ending b → a ≡ b
+ends_one k end (Some f) a b x y = x ∙ sym y
+ends_one k end None None None x y = refl
+ends_one k end None None (Some g) x y = absurd (y.0 x)
+ends_one k end None (Some f) None x y = absurd (x.0 y)
+ends_one k end None (Some f) (Some g) x y = ap Some (x.1 ∙ sym y.1)
+
+-- commands have at most one first fault
+pub fault_one : (k : Known) (end : ℕ) (ending : Option Fault) (ts : Trees) (a b : Option Fault) → FirstFault k end ending ts a → FirstFault k end ending ts b → a ≡ b
+unfolding FirstFault
+fault_one k end ending none a b x y = ends_one k end ending a b x y
+fault_one k end ending (more t ts) a b x y = go (command_of k t) x y (λ next. fault_one next end ending ts a b)
+  where
+    go : (o : Read Command) → FaultBy k o (λ next. FirstFault next end ending ts a) a → FaultBy k o (λ next. FirstFault next end ending ts b) b → ((next : Known) → FirstFault next end ending ts a → FirstFault next end ending ts b → a ≡ b) → a ≡ b
+    go (Err f) x y rec = x ∙ sym y
+    go (Ok c) (inl p) (inl q) rec = rec (with_command k c) p.1 q.1
+    go (Ok c) (inl p) (inr q) rec = absurd (q.0 p.0)
+    go (Ok c) (inr p) (inl q) rec = absurd (p.0 q.0)
+    go (Ok c) (inr p) (inr q) rec = p.1 ∙ sym q.1

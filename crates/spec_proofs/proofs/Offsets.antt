@@ -1,0 +1,176 @@
+-- The fault of a proof's command stands at an offset of its text, and the first fault of commands in theirs.
+use Rattle.std.proofs.Common.{◌≡◌, ℕ, Bool, true, false, cond, List, [], ◌∷◌, Option, Some, None, inl, inr, refl, sym, subst}
+use Rattle.std.specs.Prelude.{Ok, Err}
+use Rattle.spec_text.specs.declared.Fault.{Fault as TextFault}
+use Rattle.spec_text.specs.declared.Fault.TheVariants.{Full}
+use Rattle.spec_text.specs.Bytes.{among}
+use Rattle.spec_text.specs.Faults.{Located}
+use Rattle.spec_text.specs.Shapes.{Word}
+use Rattle.spec_text.specs.Answers.{Answer, ◌>>=◌, require}
+use Rattle.spec_text.specs.Trees.{Tree, Trees, atom, list, none, more, offset_of}
+use Rattle.spec_text.specs.Offsets.{AllOffsets, AllOffsetsOf, HasOffset, HaveOffset, at_offset_of, own_offsets}
+use Rattle.spec_terms.specs.Terms.{Symbol, Term}
+use Rattle.spec_terms.specs.Literals.{Clause}
+use Rattle.spec_terms.specs.Reading.{terms_in}
+use Rattle.spec_terms.specs.Subterms.{fit_in, roomy_terms}
+use Rattle.spec_scripts.specs.Stack.{term_limit}
+use Rattle.spec_proofs.specs.declared.Rule.{Rule}
+use Rattle.spec_proofs.specs.declared.ProofKind.TheVariants.{TwiceName, UnknownRule}
+use Rattle.spec_proofs.specs.Rules.{rule_named}
+use Rattle.spec_proofs.specs.Faults.{Fault, Read, wrong}
+use Rattle.spec_proofs.specs.Commands.{Known, Command, Shape, assumes, steps, shape_of}
+use Rattle.spec_proofs.specs.Known.{clause_of, entry_names, fresh_name, in_proof, clause_in, known_rule, premise_of, premises_of, term_alone, read_shape, shaped, command_of}
+use Rattle.spec_proofs.specs.Judging.{with_command, fault_of, FaultBy, FirstFault}
+use Rattle.spec_proofs.proofs.Steps.{clause_by, known_by}
+use Rattle.spec_proofs.proofs.Parts.{Holds, ShapeStands, shape_stands}
+
+-- a tree's own offset is one of all
+pub own_offset : (P : ℕ → Type 0) (t : Tree) → AllOffsets P t → P (offset_of t)
+own_offset P (atom at k bytes) h = h
+own_offset P (list at ts end) h = h.0
+
+-- the rule of a name
+abbrev rule_by : ℕ → Option Rule → Read Rule
+rule_by at (Some r) = Ok r
+rule_by at None = wrong at UnknownRule
+
+rule_known : (w : Word) → known_rule w ≡ rule_by w.at (rule_named w.bytes)
+unfolding known_rule
+rule_known w = refl
+
+-- that terms have their faults at their own offsets
+abbrev pub TermLaw : Type 0
+TermLaw = (symbols : List Symbol) (ts : Trees) (f : Located) → terms_in symbols ts ≡ Err f → HaveOffset ts f.offset
+
+module _ (P : ℕ → Type 0) where
+  -- what is read has a property, and a fault an offset with the other
+  abbrev Gives : {A : Type 0} → (A → Type 0) → Read A → Type 0
+  Gives Q (Ok a) = Q a
+  Gives Q (Err f) = P f.offset
+
+  -- and so it is in two steps, where it is in each
+  gives_in_turn : {A B : Type 0} (Q : A → Type 0) (R : B → Type 0) (a : Read A) (f : A → Read B) → Gives Q a → ((x : A) → Q x → Gives R (f x)) → Gives R (a >>= f)
+  unfolding ◌>>=◌
+  gives_in_turn Q R (Ok x) f h g = g x h
+  gives_in_turn Q R (Err e) f h g = h
+
+  -- the offset of a fault, where there is one, has the property
+  abbrev Stands : {A : Type 0} → Read A → Type 0
+  Stands a = Gives (λ _. Unit {0}) a
+
+  stands_in_turn : {A B : Type 0} (R : B → Type 0) (a : Read A) (f : A → Read B) → Stands a → ((x : A) → Gives R (f x)) → Gives R (a >>= f)
+  stands_in_turn R a f h g = gives_in_turn (λ _. Unit {0}) R a f h (λ x _. g x)
+
+  -- the same of what is read of terms
+  abbrev TermsStand : {A : Type 0} → Answer A → Type 0
+  TermsStand (Ok a) = Unit {0}
+  TermsStand (Err f) = P f.offset
+
+  terms_in_turn : {A B : Type 0} (a : Answer A) (f : A → Answer B) → TermsStand a → ((x : A) → TermsStand (f x)) → TermsStand (a >>= f)
+  unfolding ◌>>=◌
+  terms_in_turn (Ok x) f h g = g x
+  terms_in_turn (Err e) f h g = h
+
+  terms_stand : {A : Type 0} (a : Answer A) → ((f : Located) → a ≡ Err f → P f.offset) → TermsStand a
+  terms_stand (Ok x) h = tt
+  terms_stand (Err f) h = h f refl
+
+  require_stands : (b : Bool) (at : ℕ) (f : TextFault) → P at → TermsStand (require b at f)
+  unfolding require
+  require_stands true at f h = tt
+  require_stands false at f h = h
+
+  in_proof_stands : {A : Type 0} (a : Answer A) → TermsStand a → Stands (in_proof a)
+  unfolding in_proof
+  in_proof_stands (Ok a) h = tt
+  in_proof_stands (Err f) h = h
+
+  name_stands : (k : Known) (w : Word) → P w.at → Stands (fresh_name k w)
+  unfolding fresh_name
+  name_stands k w h = go (among (entry_names k.entries) w.bytes)
+    where
+      go : (b : Bool) → Stands (cond b (wrong w.at TwiceName) (Ok w.bytes))
+      go true = h
+      go false = tt
+
+  rule_stands : (w : Word) → P w.at → Stands (known_rule w)
+  rule_stands w h = subst Stands (sym (rule_known w)) (go (rule_named w.bytes))
+    where
+      go : (o : Option Rule) → Stands (rule_by w.at o)
+      go (Some r) = tt
+      go None = h
+
+  premise_stands : (k : Known) (t : Tree) → AllOffsets P t → Stands (premise_of k t)
+  unfolding premise_of
+  premise_stands k (list at ts end) h = h.0
+  premise_stands k (atom at kind n) h = subst Stands (sym (known_by k at n)) (go (clause_of k.entries n))
+    where
+      go : (o : Option Clause) → Stands (clause_by at o)
+      go (Some c) = tt
+      go None = h
+
+  premises_stand : (k : Known) (ts : Trees) → AllOffsetsOf P ts → Stands (premises_of k ts)
+  unfolding premises_of
+  premises_stand k none h = tt
+  premises_stand k (more t ts) h =
+      stands_in_turn (λ _. Unit {0}) (premise_of k t) _ (premise_stands k t h.0) λ c.
+      stands_in_turn (λ _. Unit {0}) (premises_of k ts) _ (premises_stand k ts h.1) λ cs. tt
+
+  alone_stands : (at : ℕ) (us : List Term) → P at → Stands (term_alone at us)
+  unfolding term_alone
+  alone_stands at [] h = h
+  alone_stands at (u ∷ []) h = tt
+  alone_stands at (u ∷ v ∷ vs) h = h
+
+  -- where a command is not right, its fault has the property
+  abbrev CommandStands : Command → Type 0
+  CommandStands c = P (fault_of c).offset
+
+  shaped_stands : (at : ℕ) (o : Option Shape) → P at → Holds (ShapeStands P) o → Gives (ShapeStands P) (shaped at o)
+  unfolding shaped
+  shaped_stands at (Some s) here h = h
+  shaped_stands at None here h = here
+
+  module _ (law : TermLaw) where
+    clause_stands : (k : Known) (at : ℕ) (ts : Trees) → P at → AllOffsetsOf P ts → Stands (clause_in k at ts)
+    unfolding roomy_terms
+    clause_stands k at ts here h = in_proof_stands (roomy_terms k.symbols term_limit at ts) (
+        terms_in_turn (terms_in k.symbols ts) _ (terms_stand (terms_in k.symbols ts) λ f e. at_offset_of P ts f.offset h (law k.symbols ts f e)) λ us.
+        terms_in_turn (require (fit_in term_limit us) at Full) _ (require_stands _ at Full here) λ fits. tt)
+
+    read_stands : (k : Known) (at : ℕ) (s : Shape) → P at → ShapeStands P s → Gives CommandStands (read_shape k at s)
+    unfolding read_shape
+    read_stands k at (assumes w t) here h =
+        stands_in_turn CommandStands (fresh_name k w) _ (name_stands k w h.0) λ n.
+        stands_in_turn CommandStands (clause_in k at (more t none)) _ (clause_stands k at (more t none) here (h.1, tt)) λ us.
+        stands_in_turn CommandStands (term_alone at us) _ (alone_stands at us here) λ u. own_offset P t h.1
+    read_stands k at (steps i ls r ps) here h =
+        stands_in_turn CommandStands (fresh_name k i) _ (name_stands k i h.0) λ n.
+        stands_in_turn CommandStands (clause_in k at ls) _ (clause_stands k at ls here h.1) λ c.
+        stands_in_turn CommandStands (known_rule r) _ (rule_stands r h.2) λ rule.
+        stands_in_turn CommandStands (premises_of k ps) _ (premises_stand k ps h.3) λ qs. here
+
+    command_stands : (k : Known) (t : Tree) → AllOffsets P t → Gives CommandStands (command_of k t)
+    unfolding command_of
+    command_stands k (atom at kind n) h = h
+    command_stands k (list at ts end) h =
+        gives_in_turn (ShapeStands P) CommandStands (shaped at (shape_of ts)) _ (shaped_stands at (shape_of ts) h.0 (shape_stands P ts h.1)) λ s parts. read_stands k at s h.0 parts
+
+    -- the first fault of commands stands at one of their offsets, or it is that of their end
+    pub first_stands : (k : Known) (end : ℕ) (ending : Option Fault) (ts : Trees) (f : Fault) → P end → Holds (λ (e : Fault). P e.offset) ending → AllOffsetsOf P ts → FirstFault k end ending ts (Some f) → P f.offset
+    unfolding FirstFault
+    first_stands k end (Some e) none f last h all found = let same : Some f ≡ Some e = found in let is : e ≡ f = cc in subst (λ (x : Fault). P x.offset) is h
+    first_stands k end None none f last h all found = subst (λ (x : Fault). P x.offset) (sym found.1) last
+    first_stands k end ending (more t ts) f last h all found = go (command_of k t) (command_stands k t all.0) found (λ next. first_stands next end ending ts f last h all.1)
+      where
+        go : (o : Read Command) → Gives CommandStands o → FaultBy k o (λ next. FirstFault next end ending ts (Some f)) (Some f) → ((next : Known) → FirstFault next end ending ts (Some f) → P f.offset) → P f.offset
+        go (Err e) s found rest = let is : e ≡ f = let same : Some f ≡ Some e = found in cc in subst (λ (x : Fault). P x.offset) is s
+        go (Ok c) s (inl right) rest = rest (with_command k c) right.1
+        go (Ok c) s (inr x) rest = let is : fault_of c ≡ f = let same : Some f ≡ Some (fault_of c) = x.1 in cc in subst (λ (y : Fault). P y.offset) is s
+
+-- the fault of reading a command, and that of one that is not right
+pub reading_stands : (law : TermLaw) (k : Known) (t : Tree) (f : Fault) → command_of k t ≡ Err f → HasOffset t f.offset
+reading_stands law k t f e = subst (Gives (HasOffset t) (CommandStands (HasOffset t))) e (command_stands (HasOffset t) law k t (own_offsets t))
+
+pub judging_stands : (law : TermLaw) (k : Known) (t : Tree) (c : Command) → command_of k t ≡ Ok c → HasOffset t (fault_of c).offset
+judging_stands law k t c e = subst (Gives (HasOffset t) (CommandStands (HasOffset t))) e (command_stands (HasOffset t) law k t (own_offsets t))

@@ -1,0 +1,75 @@
+-- What follows by a rule from what is true is true.
+use Rattle.std.proofs.Common.{◌≡◌, Bool, true, false, not, ◌&&◌, ◌||◌, List, [], ◌∷◌, get_or, All, refl, sym, ap, ap₂, ◌∙◌}
+use Rattle.std.proofs.lemmas.List.Elements.{All-head}
+use Rattle.std.proofs.lemmas.List.Folds.{Any-from_list_any, list_any_at}
+use Rattle.spec_terms.specs.Terms.{Not, Or, Term, Terms, app, nil, cons, list_of}
+use Rattle.spec_terms.specs.Values.{Interpretation, any_true}
+use Rattle.spec_terms.specs.Literals.{Clause, literal_of}
+use Rattle.spec_terms.specs.Agreement.{value_at, values_at}
+use Rattle.spec_proofs.specs.declared.Rule.{Rule}
+use Rattle.spec_proofs.specs.declared.Rule.TheVariants as rules
+use Rattle.spec_proofs.specs.Resolution.{IsWithin}
+use Rattle.spec_proofs.specs.Clauses.{IsResolvent, term_true, clause_true}
+use Rattle.spec_proofs.specs.Rules.{IsOr, IsWeakening, IsRight}
+use Rattle.spec_proofs.specs.Truths.{term_true_by}
+use Rattle.spec_proofs.proofs.Resolution.{complement_true, clause_true_by, resolvent_true}
+
+and_true : (b : Bool) → b && true ≡ b
+and_true true = refl
+and_true false = refl
+
+or_false : (b : Bool) → b || false ≡ b
+or_false true = refl
+or_false false = refl
+
+module _ (i : Interpretation) where
+  -- a clause that is true
+  abbrev pub IsTrue : Clause → Type 0
+  IsTrue c = clause_true i c ≡ true
+
+  -- a term is true where its literal is, under the truths that the interpretation gives to terms
+  pub by_literal : (t : Term) → term_true_by (term_true i) t ≡ term_true i t
+  unfolding literal_of value_at values_at
+  by_literal (app Not (cons t nil)) = complement_true (term_true i) (literal_of t) ∙ ap not (by_literal t ∙ sym (and_true (term_true i t)))
+  by_literal (app Not nil) = refl
+  by_literal (app Not (cons t (cons u us))) = refl
+  by_literal (app h ts) = refl
+
+  -- and so is a clause
+  by_literals : (c : Clause) → clause_true_by (term_true i) c ≡ clause_true i c
+  by_literals [] = refl
+  by_literals (t ∷ ts) = ap₂ (λ (a b : Bool). a || b) (by_literal t) (by_literals ts)
+
+  -- a clause that has all that a true one has is true
+  within_true : (c clause : Clause) → IsWithin c clause → IsTrue c → IsTrue clause
+  within_true c clause within h =
+      let t = Any-from_list_any (term_true i) c h in
+      let there = within t.1 (t.0, t.2, t.3) in
+      list_any_at (term_true i) clause there.0 t.1 there.1 (ap (term_true i) there.2 ∙ t.4)
+
+  -- a disjunction is true where one of its arguments is
+  one_argument : (ts : Terms) → any_true (values_at i ts) ≡ clause_true i (list_of ts)
+  unfolding values_at
+  one_argument nil = refl
+  one_argument (cons t ts) = ap (λ b. term_true i t || b) (one_argument ts)
+
+  or_true : (premises : List Clause) (clause : Clause) → All IsTrue premises → IsOr premises clause → IsTrue clause
+  unfolding value_at
+  or_true ((app Or ts ∷ []) ∷ []) clause each right = within_true (list_of ts) clause right (sym (one_argument ts) ∙ sym (or_false (any_true (values_at i ts))) ∙ All-head IsTrue (app Or ts ∷ []) [] each)
+  or_true _ clause each right = absurd right
+
+  weakening_true : (premises : List Clause) (clause : Clause) → All IsTrue premises → IsWeakening premises clause → IsTrue clause
+  weakening_true (c ∷ []) clause each right = within_true c clause right (All-head IsTrue c [] each)
+  weakening_true _ clause each right = absurd right
+
+  resolution_true : (premises : List Clause) (clause : Clause) → All IsTrue premises → IsResolvent premises clause → IsTrue clause
+  resolution_true premises clause each right = sym (by_literals clause) ∙ resolvent_true (term_true i) premises clause (λ k d h. by_literals (get_or premises k d) ∙ each k d h) right
+
+  -- what follows by a rule from what is true is true
+  pub rule_true : (rule : Rule) (premises : List Clause) (clause : Clause) → All IsTrue premises → IsRight rule premises clause → IsTrue clause
+  rule_true rules.Or premises clause each right = or_true premises clause each right
+  rule_true rules.Contraction premises clause each right = weakening_true premises clause each right
+  rule_true rules.Reordering premises clause each right = weakening_true premises clause each right
+  rule_true rules.Weakening premises clause each right = weakening_true premises clause each right
+  rule_true rules.Resolution premises clause each right = resolution_true premises clause each right
+  rule_true rules.ThResolution premises clause each right = resolution_true premises clause each right

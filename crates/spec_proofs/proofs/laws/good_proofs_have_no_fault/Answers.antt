@@ -1,0 +1,6 @@
+-- That good commands are those without a fault.
+use Rattle.spec_proofs.proofs.Good.{no_fault, good}
+use Rattle.spec_proofs.proofs.laws.good_proofs_have_no_fault.Goals as goal
+
+pub returns : goal.returns
+returns c = λ k end ts. (no_fault end k ts, good end k ts)

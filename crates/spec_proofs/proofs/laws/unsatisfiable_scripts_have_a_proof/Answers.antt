@@ -1,0 +1,6 @@
+-- That what no truths make true has a good proof.
+use Rattle.spec_proofs.proofs.Refuting.{refuted}
+use Rattle.spec_proofs.proofs.laws.unsatisfiable_scripts_have_a_proof.Goals as goal
+
+pub returns : goal.returns
+returns c = record { truths = λ script k s current never. refuted s (c.assertions_are_read.ensures.read script k s current) (c.assertions_are_read.ensures.room script k s current) never }

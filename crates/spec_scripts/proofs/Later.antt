@@ -1,0 +1,95 @@
+-- What is read under some symbols is read the same under more of them.
+use Rattle.std.proofs.Common.{◌≡◌, ℕ, Bool, true, false, List, [], ◌∷◌, ◌++◌, Option, Some, None, cond, refl, sym, ap, ◌∙◌, subst}
+use Rattle.std.specs.Prelude.{Ok, Err}
+use Rattle.std.specs.Str.{bytes_eq}
+use Rattle.spec_text.specs.declared.Kind.{Kind}
+use Rattle.spec_text.specs.declared.Kind.TheVariants.{Numeral, Decimal, Text, Simple, Quoted, Reserved as word_kind, Keyword}
+use Rattle.spec_text.specs.declared.Fault.{Fault}
+use Rattle.spec_text.specs.declared.Fault.TheVariants.{UnknownSymbol}
+use Rattle.spec_text.specs.Bytes.{Name}
+use Rattle.spec_text.specs.Answers.{Answer, ◌>>=◌, refused, require}
+use Rattle.spec_text.specs.Trees.{Tree, Trees, atom, list, none, more}
+use Rattle.spec_terms.specs.Terms.{Symbol, Term}
+use Rattle.spec_terms.specs.Theory.{Rule, look_up, theory}
+use Rattle.spec_terms.specs.Forms.{Form, malformed, reserved, applies, form}
+use Rattle.spec_terms.specs.Reading.{symbol_named, applied, applied_as, atom_term, by_form, term_in, terms_in}
+
+-- What an answer through two steps says of each.
+pub record Went {A B : Type 0} (a : Answer A) (f : A → Answer B) (b : B) : Type 0 where
+  pub first : A
+  pub was : a ≡ Ok first
+  pub then : f first ≡ Ok b
+
+-- the answer is this
+abbrev pub IsAnswer : {A : Type 0} → Answer A → A → Type 0
+IsAnswer (Ok x) y = x ≡ y
+IsAnswer (Err e) y = ⊥
+
+pub answer : {A : Type 0} (a : Answer A) (y : A) → a ≡ Ok y → IsAnswer a y
+answer a y e = subst (λ b. IsAnswer b y) (sym e) refl
+
+pub went : {A B : Type 0} (a : Answer A) (f : A → Answer B) (b : B) → (a >>= f) ≡ Ok b → Went a f b
+unfolding ◌>>=◌
+went (Ok x) f b e = record { first = x; was = refl; then = e }
+went (Err x) f b e = absurd (answer (Err x) b e)
+
+pub require_true : (b : Bool) (at : ℕ) (f : Fault) (u : Unit {0}) → require b at f ≡ Ok u → b ≡ true
+unfolding require
+require_true true at f u e = refl
+require_true false at f u e = absurd (answer (require false at f) u e)
+
+-- both steps answer
+joined : {A B : Type 0} (a : Answer A) (f : A → Answer B) (x : A) (y : B) → a ≡ Ok x → f x ≡ Ok y → (a >>= f) ≡ Ok y
+unfolding ◌>>=◌
+joined a f x y e h = ap (λ b. b >>= f) e ∙ h
+
+-- a symbol that is found is found among more
+found_later : (ss new : List Symbol) (n : Name) (s : Symbol) → symbol_named ss n ≡ Some s → symbol_named (ss ++ new) n ≡ Some s
+found_later [] new n s e = cc
+found_later (x ∷ ss) new n s e = go (bytes_eq x.name n) (found_later ss new n s) e
+  where
+    go : (b : Bool) → (symbol_named ss n ≡ Some s → symbol_named (ss ++ new) n ≡ Some s) → cond b (Some x) (symbol_named ss n) ≡ Some s → cond b (Some x) (symbol_named (ss ++ new) n) ≡ Some s
+    go true rest e = e
+    go false rest e = rest e
+
+module _ (ss new : List Symbol) where
+  applied_later : (place : ℕ) (n : Name) (at : ℕ) (ts : List Term) (u : Term) → applied ss place n at ts ≡ Ok u → applied (ss ++ new) place n at ts ≡ Ok u
+  applied_later place n at ts u e = go (look_up theory n) (symbol_named ss n) (found_later ss new n) e
+    where
+      go : (r : Option Rule) (o : Option Symbol) → ((s : Symbol) → o ≡ Some s → symbol_named (ss ++ new) n ≡ Some s) → applied_as r o place at ts ≡ Ok u → applied_as r (symbol_named (ss ++ new) n) place at ts ≡ Ok u
+      go (Some r) o later e = e
+      go None (Some s) later e = ap (λ x. applied_as None x place at ts) (later s refl) ∙ e
+      go None None later e = absurd (answer (refused place UnknownSymbol) u e)
+
+  atom_later : (at : ℕ) (k : Kind) (n : Name) (u : Term) → atom_term ss at k n ≡ Ok u → atom_term (ss ++ new) at k n ≡ Ok u
+  atom_later at Numeral n u e = e
+  atom_later at Decimal n u e = e
+  atom_later at Text n u e = e
+  atom_later at Keyword n u e = e
+  atom_later at word_kind n u e = e
+  atom_later at Simple n u e = applied_later at n at [] u e
+  atom_later at Quoted n u e = applied_later at n at [] u e
+
+  mutual
+    unfolding term_in terms_in
+
+    -- a text that is read is read the same under more symbols
+    pub read_later : (t : Tree) (u : Term) → term_in ss t ≡ Ok u → term_in (ss ++ new) t ≡ Ok u
+    read_later (atom at k n) u e = atom_later at k n u e
+    read_later (list at none end) u e = e
+    read_later (list at (more head us) end) u e = go (form head us) (all_later us) e
+      where
+        go : (f : Form) → ((ts : List Term) → terms_in ss us ≡ Ok ts → terms_in (ss ++ new) us ≡ Ok ts) → by_form ss at f (terms_in ss us) ≡ Ok u → by_form (ss ++ new) at f (terms_in (ss ++ new) us) ≡ Ok u
+        go malformed all e = e
+        go (reserved place) all e = e
+        go (applies place n) all e =
+            let a = went (terms_in ss us) _ u e in
+            joined (terms_in (ss ++ new) us) _ a.first u (all a.first a.was) (applied_later place n at a.first u a.then)
+
+    -- and so are texts, in their order
+    all_later : (ts : Trees) (us : List Term) → terms_in ss ts ≡ Ok us → terms_in (ss ++ new) ts ≡ Ok us
+    all_later none us e = e
+    all_later (more t ts) us e =
+        let a = went (term_in ss t) _ us e in
+        let c = went (terms_in ss ts) _ us a.then in
+        joined (term_in (ss ++ new) t) _ a.first us (read_later t a.first a.was) (joined (terms_in (ss ++ new) ts) _ c.first us (all_later ts c.first c.was) c.then)

@@ -1,0 +1,164 @@
+-- Lexemes stand in their text, and so do the trees that they are, and their first fault.
+use Rattle.std.proofs.Common.{◌≡◌, ◌≤◌, ◌<◌, ℕ, zero, suc, ◌+◌, ◌-◌, ◌==◌, Bool, true, false, cond, List, [], ◌∷◌, ◌++◌, length, drop, Option, Some, None, refl, sym, ap, ◌∙◌, arith, subst, append_assoc, length-append, length-drop}
+use Rattle.std.specs.Prelude.{nat_lt}
+use Rattle.std.proofs.lemmas.List.{drop-drop}
+use Rattle.spec_text.specs.declared.Fault.TheVariants.{BadChar}
+use Rattle.spec_text.specs.declared.Kind.{Kind}
+use Rattle.spec_text.specs.declared.Kind.TheVariants.{Decimal, Numeral}
+use Rattle.spec_text.specs.Bytes.{is_blank, is_digit, is_symbol_byte, is_in_bars, front}
+use Rattle.spec_text.specs.Lexemes.{Lexeme, blank, opens, closes, word, wrong, Piece, piece, ended, decimal, number, string, string_body, quoted, keyword, first_piece, before, lexemes, lexemes_from}
+use Rattle.spec_text.specs.Trees.{Tree, Trees, atom, list, none, more, spelled, spelled_all}
+use Rattle.spec_text.specs.Offsets.{AllOffsets, AllOffsetsOf}
+use Rattle.spec_text.specs.Faults.{Located, first_fault}
+use Rattle.spec_text.proofs.Tests.{front_then_rest}
+
+-- before a fault stand no more bytes than there are
+abbrev FitsBy : Lexeme → ℕ → ℕ → Type 0
+FitsBy (wrong f) n size = n ≤ size
+FitsBy _ n size = Unit {0}
+
+abbrev Fits : ℕ → Piece → Type 0
+Fits size p = FitsBy p.lexeme p.size size
+
+either : (size : ℕ) (c : Bool) (p q : Piece) → Fits size p → Fits size q → Fits size (cond c p q)
+either size true p q h k = h
+either size false p q h k = k
+
+ended_fits : (size : ℕ) (rest : List ℕ) (n : ℕ) (k : Kind) (name : List ℕ) → n ≤ size → Fits size (ended rest n (word k name))
+ended_fits size [] n k name h = tt
+ended_fits size (b ∷ bs) n k name h = either size (is_symbol_byte b) (piece (wrong BadChar) n) (piece (word k name) n) h tt
+
+decimal_fits : (size : ℕ) (digits fraction rest : List ℕ) → length digits + 1 + length fraction ≤ size → Fits size (decimal digits fraction rest)
+decimal_fits size digits [] rest h = omega (arith, h)
+decimal_fits size digits (d ∷ ds) rest h = ended_fits size rest (length digits + 1 + length (d ∷ ds)) Decimal _ h
+
+-- a front is no longer than the whole
+front_within : (test : ℕ → Bool) (bs : List ℕ) → length (front test bs) ≤ length bs
+front_within test bs = omega (arith, ap length (front_then_rest test bs), length-append (front test bs) (drop (length (front test bs)) bs))
+
+number_fits : (size : ℕ) (digits rest : List ℕ) → length digits + length rest ≤ size → Fits size (number digits rest)
+number_fits size digits [] h = tt
+number_fits size digits (b ∷ bs) h = either size (b == 46) _ _
+    (decimal_fits size digits (front is_digit bs) (drop (length (front is_digit bs)) bs) (omega (arith, h, front_within is_digit bs)))
+    (ended_fits size (b ∷ bs) (length digits) Numeral digits (omega (arith, h)))
+
+string_fits : (size : ℕ) (o : Option (List ℕ)) → Fits size (string o)
+string_fits size None = omega arith
+string_fits size (Some body) = tt
+
+quoted_fits : (size : ℕ) (name rest : List ℕ) → length name + 1 ≤ size → Fits size (quoted name rest)
+quoted_fits size name [] h = omega arith
+quoted_fits size name (b ∷ bs) h = either size (b == 124) _ _ tt h
+
+keyword_fits : (size : ℕ) (name : List ℕ) → Fits size (keyword name)
+keyword_fits size [] = omega arith
+keyword_fits size (b ∷ bs) = tt
+
+rest_within : (test : ℕ → Bool) (bs : List ℕ) → length (front test bs) + length (drop (length (front test bs)) bs) ≤ length bs
+rest_within test bs = omega (arith, ap length (front_then_rest test bs), length-append (front test bs) (drop (length (front test bs)) bs))
+
+first_fits : (b : ℕ) (bs : List ℕ) → Fits (1 + length bs) (first_piece b bs)
+unfolding first_piece
+first_fits b bs =
+    let size : ℕ = 1 + length bs in
+    either size (is_blank b) _ _ tt (
+    either size (b == 59) _ _ tt (
+    either size (b == 40) _ _ tt (
+    either size (b == 41) _ _ tt (
+    either size (b == 48) _ _ (number_fits size (48 ∷ []) bs (omega arith)) (
+    either size (is_digit b) _ _ (number_fits size (b ∷ front is_digit bs) (drop (length (front is_digit bs)) bs) (omega (arith, rest_within is_digit bs))) (
+    either size (b == 34) _ _ (string_fits size (string_body bs)) (
+    either size (b == 124) _ _ (quoted_fits size (front is_in_bars bs) (drop (length (front is_in_bars bs)) bs) (omega (arith, front_within is_in_bars bs))) (
+    either size (b == 58) _ _ (keyword_fits size (front is_symbol_byte bs)) (
+    either size (is_symbol_byte b) _ _ tt (omega arith))))))))))
+
+-- a lexeme stands from an offset on and before another, and a fault no further than the other
+abbrev StandsBy : ℕ → ℕ → ℕ → Lexeme → Type 0
+StandsBy low high at (wrong f) = at ≤ high
+StandsBy low high at _ = (low ≤ at) × (at < high)
+
+abbrev Stand : ℕ → ℕ → List (ℕ × Lexeme) → Type 0
+Stand low high [] = Unit {0}
+Stand low high (x ∷ xs) = StandsBy low high x.0 x.1 × Stand low high xs
+
+module _ (text : List ℕ) (low : ℕ) where
+  next_here : (at b : ℕ) (bs : List ℕ) → drop at text ≡ b ∷ bs → drop (at + 1) text ≡ bs
+  next_here at b bs e = sym (drop-drop 1 at text) ∙ ap (drop 1) e
+
+  stands_before : (at : ℕ) (p : Piece) (rest : List (ℕ × Lexeme)) → low ≤ at → at < length text → Fits (length text - at) p → Stand low (length text) rest → Stand low (length text) (before at p rest)
+  stands_before at p rest from within fits behind = go p.lexeme fits
+    where
+      go : (x : Lexeme) → FitsBy x p.size (length text - at) → Stand low (length text) (before at (piece x p.size) rest)
+      go blank f = behind
+      go opens f = ((from, within), behind)
+      go closes f = ((from, within), behind)
+      go (word k name) f = ((from, within), behind)
+      go (wrong e) f = (omega (arith, within, f), tt)
+
+  stands_from : (n at : ℕ) (bs : List ℕ) → low ≤ at → drop at text ≡ bs → Stand low (length text) (lexemes n at bs)
+  unfolding lexemes
+  stands_from n at [] from e = tt
+  stands_from (suc n) at (b ∷ bs) from e = stands_from n (at + 1) bs (omega (arith, from)) (next_here at b bs e)
+  stands_from zero at (b ∷ bs) from e =
+      let size : 1 + length bs ≡ length text - at = omega (arith, ap length e, length-drop at text) in
+      stands_before at (first_piece b bs) _ from (omega (arith, size)) (subst (λ n. Fits n (first_piece b bs)) size (first_fits b bs))
+      (stands_from ((first_piece b bs).size - 1) (at + 1) bs (omega (arith, from)) (next_here at b bs e))
+
+lexemes_stand : (text : List ℕ) (at : ℕ) → Stand at (length text) (lexemes_from text at)
+lexemes_stand text at = stands_from text at 0 at (drop at text) (omega arith) refl
+
+-- what stands behind others
+stand_behind : (low high : ℕ) (earlier rest : List (ℕ × Lexeme)) → Stand low high (earlier ++ rest) → Stand low high rest
+stand_behind low high [] rest h = h
+stand_behind low high (x ∷ earlier) rest h = stand_behind low high earlier rest h.1
+
+module _ (low high : ℕ) where
+  -- an offset of the text
+  abbrev IsOffset : ℕ → Type 0
+  IsOffset n = (low ≤ n) × (n < high)
+
+  mutual
+    tree_stands : (t : Tree) (rest : List (ℕ × Lexeme)) → Stand low high (spelled t ++ rest) → AllOffsets IsOffset t × Stand low high rest
+    tree_stands (atom at k bytes) rest h = h
+    tree_stands (list at ts end) rest h =
+        let inside = trees_stand ts ((end, closes) ∷ rest) (subst (Stand low high) (append_assoc (spelled_all ts) ((end, closes) ∷ []) rest) h.1) in
+        ((h.0, inside.0), inside.1.1)
+
+    trees_stand : (ts : Trees) (rest : List (ℕ × Lexeme)) → Stand low high (spelled_all ts ++ rest) → AllOffsetsOf IsOffset ts × Stand low high rest
+    trees_stand none rest h = (tt, h)
+    trees_stand (more t ts) rest h =
+        let first = tree_stands t (spelled_all ts ++ rest) (subst (Stand low high) (append_assoc (spelled t) (spelled_all ts) rest) h) in
+        let others = trees_stand ts rest first.1 in
+        ((first.0, others.0), others.1)
+
+-- a fault, where there is one, stands no further than so many bytes
+abbrev StandsAt : ℕ → Option Located → Type 0
+StandsAt high None = Unit {0}
+StandsAt high (Some f) = f.offset ≤ high
+
+one_or_other : (high : ℕ) (c : Bool) (o p : Option Located) → StandsAt high o → StandsAt high p → StandsAt high (cond c o p)
+one_or_other high true o p h k = h
+one_or_other high false o p h k = k
+
+-- the first fault of lexemes stands among them, or at the end
+first_stands : (limit low high n : ℕ) (xs : List (ℕ × Lexeme)) → Stand low high xs → StandsAt high (first_fault limit high n xs)
+unfolding first_fault
+first_stands limit low high zero [] h = tt
+first_stands limit low high (suc n) [] h = omega arith
+first_stands limit low high n ((at, blank) ∷ xs) h = first_stands limit low high n xs h.1
+first_stands limit low high n ((at, opens) ∷ xs) h = one_or_other high (nat_lt n limit) _ _ (first_stands limit low high (suc n) xs h.1) (omega (arith, h.0.1))
+first_stands limit low high zero ((at, closes) ∷ xs) h = omega (arith, h.0.1)
+first_stands limit low high (suc n) ((at, closes) ∷ xs) h = first_stands limit low high n xs h.1
+first_stands limit low high n ((at, word k bytes) ∷ xs) h = first_stands limit low high n xs h.1
+first_stands limit low high n ((at, wrong f) ∷ xs) h = h.0
+
+-- trees that stand in a text behind other lexemes have their offsets there
+pub trees_in_text : (text : List ℕ) (at : ℕ) (earlier rest : List (ℕ × Lexeme)) (ts : Trees) → lexemes_from text at ≡ earlier ++ (spelled_all ts ++ rest) → AllOffsetsOf (λ n. (at ≤ n) × (n < length text)) ts
+trees_in_text text at earlier rest ts e = (trees_stand at (length text) ts rest (stand_behind at (length text) earlier (spelled_all ts ++ rest) (subst (Stand at (length text)) e (lexemes_stand text at)))).0
+
+pub tree_in_text : (text : List ℕ) (at : ℕ) (t : Tree) (rest : List (ℕ × Lexeme)) → lexemes_from text at ≡ spelled t ++ rest → AllOffsets (λ n. (at ≤ n) × (n < length text)) t
+tree_in_text text at t rest e = (tree_stands at (length text) t rest (subst (Stand at (length text)) e (lexemes_stand text at))).0
+
+-- the first fault of what stands in a text behind other lexemes has its offset there
+pub fault_in_text : (text : List ℕ) (at limit n : ℕ) (earlier rest : List (ℕ × Lexeme)) (f : Located) → lexemes_from text at ≡ earlier ++ rest → first_fault limit (length text) n rest ≡ Some f → f.offset ≤ length text
+fault_in_text text at limit n earlier rest f e h = subst (StandsAt (length text)) h (first_stands limit at (length text) n rest (stand_behind at (length text) earlier rest (subst (Stand at (length text)) e (lexemes_stand text at))))
