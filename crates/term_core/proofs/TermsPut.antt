@@ -1,5 +1,5 @@
 -- What an insert leaves of a table.
-use Rattle.std.proofs.Common.{◌≡◌, ℕ, ◌<◌, inl, inr, List, [], ◌∷◌, ◌++◌, length, get_or, None, sym, ◌∙◌, ap, subst, arith, length-append, Result, Ok, Err, OnOk, OnErr}
+use Rattle.std.proofs.Common.{◌≡◌, ℕ, ◌<◌, ◌⊎◌, inl, inr, List, [], ◌∷◌, ◌++◌, length, get_or, None, sym, ◌∙◌, ap, subst, arith, length-append, Result, Ok, Err, OnOk, OnErr}
 use Rattle.std.proofs.lemmas.List.{append-nil, length-map, map-append}
 use Rattle.std.proofs.Math.Seq.{get_or-append_seam}
 use Rattle.spec_text.specs.Bytes.{Name}
@@ -63,6 +63,11 @@ module _ (symbols : List Symbol) (old : List Node) (node : Node) (place : ℕ) (
   pub puts_once : (new : List Node) → Puts old node place new → IsIn before (number place) → table_of symbols new ≡ before
   puts_once new (inl p) is_in = ap (table_of symbols) p.0
   puts_once new (inr p) is_in = absurd (omega (arith, is_in, long, p.1))
+
+  -- no term came, or the node's
+  pub puts_added : (new : List Node) → Puts old node place new → (table_of symbols new ≡ before) ⊎ ((table_of symbols new).terms ≡ before.terms ++ node_term before node ∷ [])
+  puts_added new (inl p) = inl (ap (table_of symbols) p.0)
+  puts_added new (inr p) = inr (grows new p.0)
 
   pub puts_known : (new : List Node) → Puts old node place new → (id : TermId) → IsIn before id → term_at before id ≡ node_term before node → table_of symbols new ≡ before
   puts_known new (inl p) id is_in e = ap (table_of symbols) p.0

@@ -1,6 +1,6 @@
 //! The table of terms: each term once, by its number.
 
-ghost use Rattle.std.specs.Prelude.{◌≡◌, map, MatchBool, false, ◌<◌, ◌≤◌, [], ◌∷◌, ◌++◌, length, take, None, Some, All, IfOk, OnErr, OnOk, MatchOption, slice_get};
+ghost use Rattle.std.specs.Prelude.{◌⊎◌, ◌≡◌, map, MatchBool, false, ◌<◌, ◌≤◌, [], ◌∷◌, ◌++◌, length, take, None, Some, All, IfOk, OnErr, OnOk, MatchOption, slice_get};
 ghost use Rattle.spec_terms.specs.Terms.{Truth, sort_of, head_takes, negated};
 ghost use Rattle.spec_terms.specs.Reading.{symbol_named};
 ghost use Rattle.spec_terms.specs.Subsets.{IsClosed};
@@ -93,6 +93,7 @@ impl TermTable {
         ensures kept { Extends self.old self.new × (self.new.symbols ≡ self.old.symbols) }
         ensures once { IfOk result (λ id. IsIn self.old id → self.new ≡ self.old) }
         ensures known { (id : Number) → IsIn self.old id → term_at self.old id ≡ node_term self.old node → self.new ≡ self.old }
+        ensures added { OnOk result ((self.new ≡ self.old) ⊎ (self.new.terms ≡ self.old.terms ++ node_term self.old node ∷ [])) }
         ensures same { OnErr result (self.new ≡ self.old) }
     {
         let (at, _) = self.nodes.insert_full(node)?;

@@ -1,10 +1,10 @@
 -- A node's term is there by its number, and the rest stays.
-use Rattle.std.proofs.Common.{◌≡◌, sym, ap, ◌∙◌, subst}
+use Rattle.std.proofs.Common.{◌≡◌, ◌⊎◌, ◌++◌, [], ◌∷◌, sym, ap, ◌∙◌, subst}
 use Rattle.term_core.specs.Tables.{TableView, term_at, IsIn, IsPlaced, node_term, Extends, table_of}
 use Rattle.term_core.specs.declared.ids.TermId.{TermId as Number}
 use Rattle.term_core.proofs.TermsExtend.{Extends-self}
 use Rattle.term_core.proofs.NodesPut.{puts, Puts}
-use Rattle.term_core.proofs.TermsPut.{puts_whole, puts_there, puts_kept, puts_once, puts_known, number}
+use Rattle.term_core.proofs.TermsPut.{puts_whole, puts_there, puts_kept, puts_once, puts_added, puts_known, number}
 use Rattle.term_core.proofs.terms.TermTable.put.Goals as goal
 
 placed : (c : goal.In_ok-at) → IsPlaced (table_of c.self.inside.symbols c.self.inside.nodes.keys) c.args.node
@@ -40,6 +40,11 @@ pub returns-clause-once : goal.returns-clause-once
 returns-clause-once c =
     subst (λ t. IsIn t (number c.in_ok-at.at) → new c ≡ t) c.self.view_is
     (puts_once c.self.inside.symbols c.self.inside.nodes.keys c.args.node c.in_ok-at.at c.self.invariant (placed c) c.insert_full.new.self.keys (here c))
+
+pub returns-clause-added : goal.returns-clause-added
+returns-clause-added c =
+    subst (λ t. (new c ≡ t) ⊎ ((new c).terms ≡ t.terms ++ node_term t c.args.node ∷ [])) c.self.view_is
+    (puts_added c.self.inside.symbols c.self.inside.nodes.keys c.args.node c.in_ok-at.at c.self.invariant (placed c) c.insert_full.new.self.keys (here c))
 
 pub returns-clause-known : goal.returns-clause-known
 returns-clause-known c =

@@ -1,0 +1,186 @@
+-- Reading terms from left to right: what each step keeps.
+use Rattle.std.proofs.Common.{◌≡◌, ℕ, ◌+◌, ◌-◌, ◌<◌, ◌≤◌, Bool, true, false, Option, Some, None, inl, inr, List, [], ◌∷◌, ◌++◌, length, take, drop, map, Contains, refl, sym, ap, ◌∙◌, subst, arith, length-append}
+use Rattle.std.specs.Prelude.{Result, Ok, Err, min}
+use Rattle.std.proofs.lemmas.List.{take_all, length-take, length-drop, take-append-drop, map-append}
+use Rattle.std.proofs.lemmas.List.Elements.{All-nil, Contains-append_left, Contains-append_right, Contains-append_cases}
+use Rattle.spec_text.specs.declared.Kind.{Kind}
+use Rattle.spec_text.specs.Bytes.{Name}
+use Rattle.spec_text.specs.Answers.{Answer}
+use Rattle.spec_text.specs.Trees.{Tree, Trees, atom, list, none, more}
+use Rattle.spec_terms.specs.Terms.{Symbol, Term}
+use Rattle.spec_terms.specs.Subterms.{subterms_of}
+use Rattle.spec_terms.specs.Reading.{applied, atom_term, term_in, terms_in}
+use Rattle.term_core.specs.declared.ids.TermId.{TermId}
+use Rattle.term_core.specs.Tables.{TableView, IsIn}
+use Rattle.smt_sexpr.specs.declared.items.Item.{Item}
+use Rattle.smt_sexpr.specs.Items.{trees_in, split_first}
+use Rattle.sort_check.specs.declared.faults.TermFault.{TermFault}
+use Rattle.sort_check.specs.declared.frames.Frame.{Frame}
+use Rattle.sort_check.specs.declared.functions.Function.{Function}
+use Rattle.sort_check.specs.declared.read.Values.{Values}
+use Rattle.sort_check.specs.Functions.{function_term, Takes, IsFunction, located_of}
+use Rattle.sort_check.specs.Building.{Grows}
+use Rattle.sort_check.specs.Resuming.{Open, followed, resumed}
+use Rattle.sort_check.specs.Frames.{open_of, opens_of, HasBegun, form_of, behind_first, form_fault}
+use Rattle.sort_check.specs.Stacks.{Stack, Replaces}
+use Rattle.sort_check.specs.Reads.{HasRead}
+use Rattle.sort_check.proofs.Subterms.{AreSubterms, self_subterms, subterms_along, member_subterms}
+use Rattle.sort_check.proofs.Kept.{function_keeps}
+use Rattle.sort_check.proofs.Growing.{grows_same, grows_along}
+use Rattle.sort_check.proofs.Resuming.{followed_term, followed_fault, followed_list, list_fault, closed_term, closed_fault, resumed_same, resumed_more, resumed_fault, resumed_closed_fault, resumed_start, resumed_end}
+
+-- each list begins where no fewer terms were read than where the one around it began
+abbrev pub Rises : ℕ → List Open → ℕ → Type 0
+Rises low [] n = low ≤ n
+Rises low (o ∷ os) n = (low ≤ o.from) × Rises o.from os n
+
+rises_more : (low : ℕ) (os : List Open) (m n : ℕ) → m ≤ n → Rises low os m → Rises low os n
+rises_more low [] m n le h = omega (arith, le, h)
+rises_more low (o ∷ os) m n le h = (h.0, rises_more o.from os m n le h.1)
+
+rises_opened : (low : ℕ) (os : List Open) (o : Open) (n : ℕ) → o.from ≡ n → Rises low os n → Rises low (os ++ o ∷ []) n
+rises_opened low [] o n e h = (omega (arith, e, h), omega (arith, e))
+rises_opened low (p ∷ os) o n e h = (h.0, rises_opened p.from os o n e h.1)
+
+pub rises_closed : (low : ℕ) (os : List Open) (o : Open) (n : ℕ) → Rises low (os ++ o ∷ []) n → Rises low os o.from × (o.from ≤ n)
+rises_closed low [] o n h = (h.0, h.1)
+rises_closed low (p ∷ os) o n h = let r = rises_closed p.from os o n h.1 in ((h.0, r.0), r.1)
+
+-- What was read, and what is left.
+pub record Reading (most : ℕ) (all : Trees) (old now : TableView) (crowded : Bool) (os : List Open) (ids : List TermId) (rest : Trees) : Type 0 where
+  -- the terms that were read
+  pub terms : List Term
+  -- the values stand for them
+  pub stack : Stack crowded most now terms ids
+  -- with what is left they come to all
+  pub same : terms_in old.symbols all ≡ resumed old.symbols os terms rest
+  -- their subterms alone came
+  pub grows : Grows terms old now
+  -- the open lists begin one behind the other
+  pub rises : Rises 0 os (length terms)
+
+pub reading_begins : (most : ℕ) (all : Trees) (old : TableView) → Reading most all old old false [] [] all
+reading_begins most all old = record {
+  terms = [];
+  stack = record { count = refl; stand = record { there = All-nil (λ i. IsIn old i); terms = refl } };
+  same = resumed_start old.symbols all;
+  grows = grows_same [] old;
+  rises = omega arith;
+}
+
+-- all are subterms where a term stands for the last of them
+replaced_subterms : (ts : List Term) (n : ℕ) (t : Term) → AreSubterms (drop n ts) (t ∷ []) → AreSubterms ts (take n ts ++ t ∷ [])
+replaced_subterms ts n t h u part = elim (Contains-append_cases (take n ts) (drop n ts) u (subst (λ us. Contains us u) (sym (take-append-drop n ts)) part)) [
+  | inl front ↦ self_subterms (take n ts ++ t ∷ []) u (Contains-append_left (take n ts) (t ∷ []) u front)
+  | inr back ↦ subterms_along (drop n ts) (t ∷ []) (take n ts ++ t ∷ []) h (member_subterms (t ∷ []) (take n ts ++ t ∷ []) (λ v one. Contains-append_right (take n ts) (t ∷ []) v one)) u back
+]
+
+module _ (most : ℕ) (all : Trees) (old now : TableView) (crowded : Bool) (os : List Open) (ids : List TermId) (rest : Trees) (h : Reading most all old now crowded os ids rest) where
+  -- a term in the place of its arguments
+  replaced : (new : TableView) (next : Bool) (n : ℕ) (t : Term) (values : List TermId) (ps : List Open) (left : Trees) → Replaces most now new h.terms n t values (Ok next) → AreSubterms (drop n h.terms) (t ∷ [])
+      → resumed old.symbols os h.terms rest ≡ resumed old.symbols ps (take n h.terms ++ t ∷ []) left → Rises 0 ps (length (take n h.terms ++ t ∷ [])) → Reading most all old new next ps values left
+  replaced new next n t values ps left r kept same rises = record {
+    terms = take n h.terms ++ t ∷ [];
+    stack = r.ends;
+    same = h.same ∙ same;
+    grows = grows_along old now new h.terms (t ∷ []) (take n h.terms ++ t ∷ []) h.grows (replaced_subterms h.terms n t kept) r.grows (member_subterms (t ∷ []) (take n h.terms ++ t ∷ []) (λ v one. Contains-append_right (take n h.terms) (t ∷ []) v one));
+    rises = rises;
+  }
+
+  -- a fault of the next tree
+  next_fault : (t : Tree) (ts : Trees) (e : TermFault) → rest ≡ more t ts → term_in old.symbols t ≡ Err (located_of e) → terms_in old.symbols all ≡ Err (located_of e)
+  next_fault t ts e is wrong = h.same ∙ resumed_fault old.symbols os h.terms rest (located_of e) (ap (followed old.symbols h.terms) is ∙ followed_fault old.symbols h.terms t ts (located_of e) wrong)
+
+  module _ (symbols : List Symbol) (same : symbols ≡ now.symbols) where
+    here_symbols : symbols ≡ old.symbols
+    here_symbols = same ∙ h.grows.keeps.symbols
+
+    pub atom_read : (at : ℕ) (k : Kind) (n : Name) (ts : Trees) (f : Function) (new : TableView) (next : Bool) (from : ℕ) (values : List TermId) → rest ≡ more (atom at k n) ts
+        → IsFunction symbols 0 (λ _. atom_term symbols at k n) (Ok f) → from ≡ length ids → Replaces most now new h.terms from (function_term now.symbols f (drop from h.terms)) values (Ok next) → Reading most all old new next os values ts
+    unfolding term_in
+    atom_read at k n ts f new next from values is fun whole r =
+        let args : List Term = drop from h.terms in
+        let t : Term = function_term now.symbols f args in
+        let none_left : length args ≡ 0 = omega (arith, length-drop from h.terms, h.stack.count, whole) in
+        let front : take from h.terms ≡ h.terms = take_all from h.terms (omega (arith, h.stack.count, whole)) in
+        let read : term_in old.symbols (atom at k n) ≡ Ok t = ap (λ s. atom_term s at k n) (sym here_symbols) ∙ fun.1 args none_left ∙ ap (λ s. Ok (function_term s f args)) same in
+        let takes : Takes now.symbols f (length args) = subst (λ s. Takes s f (length args)) same (subst (Takes symbols f) (sym none_left) fun.0) in
+        replaced new next from t values os ts r (function_keeps now.symbols f args takes)
+        (resumed_same old.symbols os h.terms (take from h.terms ++ t ∷ []) rest ts (ap (followed old.symbols h.terms) is ∙ followed_term old.symbols h.terms (atom at k n) ts t read ∙ ap (λ us. followed old.symbols (us ++ t ∷ []) ts) (sym front)))
+        (rises_more 0 os (length h.terms) (length (take from h.terms ++ t ∷ [])) (omega (arith, length-append (take from h.terms) (t ∷ []), ap length front)) h.rises)
+
+    pub atom_refused : (at : ℕ) (k : Kind) (n : Name) (ts : Trees) (e : TermFault) → rest ≡ more (atom at k n) ts → IsFunction symbols 0 (λ _. atom_term symbols at k n) (Err e) → terms_in old.symbols all ≡ Err (located_of e)
+    unfolding term_in
+    atom_refused at k n ts e is fun = next_fault (atom at k n) ts e is (ap (λ s. atom_term s at k n) (sym here_symbols) ∙ fun [] refl)
+
+    pub closed_read : (ps : List Open) (o : Open) (f : Function) (new : TableView) (next : Bool) (values : List TermId) → rest ≡ none → os ≡ ps ++ o ∷ []
+        → IsFunction symbols (length ids - o.from) (applied symbols o.place o.name o.at) (Ok f) → Replaces most now new h.terms o.from (function_term now.symbols f (drop o.from h.terms)) values (Ok next) → Reading most all old new next ps values o.behind
+    closed_read ps o f new next values is opens fun r =
+        let args : List Term = drop o.from h.terms in
+        let t : Term = function_term now.symbols f args in
+        let front : List Term = take o.from h.terms in
+        let count : length args ≡ length ids - o.from = omega (arith, length-drop o.from h.terms, h.stack.count) in
+        let rose = rises_closed 0 ps o (length h.terms) (subst (λ qs. Rises 0 qs (length h.terms)) opens h.rises) in
+        let read : applied old.symbols o.place o.name o.at args ≡ Ok t = ap (λ s. applied s o.place o.name o.at args) (sym here_symbols) ∙ fun.1 args count ∙ ap (λ s. Ok (function_term s f args)) same in
+        let takes : Takes now.symbols f (length args) = subst (λ s. Takes s f (length args)) same (subst (Takes symbols f) (sym count) fun.0) in
+        replaced new next o.from t values ps o.behind r (function_keeps now.symbols f args takes)
+        ((λ i. resumed old.symbols (opens i) h.terms (is i)) ∙ sym (resumed_more old.symbols ps o (front ++ t ∷ []) h.terms o.behind none (sym (closed_term old.symbols h.terms o t read))))
+        (rises_more 0 ps o.from (length (front ++ t ∷ [])) (omega (arith, length-append front (t ∷ []), length-take o.from h.terms, rose.1)) rose.0)
+
+    pub closed_refused : (ps : List Open) (o : Open) (e : TermFault) → rest ≡ none → os ≡ ps ++ o ∷ [] → IsFunction symbols (length ids - o.from) (applied symbols o.place o.name o.at) (Err e) → terms_in old.symbols all ≡ Err (located_of e)
+    closed_refused ps o e is opens fun =
+        let args : List Term = drop o.from h.terms in
+        let count : length args ≡ length ids - o.from = omega (arith, length-drop o.from h.terms, h.stack.count) in
+        let wrong : applied old.symbols o.place o.name o.at args ≡ Err (located_of e) = ap (λ s. applied s o.place o.name o.at args) (sym here_symbols) ∙ fun args count in
+        h.same ∙ (λ i. resumed old.symbols (opens i) h.terms (is i)) ∙ resumed_closed_fault old.symbols ps o h.terms none (located_of e) (closed_fault old.symbols h.terms o (located_of e) wrong)
+
+    -- what its arguments are for
+    pub closed_takes : (n : ℕ) (f : Function) → Takes symbols f n → Takes now.symbols f n
+    closed_takes n f h = subst (λ s. Takes s f n) same h
+
+  pub list_read : (text : List ℕ) (at end : ℕ) (inside : Trees) (behind : List Item) (from : ℕ) (f : Frame) (us : List Item) → rest ≡ more (list at inside end) (trees_in text behind) → from ≡ length ids
+      → HasBegun text at inside behind from f us → Reading most all old now crowded (os ++ open_of text f ∷ []) ids (trees_in text us)
+  list_read text at end inside behind from f us is whole b =
+      let o : Open = open_of text f in
+      let first : o.from ≡ length h.terms = omega (arith, b.from, whole, h.stack.count) in
+      record {
+        terms = h.terms;
+        stack = h.stack;
+        same = h.same ∙ resumed_more old.symbols os o h.terms h.terms rest (trees_in text us)
+            (ap (followed old.symbols h.terms) is ∙ (λ i. followed old.symbols h.terms (more (list (sym b.at i) inside end) (sym b.behind i))) ∙ followed_list old.symbols h.terms o inside end b.head first ∙ ap (resumed old.symbols (o ∷ []) h.terms) (sym b.arguments));
+        grows = h.grows;
+        rises = rises_opened 0 os o (length h.terms) first h.rises;
+      }
+
+  pub list_refused : (at end : ℕ) (inside ts : Trees) (e : TermFault) → rest ≡ more (list at inside end) ts → form_fault at (form_of inside) ≡ Some (located_of e) → terms_in old.symbols all ≡ Err (located_of e)
+  list_refused at end inside ts e is wrong = next_fault (list at inside end) ts e is (list_fault old.symbols at inside end (located_of e) wrong)
+
+  -- what is on the stack
+  pub stacked : (ts : List Term) × Stack crowded most now ts ids
+  stacked = (h.terms, h.stack)
+
+  pub all_read : (v : Values) → rest ≡ none → os ≡ [] → v.ids.items ≡ ids → v.crowded ≡ crowded → HasRead most all old now v
+  all_read v is closed ids_are crowded_is = record {
+    terms = h.terms;
+    read = h.same ∙ (λ i. resumed old.symbols (closed i) h.terms (is i)) ∙ resumed_end old.symbols h.terms;
+    stack = subst (λ xs. Stack v.crowded most now h.terms xs) (sym ids_are) (subst (λ b. Stack b most now h.terms ids) (sym crowded_is) h.stack);
+    grows = h.grows;
+  }
+
+-- the next tree
+pub split_more : (ts us : Trees) (t : Tree) → Some (t, us) ≡ split_first ts → ts ≡ more t us
+split_more none us t e = absurd (let wrong = e in cc)
+split_more (more u vs) us t e =
+    let p : (let z : Tree × Trees = (t, us) in z) ≡ (u, vs) = cc in
+    λ i. more (ap (λ (z : Tree × Trees). z.0) (sym p) i) (ap (λ (z : Tree × Trees). z.1) (sym p) i)
+
+pub split_none : (ts : Trees) → None ≡ split_first ts → ts ≡ none
+split_none none e = refl
+split_none (more t ts) e = absurd (let wrong = e in cc)
+
+pub next_is : (text : List ℕ) (rest behind : List Item) (t u : Tree) → Some (u, trees_in text behind) ≡ split_first (trees_in text rest) → t ≡ u → trees_in text rest ≡ more t (trees_in text behind)
+next_is text rest behind t u e same = split_more (trees_in text rest) (trees_in text behind) u e ∙ ap (λ v. more v (trees_in text behind)) (sym same)
+
+-- the innermost open list
+pub opens_last : (text : List ℕ) (fs gs : List Frame) (f : Frame) → fs ≡ gs ++ f ∷ [] → opens_of text fs ≡ opens_of text gs ++ open_of text f ∷ []
+opens_last text fs gs f e = ap (opens_of text) e ∙ map-append (open_of text) gs (f ∷ [])

@@ -1,0 +1,7 @@
+use Rattle.sort_check.proofs.Named.{theory_first}
+use Rattle.sort_check.specs.Heads.{rule_of}
+use Rattle.sort_check.proofs.functions.function_named.Goals as goal
+
+pub returns-in-Some : goal.returns-in-Some
+returns-in-Some c =
+    theory_first c.args.symbols.now c.args.place c.args.name.now c.args.at c.args.count (rule_of c.in-Some.head) c.core_function.result c.in-Some.ensures (c.core_function.ensures c.args.symbols.now)

@@ -1,0 +1,46 @@
+-- The values that were read so far, and the terms that they stand for. Source: own.
+use Rattle.std.specs.Prelude.{◌≡◌, ℕ, ◌<◌, ◌++◌, ◌∷◌, [], Bool, true, false, List, length, take, drop, Option, Some, None, Result, Ok, Err}
+use Rattle.spec_terms.specs.Terms.{Symbol, Term}
+use Rattle.term_core.specs.declared.ids.TermId.{TermId}
+use Rattle.term_core.specs.Tables.{TableView}
+use Rattle.sort_check.specs.declared.functions.Function.{Function}
+use Rattle.sort_check.specs.Functions.{function_term}
+use Rattle.sort_check.specs.Building.{Grows, AllMean, Means}
+use Rattle.world_io.specs.declared.bytes.NoMemory.{NoMemory}
+
+-- once the table is crowded, numbers stand for any terms
+abbrev pub Stand : Bool → ℕ → TableView → List Term → List TermId → Type 0
+Stand true most table ts ids = most < length table.terms
+Stand false most table ts ids = AllMean table ts ids
+
+-- Numbers on a stack, and the terms that they stand for.
+pub record Stack (crowded : Bool) (most : ℕ) (table : TableView) (ts : List Term) (ids : List TermId) : Type 0 where
+  -- there are as many
+  pub count : length ids ≡ length ts
+  -- they stand for them, or the table is crowded
+  pub stand : Stand crowded most table ts ids
+
+-- how a value ends: the term's number, none where the table is crowded, or memory ran out
+abbrev pub EndsValue : Bool → ℕ → TableView → Term → Result (Option TermId) NoMemory → Type 0
+EndsValue crowded most new t (Ok (Some id)) = (crowded ≡ false) × Means new t id
+EndsValue crowded most new t (Ok None) = most < length new.terms
+EndsValue crowded most new t (Err e) = Unit {0}
+
+-- The value of a term: the table grows by its subterms alone.
+pub record IsValue (crowded : Bool) (most : ℕ) (old new : TableView) (t : Term) (result : Result (Option TermId) NoMemory) : Type 0 where
+  -- what came is one of its subterms
+  pub grows : Grows (t ∷ []) old new
+  -- its number, or why there is none
+  pub ends : EndsValue crowded most new t result
+
+-- how putting a term in the place of its arguments ends
+abbrev pub EndsReplacing : ℕ → TableView → List Term → List TermId → Result Bool NoMemory → Type 0
+EndsReplacing most new ts ids (Ok crowded) = Stack crowded most new ts ids
+EndsReplacing most new ts ids (Err e) = Unit {0}
+
+-- A term in the place of all from one on.
+pub record Replaces (most : ℕ) (old new : TableView) (ts : List Term) (start : ℕ) (t : Term) (ids : List TermId) (result : Result Bool NoMemory) : Type 0 where
+  -- what came is one of the term's subterms
+  pub grows : Grows (t ∷ []) old new
+  -- the stack, or out of memory
+  pub ends : EndsReplacing most new (take start ts ++ t ∷ []) ids result

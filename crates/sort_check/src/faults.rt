@@ -1,0 +1,68 @@
+//! Why a text was not read.
+
+ghost use Rattle.std.specs.Prelude.{◌≡◌};
+ghost use Rattle.sort_check.specs.declared.faults.TermStop.TheVariants as stops;
+
+use spec_text::Fault;
+use std::alloc::{AllocError, AllocFailed};
+use thiserror::Error;
+use world_io::NoMemory;
+
+/// Tells a fault of a text, and where it stands. Source: own.
+#[derive(Clone, Copy, Debug, PartialEq, Eq)]
+pub struct TermFault {
+    /// The offset in the text, in bytes.
+    pub offset: u64,
+    /// Which fault it is.
+    pub fault: Fault,
+}
+
+/// Tells why terms were not read. Source: own.
+#[derive(Clone, Copy, Debug, Error, PartialEq, Eq)]
+pub enum TermStop {
+    /// The first fault of the text.
+    #[error("{0:?}")]
+    Fault(TermFault),
+    /// No memory was left. It says nothing of the text.
+    #[error("out of memory")]
+    Memory,
+}
+
+impl From<TermFault> for TermStop {
+    ghost from_gives = { λ f r. r ≡ stops.Fault f };
+
+    fn from(fault: TermFault) -> TermStop {
+        TermStop::Fault(fault)
+    }
+}
+
+impl From<NoMemory> for TermStop {
+    ghost from_gives = { λ _ r. r ≡ stops.Memory };
+
+    fn from(_error: NoMemory) -> TermStop {
+        TermStop::Memory
+    }
+}
+
+impl From<AllocError> for TermStop {
+    ghost from_gives = { λ _ r. r ≡ stops.Memory };
+
+    fn from(_error: AllocError) -> TermStop {
+        TermStop::Memory
+    }
+}
+
+impl<T: Drop> From<AllocFailed<T>> for TermStop {
+    ghost from_gives = { λ _ r. r ≡ stops.Memory };
+
+    fn from(_error: AllocFailed<T>) -> TermStop {
+        TermStop::Memory
+    }
+}
+
+/// Makes a fault at an offset. Source: own.
+pub fn fault_at(offset: u64, fault: Fault) -> TermFault
+    ensures { result ≡ record { offset = offset; fault = fault } }
+{
+    TermFault { offset, fault }
+}

@@ -1,0 +1,62 @@
+//! Lists that are open while their arguments are read.
+
+ghost use Rattle.smt_sexpr.specs.Items.{trees_in};
+ghost use Rattle.sort_check.specs.Frames.{Begins};
+
+use crate::faults::{TermFault, fault_at};
+use smt_sexpr::{Item, View, look, split};
+use spec_text::{Fault, Kind};
+
+/// A list whose arguments are being read. Source: own.
+#[derive(Clone, Copy, Debug)]
+pub struct Frame<'a> {
+    /// The offset of its opening parenthesis.
+    pub at: u64,
+    /// The offset of its head.
+    pub place: u64,
+    /// The name of its head.
+    pub name: &'a [u8],
+    /// How many terms were read before its arguments.
+    pub from: usize,
+    /// What stands behind it in the list around it.
+    pub behind: &'a [Item],
+}
+
+/// Begins a list at an offset, with what stands in it and behind it, where so many terms were read: gives it with its
+/// arguments.
+///
+/// `BadShape` at the list comes where there is no argument, or no word in front that could be a head, and `Reserved` at
+/// the word in front where it is a reserved one. It takes no memory. Source: SMT-LIB 2.6, section 3.6.
+pub fn begin<'a>(
+    text: &'a [u8],
+    at: u64,
+    inside: &'a [Item],
+    behind: &'a [Item],
+    from: usize,
+) -> Result<(Frame<'a>, &'a [Item]), TermFault>
+    ensures { Begins text.now at (trees_in text.now inside.now) behind.now from result }
+{
+    let Some((head, arguments)) = split(inside) else {
+        return Err(fault_at(at, Fault::BadShape));
+    };
+    if split(arguments).is_none() {
+        return Err(fault_at(at, Fault::BadShape));
+    }
+    match look(text, head) {
+        View::Atom(place, Kind::Simple | Kind::Quoted, name) => {
+            let place = u64::from(place);
+            Ok((
+                Frame {
+                    at,
+                    place,
+                    name,
+                    from,
+                    behind,
+                },
+                arguments,
+            ))
+        }
+        View::Atom(place, Kind::Reserved, _) => { Err(fault_at(u64::from(place), Fault::Reserved)) }
+        _ => Err(fault_at(at, Fault::BadShape)),
+    }
+}

@@ -1,0 +1,68 @@
+//! Reads terms from left to right, one list inside the other.
+
+ghost use Rattle.smt_sexpr.specs.Items.{trees_in};
+ghost use Rattle.sort_check.specs.Reads.{Reads};
+
+use crate::faults::TermStop;
+use crate::frames::{Frame, begin};
+use crate::functions::{atom_function, function_named};
+use crate::values::replace;
+use smt_sexpr::{Item, View, look, split};
+use std::alloc::Global;
+use term_core::{TermId, TermTable};
+
+/// The terms that were read, as far as there was room for them. Source: own.
+#[derive(Debug, Drop)]
+pub struct Values {
+    /// The terms, in their order; any numbers where the table is crowded.
+    pub ids: Vec<TermId>,
+    /// Whether the table has more terms than there is room for.
+    pub crowded: bool,
+}
+
+/// Reads the trees of items as terms, or says the first fault. As soon as the table has more than `most` terms, no
+/// more are built, while the search for a fault goes on.
+pub fn read_terms<'a>(
+    alloc: Global,
+    table: &mut TermTable,
+    text: &'a [u8],
+    items: &'a [Item],
+    most: u64,
+) -> Result<Values, TermStop>
+    ensures { Reads most (trees_in text.now items.now) table.old table.new result }
+{
+    let mut open: Vec<Frame<'a>> = Vec::new(alloc);
+    let mut ids: Vec<TermId> = Vec::new(alloc);
+    let mut crowded = false;
+    let mut rest = items;
+    'steps: loop {
+        if let Some((first, behind)) = split(rest) {
+            match look(text, first) {
+                View::Atom(at, kind, name) => {
+                    let function = atom_function(table.symbols(), u64::from(at), kind, name)?;
+                    let from = ids.len();
+                    crowded = replace(alloc, table, &mut ids, crowded, function, from, most)?;
+                    rest = behind;
+                }
+                View::List(at, inside, _) => {
+                    let (frame, arguments) = begin(text, u64::from(at), inside, behind, ids.len())?;
+                    open.push(frame)?;
+                    rest = arguments;
+                }
+            }
+        } else if let Some(frame) = open.pop() {
+            let count = ids.len() - frame.from;
+            let function = function_named(
+                table.symbols(),
+                frame.place,
+                frame.name,
+                frame.at,
+                count,
+            )?;
+            crowded = replace(alloc, table, &mut ids, crowded, function, frame.from, most)?;
+            rest = frame.behind;
+        } else {
+            return Ok(Values { ids, crowded });
+        }
+    }
+}
