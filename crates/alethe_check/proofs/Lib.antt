@@ -11,3 +11,8 @@ pub mod Images
 pub mod Numbers
 pub mod ReadCommands
 pub mod Within
+pub mod Rows
+pub mod Judged
+pub mod AllCommands
+pub mod Empties
+pub mod Loading

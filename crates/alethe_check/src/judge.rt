@@ -187,7 +187,6 @@ fn judge_listed(alloc: Global, held: &mut Held, text: &[u8], at: Place) -> Resul
     ensures judged { (begin : ℕ) → JudgesCommands true text.now ((begin, opens) ∷ lexemes_from text.now at.offset) (known_view held.old) result held.new }
     ensures sound { OnOk result (IsSound held.new) }
 {
-    spec_text::laws::each_text_is_read();
     match judge_row(alloc, held, text, at, 1) {
         Ok(Row::Broken(refusal)) => Ok(End::Broken(refusal)),
         Ok(Row::Close(after)) => behind_list(alloc, text, after),

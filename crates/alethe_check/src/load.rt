@@ -61,7 +61,8 @@ pub fn current_at(alloc: Global, text: &[u8], at: u64) -> Result<Option<Script>,
                 left = left.saturating_sub(1);
             }
             Ok(Took::Exit) => return Ok(None),
-            Ok(_) => {}
+            Ok(Took::Done) => {}
+            Ok(Took::Unsupported) => {}
             Err(Refused::Fault(_)) => {}
             Err(Refused::Memory) => return Err(NoMemory),
         }
