@@ -8,7 +8,7 @@ use Rattle.smt_top.specs.Calls.{Reports}
 
 -- the names are told, and the texts are those that they hold
 pub ends_with : (status : Status) (n : Names) (holds : Holdings) (reads : Reads) (out : Writes) (script proof : List ℕ) → IfSome (holds n.script) (λ t. t ≡ script) → IfSome (holds n.proof) (λ t. t ≡ proof)
-    → Reports status script proof out → Ends status (Some n) holds reads out
+    → Reports status script n.at proof out → Ends status (Some n) holds reads out
 ends_with Done n holds reads out script proof s p r = (script, proof, s, p, r)
 ends_with Refused n holds reads out script proof s p r = (script, proof, s, p, r)
 ends_with Words n holds reads out script proof s p r = absurd r

@@ -1,38 +1,70 @@
--- From the checker's answer to the verdict.
-use Rattle.std.proofs.Common.{ℕ, ◌<◌, ◌⊎◌, inl, inr, List, length, Some, None, Result, Ok, Err, OnOk, refl, arith}
-use Rattle.std.proofs.lemmas.Option.{none-some}
-use Rattle.spec_text.specs.Places.{IsPlaceOf}
-use Rattle.spec_text.specs.Trees.{Trees}
-use Rattle.spec_scripts.specs.Plain.{text_limit}
-use Rattle.spec_scripts.specs.Stack.{Stack, HasNoModel}
-use Rattle.spec_proofs.specs.Commands.{known_at}
-use Rattle.spec_proofs.specs.Faults.{FirstFault}
-use Rattle.spec_proofs.specs.Accepted.{IsAccepted, IsPlain, ArePlain, IsVerdict, not_yet}
+-- From the checker's answer on the fronts of two texts to the verdict on the whole texts.
+use Rattle.std.proofs.Common.{◌≡◌, ◌≤◌, ◌+◌, ◌⊎◌, inl, inr, ℕ, List, length, take, Option, Some, None, Result, Ok, Err, refl, sym, ap, ◌∙◌, subst, arith, length-take}
+use Rattle.std.specs.Prelude.{count_by, ◌==◌}
+use Rattle.std.proofs.lemmas.List.{take-take, take_all}
+use Rattle.spec_text.specs.declared.Place.{Place}
+use Rattle.spec_text.specs.Places.{since_break, IsPlaceOf}
+use Rattle.spec_text.specs.Readings.{text_limit, front}
+use Rattle.spec_scripts.specs.Stack.{HasNoModel}
+use Rattle.spec_proofs.specs.Faults.{Fault}
+use Rattle.spec_proofs.specs.Accepted.{IsAccepted, IsVerdict}
+use Rattle.world_io.specs.Ends.{IsReadTo}
+use Rattle.world_io.specs.declared.read.ReadEnd.{ReadEnd}
+use Rattle.world_io.specs.declared.read.ReadEnd.TheVariants.{Whole, Cut}
 use Rattle.alethe_check.specs.declared.ProofStop.{ProofStop}
-use Rattle.alethe_check.specs.Verdicts.{Answers}
+use Rattle.alethe_check.specs.declared.ProofStop.TheVariants as stops
+use Rattle.alethe_check.specs.Verdicts.{Answers, fault_view}
 use Rattle.smt_top.specs.Ends.{IsValid}
 use Rattle.smt_top.specs.Calls.{Judges}
 
--- a text with more bytes than the limit is no plain one
-pub long_is_not_plain : (script proof : List ℕ) → (text_limit < length script) ⊎ (text_limit < length proof) → ArePlain script proof → ⊥
-long_is_not_plain script proof (inl h) (s, ts, p) = let short = p.plain_script.limits.short in omega (arith, h, short)
-long_is_not_plain script proof (inr h) (s, ts, p) = let short = p.limits.short in omega (arith, h, short)
+-- that a verdict needs the fronts alone, that without a fault the proof is accepted, and that nothing is then true
+abbrev pub FrontLaw : Type 0
+FrontLaw = (script proof : List ℕ) (k : ℕ) (found : Option Fault) → IsVerdict (front script) k (front proof) found → IsVerdict script k proof found
 
--- so it isn't taken so far
-pub long_is_not_yet : (script proof : List ℕ) → (text_limit < length script) ⊎ (text_limit < length proof) → IsVerdict script proof (Some not_yet)
-long_is_not_yet script proof h = inr (long_is_not_plain script proof h, refl)
+abbrev pub AcceptedLaw : Type 0
+AcceptedLaw = (script proof : List ℕ) (k : ℕ) → (IsVerdict script k proof None → IsAccepted script k proof) × (IsAccepted script k proof → IsVerdict script k proof None)
 
--- the start of a text
-pub start_is_place : (text : List ℕ) → IsPlaceOf text (record { offset = 0; line = 1; col = 1 })
-start_is_place text = record { within = omega arith; line = refl; col = refl }
+abbrev pub SoundLaw : Type 0
+SoundLaw = (script proof : List ℕ) (k : ℕ) → IsAccepted script k proof → HasNoModel script k
 
--- no fault means a plain and accepted proof
-pub valid_by : (script proof : List ℕ) → ((script proof : List ℕ) (s : Stack) (ts : Trees) → IsPlain script proof s ts → FirstFault (known_at s) (length proof) ts None → IsAccepted script 1 proof)
-    → IsVerdict script proof None → HasNoModel script 1 → IsValid script proof
-valid_by script proof law (inl (s, ts, p, good)) h = record { verdict = inl (s, ts, p, good); plain = (s, ts, p); accepted = law script proof s ts p good; no_model = h }
-valid_by script proof law (inr (n, e)) h = absurd (none-some not_yet e)
+-- within a front each byte stands where it stands in the text
+same_front : (n at : ℕ) (text : List ℕ) → at ≤ length (take n text) → take at (take n text) ≡ take at text
+same_front n at text within = take-take at n text (omega (arith, within, length-take n text))
 
-pub judged_by : (script proof : List ℕ) (r : Result (Unit {0}) ProofStop) → ((script proof : List ℕ) (s : Stack) (ts : Trees) → IsPlain script proof s ts → FirstFault (known_at s) (length proof) ts None → IsAccepted script 1 proof)
-    → Answers script proof r → OnOk r (HasNoModel script 1) → Judges script proof r
-judged_by script proof (Ok u) law a h = valid_by script proof law a h
-judged_by script proof (Err e) law a h = a
+-- what the line and the column of a byte count in the bytes before it
+abbrev lines : List ℕ → ℕ
+lines bytes = 1 + count_by (λ b. b == 10) bytes
+
+abbrev columns : List ℕ → ℕ
+columns bytes = 1 + since_break 0 bytes
+
+place_in_text : (n : ℕ) (text : List ℕ) (p : Place) → IsPlaceOf (take n text) p → IsPlaceOf text p
+place_in_text n text p h =
+    let same = same_front n p.offset text h.within in
+    record { within = omega (arith, h.within, length-take n text); line = h.line ∙ ap lines same; col = h.col ∙ ap columns same }
+
+-- what was read is the front, whether there is more or not
+pub read_is_front : (end : ReadEnd) (bytes text : List ℕ) → (end ≡ Whole bytes) ⊎ (end ≡ Cut bytes) → IsReadTo (text_limit + 1) end text → bytes ≡ front text
+read_is_front end bytes text (inl is) h =
+    let read = subst (λ e. IsReadTo (text_limit + 1) e text) is h in
+    read.1 ∙ sym (take_all (text_limit + 1) text read.0)
+read_is_front end bytes text (inr is) h =
+    let read = subst (λ e. IsReadTo (text_limit + 1) e text) is h in
+    read.1
+
+valid_by : FrontLaw → AcceptedLaw → SoundLaw → (script proof : List ℕ) (at : ℕ) → IsVerdict (front script) at (front proof) None → IsValid script at proof
+valid_by fronts accepts sound script proof at h =
+    let verdict = fronts script proof at None h in
+    let accepted = (accepts script proof at).0 verdict in
+    record { verdict = verdict; accepted = accepted; no_model = sound script proof at accepted }
+
+fault_by : FrontLaw → (script proof : List ℕ) (at : ℕ) (stop : ProofStop) → Answers (front script) at (front proof) (Err stop) → Answers script at proof (Err stop)
+fault_by fronts script proof at (stops.Fault f) h = (fronts script proof at (Some (fault_view f)) h.0, place_in_text (text_limit + 1) proof f.place h.1)
+fault_by fronts script proof at stops.Memory h = tt
+
+pub judged_by : FrontLaw → AcceptedLaw → SoundLaw → (at : ℕ) (a b : List ℕ) (r : Result (Unit {0}) ProofStop) → Answers a at b r → (script proof : List ℕ) → a ≡ front script → b ≡ front proof → Judges script at proof r
+judged_by fronts accepts sound at a b r h script proof e f = go r (subst (λ (x : List ℕ). Answers (front script) at x r) f (subst (λ (x : List ℕ). Answers x at b r) e h))
+  where
+    go : (r : Result (Unit {0}) ProofStop) → Answers (front script) at (front proof) r → Judges script at proof r
+    go (Ok u) h = valid_by fronts accepts sound script proof at h
+    go (Err stop) h = fault_by fronts script proof at stop h

@@ -16,10 +16,10 @@ use Rattle.smt_top.specs.Ends.{IsValid, Writes}
 use Rattle.smt_top.specs.Words.{Names}
 use Rattle.smt_top.specs.Output.{valid, error_line, output_of}
 
--- what was judged, and for an accepted proof that nothing makes the script true
-abbrev pub Judges : List ℕ → List ℕ → Result (Unit {0}) ProofStop → Type 0
-Judges script proof (Ok u) = IsValid script proof
-Judges script proof (Err stop) = Answers script proof (Err stop)
+-- what was judged of a proof of a check of a script, and for an accepted one that nothing makes true what is asserted there
+abbrev pub Judges : List ℕ → ℕ → List ℕ → Result (Unit {0}) ProofStop → Type 0
+Judges script at proof (Ok u) = IsValid script at proof
+Judges script at proof (Err stop) = Answers script at proof (Err stop)
 
 -- bytes that were written, or a front of them before a fault
 abbrev pub Sends : Writes → List ℕ → Result (Unit {0}) Failed → Type 0
@@ -27,12 +27,12 @@ Sends out bytes (Ok u) = Appends out.old out.new bytes
 Sends out bytes (Err e) = AppendsFront out.old out.new bytes × Rose out.faults_old out.faults_new
 
 -- what is written for the texts, by how that ends
-abbrev pub Reports : Status → List ℕ → List ℕ → Writes → Type 0
-Reports Done script proof out = IsValid script proof × Appends out.old out.new valid
-Reports Refused script proof out = (f : Fault) × IsVerdict script proof (Some f) × Appends out.old out.new (error_line proof f)
-Reports Memory script proof out = Keeps out.old out.new
-Reports WriteFault script proof out = Rose out.faults_old out.faults_new × ((found : Option Fault) × IsVerdict script proof found × AppendsFront out.old out.new (output_of proof found))
-Reports _ script proof out = ⊥
+abbrev pub Reports : Status → List ℕ → ℕ → List ℕ → Writes → Type 0
+Reports Done script at proof out = IsValid script at proof × Appends out.old out.new valid
+Reports Refused script at proof out = (f : Fault) × IsVerdict script at proof (Some f) × Appends out.old out.new (error_line proof f)
+Reports Memory script at proof out = Keeps out.old out.new
+Reports WriteFault script at proof out = Rose out.faults_old out.faults_new × ((found : Option Fault) × IsVerdict script at proof found × AppendsFront out.old out.new (output_of proof found))
+Reports _ script at proof out = ⊥
 
 -- what a request asks for
 abbrev pub asked_by : Request → Names

@@ -15,9 +15,10 @@ use world_io::{ReadStop, Shelf, Sink};
 
 /// Runs the words `check [--at K] SCRIPT PROOF`, which stand behind the program's name: judges the proof against the script.
 ///
-/// Both texts are read whole, the script first, before anything is judged. Then the verdict is written: `valid`, or the
-/// proof's first fault with its line and column. A text of more than 2^26 bytes is not taken so far, and whatever K is,
-/// the script's first check is the one that is judged so far. All other words give the usage text.
+/// K tells which of the script's checks is meant, from 1; it is 1 where it is not given. Both texts are read, the script
+/// first, before anything is judged. Then the verdict is written: `valid`, or the proof's first fault with its line and
+/// column. Of a text of more than 2^26 bytes no more than that is judged, and its end is a fault. All other words give the
+/// usage text.
 ///
 /// `Memory` comes where an allocation was refused, `ReadFault` where the shelf failed; nothing was then written.
 /// `WriteFault` comes where the sink failed, with a front written. Source: own.
@@ -41,7 +42,7 @@ pub fn run<F: Shelf, K: Sink>(alloc: Global, words: &[String], shelf: &mut F, ou
         Err(WordsStop::Memory) => return Status::Memory,
     };
     match read_both(alloc, shelf, request.names) {
-        Ok(texts) => report(judge(alloc, &texts), out),
+        Ok(texts) => report(judge(alloc, &texts, request.at), out),
         Err(ReadStop::Failed) => Status::ReadFault,
         Err(ReadStop::Memory) => Status::Memory,
     }

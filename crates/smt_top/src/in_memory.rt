@@ -23,8 +23,8 @@ pub fn run_in_memory(
     shelf: &mut MemShelf,
     out: &mut MemSink,
 ) -> Status
-    ensures done { result ≡ Status.Done → OnNamed (named words.now) shelf.old.texts (λ script proof. IsValid script proof × (out.new.written ≡ out.old.written ++ valid)) }
-    ensures refused { result ≡ Status.Refused → OnNamed (named words.now) shelf.old.texts (λ script proof. (f : Fault) × IsVerdict script proof (Some f) × (out.new.written ≡ out.old.written ++ error_line proof f)) }
+    ensures done { result ≡ Status.Done → OnNamed (named words.now) shelf.old.texts (λ script at proof. IsValid script at proof × (out.new.written ≡ out.old.written ++ valid)) }
+    ensures refused { result ≡ Status.Refused → OnNamed (named words.now) shelf.old.texts (λ script at proof. (f : Fault) × IsVerdict script at proof (Some f) × (out.new.written ≡ out.old.written ++ error_line proof f)) }
     ensures words { result ≡ Status.Words → (named words.now ≡ None) × (out.new.written ≡ out.old.written ++ usage) }
     ensures memory { result ≡ Status.Memory → out.new.written ≡ out.old.written }
     ensures read_fault { result ≡ Status.ReadFault → IsSome (named words.now) × Rose shelf.old.faults shelf.new.faults × (out.new.written ≡ out.old.written) }

@@ -1,34 +1,45 @@
 //! Reads the two texts of a run.
 
-ghost use Rattle.std.specs.Prelude.{◌≡◌, ◌≢◌, ℕ, ◌≤◌, List, IfOk, IfSome, IsSome, IsOk, IsErrOf};
+ghost use Rattle.std.specs.Prelude.{◌≡◌, ◌≢◌, ℕ, ◌+◌, ◌≤◌, List, IfOk, IfSome, IsSome, IsOk, IsErrOf};
 ghost use Rattle.world_io.specs.Outside.{Rose, TakesFront};
 ghost use Rattle.world_io.specs.Ends.{IsReadTo};
-ghost use Rattle.spec_scripts.specs.Plain.{text_limit};
+ghost use Rattle.spec_text.specs.Readings.{front, text_limit};
 
 use crate::words::Names;
 use std::alloc::Global;
-use world_io::{ReadEnd, ReadStop, Shelf, read_all};
+use world_io::{Bytes, ReadEnd, ReadStop, Shelf, read_all};
 
-/// The most bytes that a text may have.
-const TEXT_LIMIT: u64 = 1 << 26;
+/// How many bytes of a text are read: as many as a text may have, and one more, by which it has too many.
+const FRONT: u64 = (1 << 26) + 1;
 
-/// Holds the two texts of a run, as far as they were read.
+/// Holds the fronts of the two texts of a run.
 ///
 /// Source: own.
 #[derive(Drop)]
 pub(crate) struct Texts {
     /// The script.
-    pub(crate) script: ReadEnd,
+    pub(crate) script: Bytes,
     /// The proof.
-    pub(crate) proof: ReadEnd,
+    pub(crate) proof: Bytes,
 }
 
-/// Reads the text of a name, up to the limit.
+/// Gives the bytes that were read, whether there are more or not.
+///
+/// Source: own.
+fn bytes_of(end: ReadEnd) -> Bytes
+    ensures { (text : List ℕ) → IsReadTo (text_limit + 1) end text → result ≡ front text }
+{
+    match end {
+        ReadEnd::Whole(bytes) | ReadEnd::Cut(bytes) => bytes,
+    }
+}
+
+/// Reads the front of a name's text.
 ///
 /// `Failed` comes only where the shelf's count of faults rose in this call, `Memory` where an allocation was refused.
 /// Source: own.
-fn read_text<F: Shelf>(alloc: Global, shelf: &mut F, name: &str) -> Result<ReadEnd, ReadStop>
-    ensures end { IfOk result (λ end. (text : List ℕ) × IsReadTo text_limit end text × IfSome (F.holds shelf.old name.now) (λ t. t ≡ text)) }
+fn read_text<F: Shelf>(alloc: Global, shelf: &mut F, name: &str) -> Result<Bytes, ReadStop>
+    ensures end { IfOk result (λ bytes. (text : List ℕ) × (bytes ≡ front text) × IfSome (F.holds shelf.old name.now) (λ t. t ≡ text)) }
     ensures found { ((s : F) → IsSome (F.left s)) → IsOk result → IsSome (F.holds shelf.old name.now) }
     ensures last { IsOk result → TakesFront (F.holds shelf.old name.now) (F.left shelf.new) }
     ensures same { (n : List ℕ) → F.holds shelf.new n ≡ F.holds shelf.old n }
@@ -37,10 +48,11 @@ fn read_text<F: Shelf>(alloc: Global, shelf: &mut F, name: &str) -> Result<ReadE
     ensures sound { F.is_sound shelf.old → F.is_sound shelf.new × (IsSome (F.holds shelf.old name.now) → result ≢ Err ReadStop.Failed) }
 {
     shelf.begin(name)?;
-    read_all(alloc, shelf, TEXT_LIMIT)
+    let end = read_all(alloc, shelf, FRONT)?;
+    Ok(bytes_of(end))
 }
 
-/// Reads the texts of both names, the script's first.
+/// Reads the fronts of the texts of both names, the script's first.
 ///
 /// `Failed` comes only where the shelf's count of faults rose in this call, `Memory` where an allocation was refused.
 /// Source: own.
@@ -49,8 +61,8 @@ pub(crate) fn read_both<F: Shelf>(
     shelf: &mut F,
     names: Names<'_>,
 ) -> Result<Texts, ReadStop>
-    ensures script { IfOk result (λ texts. (text : List ℕ) × IsReadTo text_limit texts.script text × IfSome (F.holds shelf.old names.entry.script.now) (λ t. t ≡ text)) }
-    ensures proof { IfOk result (λ texts. (text : List ℕ) × IsReadTo text_limit texts.proof text × IfSome (F.holds shelf.old names.entry.proof.now) (λ t. t ≡ text)) }
+    ensures script { IfOk result (λ texts. (text : List ℕ) × (texts.script ≡ front text) × IfSome (F.holds shelf.old names.entry.script.now) (λ t. t ≡ text)) }
+    ensures proof { IfOk result (λ texts. (text : List ℕ) × (texts.proof ≡ front text) × IfSome (F.holds shelf.old names.entry.proof.now) (λ t. t ≡ text)) }
     ensures last { IsOk result → TakesFront (F.holds shelf.old names.entry.proof.now) (F.left shelf.new) }
     ensures found { ((s : F) → IsSome (F.left s)) → IsOk result → IsSome (F.holds shelf.old names.entry.script.now) × IsSome (F.holds shelf.old names.entry.proof.now) }
     ensures failed { IsErrOf result ReadStop.Failed → Rose (F.faults shelf.old) (F.faults shelf.new) }

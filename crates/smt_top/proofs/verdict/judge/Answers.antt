@@ -1,10 +1,9 @@
--- What is said where a text has more bytes than the limit.
-use Rattle.std.proofs.Common.{inl, inr}
-use Rattle.smt_top.proofs.Verdicts.{long_is_not_yet, start_is_place}
+-- The checker's verdict on two fronts is that on the texts.
+use Rattle.std.proofs.Common.{◌∙◌}
+use Rattle.smt_top.proofs.Verdicts.{judged_by}
 use Rattle.smt_top.proofs.verdict.judge.Goals as goal
 
-pub returns-in_default : goal.returns-in_default
-returns-in_default c = λ script proof read_script read_proof. (long_is_not_yet script proof (inl (c.in_default.ensures script read_script)), start_is_place proof)
-
-pub returns-in_default-whole : goal.returns-in_default-whole
-returns-in_default-whole c = λ script proof read_script read_proof. (long_is_not_yet script proof (inr (c.in_default-whole.ensures proof read_proof)), start_is_place proof)
+pub returns : goal.returns
+returns c = λ script proof read_script read_proof.
+    judged_by c.verdicts_need_a_front_alone.ensures c.accepted_proofs_have_no_fault.ensures c.acceptance_is_sound.ensures c.args.at c.as_slice.result.now c.as_slice-2.result.now c.check.result c.check.ensures.verdict script proof
+        (c.as_slice.ensures ∙ read_script) (c.as_slice-2.ensures ∙ read_proof)
