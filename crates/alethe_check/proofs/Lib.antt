@@ -16,3 +16,4 @@ pub mod Judged
 pub mod AllCommands
 pub mod Empties
 pub mod Loading
+pub mod Answering
