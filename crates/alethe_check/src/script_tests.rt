@@ -25,7 +25,7 @@ fn run(
 ) -> Result<Option<Answer>, AllocError> {
     let mut at = start();
     let mut last = None;
-    loop {
+    for _ in 0..=text.len() {
         let (sexpr, after) = match read_one(alloc, text, at) {
             Ok(Some(read)) => read,
             Ok(None) => return Ok(last),
@@ -45,6 +45,7 @@ fn run(
         };
         at = after;
     }
+    Ok(last)
 }
 
 /// Commands, behind the declarations of `p` and `q`, with their faults.

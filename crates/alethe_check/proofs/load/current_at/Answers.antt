@@ -29,17 +29,17 @@ commands-preserved c =
     record {
       place = r.is.place;
       loading = elim c.match-command.branch [
-        in-Ok-Check+else-left-eq1 w ↦
-          let d = rw w.in-Ok-Check.field-0-is at (w.in-Ok-Check.ensures.steps l.stack l.stated) in
-          taken_here c.args.text.now _ _ _ c.commands.place _ c.kept-text.ensures l c.in-Ok-Some.read.0 c.in-Ok-Some.read.1 r took.Check c.match-command.left c.command.new.self (one_less c.commands.left c.match-command.left w.if-left-eq1.false (w.left-is ∙ w.saturating_sub-left.ensures)) d
-      | in-Ok-Done w ↦
-          let d = rw w.in-Ok-Done.field-0-is at (w.in-Ok-Done.ensures.steps l.stack l.stated) in
-          taken_here c.args.text.now _ _ _ c.commands.place _ c.kept-text.ensures l c.in-Ok-Some.read.0 c.in-Ok-Some.read.1 r took.Done c.match-command.left c.command.new.self (λ s rest. ap (rest s) (sym w.left-is)) d
-      | in-Ok-Unsupported w ↦
-          let d = rw w.in-Ok-Unsupported.field-0-is at (w.in-Ok-Unsupported.ensures.steps l.stack l.stated) in
-          taken_here c.args.text.now _ _ _ c.commands.place _ c.kept-text.ensures l c.in-Ok-Some.read.0 c.in-Ok-Some.read.1 r took.Unsupported c.match-command.left c.command.new.self (λ s rest. ap (rest s) (sym w.left-is)) d
-      | in-Err-Fault-command w ↦ rw w.left-is (
-          let d = rw w.in-Err-Fault-command.field-0-is at (w.in-Err-Fault-command.ensures.steps l.stack l.stated) in
-          refused_here c.args.text.now _ _ _ c.commands.place _ c.kept-text.ensures l c.in-Ok-Some.read.0 c.in-Ok-Some.read.1 r _ c.command.new.self d)
+        | in-Ok-Check+else-left-eq1 w ↦
+            let d = rw w.in-Ok-Check.field-0-is at (w.in-Ok-Check.ensures.steps l.stack l.stated) in
+            taken_here c.args.text.now _ _ _ c.commands.place _ c.kept-text.ensures l c.in-Ok-Some.read.0 c.in-Ok-Some.read.1 r took.Check c.match-command.left c.command.new.self (one_less c.commands.left c.match-command.left w.if-left-eq1.false (w.left-is ∙ w.saturating_sub-left.ensures)) d
+        | in-Ok-Done w ↦
+            let d = rw w.in-Ok-Done.field-0-is at (w.in-Ok-Done.ensures.steps l.stack l.stated) in
+            taken_here c.args.text.now _ _ _ c.commands.place _ c.kept-text.ensures l c.in-Ok-Some.read.0 c.in-Ok-Some.read.1 r took.Done c.match-command.left c.command.new.self (λ s rest. ap (rest s) (sym w.left-is)) d
+        | in-Ok-Unsupported w ↦
+            let d = rw w.in-Ok-Unsupported.field-0-is at (w.in-Ok-Unsupported.ensures.steps l.stack l.stated) in
+            taken_here c.args.text.now _ _ _ c.commands.place _ c.kept-text.ensures l c.in-Ok-Some.read.0 c.in-Ok-Some.read.1 r took.Unsupported c.match-command.left c.command.new.self (λ s rest. ap (rest s) (sym w.left-is)) d
+        | in-Err-Fault-command w ↦ rw w.left-is (
+            let d = rw w.in-Err-Fault-command.field-0-is at (w.in-Err-Fault-command.ensures.steps l.stack l.stated) in
+            refused_here c.args.text.now _ _ _ c.commands.place _ c.kept-text.ensures l c.in-Ok-Some.read.0 c.in-Ok-Some.read.1 r _ c.command.new.self d)
       ];
     }
