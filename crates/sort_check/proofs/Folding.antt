@@ -115,8 +115,8 @@ right_step most old now new all id next rest before r is h b =
     let next_in : IsIn old next = All-contains (λ i. IsIn old i) (before ++ next ∷ []) next there (Contains-push before next) in
     let kept : term_at now next ≡ u = term_at-kept old now h.grows.keeps.extends next next_in in
     let whole : to_right h.term (clause_at old rest) ≡ to_right (pair Implies u h.term) us =
-        ap (λ ids. to_right h.term (clause_at old ids)) is ∙ ap (λ ts. right no_term (pair Implies) (ts ++ h.term ∷ [])) (map-append (term_at old) before (next ∷ []))
-        ∙ ap (right no_term (pair Implies)) (append_assoc us (u ∷ []) (h.term ∷ [])) ∙ right_two us u h.term in
+    ap (λ ids. to_right h.term (clause_at old ids)) is ∙ ap (λ ts. right no_term (pair Implies) (ts ++ h.term ∷ [])) (map-append (term_at old) before (next ∷ []))
+    ∙ ap (right no_term (pair Implies)) (append_assoc us (u ∷ []) (h.term ∷ [])) ∙ right_two us u h.term in
     fold_step to_right right_first most old now new all id rest before h (pair Implies u h.term) r whole (All-front old before next there)
     (λ v part. pair_keeps Implies u h.term v (behind u v (h.term ∷ []) part)) (subst (λ v. Builds most now new (pair Implies u v) r) h.means.term (subst (λ v. Builds most now new (pair Implies v (term_at now id)) r) kept b))
   where

@@ -61,9 +61,9 @@ grows_put t old new more symbols (inl same) = subst (Grows (t ∷ []) old) (sym 
 grows_put t old new more symbols (inr last) = record {
   keeps = record { extends = more; symbols = symbols };
   within = λ k low high.
-  let at : k ≡ length old.terms = omega (arith, low, high, ap length last, length-append old.terms (t ∷ [])) in
-  let term : get_or new.terms k no_term ≡ t = ap (λ ts. get_or ts k no_term) last ∙ ap (λ n. get_or (old.terms ++ t ∷ []) n no_term) at ∙ get_or-append_seam old.terms t [] no_term in
-  subst (λ u. Contains (subterms_of (t ∷ [])) u) (sym term) (self_subterms (t ∷ []) t (here t []));
+      let at : k ≡ length old.terms = omega (arith, low, high, ap length last, length-append old.terms (t ∷ [])) in
+      let term : get_or new.terms k no_term ≡ t = ap (λ ts. get_or ts k no_term) last ∙ ap (λ n. get_or (old.terms ++ t ∷ []) n no_term) at ∙ get_or-append_seam old.terms t [] no_term in
+      subst (λ u. Contains (subterms_of (t ∷ [])) u) (sym term) (self_subterms (t ∷ []) t (here t []));
 }
 
 -- a number means the same while the table grows

@@ -17,12 +17,11 @@ use Rattle.smt_sexpr.specs.Items.{trees_in, split_first}
 use Rattle.sort_check.specs.declared.faults.TermFault.{TermFault}
 use Rattle.sort_check.specs.declared.frames.Frame.{Frame}
 use Rattle.sort_check.specs.declared.functions.Function.{Function}
-use Rattle.sort_check.specs.declared.read.Values.{Values}
 use Rattle.sort_check.specs.Functions.{function_term, Takes, IsFunction, located_of}
-use Rattle.sort_check.specs.Building.{Grows}
+use Rattle.sort_check.specs.Building.{Grows, AllMean}
 use Rattle.sort_check.specs.Resuming.{Open, followed, resumed}
 use Rattle.sort_check.specs.Frames.{open_of, opens_of, HasBegun, form_of, behind_first, form_fault}
-use Rattle.sort_check.specs.Stacks.{Stack, Replaces}
+use Rattle.sort_check.specs.Stacks.{Stand, Stack, Replaces}
 use Rattle.sort_check.specs.Reads.{HasRead}
 use Rattle.sort_check.proofs.Subterms.{AreSubterms, self_subterms, subterms_along, member_subterms}
 use Rattle.sort_check.proofs.Kept.{function_keeps}
@@ -159,13 +158,17 @@ module _ (most : ℕ) (all : Trees) (old now : TableView) (crowded : Bool) (os :
   pub stacked : (ts : List Term) × Stack crowded most now ts ids
   stacked = (h.terms, h.stack)
 
-  pub all_read : (v : Values) → rest ≡ none → os ≡ [] → v.ids.items ≡ ids → v.crowded ≡ crowded → HasRead most all old now v
-  all_read v is closed ids_are crowded_is = record {
+  pub all_read : rest ≡ none → os ≡ [] → HasRead most all old now ids
+  all_read is closed = record {
     terms = h.terms;
     read = h.same ∙ (λ i. resumed old.symbols (closed i) h.terms (is i)) ∙ resumed_end old.symbols h.terms;
-    stack = subst (λ xs. Stack v.crowded most now h.terms xs) (sym ids_are) (subst (λ b. Stack b most now h.terms ids) (sym crowded_is) h.stack);
+    stand = λ few. stands crowded h.stack.stand few;
     grows = h.grows;
   }
+    where
+      stands : (b : Bool) → Stand b most now h.terms ids → length now.terms ≤ most → AllMean now h.terms ids
+      stands true s few = absurd (omega (arith, s, few))
+      stands false s few = s
 
 -- the next tree
 pub split_more : (ts us : Trees) (t : Tree) → Some (t, us) ≡ split_first ts → ts ≡ more t us

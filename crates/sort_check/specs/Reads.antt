@@ -1,51 +1,44 @@
 -- What reading terms comes to. Source: own.
-use Rattle.std.specs.Prelude.{◌≡◌, ℕ, true, false, List, Vec, Result, Ok, Err}
+use Rattle.std.specs.Prelude.{◌≡◌, ℕ, ◌+◌, ◌^◌, ◌<◌, ◌≤◌, List, length, Vec, Result, Ok, Err}
 use Rattle.std.specs.declared.alloc.Global.{Global}
-use Rattle.spec_text.specs.declared.Fault.TheVariants.{Full}
-use Rattle.spec_text.specs.Faults.{Located}
 use Rattle.spec_text.specs.Answers.{Answer}
 use Rattle.spec_text.specs.Trees.{Trees}
 use Rattle.spec_terms.specs.Terms.{Term}
 use Rattle.spec_terms.specs.Reading.{terms_in}
-use Rattle.spec_terms.specs.Subterms.{fit_in}
 use Rattle.term_core.specs.declared.ids.TermId.{TermId}
 use Rattle.term_core.specs.Tables.{TableView, clause_at, AreIn}
 use Rattle.sort_check.specs.declared.faults.TermStop.{TermStop}
 use Rattle.sort_check.specs.declared.faults.TermStop.TheVariants.{Fault, Memory}
-use Rattle.sort_check.specs.declared.read.Values.{Values}
 use Rattle.sort_check.specs.Functions.{located_of}
 use Rattle.sort_check.specs.Building.{Keeps, Grows, AllMean}
-use Rattle.sort_check.specs.Stacks.{Stack}
 
--- The trees are these terms, for which the values stand, and the table has grown by their subterms alone.
-pub record HasRead (most : ℕ) (all : Trees) (old new : TableView) (v : Values) : Type 0 where
+-- The trees are these terms, for which the numbers stand unless the table has more than `most` terms, and it has grown by their subterms alone.
+pub record HasRead (most : ℕ) (all : Trees) (old new : TableView) (ids : List TermId) : Type 0 where
   -- the terms
   pub terms : List Term
   -- they are those of the trees
   pub read : terms_in old.symbols all ≡ Ok terms
-  -- the values stand for them
-  pub stack : Stack v.crowded most new terms v.ids.items
+  -- the numbers stand for them
+  pub stand : length new.terms ≤ most → AllMean new terms ids
   -- what came is one of their subterms
   pub grows : Grows terms old new
 
 -- how reading ends
-abbrev pub EndsReading : ℕ → Trees → TableView → TableView → Result Values TermStop → Type 0
-EndsReading most all old new (Ok v) = HasRead most all old new v
+abbrev pub EndsReading : ℕ → Trees → TableView → TableView → Result (Vec TermId Global) TermStop → Type 0
+EndsReading most all old new (Ok v) = HasRead most all old new v.items
 EndsReading most all old new (Err (Fault f)) = terms_in old.symbols all ≡ Err (located_of f)
 EndsReading most all old new (Err Memory) = Unit {0}
 
 -- Reading, without a look at the room that there is.
-pub record Reads (most : ℕ) (all : Trees) (old new : TableView) (result : Result Values TermStop) : Type 0 where
+pub record Reads (most : ℕ) (all : Trees) (old new : TableView) (result : Result (Vec TermId Global) TermStop) : Type 0 where
   -- what was there is there still
   pub keeps : Keeps old new
-  -- the values, or the first fault
+  -- the terms, or the first fault
   pub ends : EndsReading most all old new result
 
--- whether terms that were read have room
-abbrev pub EndsWithin : ℕ → ℕ → TableView → List Term → Result (Vec TermId Global) TermStop → Type 0
-EndsWithin room at table ts (Ok v) = (fit_in room ts ≡ true) × AllMean table ts v.items
-EndsWithin room at table ts (Err (Fault f)) = (fit_in room ts ≡ false) × (located_of f ≡ record { offset = at; fault = Full })
-EndsWithin room at table ts (Err Memory) = Unit {0}
+-- the table has no more terms than those that were there before and as many as there is room for; their number has 64 bits
+abbrev pub HasRoom : (before room : ℕ) → TableView → Type 0
+HasRoom before room table = (length table.terms ≤ before + room) × (length table.terms < 2 ^ 64)
 
 -- The answer is these terms, by their numbers in the table, which keeps what it had.
 pub record HasTerms (answer : Answer (List Term)) (old new : TableView) (ids : List TermId) : Type 0 where

@@ -7,12 +7,10 @@
 
 mod build;
 mod chains;
-mod count;
 mod faults;
 mod frames;
 mod functions;
 mod heads;
-mod probe;
 mod read;
 mod room;
 #[cfg(test)]

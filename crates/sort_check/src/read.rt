@@ -11,24 +11,15 @@ use smt_sexpr::{Item, View, look, split};
 use std::alloc::Global;
 use term_core::{TermId, TermTable};
 
-/// The terms that were read, as far as there was room for them. Source: own.
-#[derive(Debug, Drop)]
-pub struct Values {
-    /// The terms, in their order; any numbers where the table is crowded.
-    pub ids: Vec<TermId>,
-    /// Whether the table has more terms than there is room for.
-    pub crowded: bool,
-}
-
 /// Reads the trees of items as terms, or says the first fault. As soon as the table has more than `most` terms, no
-/// more are built, while the search for a fault goes on.
+/// more are built, while the search for a fault goes on; the numbers mean nothing then. Source: own.
 pub fn read_terms<'a>(
     alloc: Global,
     table: &mut TermTable,
     text: &'a [u8],
     items: &'a [Item],
     most: u64,
-) -> Result<Values, TermStop>
+) -> Result<Vec<TermId>, TermStop>
     ensures { Reads most (trees_in text.now items.now) table.old table.new result }
 {
     let mut open: Vec<Frame<'a>> = Vec::new(alloc);
@@ -62,7 +53,7 @@ pub fn read_terms<'a>(
             crowded = replace(alloc, table, &mut ids, crowded, function, frame.from, most)?;
             rest = frame.behind;
         } else {
-            return Ok(Values { ids, crowded });
+            return Ok(ids);
         }
     }
 }

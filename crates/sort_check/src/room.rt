@@ -1,38 +1,39 @@
 //! Reads the texts of terms into the table, as far as there is room for them.
 
-ghost use Rattle.std.specs.Prelude.{◌≡◌, ℕ, ◌+◌, true, false, min, List, length, OnErr};
+ghost use Rattle.std.specs.Prelude.{◌≡◌, ◌≤◌, true, List, length, IfOk, OnErr};
 ghost use Rattle.spec_terms.specs.Terms.{Term};
 ghost use Rattle.spec_terms.specs.Subterms.{fit_in, roomy_terms};
+ghost use Rattle.term_core.specs.Tables.{AreIn};
 ghost use Rattle.smt_sexpr.specs.Items.{trees_in};
-ghost use Rattle.sort_check.specs.Building.{Keeps};
-ghost use Rattle.sort_check.specs.Stacks.{Stand};
-ghost use Rattle.sort_check.specs.Reads.{EndsWithin, AnswersTerms};
+ghost use Rattle.sort_check.specs.Building.{Keeps, AllMean, AreSubtermsFrom};
+ghost use Rattle.sort_check.specs.Reads.{HasRoom, AnswersTerms};
 
-use crate::count::fit_in;
 use crate::faults::{TermStop, fault_at};
-use crate::read::{Values, read_terms};
+use crate::read::read_terms;
 use smt_sexpr::Item;
 use spec_text::Fault;
 use std::alloc::Global;
-use term_core::{TermId, TermTable};
+use term_core::{TermId, TermTable, fit_in};
+use world_io::NoMemory;
 
-/// Gives the terms that were read where there is room for them, or `Full` at an offset.
-fn within_room(
+/// Tells whether there is room for the terms of a table that had `before` terms when they came.
+fn have_room(
     alloc: Global,
     table: &TermTable,
-    values: Values,
-    at: u64,
+    before: u64,
+    ids: &[TermId],
     room: u64,
-) -> Result<Vec<TermId>, TermStop>
-    ensures { (ts : List Term) (most : ℕ) → Stand values.crowded most table.now ts values.ids.items → (values.crowded ≡ true → fit_in room ts ≡ false) → EndsWithin room at table.now ts result }
+) -> Result<bool, NoMemory>
+    requires before { before ≤ length table.now.terms }
+    requires there { HasRoom before room table.now → AreIn table.now ids.now }
+    ensures room { IfOk result (λ yes. yes ≡ true → HasRoom before room table.now) }
+    ensures fits { IfOk result (λ yes. (ts : List Term) → AreSubtermsFrom before ts table.now → (HasRoom before room table.now → AllMean table.now ts ids.now) → yes ≡ fit_in room ts) }
 {
-    if values.crowded {
-        return Err(TermStop::Fault(fault_at(at, Fault::Full)));
+    table.numbers_tell_terms();
+    if table.len() - before > room {
+        return Ok(false);
     }
-    if fit_in(alloc, table, &values.ids, room)? {
-        return Ok(values.ids);
-    }
-    Err(TermStop::Fault(fault_at(at, Fault::Full)))
+    fit_in(alloc, table, ids, room)
 }
 
 /// Reads the trees of items as terms for which there is room.
@@ -47,9 +48,12 @@ fn read_within(
     ensures answer { AnswersTerms (roomy_terms table.old.symbols room at (trees_in text.now items.now)) table.old table.new result }
     ensures keeps { Keeps table.old table.new }
 {
-    let most = table.len().saturating_add(room);
-    let values = read_terms(alloc, table, text, items, most)?;
-    within_room(alloc, table, values, at, room)
+    let before = table.len();
+    let ids = read_terms(alloc, table, text, items, before.saturating_add(room))?;
+    if have_room(alloc, table, before, &ids, room)? {
+        return Ok(ids);
+    }
+    Err(TermStop::Fault(fault_at(at, Fault::Full)))
 }
 
 /// Reads the trees of `items`, in which the offsets are those of `text`, as terms under the table's symbols, and gives

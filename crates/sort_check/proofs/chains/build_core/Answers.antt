@@ -24,4 +24,3 @@ implication-requires-clause-some c = implies_takes c.args.arguments.now (subst (
 
 pub equality-requires-clause-some : goal.equality-requires-clause-some
 equality-requires-clause-some c = equal_takes c.args.arguments.now (subst (λ h. takes (rule_of h) (length c.args.arguments.now) ≡ true) c.in-Equal.is c.requires.takes)
-

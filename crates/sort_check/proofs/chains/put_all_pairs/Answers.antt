@@ -29,7 +29,7 @@ returns-in_err-put_different c =
     let all = map (λ q. unequal q.0 q.1) (all_pairs (clause_at old c.args.arguments.now)) in
     by_error (PutsAll c.args.most old c.put_different.new.table before c.put_different.new.parts.items all) c.from_residual.result c.in_err-put_different.field-0.0 c.from_residual.ensures.1
     (put_none_more c.args.most old c.arguments.table c.put_different.new.table before all c.arguments.parts.items (map (unequal t) us) (map (λ q. unequal q.0 q.1) (all_pairs us)) c.put_different.new.parts.items c.in_err-put_different.field-0.0 (subst (IsPut old c.arguments.table before all c.arguments.parts.items) (with_each unequal t us) (subst (λ ids. IsPut old c.arguments.table before all c.arguments.parts.items (map (λ q. unequal q.0 q.1) (all_pairs (clause_at old ids)))) c.in-Some.ensures.cases.0 c.arguments.invariant.put))
-        (subst (λ ts. PutsAll c.args.most c.arguments.table c.put_different.new.table c.arguments.parts.items c.put_different.new.parts.items ts (Err c.in_err-put_different.field-0.0)) (λ i. map (unequal (term_at-kept old c.arguments.table c.arguments.invariant.put.grows.keeps.extends c.in-Some.first.now (first_in old c.arguments.rest.now c.in-Some.others.now c.in-Some.first.now c.in-Some.ensures.cases.0 c.arguments.invariant.rest) i)) (clause_at-kept old c.arguments.table c.arguments.invariant.put.grows.keeps.extends c.in-Some.others.now (behind_in old c.arguments.rest.now c.in-Some.others.now c.in-Some.first.now c.in-Some.ensures.cases.0 c.arguments.invariant.rest) i)) c.in_err-put_different.ensures))
+    (subst (λ ts. PutsAll c.args.most c.arguments.table c.put_different.new.table c.arguments.parts.items c.put_different.new.parts.items ts (Err c.in_err-put_different.field-0.0)) (λ i. map (unequal (term_at-kept old c.arguments.table c.arguments.invariant.put.grows.keeps.extends c.in-Some.first.now (first_in old c.arguments.rest.now c.in-Some.others.now c.in-Some.first.now c.in-Some.ensures.cases.0 c.arguments.invariant.rest) i)) (clause_at-kept old c.arguments.table c.arguments.invariant.put.grows.keeps.extends c.in-Some.others.now (behind_in old c.arguments.rest.now c.in-Some.others.now c.in-Some.first.now c.in-Some.ensures.cases.0 c.arguments.invariant.rest) i)) c.in_err-put_different.ensures))
 
 pub arguments-preserved : goal.arguments-preserved
 arguments-preserved c =

@@ -24,9 +24,9 @@ returns-in_err-unequal c =
     let all = map (unequal t) (clause_at old c.args.others.now) in
     by_error (PutsAll c.args.most old c.put_unequal.new.table before c.others.parts.items all) c.from_residual.result c.in_err-unequal.field-0.0 c.from_residual.ensures.1
     (put_none c.args.most old c.others.table c.put_unequal.new.table before all c.others.parts.items (unequal t (term_at old c.in-Some.other.now)) (map (unequal t) (clause_at old c.in-Some.behind.now)) c.others.parts.items c.in_err-unequal.field-0.0
-        (subst (λ ids. IsPut old c.others.table before all c.others.parts.items (map (unequal t) (clause_at old ids))) c.in-Some.ensures.cases.0 c.others.invariant.put)
-        (builds_kept unequal c.args.most old c.others.table c.put_unequal.new.table c.args.first c.in-Some.other.now (Err c.in_err-unequal.field-0.0) c.others.invariant.put.grows.keeps.extends c.requires.first
-            (first_in old c.others.rest.now c.in-Some.behind.now c.in-Some.other.now c.in-Some.ensures.cases.0 c.others.invariant.rest) c.in_err-unequal.ensures))
+    (subst (λ ids. IsPut old c.others.table before all c.others.parts.items (map (unequal t) (clause_at old ids))) c.in-Some.ensures.cases.0 c.others.invariant.put)
+    (builds_kept unequal c.args.most old c.others.table c.put_unequal.new.table c.args.first c.in-Some.other.now (Err c.in_err-unequal.field-0.0) c.others.invariant.put.grows.keeps.extends c.requires.first
+    (first_in old c.others.rest.now c.in-Some.behind.now c.in-Some.other.now c.in-Some.ensures.cases.0 c.others.invariant.rest) c.in_err-unequal.ensures))
 
 pub returns-in_err-push : goal.returns-in_err-push
 returns-in_err-push c =
@@ -36,9 +36,9 @@ returns-in_err-push c =
     let all = map (unequal t) (clause_at old c.args.others.now) in
     by_error (PutsAll c.args.most old c.put_unequal.new.table before c.push.new.self.items all) c.from_residual-in_err-push.result Memory c.from_residual-in_err-push.ensures.1
     (put_unheld c.args.most old c.others.table c.put_unequal.new.table before all c.others.parts.items (unequal t (term_at old c.in-Some.other.now)) (map (unequal t) (clause_at old c.in-Some.behind.now)) c.in_ok-unequal.unequal c.push.new.self.items
-        (subst (λ ids. IsPut old c.others.table before all c.others.parts.items (map (unequal t) (clause_at old ids))) c.in-Some.ensures.cases.0 c.others.invariant.put)
-        (builds_kept unequal c.args.most old c.others.table c.put_unequal.new.table c.args.first c.in-Some.other.now (Ok c.in_ok-unequal.unequal) c.others.invariant.put.grows.keeps.extends c.requires.first
-            (first_in old c.others.rest.now c.in-Some.behind.now c.in-Some.other.now c.in-Some.ensures.cases.0 c.others.invariant.rest) c.in_ok-unequal.ensures))
+    (subst (λ ids. IsPut old c.others.table before all c.others.parts.items (map (unequal t) (clause_at old ids))) c.in-Some.ensures.cases.0 c.others.invariant.put)
+    (builds_kept unequal c.args.most old c.others.table c.put_unequal.new.table c.args.first c.in-Some.other.now (Ok c.in_ok-unequal.unequal) c.others.invariant.put.grows.keeps.extends c.requires.first
+    (first_in old c.others.rest.now c.in-Some.behind.now c.in-Some.other.now c.in-Some.ensures.cases.0 c.others.invariant.rest) c.in_ok-unequal.ensures))
 
 pub others-preserved : goal.others-preserved
 others-preserved c =
@@ -50,7 +50,7 @@ others-preserved c =
       put = put_one c.args.most old c.others.table c.put_unequal.new.table before all c.others.parts.items (unequal t (term_at old c.in-Some.other.now)) (map (unequal t) (clause_at old c.in-Some.behind.now)) c.in_ok-unequal.unequal c.push.new.self.items
           (subst (λ ids. IsPut old c.others.table before all c.others.parts.items (map (unequal t) (clause_at old ids))) c.in-Some.ensures.cases.0 c.others.invariant.put)
           (builds_kept unequal c.args.most old c.others.table c.put_unequal.new.table c.args.first c.in-Some.other.now (Ok c.in_ok-unequal.unequal) c.others.invariant.put.grows.keeps.extends c.requires.first
-              (first_in old c.others.rest.now c.in-Some.behind.now c.in-Some.other.now c.in-Some.ensures.cases.0 c.others.invariant.rest) c.in_ok-unequal.ensures)
+          (first_in old c.others.rest.now c.in-Some.behind.now c.in-Some.other.now c.in-Some.ensures.cases.0 c.others.invariant.rest) c.in_ok-unequal.ensures)
           c.in_ok-push.ensures.items;
       rest = behind_in old c.others.rest.now c.in-Some.behind.now c.in-Some.other.now c.in-Some.ensures.cases.0 c.others.invariant.rest;
     }

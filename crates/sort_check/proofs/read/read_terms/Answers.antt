@@ -97,5 +97,5 @@ pub returns-in_default-pop : goal.returns-in_default-pop
 returns-in_default-pop c =
     record {
       keeps = c.steps.invariant.grows.keeps;
-      ends = all_read c.args.most (trees_in c.args.text.now c.args.items.now) c.args.table.now c.steps.table c.steps.crowded (opens_of c.args.text.now c.steps.open.items) c.steps.ids.items (trees_in c.args.text.now c.steps.rest.now) c.steps.invariant (record { ids = c.steps.ids; crowded = c.steps.crowded }) (split_none (trees_in c.args.text.now c.steps.rest.now) (c.in_default.ensures.first c.args.text.now)) (ap (opens_of c.args.text.now) (none_left c.steps.open.items (omega (arith, c.in_default-pop.ensures.cases.0, c.steps.open.ok.0)))) refl refl;
+      ends = all_read c.args.most (trees_in c.args.text.now c.args.items.now) c.args.table.now c.steps.table c.steps.crowded (opens_of c.args.text.now c.steps.open.items) c.steps.ids.items (trees_in c.args.text.now c.steps.rest.now) c.steps.invariant (split_none (trees_in c.args.text.now c.steps.rest.now) (c.in_default.ensures.first c.args.text.now)) (ap (opens_of c.args.text.now) (none_left c.steps.open.items (omega (arith, c.in_default-pop.ensures.cases.0, c.steps.open.ok.0))));
     }

@@ -28,11 +28,9 @@ returns-in_err-push-in-None c ts h =
 
 pub returns-in_ok-push-in-Some : goal.returns-in_ok-push-in-Some
 returns-in_ok-push-in-Some c ts h =
-    
     replaced_some c.args.crowded c.args.most c.args.table.now c.value.new.table ts c.args.values.now.items c.push.new.self.items c.args.from (function_term c.args.table.now.symbols c.args.function (drop c.args.from ts)) c.in-Some.id h (c.in_ok-push-in-Some.ensures.items ∙ ap (λ xs. xs ++ c.in-Some.id ∷ []) c.truncate.ensures.items) (subst (IsValue c.args.crowded c.args.most c.args.table.now c.value.new.table (function_term c.args.table.now.symbols c.args.function (drop c.args.from ts))) (c.in_ok-built.was ∙ ap Ok c.in-Some.is) (c.value.ensures (drop c.args.from ts) (stand_rest c.args.crowded c.args.most c.args.table.now c.args.from ts c.args.values.now.items c.deref.result.now c.deref.ensures.value h)))
 
 pub returns-in_ok-push-in-None : goal.returns-in_ok-push-in-None
 returns-in_ok-push-in-None c ts h =
     let zero_id : TermId = record { 0 = 0 } in
     replaced_none c.args.crowded c.args.most c.args.table.now c.value.new.table ts c.args.values.now.items c.push-in-None.new.self.items c.args.from (function_term c.args.table.now.symbols c.args.function (drop c.args.from ts)) zero_id h (c.in_ok-push-in-None.ensures.items ∙ ap (λ xs. xs ++ zero_id ∷ []) c.truncate.ensures.items) (subst (IsValue c.args.crowded c.args.most c.args.table.now c.value.new.table (function_term c.args.table.now.symbols c.args.function (drop c.args.from ts))) (c.in_ok-built.was ∙ ap Ok c.in-None.is) (c.value.ensures (drop c.args.from ts) (stand_rest c.args.crowded c.args.most c.args.table.now c.args.from ts c.args.values.now.items c.deref.result.now c.deref.ensures.value h)))
-
