@@ -1,14 +1,23 @@
 -- A table that grows keeps its terms by their numbers, and what is written with them.
-use Rattle.std.proofs.Common.{◌≡◌, suc, ◌<◌, List, [], ◌∷◌, length, map, get_or, refl, sym, ◌∙◌, ap, subst, arith, length-append}
+use Rattle.std.proofs.Common.{◌≡◌, suc, ◌<◌, List, [], ◌∷◌, length, map, get_or, refl, sym, ◌∙◌, ap, subst, arith, length-append, append_assoc, ◌++◌}
 use Rattle.std.proofs.lemmas.List.{append-nil, get_or_append_left}
 use Rattle.spec_terms.specs.Terms.{Apply, of, sort_of, head_takes}
 use Rattle.term_core.specs.declared.ids.TermId.{TermId}
+use Rattle.term_core.specs.declared.ids.Lit.{Lit}
 use Rattle.term_core.specs.declared.nodes.Head.{Head as NodeHead}
 use Rattle.term_core.specs.declared.nodes.Head.TheVariants as heads
-use Rattle.term_core.specs.Tables.{TableView, no_term, no_symbol, symbol_at, term_at, IsIn, AreIn, clause_at, head_meant, HasHead, Shape, Fits, shape_term, Extends}
+use Rattle.term_core.specs.Tables.{TableView, no_term, no_symbol, symbol_at, term_at, IsIn, AreIn, clause_at, literal_at, head_meant, HasHead, Shape, Fits, shape_term, Extends}
 
 pub Extends-self : (t : TableView) → Extends t t
 Extends-self t = record { more_symbols = []; symbols = sym (append-nil t.symbols); more_terms = []; terms = sym (append-nil t.terms) }
+
+pub Extends-trans : (s t u : TableView) → Extends s t → Extends t u → Extends s u
+Extends-trans s t u a b = record {
+  more_symbols = a.more_symbols ++ b.more_symbols;
+  symbols = b.symbols ∙ ap (λ l. l ++ b.more_symbols) a.symbols ∙ append_assoc s.symbols a.more_symbols b.more_symbols;
+  more_terms = a.more_terms ++ b.more_terms;
+  terms = b.terms ∙ ap (λ l. l ++ b.more_terms) a.terms ∙ append_assoc s.terms a.more_terms b.more_terms;
+}
 
 module _ (old new : TableView) (grows : Extends old new) where
   pub IsIn-kept : (id : TermId) → IsIn old id → IsIn new id
@@ -16,6 +25,9 @@ module _ (old new : TableView) (grows : Extends old new) where
 
   pub term_at-kept : (id : TermId) → IsIn old id → term_at new id ≡ term_at old id
   term_at-kept id within = ap (λ l. get_or l id.0 no_term) grows.terms ∙ get_or_append_left old.terms grows.more_terms no_term id.0 within
+
+  pub literal_at-kept : (l : Lit) → IsIn old l.term → literal_at new l ≡ literal_at old l
+  literal_at-kept l within = ap (λ t. record { atom = t; positive = l.positive }) (term_at-kept l.term within)
 
   pub AreIn-kept : (ids : List TermId) → AreIn old ids → AreIn new ids
   AreIn-kept ids within k d lt = IsIn-kept (get_or ids k d) (within k d lt)

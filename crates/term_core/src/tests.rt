@@ -42,38 +42,40 @@ fn put(
     }
 }
 
+/// Nodes, and the numbers that they get in a table with the constants; `None` where it does not take them.
+const NODES: [(Head, &[TermId], Option<u64>); 24] = [
+    (Head::Apply(SymbolId(1)), &[], Some(1)),
+    (Head::True, &[], Some(3)),
+    (Head::False, &[], Some(4)),
+    (Head::Not, &[A], Some(5)),
+    (Head::And, &[A, B], Some(6)),
+    (Head::Or, &[A, B], Some(7)),
+    (Head::Xor, &[A, B], Some(8)),
+    (Head::Implies, &[A, B], Some(9)),
+    (Head::Equal, &[A, B], Some(10)),
+    (Head::Ite, &[A, B, C], Some(11)),
+    (Head::And, &[B, A], Some(12)),
+    (Head::And, &[A, B, C], Some(13)),
+    (Head::And, &[], Some(14)),
+    (Head::Or, &[], Some(15)),
+    (Head::And, &[A], Some(16)),
+    (Head::And, &[TermId(16), TermId(16)], Some(17)),
+    (Head::Not, &[], None),
+    (Head::Not, &[A, B], None),
+    (Head::True, &[A], None),
+    (Head::Xor, &[A], None),
+    (Head::Ite, &[A, B], None),
+    (Head::Apply(SymbolId(3)), &[], None),
+    (Head::Apply(SymbolId(0)), &[A], None),
+    (Head::And, &[A, TermId(99)], None),
+];
+
 #[test]
 fn puts_each_node_once(rt: HostRuntime) -> Result<(), Fail> {
     let alloc = rt.alloc();
     let mut table = table_of_three(alloc).expect(&rt, "memory");
-    let rows = [
-        (Head::Apply(SymbolId(1)), [].as_slice(), Some(1)),
-        (Head::True, [].as_slice(), Some(3)),
-        (Head::False, [].as_slice(), Some(4)),
-        (Head::Not, [A].as_slice(), Some(5)),
-        (Head::And, [A, B].as_slice(), Some(6)),
-        (Head::Or, [A, B].as_slice(), Some(7)),
-        (Head::Xor, [A, B].as_slice(), Some(8)),
-        (Head::Implies, [A, B].as_slice(), Some(9)),
-        (Head::Equal, [A, B].as_slice(), Some(10)),
-        (Head::Ite, [A, B, C].as_slice(), Some(11)),
-        (Head::And, [B, A].as_slice(), Some(12)),
-        (Head::And, [A, B, C].as_slice(), Some(13)),
-        (Head::And, [].as_slice(), Some(14)),
-        (Head::Or, [].as_slice(), Some(15)),
-        (Head::And, [A].as_slice(), Some(16)),
-        (Head::And, [TermId(16), TermId(16)].as_slice(), Some(17)),
-        (Head::Not, [].as_slice(), None),
-        (Head::Not, [A, B].as_slice(), None),
-        (Head::True, [A].as_slice(), None),
-        (Head::Xor, [A].as_slice(), None),
-        (Head::Ite, [A, B].as_slice(), None),
-        (Head::Apply(SymbolId(3)), [].as_slice(), None),
-        (Head::Apply(SymbolId(0)), [A].as_slice(), None),
-        (Head::And, [A, TermId(99)].as_slice(), None),
-    ];
     for _ in 0..2 {
-        for (head, arguments, number) in rows.iter() {
+        for (head, arguments, number) in NODES.iter() {
             let id = put(alloc, &mut table, *head, arguments).expect(&rt, "memory");
             assert!(rt; id == number.map(|n| TermId(n)));
             if let Some(id) = id {
@@ -108,19 +110,20 @@ fn finds_symbols_by_their_names(rt: HostRuntime) -> Result<(), Fail> {
     Ok(())
 }
 
+/// The terms from 3 on, and their literals.
+const NEGATIONS: [(Head, &[TermId], TermId, bool); 5] = [
+    (Head::Not, &[C], C, false),
+    (Head::Not, &[TermId(3)], C, true),
+    (Head::Not, &[TermId(4)], C, false),
+    (Head::And, &[TermId(5)], TermId(6), true),
+    (Head::Not, &[TermId(6)], TermId(6), false),
+];
+
 #[test]
 fn takes_negations_off_and_cuts(rt: HostRuntime) -> Result<(), Fail> {
     let alloc = rt.alloc();
     let mut table = table_of_three(alloc).expect(&rt, "memory");
-    // The arguments of the terms from 3 on, and each one's literal.
-    let rows = [
-        (Head::Not, [C].as_slice(), C, false),
-        (Head::Not, [TermId(3)].as_slice(), C, true),
-        (Head::Not, [TermId(4)].as_slice(), C, false),
-        (Head::And, [TermId(5)].as_slice(), TermId(6), true),
-        (Head::Not, [TermId(6)].as_slice(), TermId(6), false),
-    ];
-    for (head, arguments, term, positive) in rows.iter() {
+    for (head, arguments, term, positive) in NEGATIONS.iter() {
         let id = put(alloc, &mut table, *head, arguments).expect(&rt, "memory");
         if let Some(id) = id {
             assert!(rt; id.0 < table.len());
@@ -156,45 +159,46 @@ fn interp_of(alloc: Global, truths: [bool; 3]) -> Result<Interp, NoMemory> {
     Ok(Interp { tables })
 }
 
+/// Terms, and the truth of each where a, b, c are 000, 001, 010, up to 111.
+const TRUTHS: [(Head, &[TermId], &[u8; 8]); 23] = [
+    (Head::Apply(SymbolId(0)), &[], b"00001111"),
+    (Head::Apply(SymbolId(1)), &[], b"00110011"),
+    (Head::Apply(SymbolId(2)), &[], b"01010101"),
+    (Head::True, &[], b"11111111"),
+    (Head::False, &[], b"00000000"),
+    (Head::Not, &[A], b"11110000"),
+    (Head::And, &[A, B, C], b"00000001"),
+    (Head::Or, &[A, B, C], b"01111111"),
+    (Head::And, &[], b"11111111"),
+    (Head::Or, &[], b"00000000"),
+    // (xor a b c), from the left
+    (Head::Xor, &[A, B], b"00111100"),
+    (Head::Xor, &[TermId(10), C], b"01101001"),
+    // (=> a b c), from the right
+    (Head::Implies, &[B, C], b"11011101"),
+    (Head::Implies, &[A, TermId(12)], b"11111101"),
+    // (= a b c), by neighbours
+    (Head::Equal, &[A, B], b"11000011"),
+    (Head::Equal, &[B, C], b"10011001"),
+    (Head::And, &[TermId(14), TermId(15)], b"10000001"),
+    // (distinct a b c), by all pairs
+    (Head::Equal, &[A, C], b"10100101"),
+    (Head::Not, &[TermId(14)], b"00111100"),
+    (Head::Not, &[TermId(17)], b"01011010"),
+    (Head::Not, &[TermId(15)], b"01100110"),
+    (
+        Head::And,
+        &[TermId(18), TermId(19), TermId(20)],
+        b"00000000",
+    ),
+    (Head::Ite, &[A, B, C], b"01010011"),
+];
+
 #[test]
 fn gives_the_values_of_truth_tables(rt: HostRuntime) -> Result<(), Fail> {
     let alloc = rt.alloc();
     let mut table = table_of_three(alloc).expect(&rt, "memory");
-    // The columns: a term, and its truth where a, b, c are 000, 001, 010, up to 111.
-    let rows = [
-        (Head::Apply(SymbolId(0)), [].as_slice(), b"00001111"),
-        (Head::Apply(SymbolId(1)), [].as_slice(), b"00110011"),
-        (Head::Apply(SymbolId(2)), [].as_slice(), b"01010101"),
-        (Head::True, [].as_slice(), b"11111111"),
-        (Head::False, [].as_slice(), b"00000000"),
-        (Head::Not, [A].as_slice(), b"11110000"),
-        (Head::And, [A, B, C].as_slice(), b"00000001"),
-        (Head::Or, [A, B, C].as_slice(), b"01111111"),
-        (Head::And, [].as_slice(), b"11111111"),
-        (Head::Or, [].as_slice(), b"00000000"),
-        // (xor a b c), from the left
-        (Head::Xor, [A, B].as_slice(), b"00111100"),
-        (Head::Xor, [TermId(10), C].as_slice(), b"01101001"),
-        // (=> a b c), from the right
-        (Head::Implies, [B, C].as_slice(), b"11011101"),
-        (Head::Implies, [A, TermId(12)].as_slice(), b"11111101"),
-        // (= a b c), by neighbours
-        (Head::Equal, [A, B].as_slice(), b"11000011"),
-        (Head::Equal, [B, C].as_slice(), b"10011001"),
-        (Head::And, [TermId(14), TermId(15)].as_slice(), b"10000001"),
-        // (distinct a b c), by all pairs
-        (Head::Equal, [A, C].as_slice(), b"10100101"),
-        (Head::Not, [TermId(14)].as_slice(), b"00111100"),
-        (Head::Not, [TermId(17)].as_slice(), b"01011010"),
-        (Head::Not, [TermId(15)].as_slice(), b"01100110"),
-        (
-            Head::And,
-            [TermId(18), TermId(19), TermId(20)].as_slice(),
-            b"00000000",
-        ),
-        (Head::Ite, [A, B, C].as_slice(), b"01010011"),
-    ];
-    for (head, arguments, _) in rows.iter() {
+    for (head, arguments, _) in TRUTHS.iter() {
         assert!(rt; put(alloc, &mut table, *head, arguments).is_ok());
     }
     assert!(rt; table.len() == 23);
@@ -202,7 +206,7 @@ fn gives_the_values_of_truth_tables(rt: HostRuntime) -> Result<(), Fail> {
         let truths = [at / 4 == 1, at / 2 % 2 == 1, at % 2 == 1];
         let interp = interp_of(alloc, truths).expect(&rt, "memory");
         assert!(rt; table.symbols().len() <= interp.tables.len() as u64);
-        for (number, (_, _, want)) in rows.iter().enumerate() {
+        for (number, (_, _, want)) in TRUTHS.iter().enumerate() {
             let id = TermId(number as u64);
             assert!(rt; id.0 < table.len());
             let truth = want[at] == b'1';
@@ -247,35 +251,38 @@ fn takes_the_first_row_that_fits(rt: HostRuntime) -> Result<(), Fail> {
     Ok(())
 }
 
+/// Terms that share subterms.
+const SHARED: [(Head, &[TermId]); 5] = [
+    (Head::And, &[A, B]),
+    (Head::Or, &[TermId(3), C, TermId(3)]),
+    (Head::Not, &[TermId(4)]),
+    (Head::True, &[]),
+    (Head::Not, &[A]),
+];
+
+/// Terms, and how many different subterms they have together.
+const COUNTS: [(&[TermId], u64); 10] = [
+    (&[], 0),
+    (&[A], 1),
+    (&[A, A], 1),
+    (&[A, B], 2),
+    (&[TermId(3)], 3),
+    (&[TermId(4)], 5),
+    (&[TermId(5)], 6),
+    (&[TermId(6)], 1),
+    (&[TermId(7), TermId(3)], 4),
+    (&[TermId(5), TermId(6), TermId(7)], 8),
+];
+
 #[test]
 fn counts_each_subterm_once(rt: HostRuntime) -> Result<(), Fail> {
     let alloc = rt.alloc();
     let mut table = table_of_three(alloc).expect(&rt, "memory");
-    let rows = [
-        (Head::And, [A, B].as_slice()),
-        (Head::Or, [TermId(3), C, TermId(3)].as_slice()),
-        (Head::Not, [TermId(4)].as_slice()),
-        (Head::True, [].as_slice()),
-        (Head::Not, [A].as_slice()),
-    ];
-    for (head, arguments) in rows.iter() {
+    for (head, arguments) in SHARED.iter() {
         assert!(rt; put(alloc, &mut table, *head, arguments).is_ok());
     }
     assert!(rt; table.len() == 8);
-    // Terms, and how many different subterms they have together.
-    let rows = [
-        ([].as_slice(), 0),
-        ([A].as_slice(), 1),
-        ([A, A].as_slice(), 1),
-        ([A, B].as_slice(), 2),
-        ([TermId(3)].as_slice(), 3),
-        ([TermId(4)].as_slice(), 5),
-        ([TermId(5)].as_slice(), 6),
-        ([TermId(6)].as_slice(), 1),
-        ([TermId(7), TermId(3)].as_slice(), 4),
-        ([TermId(5), TermId(6), TermId(7)].as_slice(), 8),
-    ];
-    for (ids, number) in rows.iter() {
+    for (ids, number) in COUNTS.iter() {
         for room in 0..10 {
             assert!(rt; table.has_terms(ids));
             assert!(rt; fit_in(alloc, &table, ids, room) == Ok(*number <= room));
