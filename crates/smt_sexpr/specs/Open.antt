@@ -11,6 +11,7 @@ pub data Context : Type 0 where
   top : Trees → Context
   inside : Context → ℕ → Trees → Context
 
+-- one tree more at the end of others
 abbrev pub add : Trees → Tree → Trees
 add none t = more t none
 add (more u us) t = more u (add us t)
@@ -25,6 +26,7 @@ abbrev pub closed : Context → ℕ → Context
 closed (top rows) end = top rows
 closed (inside outer at rows) end = push outer (list at rows end)
 
+-- the lexemes so far; an open list's has no end yet
 abbrev pub spelled_in : Context → List (ℕ × Lexeme)
 spelled_in (top rows) = spelled_all rows
 spelled_in (inside outer at rows) = spelled_in outer ++ (at, opens) ∷ spelled_all rows
@@ -47,5 +49,7 @@ IsUnfinished (inside outer at rows) = IsUnfinished outer
 
 -- items and open places are those of the context
 pub record Holds (context : Context) (its : List Item) (open_at : List ℕ) : Type 0 where
+  -- the items are the context's
   pub items_are : its ≡ flat_in context
+  -- and so are the places of the open lists' items
   pub open_are : open_at ≡ open_in context
