@@ -16,8 +16,11 @@ pub(crate) const SCRIPT: &str = "(declare-const p Bool)(assert p)(assert (not p)
 pub(crate) const PROOF: &str =
     "(assume h1 p)\n(assume h2 (not p))\n(step t1 (cl) :rule resolution :premises (h1 h2))\n";
 
-/// More bytes than any text here has.
+/// More bytes than any text has that is written here.
 pub(crate) const AMPLE: u64 = 4096;
+
+/// How many bytes of a text are judged.
+pub(crate) const LIMIT: usize = 1 << 26;
 
 /// Makes the words behind the program's name.
 pub(crate) fn words_of(alloc: Global, words: &[&str]) -> Result<Vec<String>, NoMemory> {
@@ -36,11 +39,30 @@ pub(crate) fn shelf_of(
     proof: &str,
     failing: &[u64],
 ) -> Result<MemShelf, NoMemory> {
-    let mut texts = Vec::new(alloc);
-    for (name, text) in [("script.smt2", script), ("proof.alethe", proof)] {
-        let bytes = Vec::from_slice(alloc, text.as_bytes())?;
-        texts.push((String::from_str(alloc, name)?, Bytes::from(bytes)))?;
+    let script = padded(alloc, script, 0)?;
+    let proof = padded(alloc, proof, 0)?;
+    shelf_with(alloc, script, proof, failing)
+}
+
+/// Makes the bytes of a text, with spaces behind it up to `len` bytes.
+pub(crate) fn padded(alloc: Global, text: &str, len: usize) -> Result<Vec<u8>, NoMemory> {
+    let mut bytes = Vec::from_slice(alloc, text.as_bytes())?;
+    if bytes.len() < len {
+        bytes.resize(len, b' ')?;
     }
+    Ok(bytes)
+}
+
+/// Makes a shelf that holds the bytes of a script and a proof, and fails the calls with the numbers in `failing`.
+pub(crate) fn shelf_with(
+    alloc: Global,
+    script: Vec<u8>,
+    proof: Vec<u8>,
+    failing: &[u64],
+) -> Result<MemShelf, NoMemory> {
+    let mut texts = Vec::new(alloc);
+    texts.push((String::from_str(alloc, "script.smt2")?, Bytes::from(script)))?;
+    texts.push((String::from_str(alloc, "proof.alethe")?, Bytes::from(proof)))?;
     MemShelf::new(alloc, texts, AMPLE, Vec::from_slice(alloc, failing)?)
 }
 

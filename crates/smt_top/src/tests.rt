@@ -2,13 +2,17 @@
 
 ghost use Rattle.std.specs.Prelude.{◌≡◌};
 
-use crate::read::Texts;
-use crate::test_support::{AMPLE, CHECK, PROOF, SCRIPT, run_words, shelf_of, sink_of};
-use crate::verdict::{judge, report};
+use crate::read::read_both;
+use crate::test_support::{
+    AMPLE, CHECK, LIMIT, PROOF, SCRIPT, padded, run_words, shelf_of, shelf_with, sink_of,
+};
+use crate::verdict::report;
+use crate::words::Names;
 use crate::{Status, run};
 use alethe_check::{Place, ProofFault, ProofKind, ProofStop};
+use spec_text::Fault;
 use std::test::Fail;
-use world_io::{Bytes, ReadEnd, Shelf};
+use world_io::Shelf;
 
 const USAGE: &str = "usage: smt_cli check [--at K] SCRIPT PROOF\n";
 
@@ -122,44 +126,45 @@ fn the_script_is_read_first(rt: HostRuntime) -> Result<(), Fail> {
 }
 
 #[test]
-fn longer_texts_are_not_taken(rt: HostRuntime) -> Result<(), Fail> {
-    let place = Place {
-        offset: 0,
-        line: 1,
-        col: 1,
-    };
-    let kind = ProofKind::NotYet;
-    let not_yet = Err(ProofStop::Fault(ProofFault { place, kind }));
-    for (script_is_cut, proof_is_cut) in [(true, false), (false, true), (true, true)] {
-        let script = Bytes::from(Vec::from_slice(rt.alloc(), SCRIPT.as_bytes())?);
-        let proof = Bytes::from(Vec::from_slice(rt.alloc(), PROOF.as_bytes())?);
-        let texts = Texts {
-            script: if script_is_cut {
-                ReadEnd::Cut(script)
-            } else {
-                ReadEnd::Whole(script)
-            },
-            proof: if proof_is_cut {
-                ReadEnd::Cut(proof)
-            } else {
-                ReadEnd::Whole(proof)
-            },
+fn texts_are_read_to_their_fronts(rt: HostRuntime) -> Result<(), Fail> {
+    // Of what is read, one byte is more than a text may have.
+    let cases = [(0, 0), (LIMIT + 2, LIMIT + 1)];
+    for (len, want) in cases {
+        let script = padded(rt.alloc(), "", len)?;
+        let proof = padded(rt.alloc(), PROOF, 0)?;
+        let mut shelf = shelf_with(rt.alloc(), script, proof, &[])?;
+        let names = Names {
+            script: "script.smt2",
+            proof: "proof.alethe",
         };
-        assert_eq!(rt; judge(rt.alloc(), &texts), not_yet);
+        let texts = read_both(rt.alloc(), &mut shelf, names)?;
+        assert_eq!(rt; texts.script.len(), want, "{len}");
+        assert_eq!(rt; texts.proof.as_slice(), PROOF.as_bytes());
     }
     Ok(())
 }
 
 #[test]
 fn faults_are_written_with_line_and_column(rt: HostRuntime) -> Result<(), Fail> {
-    let cases: [(u64, u64, ProofKind, &str); 5] = [
-        (1, 1, ProofKind::NotYet, "(error \"1:1: NotYet\")\n"),
+    let cases: [(u64, u64, ProofKind, &str); 7] = [
         (3, 1, ProofKind::RuleFails, "(error \"3:1: RuleFails\")\n"),
         (
+            1,
+            1,
+            ProofKind::NoSuchCheck,
+            "(error \"1:1: NoSuchCheck\")\n",
+        ),
+        (
             2,
-            12,
-            ProofKind::NotAsserted,
-            "(error \"2:12: NotAsserted\")\n",
+            13,
+            ProofKind::Lexical(Fault::UnclosedList),
+            "(error \"2:13: UnclosedList\")\n",
+        ),
+        (
+            2,
+            17,
+            ProofKind::Term(Fault::UnknownSymbol),
+            "(error \"2:17: UnknownSymbol\")\n",
         ),
         (
             1000,
@@ -167,11 +172,18 @@ fn faults_are_written_with_line_and_column(rt: HostRuntime) -> Result<(), Fail> 
             ProofKind::NoEmptyClause,
             "(error \"1000:90: NoEmptyClause\")\n",
         ),
+        // No name is longer than these two.
         (
             u64::MAX,
             u64::MAX,
-            ProofKind::NoEmptyClause,
-            "(error \"18446744073709551615:18446744073709551615: NoEmptyClause\")\n",
+            ProofKind::UnknownPremise,
+            "(error \"18446744073709551615:18446744073709551615: UnknownPremise\")\n",
+        ),
+        (
+            u64::MAX,
+            u64::MAX,
+            ProofKind::Lexical(Fault::UnknownCommand),
+            "(error \"18446744073709551615:18446744073709551615: UnknownCommand\")\n",
         ),
     ];
     for (line, col, kind, want) in cases {
