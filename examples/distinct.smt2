@@ -1,0 +1,1 @@
+(declare-const p Bool)(declare-const q Bool)(assert (distinct p q))(assert (= p q))(check-sat)

@@ -1,0 +1,7 @@
+(set-logic QF_UF)
+(declare-const p Bool)
+(declare-const x Real)
+(assert p)
+(assert (> x 0))
+(assert (not p))
+(check-sat)

@@ -1,0 +1,1 @@
+(declare-const p Bool)(assert (or p p))(assert (not p))(check-sat)
