@@ -3,9 +3,7 @@
 ghost use Rattle.std.specs.Prelude.{All, IfOk};
 ghost use Rattle.term_core.specs.Tables.{AreIn};
 
-use crate::{
-    RuleStop, resolution, rule_contraction, rule_or, rule_reordering, rule_weakening,
-};
+use crate::{RuleStop, resolution, rule_contraction, rule_or, rule_reordering, rule_weakening};
 use spec_proofs::Rule;
 use std::alloc::{AllocError, Global};
 use std::test::Fail;
@@ -140,8 +138,18 @@ const STEPS: &[(Rule, &str, &str, bool)] = &[
     (Rule::Reordering, "abc;", "cab", true),
     (Rule::Reordering, "abcd;", "dcba", true),
     (Rule::Reordering, "abcd;", "abcd", true),
-    (Rule::Reordering, "abcdABCD120|owe&n;", "n&ewo|021DCBAdcba", true),
-    (Rule::Reordering, "n&ewo|021DCBAdcba;", "abcABCD120|owe&n", false),
+    (
+        Rule::Reordering,
+        "abcdABCD120|owe&n;",
+        "n&ewo|021DCBAdcba",
+        true,
+    ),
+    (
+        Rule::Reordering,
+        "n&ewo|021DCBAdcba;",
+        "abcABCD120|owe&n",
+        false,
+    ),
     (Rule::Reordering, "abc;", "ba", false),
     (Rule::Reordering, "abc;", "bad", false),
     (Rule::Reordering, "aA;", "a1", false),
