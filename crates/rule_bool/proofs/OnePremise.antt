@@ -15,8 +15,8 @@ use Rattle.rule_bool.proofs.Transport.{to_image, from_image}
 pub not_yet : (ids : List TermId) (k : ℕ) (d id : TermId) → k < length ids → (get_or ids k d ≡ id → ⊥) → (Contains (take k ids) id → ⊥) → Contains (take (k + 1) ids) id → ⊥
 not_yet ids k d id lt other free i =
     elim (Contains-push_cases (take k ids) (get_or ids k d) id (subst (λ (xs : List TermId). Contains xs id) (take_more ids k d lt) i)) [
-    | inl was ↦ free was
-    | inr is ↦ other is
+      | inl was ↦ free was
+      | inr is ↦ other is
     ]
 
 module _ (t : TableView) (ids clause : List TermId) where

@@ -35,7 +35,7 @@ abbrev pub HaveSame : List (List Lit) → List (List Lit) → Type 0
 HaveSame ps qs = (c : List Lit) → Contains ps c → (d : List Lit) × Contains qs d × SameLits c d
 
 module _ (ps qs : List (List Lit)) (same : HaveSame ps qs) (start : List Lit) where
-  derived_too : (l : Lit) → Derives lit_complement ps start l → Derives lit_complement qs start l
+  pub derived_too : (l : Lit) → Derives lit_complement ps start l → Derives lit_complement qs start l
   derived_too _ (given l i) = given l i
   derived_too _ (unit c l c_in l_in others) =
       let s = same c c_in in

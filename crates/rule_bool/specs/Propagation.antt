@@ -14,6 +14,10 @@ IsDerived premises start held = (l : Lit) → Contains held l → Derives lit_co
 abbrev pub IsRefuted : List (List Lit) → List Lit → Type 0
 IsRefuted premises held = (start : List Lit) → IsDerived premises start held → Conflicts lit_complement premises start
 
+-- no conflict follows from anything that is held
+abbrev pub IsUnrefuted : List (List Lit) → List Lit → Type 0
+IsUnrefuted premises held = (start : List Lit) → IsWithin start held → Conflicts lit_complement premises start → ⊥
+
 -- how many don't pass a test
 abbrev pub failing : {X : Type 0} → (X → Bool) → List X → ℕ
 failing p [] = zero

@@ -4,9 +4,9 @@ ghost use Rattle.std.specs.Prelude.{IfOk};
 ghost use Rattle.std.specs.List.{AllZip};
 ghost use Rattle.rule_bool.specs.Literals.{IsSetOf, lists};
 
-use term_core::Lit;
 use indexmap::IndexSet;
 use std::alloc::{AllocError, Global};
+use term_core::Lit;
 
 /// Gives the literals of a clause, each once, in the order of first mention.
 fn distinct(alloc: Global, clause: &[Lit]) -> Result<Vec<Lit>, AllocError>

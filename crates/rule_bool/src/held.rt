@@ -4,10 +4,10 @@ ghost use Rattle.std.specs.Prelude.{◌≡◌, ◌<◌, ◌↔◌, [], map, leng
 ghost use Rattle.rule_bool.specs.Literals.{lit_complement, AddsLast, IsConsistent};
 
 use crate::lits::negated;
-use term_core::Lit;
 use indexmap::IndexSet;
 use std::alloc::{AllocError, Global};
 use std::marker::Model;
+use term_core::Lit;
 
 /// The literals that hold, each once, in the order in which they were added.
 #[derive(Drop)]

@@ -20,8 +20,8 @@ mod tests;
 mod watchers;
 mod within;
 
-pub use term_core::{Lit, TermId};
 pub use propagation::resolves;
 pub use resolvent::resolution;
 pub use rule_stop::RuleStop;
 pub use rules::{rule_contraction, rule_or, rule_reordering, rule_weakening};
+pub use term_core::{Lit, TermId};

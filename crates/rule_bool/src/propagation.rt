@@ -5,15 +5,16 @@ ghost use Rattle.spec_proofs.specs.Resolution.{Resolves};
 ghost use Rattle.rule_bool.specs.Literals.{lit_complement, lists, HasNoTwice, IsConsistent};
 ghost use Rattle.rule_bool.specs.Findings.{IsFalse};
 ghost use Rattle.rule_bool.specs.Watching.{IsIndexOf};
-ghost use Rattle.rule_bool.specs.Propagation.{TakesUp, IsRefuted, Begins, AreTracked, PassesOn, Propagates};
+ghost use Rattle.rule_bool.specs.Propagation.{TakesUp, IsRefuted, IsUnrefuted, Begins, AreTracked, PassesOn, Propagates};
 
 use crate::distinct::distinct_each;
 use crate::held::{Held, start_of};
 use crate::lits::negated;
-use term_core::Lit;
 use crate::look::{Finding, look};
+use crate::scan::{Pass, pass_over};
 use crate::watchers::{Watchers, watchers_of};
 use std::alloc::{AllocError, Global};
+use term_core::Lit;
 
 /// Takes up a premise of which so many literals are left, and gives how many are left then, or nothing where it is false.
 fn take_up(premise: &[Lit], left: usize, held: &mut Held) -> Result<Option<usize>, AllocError>
@@ -73,7 +74,7 @@ fn pass_on(
 }
 
 /// Takes each literal that holds out of the premises with its complement, and tells whether one comes to be false.
-fn propagate(
+fn take_out_each(
     premises: &[Vec<Lit>],
     watchers: &Watchers,
     held: &mut Held,
@@ -99,7 +100,7 @@ fn propagate(
 }
 
 /// Goes on from the literals that hold as far as it can, and tells whether a premise comes to be false.
-fn refutes(alloc: Global, premises: &[Vec<Lit>], held: &mut Held) -> Result<bool, AllocError>
+fn propagate(alloc: Global, premises: &[Vec<Lit>], held: &mut Held) -> Result<bool, AllocError>
     requires once { All HasNoTwice (lists premises.now) }
     requires consistent { IsConsistent held.old }
     ensures { IfOk result (λ no. Propagates (lists premises.now) held.old held.new no) }
@@ -108,7 +109,23 @@ fn refutes(alloc: Global, premises: &[Vec<Lit>], held: &mut Held) -> Result<bool
         return Ok(true);
     };
     let watchers = watchers_of(alloc, premises)?;
-    if propagate(premises, &watchers, held, &mut left)? {
+    if take_out_each(premises, &watchers, held, &mut left)? {
+        return Ok(true);
+    }
+    Ok(false)
+}
+
+/// Tells whether unit propagation over the premises, from the literals that hold, reaches a conflict.
+pub(crate) fn refutes(
+    alloc: Global,
+    premises: &[Vec<Lit>],
+    held: &mut Held,
+) -> Result<bool, AllocError>
+    requires { IsConsistent held.old }
+    ensures { IfOk result (λ yes. MatchBool yes (IsRefuted (lists premises.now) held.old) (IsUnrefuted (lists premises.now) held.old)) }
+{
+    let sets = distinct_each(alloc, premises)?;
+    if propagate(alloc, &sets, held)? {
         return Ok(true);
     }
     Ok(false)
@@ -118,8 +135,9 @@ fn refutes(alloc: Global, premises: &[Vec<Lit>], held: &mut Held) -> Result<bool
 ///
 /// A clause counts as the set of its literals; premises may come in any order, more than once, or for nothing. A clause with a
 /// literal and its complement needs no premise. Time and memory go in proportion to the literals of premises and clause, in any
-/// order, as far as look-ups by hash take a time of their own: each literal that comes to hold is taken out of the premises with
-/// its complement once, and a premise is looked at only where at most one of its literals is left.
+/// order, as far as a look-up by hash takes a time of its own. One plain pass over the premises comes first, which a chain in the
+/// order of its resolutions needs alone; then each literal that holds is taken out of the premises with its complement once, and
+/// a premise is looked at only where at most one of its literals is left.
 ///
 /// `AllocError` comes where memory runs out, which tells nothing of the premises. Nothing is changed.
 /// Source: Alethe specification, rule `resolution`; unit propagation is own.
@@ -129,8 +147,12 @@ pub fn resolves(alloc: Global, premises: &[Vec<Lit>], clause: &[Lit]) -> Result<
     let Some(mut held) = start_of(alloc, clause)? else {
         return Ok(true);
     };
-    let premises = distinct_each(alloc, premises)?;
-    if refutes(alloc, &premises, &mut held)? {
+    match pass_over(premises, &mut held)? {
+        Pass::Conflict => return Ok(true),
+        Pass::Same => return Ok(false),
+        Pass::Added => {}
+    }
+    if refutes(alloc, premises, &mut held)? {
         return Ok(true);
     }
     Ok(false)

@@ -38,11 +38,7 @@ fn disjunction<'a>(table: &'a TermTable, premises: &[Clause]) -> Option<&'a Node
 ///
 /// `RuleFails` comes exactly where the step is not right.
 /// Source: Alethe specification, rule `or`; that order, repeats and further literals are free is own.
-pub fn rule_or(
-    table: &TermTable,
-    premises: &[Clause],
-    clause: &[TermId],
-) -> Result<(), RuleFails>
+pub fn rule_or(table: &TermTable, premises: &[Clause], clause: &[TermId]) -> Result<(), RuleFails>
     requires premises { All (AreIn table.now) premises.now }
     requires clause { AreIn table.now clause.now }
     ensures { MatchResult result (λ _. IsRight rules.Or (map (clause_at table.now) premises.now) (clause_at table.now clause.now))

@@ -6,13 +6,13 @@ ghost use Rattle.rule_bool.specs.Literals.{lit_complement, lists};
 ghost use Rattle.rule_bool.specs.Scanning.{Scans, Moves};
 
 use crate::held::{Held, start_of};
-use term_core::Lit;
 use crate::look::{Finding, look};
 use std::alloc::{AllocError, Global};
+use term_core::Lit;
 
 /// What a pass over the premises comes to.
 #[derive(Clone, Copy, Debug, PartialEq, Eq)]
-enum Pass {
+pub(crate) enum Pass {
     /// A premise is false.
     Conflict,
     /// Some literals were added.
@@ -35,7 +35,7 @@ fn take_up(clause: &[Lit], held: &mut Held) -> Result<Finding, AllocError>
 }
 
 /// Takes up each premise once, from the last to the first, until one is false.
-fn pass_over(premises: &[Vec<Lit>], held: &mut Held) -> Result<Pass, AllocError>
+pub(crate) fn pass_over(premises: &[Vec<Lit>], held: &mut Held) -> Result<Pass, AllocError>
     ensures { IfOk result (λ p. Moves (lists premises.now) (lists premises.now) held.old held.new p) }
 {
     let mut added = false;

@@ -1,5 +1,7 @@
 //! Both ways to propagate, on a table and on many small cases.
 
+use crate::held::start_of;
+use crate::propagation::refutes;
 use crate::scan::resolves_by_scan;
 use crate::{Lit, TermId, resolves};
 use std::alloc::{AllocError, Global};
@@ -66,9 +68,22 @@ fn resolves_literals(rt: HostRuntime) -> Result<(), Fail> {
         let premises = clauses_of(alloc, premises)?;
         let clause = clause_of(alloc, clause)?;
         assert!(rt; resolves(alloc, &premises, &clause)? == wanted);
+        assert!(rt; resolves_by_counts(alloc, &premises, &clause)? == wanted);
         assert!(rt; resolves_by_scan(alloc, &premises, &clause)? == wanted);
     }
     Ok(())
+}
+
+/// Tells the same as `resolves`, with no plain pass before.
+fn resolves_by_counts(
+    alloc: Global,
+    premises: &[Vec<Lit>],
+    clause: &[Lit],
+) -> Result<bool, AllocError> {
+    match start_of(alloc, clause)? {
+        Some(mut held) => refutes(alloc, premises, &mut held),
+        None => Ok(true),
+    }
 }
 
 /// The next number of a sequence that looks like one by chance.
@@ -78,27 +93,27 @@ fn next(seed: u64) -> u64 {
     y ^ (y << 17)
 }
 
-/// Makes a clause of fewer than four literals over four atoms.
-fn clause_from(alloc: Global, seed: u64) -> Result<Vec<Lit>, AllocError> {
+/// Makes a clause of so many literals over four atoms, of which some may be the same.
+fn clause_from(alloc: Global, seed: u64, size: u64) -> Result<Vec<Lit>, AllocError> {
     let mut clause = Vec::new(alloc);
     let mut rest = seed >> 8;
-    for _ in 0..seed % 4 {
+    for _ in 0..size {
         clause.push(Lit {
-            term: TermId(rest % 4),
-            positive: rest & 4 == 0,
+            term: TermId((rest >> 1) % 4),
+            positive: rest % 2 == 0,
         })?;
-        rest >>= 3;
+        rest >>= 5;
     }
     Ok(clause)
 }
 
-/// Makes fewer than eight clauses.
+/// Makes fewer than twelve clauses of one to three literals.
 fn clauses_from(alloc: Global, seed: u64) -> Result<Vec<Vec<Lit>>, AllocError> {
     let mut clauses = Vec::new(alloc);
     let mut seed = seed;
-    for _ in 0..(seed >> 32) % 8 {
+    for _ in 0..(seed >> 32) % 12 {
         seed = next(seed);
-        clauses.push(clause_from(alloc, seed)?)?;
+        clauses.push(clause_from(alloc, seed, 1 + seed % 3)?)?;
     }
     Ok(clauses)
 }
@@ -111,9 +126,10 @@ fn resolves_as_the_scan_does(rt: HostRuntime) -> Result<(), Fail> {
         seed = next(seed);
         let premises = clauses_from(alloc, seed)?;
         seed = next(seed);
-        let clause = clause_from(alloc, seed)?;
+        let clause = clause_from(alloc, seed, seed % 3)?;
         let wanted = resolves_by_scan(alloc, &premises, &clause)?;
         assert!(rt; resolves(alloc, &premises, &clause)? == wanted);
+        assert!(rt; resolves_by_counts(alloc, &premises, &clause)? == wanted);
     }
     Ok(())
 }

@@ -4,9 +4,9 @@ ghost use Rattle.std.specs.Prelude.{◌≡◌, ◌<◌, ◌∷◌, [], ℕ, All,
 ghost use Rattle.rule_bool.specs.Literals.{lists};
 ghost use Rattle.rule_bool.specs.Watching.{IsWhole, Watches, AreBelow, Places, Notes, IsIndexOf};
 
-use term_core::Lit;
 use indexmap::IndexSet;
 use std::alloc::{AllocError, Global};
+use term_core::Lit;
 
 /// For each literal the numbers of the clauses in which it occurs.
 #[derive(Drop)]

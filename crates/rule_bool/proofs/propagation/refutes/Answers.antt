@@ -1,27 +1,17 @@
--- That it goes on to the end.
-use Rattle.rule_bool.proofs.Advancing.{refuted_on, advances_on}
-use Rattle.rule_bool.proofs.Stepping.{begun_counted, begun_tracked}
+-- That clauses count as sets.
+use Rattle.rule_bool.proofs.Advancing.{held_on}
+use Rattle.rule_bool.proofs.Quiet.{no_conflict, conflicts_too, derived_too, sets_there, sets_back, sets_once}
 use Rattle.rule_bool.proofs.propagation.refutes.Goals as goal
 
-pub propagate-requires : goal.propagate-requires
-propagate-requires c =
-    let begun = rw c.in-Some.is at c.in_ok-left.ensures in
-    record {
-      counted = begun_counted c.args.premises.now _ _ _ _ c.deref_mut.ensures.value begun;
-      once = c.requires.once;
-      index = c.in_ok-watchers.ensures;
-      consistent = begun.advances.consistent c.requires.consistent;
-      tracked = begun_tracked c.args.premises.now _ _ _ _ c.deref_mut.ensures.value begun;
-    }
+pub propagate-requires-clause-once : goal.propagate-requires-clause-once
+propagate-requires-clause-once c = rw c.deref.ensures.value (sets_once _ _ c.in_ok-sets.ensures)
 
 pub returns-then-branch : goal.returns-then-branch
 returns-then-branch c =
-    let begun = rw c.in-Some.is at c.in_ok-left.ensures in
-    let refuted = rw c.if-branch.true at c.in_ok-propagate.ensures in
-    refuted_on _ _ _ begun.advances refuted
+    let refuted = rw (c.if-branch.true, c.deref.ensures.value) at c.in_ok-propagate.ensures in
+    λ start d. conflicts_too _ _ (sets_back _ _ c.in_ok-sets.ensures) start (refuted start (λ l i. derived_too _ _ (sets_there _ _ c.in_ok-sets.ensures) start l (d l i)))
 
 pub returns : goal.returns
 returns c =
-    let begun = rw c.in-Some.is at c.in_ok-left.ensures in
-    let quiet = rw c.if-branch.false at c.in_ok-propagate.ensures in
-    record { advances = advances_on _ _ _ _ begun.advances quiet.advances; settled = quiet.settled }
+    let quiet = rw (c.if-branch.false, c.deref.ensures.value) at c.in_ok-propagate.ensures in
+    λ start within conflict. no_conflict _ _ _ (λ l i. held_on _ _ _ quiet.advances l (within l i)) (quiet.advances.consistent c.requires) quiet.settled (conflicts_too _ _ (sets_there _ _ c.in_ok-sets.ensures) start conflict)

@@ -3,7 +3,7 @@ use Rattle.std.proofs.Common.{◌+◌, ◌-◌, length}
 use Rattle.rule_bool.specs.Literals.{lists}
 use Rattle.rule_bool.specs.Propagation.{untouched}
 use Rattle.rule_bool.proofs.Stepping.{IsGoing}
-use Rattle.rule_bool.proofs.propagation.propagate.Given as goal
+use Rattle.rule_bool.proofs.propagation.take_out_each.Given as goal
 
 abbrev pub invariant-loop-done : goal.invariant-loop-done
 invariant-loop-done l = IsGoing (lists l.premises) l.fn.held l.held l.left l.done
