@@ -112,6 +112,7 @@ fn fits(alloc: Global, read: Result<Next<'_>, Refused>, wanted: Want) -> Result<
         }
         (Ok(Next::Close(after)), Want::Close(behind)) => Ok(after.offset == behind),
         (Ok(Next::End), Want::End) => Ok(true),
+        (Err(Refused::Memory), _) => Err(NoMemory),
         (Err(Refused::Fault(r)), Want::Fault(fault, place)) => {
             Ok(r.fault == fault && is_at(r.place, place))
         }
@@ -156,6 +157,7 @@ fn nests(
             Ok(s.items().len() == count && after.offset as usize == text.len())
         }
         Err(Refused::Fault(r)) => Ok(r.fault == Fault::TooDeep && is_at(r.place, refused)),
+        Err(Refused::Memory) => Err(AllocError),
         _ => Ok(false),
     }
 }
@@ -210,6 +212,7 @@ const PRINTED: [(&str, u64, &str); 22] = [
 fn prints(alloc: Global, text: &[u8], item: u64, wanted: &[u8]) -> Result<bool, NoMemory> {
     match read_one(alloc, text, start()) {
         Ok(Some((s, _))) => is_printed(alloc, &s, item, wanted),
+        Err(Refused::Memory) => Err(NoMemory),
         _ => Ok(wanted.is_empty()),
     }
 }
@@ -227,8 +230,10 @@ fn prints_each_item(rt: HostRuntime) -> Result<(), Fail> {
 
 /// What a sink that takes no more than so many bytes has of a printed text, and whether that was all.
 fn front_is(alloc: Global, text: &[u8], room: u64, wanted: &[u8]) -> Result<bool, NoMemory> {
-    let Ok(Some((s, _))) = read_one(alloc, text, start()) else {
-        return Ok(false);
+    let s = match read_one(alloc, text, start()) {
+        Ok(Some((s, _))) => s,
+        Err(Refused::Memory) => return Err(NoMemory),
+        _ => return Ok(false),
     };
     if s.items().is_empty() {
         return Ok(false);
