@@ -144,49 +144,51 @@ fn texts_are_read_to_their_fronts(rt: HostRuntime) -> Result<(), Fail> {
     Ok(())
 }
 
+/// A line, a column and a kind of fault, with what is written of it.
+const FAULTS: [(u64, u64, ProofKind, &str); 7] = [
+    (3, 1, ProofKind::RuleFails, "(error \"3:1: RuleFails\")\n"),
+    (
+        1,
+        1,
+        ProofKind::NoSuchCheck,
+        "(error \"1:1: NoSuchCheck\")\n",
+    ),
+    (
+        2,
+        13,
+        ProofKind::Lexical(Fault::UnclosedList),
+        "(error \"2:13: UnclosedList\")\n",
+    ),
+    (
+        2,
+        17,
+        ProofKind::Term(Fault::UnknownSymbol),
+        "(error \"2:17: UnknownSymbol\")\n",
+    ),
+    (
+        1000,
+        90,
+        ProofKind::NoEmptyClause,
+        "(error \"1000:90: NoEmptyClause\")\n",
+    ),
+    // No name is longer than these two.
+    (
+        u64::MAX,
+        u64::MAX,
+        ProofKind::UnknownPremise,
+        "(error \"18446744073709551615:18446744073709551615: UnknownPremise\")\n",
+    ),
+    (
+        u64::MAX,
+        u64::MAX,
+        ProofKind::Lexical(Fault::UnknownCommand),
+        "(error \"18446744073709551615:18446744073709551615: UnknownCommand\")\n",
+    ),
+];
+
 #[test]
 fn faults_are_written_with_line_and_column(rt: HostRuntime) -> Result<(), Fail> {
-    let cases: [(u64, u64, ProofKind, &str); 7] = [
-        (3, 1, ProofKind::RuleFails, "(error \"3:1: RuleFails\")\n"),
-        (
-            1,
-            1,
-            ProofKind::NoSuchCheck,
-            "(error \"1:1: NoSuchCheck\")\n",
-        ),
-        (
-            2,
-            13,
-            ProofKind::Lexical(Fault::UnclosedList),
-            "(error \"2:13: UnclosedList\")\n",
-        ),
-        (
-            2,
-            17,
-            ProofKind::Term(Fault::UnknownSymbol),
-            "(error \"2:17: UnknownSymbol\")\n",
-        ),
-        (
-            1000,
-            90,
-            ProofKind::NoEmptyClause,
-            "(error \"1000:90: NoEmptyClause\")\n",
-        ),
-        // No name is longer than these two.
-        (
-            u64::MAX,
-            u64::MAX,
-            ProofKind::UnknownPremise,
-            "(error \"18446744073709551615:18446744073709551615: UnknownPremise\")\n",
-        ),
-        (
-            u64::MAX,
-            u64::MAX,
-            ProofKind::Lexical(Fault::UnknownCommand),
-            "(error \"18446744073709551615:18446744073709551615: UnknownCommand\")\n",
-        ),
-    ];
-    for (line, col, kind, want) in cases {
+    for (line, col, kind, want) in FAULTS {
         let place = Place {
             offset: 7,
             line,
