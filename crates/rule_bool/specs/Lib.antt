@@ -1,4 +1,4 @@
--- Literals, what propagation finds under those that hold, and how it goes on.
+-- Literals, what propagation finds under those that hold, and how it goes on; what premises are as terms of the table.
 pub mod Literals
 pub mod Findings
 pub mod Watching

@@ -9,7 +9,7 @@ ghost use Rattle.rule_bool.specs.Premises.{IsDisjunctionAlone, HasNoDisjunctionA
 use crate::within::has_each;
 use term_core::{Clause, Head, Node, RuleFails, TermId, TermTable};
 
-/// Gives the one literal of the one premise where that is a disjunction.
+/// Gives the node of the one literal of the one premise where that is a disjunction, or else nothing.
 fn disjunction<'a>(table: &'a TermTable, premises: &[Clause]) -> Option<&'a Node>
     requires { All (AreIn table.now) premises.now }
     ensures { MatchOption result (HasNoDisjunctionAlone table.now premises.now) (λ node. IsDisjunctionAlone table.now premises.now node.now.arguments.items) }
@@ -132,7 +132,8 @@ pub fn rule_reordering(
 /// is their product at worst.
 ///
 /// `RuleFails` comes exactly where the step is not right.
-/// Source: Alethe specification, rule `weakening`; that the added literals may stand anywhere is own.
+/// Source: Alethe specification, rule `weakening`; that the added literals may stand anywhere, and that repeats may be left out,
+/// is own.
 pub fn rule_weakening(
     table: &TermTable,
     premises: &[Clause],

@@ -1,5 +1,5 @@
 -- From the checker's answer on the fronts of two texts to the verdict on the whole texts.
-use Rattle.std.proofs.Common.{◌≡◌, ◌≤◌, ◌+◌, ◌⊎◌, inl, inr, ℕ, List, length, take, Option, Some, None, Result, Ok, Err, refl, sym, ap, ◌∙◌, subst, arith, length-take}
+use Rattle.std.proofs.Common.{◌≡◌, ◌≤◌, ◌+◌, ◌⊎◌, inl, inr, ℕ, List, length, take, Option, Some, None, Result, Ok, Err, sym, ap, ◌∙◌, subst, arith, length-take}
 use Rattle.std.specs.Prelude.{count_by, ◌==◌}
 use Rattle.std.proofs.lemmas.List.{take-take, take_all}
 use Rattle.spec_text.specs.declared.Place.{Place}

@@ -17,8 +17,8 @@ use world_io::{ReadStop, Shelf, Sink};
 ///
 /// K tells which of the script's checks is meant, from 1; it is 1 where it is not given. Both texts are read, the script
 /// first, before anything is judged. Then the verdict is written: `valid`, or the proof's first fault with its line and
-/// column. Of a text of more than 2^26 bytes no more than that is judged, and its end is a fault. All other words give the
-/// usage text.
+/// column. Of each text the first 2^26 bytes are judged: a check behind them is not there, and a proof that goes on behind
+/// them has a fault. All other words give the usage text.
 ///
 /// `Memory` comes where an allocation was refused, `ReadFault` where the shelf failed; nothing was then written.
 /// `WriteFault` comes where the sink failed, with a front written. Source: own.
