@@ -3,9 +3,7 @@
 ghost use Rattle.std.specs.Prelude.{◌≡◌};
 
 use crate::Status;
-use crate::test_support::{
-    AMPLE, CHECK, LIMIT, PROOF, SCRIPT, padded, run_words, shelf_of, shelf_with, sink_of,
-};
+use crate::test_support::{AMPLE, CHECK, PROOF, SCRIPT, run_words, shelf_of, sink_of};
 use std::test::Fail;
 
 /// The words of a run over the two texts, of the script's second check.
@@ -145,58 +143,6 @@ fn verdicts_are_written(rt: HostRuntime) -> Result<(), Fail> {
         let status = run_words(rt.alloc(), words, &mut shelf, &mut out)?;
         assert_eq!(rt; out.written(), want.as_bytes(), "{proof}");
         assert_eq!(rt; status, want_status, "{proof}");
-    }
-    Ok(())
-}
-
-/// A script and a proof, each with spaces behind it up to so many bytes, with what is written and the status.
-const LONG: [(&str, usize, &str, usize, &str, Status); 6] = [
-    (SCRIPT, LIMIT, PROOF, LIMIT, "valid\n", Status::Done),
-    (SCRIPT, LIMIT + 1, PROOF, 0, "valid\n", Status::Done),
-    (
-        SCRIPT,
-        0,
-        PROOF,
-        LIMIT + 1,
-        "(error \"4:67108781: TooLong\")\n",
-        Status::Refused,
-    ),
-    (
-        "",
-        LIMIT + 1,
-        PROOF,
-        0,
-        "(error \"1:1: NoSuchCheck\")\n",
-        Status::Refused,
-    ),
-    (
-        SCRIPT,
-        0,
-        "",
-        LIMIT,
-        "(error \"1:67108865: NoEmptyClause\")\n",
-        Status::Refused,
-    ),
-    (
-        SCRIPT,
-        0,
-        "",
-        LIMIT + 100,
-        "(error \"1:67108865: TooLong\")\n",
-        Status::Refused,
-    ),
-];
-
-#[test]
-fn long_texts_are_judged_to_the_limit(rt: HostRuntime) -> Result<(), Fail> {
-    for (script, script_len, proof, proof_len, want, want_status) in LONG {
-        let script = padded(rt.alloc(), script, script_len)?;
-        let proof = padded(rt.alloc(), proof, proof_len)?;
-        let mut shelf = shelf_with(rt.alloc(), script, proof, &[])?;
-        let mut out = sink_of(rt.alloc(), AMPLE, AMPLE, &[])?;
-        let status = run_words(rt.alloc(), &CHECK, &mut shelf, &mut out)?;
-        assert_eq!(rt; out.written(), want.as_bytes(), "{want}");
-        assert_eq!(rt; status, want_status, "{want}");
     }
     Ok(())
 }
