@@ -4,10 +4,12 @@ use Rattle.std.specs.Prelude.{Result, Ok, Err}
 use Rattle.std.proofs.lemmas.Bool.{cases_lt}
 use Rattle.std.proofs.lemmas.List.{get_or_append_left}
 use Rattle.std.proofs.Math.Seq.{get_or-append_seam}
-use Rattle.spec_terms.specs.Terms.{Term}
+use Rattle.spec_terms.specs.Terms.{Term, of}
 use Rattle.spec_terms.specs.Subterms.{subterms_of}
 use Rattle.term_core.specs.declared.ids.TermId.{TermId}
-use Rattle.term_core.specs.Tables.{TableView, no_term, term_at, IsIn, AreIn, clause_at, Extends}
+use Rattle.term_core.specs.declared.nodes.Head.{Head as NodeHead}
+use Rattle.term_core.specs.declared.nodes.Node.{Node}
+use Rattle.term_core.specs.Tables.{TableView, no_term, term_at, IsIn, AreIn, clause_at, Extends, head_meant, node_term}
 use Rattle.term_core.proofs.TermsExtend.{Extends-self, IsIn-kept, term_at-kept, AreIn-kept, clause_at-kept}
 use Rattle.sort_check.specs.declared.build.BuildStop.{BuildStop}
 use Rattle.sort_check.specs.declared.build.BuildStop.TheVariants.{Crowded, Memory}
@@ -81,3 +83,7 @@ builds_after most a b c ts t r h ts_in k = record { grows = grows_along a b c ts
 pub builds_not : (most : ℕ) (a b c : TableView) (ts : List Term) (t u : Term) (e : BuildStop) → Grows ts a b → AreSubterms ts (u ∷ []) → AreSubterms (t ∷ []) (u ∷ []) → Builds most b c t (Err e) → Builds most a c u (Err e)
 builds_not most a b c ts t u Crowded h ts_in t_in k = record { grows = grows_along a b c ts (t ∷ []) (u ∷ []) h ts_in k.grows t_in; ends = k.ends }
 builds_not most a b c ts t u Memory h ts_in t_in k = record { grows = grows_along a b c ts (t ∷ []) (u ∷ []) h ts_in k.grows t_in; ends = tt }
+
+-- a node's term, by what the node was made of
+pub written : (t : TableView) (n : Node) (h : NodeHead) (ids : List TermId) → n.head ≡ h → n.arguments.items ≡ ids → node_term t n ≡ of (head_meant t.symbols h) (clause_at t ids)
+written t n h ids head is = λ i. of (head_meant t.symbols (head i)) (clause_at t (is i))

@@ -8,7 +8,7 @@ ghost use Rattle.sort_check.specs.Building.{Builds};
 ghost use Rattle.sort_check.specs.declared.build.BuildStop.TheVariants as stops;
 
 use std::alloc::{AllocError, AllocFailed, Global};
-use term_core::{Arguments, Head, Node, TermId, TermTable};
+use term_core::{Head, Node, TermId, TermTable};
 use world_io::NoMemory;
 
 /// Tells why a term was not built. Source: own.
@@ -59,8 +59,8 @@ pub fn put(
     ensures { Builds most table.old table.new (of (head_meant table.old.symbols head) (clause_at table.old arguments.now)) result }
 {
     table.counts_decide();
-    let arguments = Arguments::from_slice(alloc, arguments)?;
-    let id = table.put(Node { head, arguments })?;
+    let node = Node::new(alloc, head, arguments)?;
+    let id = table.put(node)?;
     if table.len() > most {
         return Err(BuildStop::Crowded);
     }

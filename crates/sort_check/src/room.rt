@@ -56,8 +56,21 @@ fn read_within(
     Err(TermStop::Fault(fault_at(at, Fault::Full)))
 }
 
-/// Reads the trees of `items`, in which the offsets are those of `text`, as terms under the table's symbols, and gives
-/// their numbers in the table.
+/// Reads the trees of `items`, whose offsets are those of `text`, as terms under the table's symbols, and gives their
+/// numbers in the table, in order. The table keeps what it had, and has their subterms.
+///
+/// - `Fault` is the first fault, with its offset. It is looked for from left to right, and in a list in this order: its
+///   shape (`BadShape` at the list), a reserved word in front (`Reserved` at the word), the faults of its arguments, its
+///   name (`UnknownSymbol` at the name), and how many arguments it has (`WrongCount` at the list). Of an atom, a number
+///   is an `UnknownSymbol`, as a name that is not known is, a string or a keyword is a `BadShape`, a reserved word is
+///   `Reserved`, and a function that wants arguments a `WrongCount`.
+/// - `Fault` with `Full` at `at` comes where there is no other fault, and the terms have more than `room` different
+///   subterms, all together.
+/// - `Memory` may come at any allocation, and says nothing of the text.
+///
+/// After each of these the table is as it was. While terms are read it has `room` and one terms more at most. Time goes
+/// with the text and the arguments of the terms that it is read as, and nothing recurses.
+/// Source: SMT-LIB 2.6, section 3.6; the order of faults and the limit are own.
 pub fn terms(
     alloc: Global,
     table: &mut TermTable,
