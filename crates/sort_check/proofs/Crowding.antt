@@ -1,12 +1,11 @@
 -- Where more terms came than there is room for, they have no room.
-use Rattle.std.proofs.Common.{◌≡◌, ℕ, ◌+◌, ◌-◌, ◌<◌, ◌≤◌, ◌^◌, Bool, true, false, List, [], ◌∷◌, length, drop, get_or, Contains, refl, sym, ap, ◌∙◌, subst, arith}
+use Rattle.std.proofs.Common.{◌≡◌, ℕ, ◌+◌, ◌-◌, ◌<◌, ◌≤◌, ◌^◌, true, false, List, length, drop, get_or, Contains, sym, ap, ◌∙◌, subst, arith}
 use Rattle.std.specs.Prelude.{Ok, Err, min}
-use Rattle.std.specs.List.{AllPairs}
 use Rattle.std.proofs.lemmas.List.{length-drop, get_or-drop, get_or_default}
 use Rattle.spec_text.specs.declared.Fault.TheVariants.{Full}
 use Rattle.spec_text.specs.Trees.{Trees}
 use Rattle.spec_text.specs.Faults.{Located}
-use Rattle.spec_text.specs.Answers.{Answer, ◌>>=◌, refused, require}
+use Rattle.spec_text.specs.Answers.{◌>>=◌, refused, require}
 use Rattle.spec_terms.specs.Terms.{Symbol, Term}
 use Rattle.spec_terms.specs.Reading.{terms_in}
 use Rattle.spec_terms.specs.Subterms.{subterms_of, fit_in, roomy_terms}

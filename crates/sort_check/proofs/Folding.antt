@@ -1,5 +1,5 @@
 -- Arguments that are taken together two by two, to the left or to the right.
-use Rattle.std.proofs.Common.{◌≡◌, ℕ, ◌<◌, ◌+◌, ◌-◌, List, [], ◌∷◌, ◌++◌, length, map, get_or, take, drop, All, Contains, refl, sym, ap, ◌∙◌, subst, arith, append_assoc}
+use Rattle.std.proofs.Common.{◌≡◌, ℕ, ◌<◌, ◌+◌, ◌-◌, List, [], ◌∷◌, ◌++◌, length, get_or, take, drop, Contains, refl, sym, ap, ◌∙◌, subst, arith, append_assoc}
 use Rattle.std.specs.Prelude.{Result, Ok, Err}
 use Rattle.std.proofs.lemmas.List.{map-append, take_at, take_all, take_more}
 use Rattle.std.proofs.lemmas.List.Elements.{All-head, All-tail, All-take, All-contains, Contains-push}
@@ -11,10 +11,11 @@ use Rattle.term_core.specs.Tables.{TableView, term_at, IsIn, AreIn, clause_at}
 use Rattle.term_core.proofs.TermsExtend.{term_at-kept}
 use Rattle.sort_check.specs.declared.build.BuildStop.{BuildStop}
 use Rattle.sort_check.specs.Building.{Grows, Means, Builds}
-use Rattle.sort_check.proofs.Members.{here, there as behind, only}
+use Rattle.spec_terms.proofs.Members.{first, later}
+use Rattle.sort_check.proofs.Members.{only}
 use Rattle.sort_check.proofs.Subterms.{AreSubterms, self_subterms, subterms_along, member_subterms}
-use Rattle.sort_check.proofs.Kept.{pair_keeps, left_keeps, right_keeps, nothing_kept}
-use Rattle.sort_check.proofs.Growing.{grows_same, grows_along, grows_by, builds_not}
+use Rattle.sort_check.proofs.Kept.{pair_keeps, left_keeps, right_keeps}
+use Rattle.sort_check.proofs.Growing.{grows_same, grows_along, builds_not}
 
 -- the term of one that is there and of others that come
 abbrev Fold : Type 0
@@ -70,7 +71,7 @@ fold_begins f old all id rest first there same = record {
 }
 
 only_first : (t : Term) (us vs : List Term) → AreSubterms (t ∷ us) vs → AreSubterms (t ∷ []) vs
-only_first t us vs h = subterms_along (t ∷ []) (t ∷ us) vs (member_subterms (t ∷ []) (t ∷ us) (λ u part. subst (λ v. Contains (t ∷ us) v) (only t u part) (here t us))) h
+only_first t us vs h = subterms_along (t ∷ []) (t ∷ us) vs (member_subterms (t ∷ []) (t ∷ us) (λ u part. subst (λ v. Contains (t ∷ us) v) (only t u part) (first t us))) h
 
 -- to the left by `xor`
 abbrev pub to_left : Fold
@@ -118,7 +119,7 @@ right_step most old now new all id next rest before r is h b =
     ap (λ ids. to_right h.term (clause_at old ids)) is ∙ ap (λ ts. right no_term (pair Implies) (ts ++ h.term ∷ [])) (map-append (term_at old) before (next ∷ []))
     ∙ ap (right no_term (pair Implies)) (append_assoc us (u ∷ []) (h.term ∷ [])) ∙ right_two us u h.term in
     fold_step to_right right_first most old now new all id rest before h (pair Implies u h.term) r whole (All-front old before next there)
-    (λ v part. pair_keeps Implies u h.term v (behind u v (h.term ∷ []) part)) (subst (λ v. Builds most now new (pair Implies u v) r) h.means.term (subst (λ v. Builds most now new (pair Implies v (term_at now id)) r) kept b))
+    (λ v part. pair_keeps Implies u h.term v (later u (h.term ∷ []) v part)) (subst (λ v. Builds most now new (pair Implies u v) r) h.means.term (subst (λ v. Builds most now new (pair Implies v (term_at now id)) r) kept b))
   where
     All-front : (t : TableView) (ids : List TermId) (id : TermId) → AreIn t (ids ++ id ∷ []) → AreIn t ids
     All-front t ids id h = subst (AreIn t) (take_at ids (id ∷ []) (length ids) refl) (All-take (λ i. IsIn t i) (length ids) (ids ++ id ∷ []) h)

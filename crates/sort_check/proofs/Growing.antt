@@ -1,20 +1,19 @@
 -- What terms that come one after the other do to a table.
-use Rattle.std.proofs.Common.{◌≡◌, ℕ, ◌<◌, ◌≤◌, ◌⊎◌, inl, inr, List, [], ◌∷◌, ◌++◌, length, get_or, Contains, refl, sym, ap, ◌∙◌, subst, arith, append_assoc, length-append}
-use Rattle.std.specs.Prelude.{Result, Ok, Err}
+use Rattle.std.proofs.Common.{◌≡◌, ℕ, ◌≤◌, ◌⊎◌, inl, inr, List, [], ◌∷◌, ◌++◌, length, get_or, Contains, refl, sym, ap, ◌∙◌, subst, arith, append_assoc, length-append}
+use Rattle.std.specs.Prelude.{Result, Err}
 use Rattle.std.proofs.lemmas.Bool.{cases_lt}
-use Rattle.std.proofs.lemmas.List.{get_or_append_left}
 use Rattle.std.proofs.Math.Seq.{get_or-append_seam}
 use Rattle.spec_terms.specs.Terms.{Term, of}
 use Rattle.spec_terms.specs.Subterms.{subterms_of}
 use Rattle.term_core.specs.declared.ids.TermId.{TermId}
 use Rattle.term_core.specs.declared.nodes.Head.{Head as NodeHead}
 use Rattle.term_core.specs.declared.nodes.Node.{Node}
-use Rattle.term_core.specs.Tables.{TableView, no_term, term_at, IsIn, AreIn, clause_at, Extends, head_meant, node_term}
+use Rattle.term_core.specs.Tables.{TableView, no_term, clause_at, Extends, head_meant, node_term}
 use Rattle.term_core.proofs.TermsExtend.{Extends-self, IsIn-kept, term_at-kept, AreIn-kept, clause_at-kept}
 use Rattle.sort_check.specs.declared.build.BuildStop.{BuildStop}
 use Rattle.sort_check.specs.declared.build.BuildStop.TheVariants.{Crowded, Memory}
-use Rattle.sort_check.specs.Building.{AreSubtermsFrom, Keeps, Grows, Means, AllMean, Builds, EndsBuilding}
-use Rattle.sort_check.proofs.Members.{here}
+use Rattle.sort_check.specs.Building.{AreSubtermsFrom, Keeps, Grows, Means, AllMean, Builds}
+use Rattle.spec_terms.proofs.Members.{first}
 use Rattle.sort_check.proofs.Subterms.{AreSubterms, self_subterms, least_subterms}
 
 pub extends_along : (a b c : TableView) → Extends a b → Extends b c → Extends a c
@@ -65,7 +64,7 @@ grows_put t old new more symbols (inr last) = record {
   within = λ k low high.
       let at : k ≡ length old.terms = omega (arith, low, high, ap length last, length-append old.terms (t ∷ [])) in
       let term : get_or new.terms k no_term ≡ t = ap (λ ts. get_or ts k no_term) last ∙ ap (λ n. get_or (old.terms ++ t ∷ []) n no_term) at ∙ get_or-append_seam old.terms t [] no_term in
-      subst (λ u. Contains (subterms_of (t ∷ [])) u) (sym term) (self_subterms (t ∷ []) t (here t []));
+      subst (λ u. Contains (subterms_of (t ∷ [])) u) (sym term) (self_subterms (t ∷ []) t (first t []));
 }
 
 -- a number means the same while the table grows

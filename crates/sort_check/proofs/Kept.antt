@@ -1,17 +1,17 @@
 -- The arguments of a function are subterms of its term.
-use Rattle.std.proofs.Common.{◌≡◌, ℕ, ◌<◌, Bool, true, false, Option, Some, None, cond, List, [], ◌∷◌, ◌++◌, length, map, get_or, Contains, refl, ap, subst, sym, arith}
+use Rattle.std.proofs.Common.{◌≡◌, ◌<◌, Bool, true, false, Option, Some, None, cond, List, [], ◌∷◌, ◌++◌, length, map, get_or, Contains, refl, ap, subst, sym, arith}
 use Rattle.std.specs.Str.{bytes_eq}
 use Rattle.std.proofs.lemmas.Bool.Decides.{nat_tests}
 use Rattle.spec_text.specs.Bytes.{Name}
-use Rattle.spec_terms.specs.Terms.{Symbol, Head, True, False, Not, And, Or, Xor, Implies, Equal, Ite, Apply, Term, app, of, list_of, terms_of, negated}
+use Rattle.spec_terms.specs.Terms.{Symbol, Head, True, False, Not, And, Or, Xor, Implies, Equal, Ite, Term, of, list_of, terms_of}
 use Rattle.spec_terms.specs.Lists.{left, right, neighbours, all_pairs}
 use Rattle.spec_terms.specs.Theory.{Rule, takes, look_up, theory, pair, unequal, conjunction, no_term}
-use Rattle.spec_terms.specs.Subterms.{subterms_of}
 use Rattle.sort_check.specs.declared.functions.Function.{Function}
 use Rattle.sort_check.specs.declared.functions.Function.TheVariants.{Core, Declared}
 use Rattle.sort_check.specs.Heads.{rule_there, name_of, rule_of}
 use Rattle.sort_check.specs.Functions.{function_term, Takes}
-use Rattle.sort_check.proofs.Members.{here, there, none_there, only, each_of}
+use Rattle.spec_terms.proofs.Members.{first, later, none}
+use Rattle.sort_check.proofs.Members.{only, each_of}
 use Rattle.sort_check.proofs.Subterms.{AreSubterms, self_subterms, argument_subterm, subterms_along, member_subterms, subterms_cons, subterms_behind, subterms_first}
 
 list_back : (ts : List Term) → list_of (terms_of ts) ≡ ts
@@ -19,7 +19,7 @@ list_back [] = refl
 list_back (t ∷ ts) = ap (λ us. t ∷ us) (list_back ts)
 
 pub of_keeps : (h : Head) (ts : List Term) → AreSubterms ts (of h ts ∷ [])
-of_keeps h ts t part = argument_subterm (of h ts ∷ []) h (terms_of ts) t (self_subterms (of h ts ∷ []) (of h ts) (here (of h ts) [])) (subst (λ us. Contains us t) (sym (list_back ts)) part)
+of_keeps h ts t part = argument_subterm (of h ts ∷ []) h (terms_of ts) t (self_subterms (of h ts ∷ []) (of h ts) (first (of h ts) [])) (subst (λ us. Contains us t) (sym (list_back ts)) part)
 
 -- two terms are subterms of what is made of them
 abbrev pub KeepsBoth : (Term → Term → Term) → Type 0
@@ -32,15 +32,15 @@ pub unequal_keeps : KeepsBoth unequal
 unequal_keeps t u = subterms_along (t ∷ u ∷ []) (pair Equal t u ∷ []) (unequal t u ∷ []) (pair_keeps Equal t u) (of_keeps Not (pair Equal t u ∷ []))
 
 pub nothing_kept : (us : List Term) → AreSubterms [] us
-nothing_kept us t part = absurd (none_there t part)
+nothing_kept us t part = absurd (none t part)
 
 module _ (d : Term) (f : Term → Term → Term) (both : KeepsBoth f) where
   first_two : (t u : Term) (us : List Term) → AreSubterms (t ∷ u ∷ us) (f t u ∷ us)
   first_two t u us =
       let two = both t u in
-      subterms_cons t (u ∷ us) (f t u ∷ us) (subterms_first (f t u) (t ∷ u ∷ []) us two t (here t (u ∷ [])))
-      (subterms_cons u us (f t u ∷ us) (subterms_first (f t u) (t ∷ u ∷ []) us two u (there t u (u ∷ []) (here u [])))
-      (member_subterms us (f t u ∷ us) (λ v part. there (f t u) v us part)))
+      subterms_cons t (u ∷ us) (f t u ∷ us) (subterms_first (f t u) (t ∷ u ∷ []) us two t (first t (u ∷ [])))
+      (subterms_cons u us (f t u ∷ us) (subterms_first (f t u) (t ∷ u ∷ []) us two u (later t (u ∷ []) u (first u [])))
+      (member_subterms us (f t u ∷ us) (λ v part. later (f t u) us v part)))
 
   pub left_keeps : (ts : List Term) → AreSubterms ts (left d f ts ∷ [])
   left_keeps [] = nothing_kept (d ∷ [])
@@ -53,30 +53,30 @@ module _ (d : Term) (f : Term → Term → Term) (both : KeepsBoth f) where
   right_keeps (t ∷ u ∷ us) =
       let rest : Term = right d f (u ∷ us) in
       let two = both t rest in
-      subterms_cons t (u ∷ us) (f t rest ∷ []) (two t (here t (rest ∷ [])))
-      (subterms_along (u ∷ us) (rest ∷ []) (f t rest ∷ []) (right_keeps (u ∷ us)) (λ v part. two v (there t v (rest ∷ []) part)))
+      subterms_cons t (u ∷ us) (f t rest ∷ []) (two t (first t (rest ∷ [])))
+      (subterms_along (u ∷ us) (rest ∷ []) (f t rest ∷ []) (right_keeps (u ∷ us)) (λ v part. two v (later t (rest ∷ []) v part)))
 
   -- a term for each pair of neighbours
   neighbours_keep : (t u : Term) (us : List Term) → AreSubterms (t ∷ u ∷ us) (map (λ p. f p.0 p.1) (neighbours (t ∷ u ∷ us)))
   neighbours_keep t u [] = both t u
   neighbours_keep t u (v ∷ vs) =
       let others : List Term = map (λ p. f p.0 p.1) (neighbours (u ∷ v ∷ vs)) in
-      subterms_cons t (u ∷ v ∷ vs) (f t u ∷ others) (subterms_first (f t u) (t ∷ u ∷ []) others (both t u) t (here t (u ∷ [])))
+      subterms_cons t (u ∷ v ∷ vs) (f t u ∷ others) (subterms_first (f t u) (t ∷ u ∷ []) others (both t u) t (first t (u ∷ [])))
       (subterms_behind (f t u) (u ∷ v ∷ vs) others (neighbours_keep u v vs))
 
   -- a term for each pair with a first one
   each_with : (t : Term) (us : List Term) (rest : List (Term × Term)) (v : Term) → Contains us v → Contains (map (λ p. f p.0 p.1) (map (λ u. (t, u)) us ++ rest)) (f t v)
-  each_with t [] rest v h = absurd (none_there v h)
+  each_with t [] rest v h = absurd (none v h)
   each_with t (u ∷ us) rest w h = each_of (λ v. Contains (map (λ p. f p.0 p.1) (map (λ u. (t, u)) (u ∷ us) ++ rest)) (f t v)) u us
-      (here (f t u) (map (λ p. f p.0 p.1) (map (λ u. (t, u)) us ++ rest)))
-      (λ v part. there (f t u) (f t v) (map (λ p. f p.0 p.1) (map (λ u. (t, u)) us ++ rest)) (each_with t us rest v part)) w h
+      (first (f t u) (map (λ p. f p.0 p.1) (map (λ u. (t, u)) us ++ rest)))
+      (λ v part. later (f t u) (map (λ p. f p.0 p.1) (map (λ u. (t, u)) us ++ rest)) (f t v) (each_with t us rest v part)) w h
 
   all_pairs_keep : (t u : Term) (us : List Term) → AreSubterms (t ∷ u ∷ us) (map (λ p. f p.0 p.1) (all_pairs (t ∷ u ∷ us)))
   all_pairs_keep t u us =
       let all : List Term = map (λ p. f p.0 p.1) (all_pairs (t ∷ u ∷ us)) in
       let with_first : (v : Term) → Contains (u ∷ us) v → AreSubterms (t ∷ v ∷ []) all = λ v part.
       subterms_along (t ∷ v ∷ []) (f t v ∷ []) all (both t v) (member_subterms (f t v ∷ []) all (λ w one. subst (λ x. Contains all x) (only (f t v) w one) (each_with t (u ∷ us) (all_pairs (u ∷ us)) v part))) in
-      subterms_cons t (u ∷ us) all (with_first u (here u us) t (here t (u ∷ []))) (λ v part. with_first v part v (there t v (v ∷ []) (here v [])))
+      subterms_cons t (u ∷ us) all (with_first u (first u us) t (first t (u ∷ []))) (λ v part. with_first v part v (later t (v ∷ []) v (first v [])))
 
 pub conjunction_keeps : (ts : List Term) → AreSubterms ts (conjunction ts ∷ [])
 conjunction_keeps [] = nothing_kept (of And [] ∷ [])

@@ -1,13 +1,12 @@
 -- What a name before arguments is.
-use Rattle.std.proofs.Common.{◌≡◌, ℕ, ◌==◌, Bool, true, false, Option, Some, None, List, [], ◌∷◌, length, refl, ap, sym, ◌∙◌, subst, cond}
+use Rattle.std.proofs.Common.{◌≡◌, ℕ, ◌==◌, Bool, true, false, Option, Some, None, List, length, ap, sym, ◌∙◌, subst}
 use Rattle.std.specs.Prelude.{Result, Ok, Err}
-use Rattle.std.proofs.lemmas.Bool.{eqb-true}
 use Rattle.spec_text.specs.declared.Fault.TheVariants.{UnknownSymbol, WrongCount}
 use Rattle.spec_text.specs.Bytes.{Name}
-use Rattle.spec_text.specs.Answers.{Answer, ◌>>=◌, require, refused}
+use Rattle.spec_text.specs.Answers.{◌>>=◌, require}
 use Rattle.spec_terms.specs.Terms.{Symbol, Apply, Term, of}
 use Rattle.spec_terms.specs.Theory.{Rule, takes, look_up, theory}
-use Rattle.spec_terms.specs.Reading.{symbol_named, by_rule, by_symbol, applied, applied_as}
+use Rattle.spec_terms.specs.Reading.{symbol_named, by_rule, applied, applied_as}
 use Rattle.term_core.specs.declared.ids.SymbolId.{SymbolId}
 use Rattle.term_core.specs.Tables.{truth_symbol, symbol_at, IsSymbol}
 use Rattle.sort_check.specs.declared.heads.CoreHead.{CoreHead}

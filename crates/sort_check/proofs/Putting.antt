@@ -1,8 +1,8 @@
 -- Terms that are put one after the other, and their numbers.
-use Rattle.std.proofs.Common.{◌≡◌, ℕ, ◌<◌, List, [], ◌∷◌, ◌++◌, ◌-◌, length, take, drop, get_or, map, All, Contains, refl, sym, ap, ◌∙◌, subst, append_assoc, append-nil, arith}
+use Rattle.std.proofs.Common.{◌≡◌, ℕ, ◌<◌, List, [], ◌∷◌, ◌++◌, ◌-◌, length, take, drop, get_or, map, Contains, refl, sym, ap, ◌∙◌, subst, append_assoc, append-nil, arith}
 use Rattle.std.specs.Prelude.{Result, Ok, Err}
 use Rattle.std.proofs.lemmas.List.{map-append, take_rest}
-use Rattle.std.proofs.lemmas.List.Elements.{All-head, All-tail, All-push, Contains-append_left, Contains-append_right, Contains-append_cases}
+use Rattle.std.proofs.lemmas.List.Elements.{All-head, All-tail, All-push, Contains-append_left, Contains-append_right}
 use Rattle.spec_terms.specs.Terms.{Term}
 use Rattle.spec_terms.specs.Lists.{all_pairs}
 use Rattle.spec_terms.specs.Theory.{conjunction}
@@ -11,9 +11,8 @@ use Rattle.term_core.specs.Tables.{TableView, term_at, IsIn, AreIn, clause_at, E
 use Rattle.term_core.proofs.TermsExtend.{term_at-kept}
 use Rattle.sort_check.specs.declared.build.BuildStop.{BuildStop}
 use Rattle.sort_check.specs.declared.build.BuildStop.TheVariants.{Crowded, Memory}
-use Rattle.sort_check.specs.Building.{Grows, Means, AllMean, Builds, PutsAll}
-use Rattle.sort_check.proofs.Members.{here, only}
-use Rattle.sort_check.proofs.Subterms.{AreSubterms, member_subterms, self_subterms}
+use Rattle.sort_check.specs.Building.{Grows, AllMean, Builds, PutsAll}
+use Rattle.sort_check.proofs.Subterms.{AreSubterms, member_subterms}
 use Rattle.sort_check.proofs.Growing.{grows_same, grows_along, grows_by, all_mean_kept, builds_after}
 use Rattle.sort_check.proofs.Kept.{conjunction_keeps}
 

@@ -1,14 +1,12 @@
 -- Reading terms from left to right: what each step keeps.
-use Rattle.std.proofs.Common.{◌≡◌, ℕ, ◌+◌, ◌-◌, ◌<◌, ◌≤◌, Bool, true, false, Option, Some, None, inl, inr, List, [], ◌∷◌, ◌++◌, length, take, drop, map, Contains, refl, sym, ap, ◌∙◌, subst, arith, length-append}
-use Rattle.std.specs.Prelude.{Result, Ok, Err, min}
+use Rattle.std.proofs.Common.{◌≡◌, ℕ, ◌-◌, ◌≤◌, Bool, true, false, Some, None, inl, inr, List, [], ◌∷◌, ◌++◌, length, take, drop, Contains, refl, sym, ap, ◌∙◌, subst, arith, length-append}
+use Rattle.std.specs.Prelude.{Ok, Err}
 use Rattle.std.proofs.lemmas.List.{take_all, length-take, length-drop, take-append-drop, map-append}
 use Rattle.std.proofs.lemmas.List.Elements.{All-nil, Contains-append_left, Contains-append_right, Contains-append_cases}
 use Rattle.spec_text.specs.declared.Kind.{Kind}
 use Rattle.spec_text.specs.Bytes.{Name}
-use Rattle.spec_text.specs.Answers.{Answer}
 use Rattle.spec_text.specs.Trees.{Tree, Trees, atom, list, none, more}
 use Rattle.spec_terms.specs.Terms.{Symbol, Term}
-use Rattle.spec_terms.specs.Subterms.{subterms_of}
 use Rattle.spec_terms.specs.Reading.{applied, atom_term, term_in, terms_in}
 use Rattle.term_core.specs.declared.ids.TermId.{TermId}
 use Rattle.term_core.specs.Tables.{TableView, IsIn}
@@ -20,7 +18,7 @@ use Rattle.sort_check.specs.declared.functions.Function.{Function}
 use Rattle.sort_check.specs.Functions.{function_term, Takes, IsFunction, located_of}
 use Rattle.sort_check.specs.Building.{Grows, AllMean}
 use Rattle.sort_check.specs.Resuming.{Open, followed, resumed}
-use Rattle.sort_check.specs.Frames.{open_of, opens_of, HasBegun, form_of, behind_first, form_fault}
+use Rattle.sort_check.specs.Frames.{open_of, opens_of, HasBegun, form_of, form_fault}
 use Rattle.sort_check.specs.Stacks.{Stand, Stack, Replaces}
 use Rattle.sort_check.specs.Reads.{HasRead}
 use Rattle.sort_check.proofs.Subterms.{AreSubterms, self_subterms, subterms_along, member_subterms}

@@ -1,11 +1,10 @@
 -- What a step of reading from left to right does to what all comes to.
-use Rattle.std.proofs.Common.{◌≡◌, ℕ, List, [], ◌∷◌, ◌++◌, length, take, drop, Option, Some, None, refl, ap, sym, ◌∙◌, append_assoc, append-nil}
+use Rattle.std.proofs.Common.{◌≡◌, ℕ, List, [], ◌∷◌, ◌++◌, length, take, drop, Some, refl, ap, sym, ◌∙◌, append_assoc, append-nil}
 use Rattle.std.specs.Prelude.{Ok, Err}
 use Rattle.std.proofs.lemmas.List.{take_at, drop_at}
-use Rattle.spec_text.specs.Bytes.{Name}
-use Rattle.spec_text.specs.Faults.{Located, located}
-use Rattle.spec_text.specs.Answers.{Answer, ◌>>=◌, refused, require}
-use Rattle.spec_text.specs.Trees.{Tree, Trees, atom, list, none, more}
+use Rattle.spec_text.specs.Faults.{Located}
+use Rattle.spec_text.specs.Answers.{Answer, ◌>>=◌}
+use Rattle.spec_text.specs.Trees.{Tree, Trees, list, none, more}
 use Rattle.spec_terms.specs.Terms.{Symbol, Term}
 use Rattle.spec_terms.specs.Forms.{Form, malformed, reserved, applies, form}
 use Rattle.spec_terms.specs.Reading.{applied, by_form, term_in, terms_in}

@@ -1,15 +1,15 @@
 -- What a term in the place of its arguments does to the values.
-use Rattle.std.proofs.Common.{◌≡◌, ℕ, zero, suc, ◌<◌, ◌≤◌, Bool, true, false, Option, Some, None, List, [], ◌∷◌, ◌++◌, ◌-◌, length, take, drop, map, All, refl, sym, ap, ◌∙◌, subst, arith, length-append}
-use Rattle.std.specs.Prelude.{Result, Ok, Err, min}
+use Rattle.std.proofs.Common.{◌≡◌, ℕ, zero, suc, Bool, true, false, Option, Some, None, List, [], ◌∷◌, ◌++◌, ◌-◌, length, take, drop, map, refl, sym, ap, ◌∙◌, subst, arith, length-append}
+use Rattle.std.specs.Prelude.{Result, Ok, Err}
 use Rattle.std.proofs.lemmas.List.{map-append, length-take, take_rest}
 use Rattle.std.proofs.lemmas.List.Elements.{All-take, All-drop, All-push}
 use Rattle.world_io.specs.declared.bytes.NoMemory.{NoMemory}
 use Rattle.spec_terms.specs.Terms.{Term}
 use Rattle.term_core.specs.declared.ids.TermId.{TermId}
-use Rattle.term_core.specs.Tables.{TableView, term_at, IsIn, clause_at}
-use Rattle.sort_check.specs.Building.{Means, AllMean}
+use Rattle.term_core.specs.Tables.{TableView, term_at, IsIn}
+use Rattle.sort_check.specs.Building.{AllMean}
 use Rattle.sort_check.specs.Stacks.{Stand, Stack, IsValue, Replaces}
-use Rattle.sort_check.proofs.Growing.{all_mean_kept, longer}
+use Rattle.sort_check.proofs.Growing.{all_mean_kept}
 
 map_take : (f : TermId → Term) (n : ℕ) (ids : List TermId) → map f (take n ids) ≡ take n (map f ids)
 map_take f zero ids = refl

@@ -1,9 +1,10 @@
 -- The subterms of terms: with each its arguments, and no others.
-use Rattle.std.proofs.Common.{◌≡◌, ℕ, ◌<◌, false, List, [], ◌∷◌, ◌++◌, length, Contains, refl, subst, sym}
-use Rattle.spec_terms.specs.Terms.{Head, Term, Terms, app, of, list_of, terms_of}
-use Rattle.spec_terms.specs.Subterms.{subterms_of, fit_in}
-use Rattle.spec_terms.proofs.LeastSubterms.{least_of, no_room}
-use Rattle.sort_check.proofs.Members.{here, there, only, each_of}
+use Rattle.std.proofs.Common.{List, [], ◌∷◌, Contains, subst}
+use Rattle.spec_terms.specs.Terms.{Head, Term, Terms, app, list_of}
+use Rattle.spec_terms.specs.Subterms.{subterms_of}
+use Rattle.spec_terms.proofs.LeastSubterms.{least_of}
+use Rattle.spec_terms.proofs.Members.{first, later}
+use Rattle.sort_check.proofs.Members.{only, each_of}
 
 -- each of these is a subterm of those
 abbrev pub AreSubterms : List Term → List Term → Type 0
@@ -30,7 +31,7 @@ pub subterms_cons : (t : Term) (ts us : List Term) → Contains (subterms_of us)
 subterms_cons t ts us first others = each_of (λ u. Contains (subterms_of us) u) t ts first others
 
 pub subterms_behind : (t : Term) (ts us : List Term) → AreSubterms ts us → AreSubterms ts (t ∷ us)
-subterms_behind t ts us h = subterms_along ts us (t ∷ us) h (member_subterms us (t ∷ us) (λ u part. there t u us part))
+subterms_behind t ts us h = subterms_along ts us (t ∷ us) h (member_subterms us (t ∷ us) (λ u part. later t us u part))
 
 pub subterms_first : (t : Term) (ts us : List Term) → AreSubterms ts (t ∷ []) → AreSubterms ts (t ∷ us)
-subterms_first t ts us h = subterms_along ts (t ∷ []) (t ∷ us) h (member_subterms (t ∷ []) (t ∷ us) (λ u part. subst (λ v. Contains (t ∷ us) v) (only t u part) (here t us)))
+subterms_first t ts us h = subterms_along ts (t ∷ []) (t ∷ us) h (member_subterms (t ∷ []) (t ∷ us) (λ u part. subst (λ v. Contains (t ∷ us) v) (only t u part) (first t us)))

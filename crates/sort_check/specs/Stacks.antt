@@ -1,10 +1,8 @@
 -- The values that were read so far, and the terms that they stand for. Source: own.
-use Rattle.std.specs.Prelude.{◌≡◌, ℕ, ◌<◌, ◌++◌, ◌∷◌, [], Bool, true, false, List, length, take, drop, Option, Some, None, Result, Ok, Err}
-use Rattle.spec_terms.specs.Terms.{Symbol, Term}
+use Rattle.std.specs.Prelude.{◌≡◌, ℕ, ◌<◌, ◌++◌, ◌∷◌, [], Bool, true, false, List, length, take, Option, Some, None, Result, Ok, Err}
+use Rattle.spec_terms.specs.Terms.{Term}
 use Rattle.term_core.specs.declared.ids.TermId.{TermId}
 use Rattle.term_core.specs.Tables.{TableView}
-use Rattle.sort_check.specs.declared.functions.Function.{Function}
-use Rattle.sort_check.specs.Functions.{function_term}
 use Rattle.sort_check.specs.Building.{Grows, AllMean, Means}
 use Rattle.world_io.specs.declared.bytes.NoMemory.{NoMemory}
 

@@ -7,7 +7,7 @@ use crate::faults::{TermFault, fault_at};
 use smt_sexpr::{Item, View, look, split};
 use spec_text::{Fault, Kind};
 
-/// A list whose arguments are being read. Source: own.
+/// Holds a list whose arguments are being read. Source: own.
 #[derive(Clone, Copy, Debug)]
 pub struct Frame<'a> {
     /// The offset of its opening parenthesis.
@@ -44,19 +44,16 @@ pub fn begin<'a>(
     }
     match look(text, head) {
         View::Atom(place, Kind::Simple | Kind::Quoted, name) => {
-            let place = u64::from(place);
-            Ok((
-                Frame {
-                    at,
-                    place,
-                    name,
-                    from,
-                    behind,
-                },
-                arguments,
-            ))
+            let frame = Frame {
+                at,
+                place: u64::from(place),
+                name,
+                from,
+                behind,
+            };
+            Ok((frame, arguments))
         }
-        View::Atom(place, Kind::Reserved, _) => { Err(fault_at(u64::from(place), Fault::Reserved)) }
+        View::Atom(word, Kind::Reserved, _) => Err(fault_at(u64::from(word), Fault::Reserved)),
         _ => Err(fault_at(at, Fault::BadShape)),
     }
 }

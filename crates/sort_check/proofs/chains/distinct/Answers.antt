@@ -1,9 +1,8 @@
-use Rattle.std.proofs.Common.{[], map, sym, subst}
-use Rattle.std.specs.Prelude.{Ok, Err}
+use Rattle.std.proofs.Common.{map, subst}
 use Rattle.spec_terms.specs.Lists.{all_pairs}
 use Rattle.spec_terms.specs.Theory.{unequal, conjunction}
 use Rattle.term_core.specs.Tables.{clause_at}
-use Rattle.sort_check.specs.Building.{Builds, PutsAll}
+use Rattle.sort_check.specs.Building.{Builds}
 use Rattle.sort_check.proofs.Errors.{by_error}
 use Rattle.sort_check.proofs.Putting.{conjoined, not_conjoined}
 use Rattle.sort_check.proofs.chains.distinct.Goals as goal

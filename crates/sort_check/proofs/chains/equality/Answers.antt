@@ -1,4 +1,4 @@
-use Rattle.std.proofs.Common.{[], map, sym, subst}
+use Rattle.std.proofs.Common.{[], map, subst}
 use Rattle.std.specs.Prelude.{Ok, Err}
 use Rattle.spec_terms.specs.Terms.{Equal}
 use Rattle.spec_terms.specs.Lists.{neighbours}

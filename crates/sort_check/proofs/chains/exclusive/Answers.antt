@@ -1,15 +1,15 @@
-use Rattle.std.proofs.Common.{[], ◌∷◌, sym, ap, subst}
+use Rattle.std.proofs.Common.{subst}
 use Rattle.std.proofs.lemmas.List.{take_rest}
 use Rattle.std.proofs.lemmas.List.Elements.{All-head}
 use Rattle.std.specs.Prelude.{Ok, Err}
 use Rattle.spec_terms.specs.Terms.{Xor}
 use Rattle.spec_terms.specs.Lists.{left}
 use Rattle.spec_terms.specs.Theory.{pair, no_term}
-use Rattle.term_core.specs.Tables.{term_at, IsIn, AreIn, clause_at}
+use Rattle.term_core.specs.Tables.{IsIn, AreIn, clause_at}
 use Rattle.term_core.proofs.TermsExtend.{IsIn-kept}
 use Rattle.sort_check.specs.Building.{Builds}
 use Rattle.sort_check.proofs.Errors.{by_error}
-use Rattle.sort_check.proofs.Folding.{to_left, left_begins, left_step}
+use Rattle.sort_check.proofs.Folding.{left_begins, left_step}
 use Rattle.sort_check.proofs.chains.exclusive.Goals as goal
 
 pub arguments-init : goal.arguments-init

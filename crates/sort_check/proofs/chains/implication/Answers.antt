@@ -1,14 +1,14 @@
-use Rattle.std.proofs.Common.{[], ◌∷◌, ◌++◌, sym, ap, subst}
+use Rattle.std.proofs.Common.{[], ◌∷◌, ◌++◌, subst}
 use Rattle.std.proofs.lemmas.List.Elements.{All-contains, Contains-push}
 use Rattle.std.specs.Prelude.{Ok, Err}
 use Rattle.spec_terms.specs.Terms.{Implies}
 use Rattle.spec_terms.specs.Lists.{right}
 use Rattle.spec_terms.specs.Theory.{pair, no_term}
-use Rattle.term_core.specs.Tables.{term_at, IsIn, AreIn, clause_at}
+use Rattle.term_core.specs.Tables.{IsIn, AreIn, clause_at}
 use Rattle.term_core.proofs.TermsExtend.{IsIn-kept}
 use Rattle.sort_check.specs.Building.{Builds}
 use Rattle.sort_check.proofs.Errors.{by_error}
-use Rattle.sort_check.proofs.Folding.{to_right, right_begins, right_step}
+use Rattle.sort_check.proofs.Folding.{right_begins, right_step}
 use Rattle.sort_check.proofs.chains.implication.Goals as goal
 
 pub arguments-init : goal.arguments-init

@@ -1,11 +1,9 @@
-use Rattle.std.proofs.Common.{[], ◌∷◌, map, subst}
+use Rattle.std.proofs.Common.{map, subst}
 use Rattle.std.specs.Prelude.{Ok, Err}
-use Rattle.spec_terms.specs.Terms.{Term}
 use Rattle.spec_terms.specs.Lists.{all_pairs}
 use Rattle.spec_terms.specs.Theory.{unequal}
 use Rattle.term_core.specs.Tables.{term_at, clause_at}
 use Rattle.term_core.proofs.TermsExtend.{IsIn-kept, term_at-kept, AreIn-kept, clause_at-kept}
-use Rattle.sort_check.specs.Building.{EndsPutting}
 use Rattle.sort_check.specs.Building.{PutsAll}
 use Rattle.sort_check.proofs.Errors.{by_error}
 use Rattle.sort_check.proofs.Putting.{IsPut, put_begins, put_more, put_none_more, put_ends, with_each, first_in, behind_in, none_left}

@@ -1,4 +1,4 @@
-use Rattle.std.proofs.Common.{[], ◌∷◌, map, subst}
+use Rattle.std.proofs.Common.{map, subst}
 use Rattle.std.specs.Prelude.{Ok, Err}
 use Rattle.spec_terms.specs.Theory.{unequal}
 use Rattle.term_core.specs.Tables.{term_at, clause_at}

@@ -1,8 +1,8 @@
 -- What each step comes to.
-use Rattle.std.proofs.Common.{◌≡◌, ℕ, ◌-◌, ◌≤◌, length, [], ◌∷◌, map, refl, sym, ap, ◌∙◌, subst, arith}
+use Rattle.std.proofs.Common.{◌≡◌, ◌-◌, length, ap, ◌∙◌, subst, arith}
 use Rattle.std.specs.Prelude.{Ok, Err}
 use Rattle.spec_text.specs.Trees.{atom, list}
-use Rattle.spec_terms.specs.Reading.{applied, atom_term}
+use Rattle.spec_terms.specs.Reading.{applied}
 use Rattle.smt_sexpr.specs.Items.{trees_in, tree_in}
 use Rattle.sort_check.specs.declared.faults.TermStop.TheVariants.{Fault, Memory}
 use Rattle.sort_check.specs.Functions.{IsFunction}

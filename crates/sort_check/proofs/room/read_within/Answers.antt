@@ -2,8 +2,7 @@ use Rattle.std.proofs.Common.{sym, ap, ◌∙◌, subst}
 use Rattle.std.specs.Prelude.{Ok, Err}
 use Rattle.spec_terms.specs.Subterms.{roomy_terms}
 use Rattle.smt_sexpr.specs.Items.{trees_in}
-use Rattle.term_core.specs.Tables.{AreIn, clause_at}
-use Rattle.sort_check.specs.declared.faults.TermStop.TheVariants.{Memory}
+use Rattle.term_core.specs.Tables.{AreIn}
 use Rattle.sort_check.specs.Functions.{located_of}
 use Rattle.sort_check.specs.Building.{AllMean, AreSubtermsFrom}
 use Rattle.sort_check.specs.Reads.{AnswersTerms}
