@@ -3,7 +3,9 @@
 ghost use Rattle.std.specs.Prelude.{◌≡◌};
 
 use crate::Status;
-use crate::test_support::{AMPLE, CHECK, PROOF, SCRIPT, run_words, shelf_of, sink_of};
+use crate::test_support::{
+    AMPLE, CHECK, LIMIT, PROOF, SCRIPT, padded, run_words, shelf_of, shelf_with, sink_of,
+};
 use std::test::Fail;
 
 /// The words of a run over the two texts, of the script's second check.
@@ -144,6 +146,21 @@ fn verdicts_are_written(rt: HostRuntime) -> Result<(), Fail> {
         assert_eq!(rt; out.written(), want.as_bytes(), "{proof}");
         assert_eq!(rt; status, want_status, "{proof}");
     }
+    Ok(())
+}
+
+#[test]
+fn a_proof_of_one_byte_too_many_is_refused(rt: HostRuntime) -> Result<(), Fail> {
+    let script = padded(rt.alloc(), SCRIPT, 0)?;
+    let spaces = padded(rt.alloc(), "", LIMIT + 1)?;
+    let mut shelf = shelf_with(rt.alloc(), script, spaces, &[])?;
+    let mut out = sink_of(rt.alloc(), AMPLE, AMPLE, &[])?;
+    let status = run_words(rt.alloc(), &CHECK, &mut shelf, &mut out)?;
+    assert_eq!(rt;
+        out.written(),
+        b"(error \"1:67108865: TooLong\")\n".as_slice()
+    );
+    assert_eq!(rt; status, Status::Refused);
     Ok(())
 }
 
