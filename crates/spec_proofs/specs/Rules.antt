@@ -1,17 +1,13 @@
 -- The rules by which a step follows from earlier clauses. Source: Alethe specification, rules; where a rule takes more than is written there, own.
-use Rattle.std.specs.Prelude.{List, [], ◌∷◌, Option, codes}
+use Rattle.std.specs.Prelude.{List, [], ◌∷◌, Option, Contains}
 use Rattle.spec_text.specs.Bytes.{Name}
-use Rattle.spec_terms.specs.Terms.{Or, app, list_of}
+use Rattle.spec_terms.specs.Terms.{Or, Not, Term, app, nil, cons, list_of, negated}
 use Rattle.spec_terms.specs.Theory.{look_up}
 use Rattle.spec_terms.specs.Literals.{Clause}
 use Rattle.spec_proofs.specs.declared.Rule.{Rule}
-use Rattle.spec_proofs.specs.declared.Rule.TheVariants as rules
 use Rattle.spec_proofs.specs.Resolution.{IsWithin}
 use Rattle.spec_proofs.specs.Clauses.{IsResolvent}
-
--- the names of the rules
-abbrev pub rule_names : List (Name × Rule)
-rule_names = (codes "or", rules.Or) ∷ (codes "contraction", rules.Contraction) ∷ (codes "reordering", rules.Reordering) ∷ (codes "weakening", rules.Weakening) ∷ (codes "resolution", rules.Resolution) ∷ (codes "th_resolution", rules.ThResolution) ∷ []
+use Rattle.spec_proofs.specs.Schemes.{Scheme, Kind, opens, keeps, resolves, states, turns, clauses_by, kind_of, rule_names}
 
 -- the rule of a name
 abbrev pub rule_named : Name → Option Rule
@@ -27,11 +23,33 @@ abbrev pub IsWeakening : List Clause → Clause → Type 0
 IsWeakening (c ∷ []) clause = IsWithin c clause
 IsWeakening _ clause = ⊥
 
+-- some term gives the clause by the scheme
+abbrev pub IsGiven : Scheme → Clause → Type 0
+IsGiven s clause = (t : Term) × Contains (clauses_by s t) clause
+
+-- no premise, and a clause that some term gives
+abbrev pub IsStated : Scheme → List Clause → Clause → Type 0
+IsStated s [] clause = IsGiven s clause
+IsStated s _ clause = ⊥
+
+-- the term with a leading not taken off, or else one put on
+abbrev pub flipped : Term → Term
+flipped (app Not (cons t nil)) = t
+flipped t = negated t
+
+-- one premise of one literal, whose complement in front of the clause gives a clause of the scheme
+abbrev pub IsTurned : Scheme → List Clause → Clause → Type 0
+IsTurned s ((u ∷ []) ∷ []) clause = IsGiven s (flipped u ∷ clause)
+IsTurned s _ clause = ⊥
+
+-- the step is as the rule asks
+abbrev pub IsBy : Kind → List Clause → Clause → Type 0
+IsBy opens premises clause = IsOr premises clause
+IsBy keeps premises clause = IsWeakening premises clause
+IsBy resolves premises clause = IsResolvent premises clause
+IsBy (states s) premises clause = IsStated s premises clause
+IsBy (turns s) premises clause = IsTurned s premises clause
+
 -- the clause follows from the premises by the rule
 abbrev pub IsRight : Rule → List Clause → Clause → Type 0
-IsRight rules.Or premises clause = IsOr premises clause
-IsRight rules.Contraction premises clause = IsWeakening premises clause
-IsRight rules.Reordering premises clause = IsWeakening premises clause
-IsRight rules.Weakening premises clause = IsWeakening premises clause
-IsRight rules.Resolution premises clause = IsResolvent premises clause
-IsRight rules.ThResolution premises clause = IsResolvent premises clause
+IsRight rule premises clause = IsBy (kind_of rule) premises clause

@@ -9,7 +9,8 @@ use spec_text::Fault;
 pub mod examples;
 pub mod laws;
 
-/// Names a rule by which a step follows from earlier clauses. Source: Alethe specification, rules.
+/// Names a rule by which a step follows from earlier clauses. Which steps it takes says the table `kind_of` of
+/// `specs/Schemes.antt`. Source: Alethe specification, rules.
 #[derive(Clone, Copy, Debug, PartialEq, Eq)]
 pub enum Rule {
     /// `or`: a disjunction is opened into its arguments.
@@ -24,6 +25,113 @@ pub enum Rule {
     Resolution,
     /// `th_resolution`: the same, as solvers of theories write it.
     ThResolution,
+    /// `true`: `true` is true.
+    True,
+    /// `false`: `false` is not.
+    False,
+    /// `and_pos`: a conjunction has each of its arguments.
+    AndPos,
+    /// `and_neg`: its arguments make a conjunction.
+    AndNeg,
+    /// `or_pos`: a disjunction has one of its arguments.
+    OrPos,
+    /// `or_neg`: each of its arguments makes a disjunction.
+    OrNeg,
+    /// `implies_pos`: an implication leads from its first argument to its second.
+    ImpliesPos,
+    /// `implies_neg1`: an implication holds, or its first argument does.
+    ImpliesNeg1,
+    /// `implies_neg2`: an implication holds, or its second argument does not.
+    ImpliesNeg2,
+    /// `equiv_pos1`: an equality leads from its second argument to its first.
+    EquivPos1,
+    /// `equiv_pos2`: an equality leads from its first argument to its second.
+    EquivPos2,
+    /// `equiv_neg1`: arguments that both hold are equal.
+    EquivNeg1,
+    /// `equiv_neg2`: arguments neither of which holds are equal.
+    EquivNeg2,
+    /// `xor_pos1`: of an exclusive disjunction one argument holds.
+    XorPos1,
+    /// `xor_pos2`: of an exclusive disjunction one argument does not hold.
+    XorPos2,
+    /// `xor_neg1`: an exclusive disjunction holds where its second argument alone does.
+    XorNeg1,
+    /// `xor_neg2`: an exclusive disjunction holds where its first argument alone does.
+    XorNeg2,
+    /// `ite_pos1`: a choice has its third argument where its first does not hold.
+    ItePos1,
+    /// `ite_pos2`: a choice has its second argument where its first holds.
+    ItePos2,
+    /// `ite_neg1`: a choice holds where its third argument does and its first does not.
+    IteNeg1,
+    /// `ite_neg2`: a choice holds where its first argument does and its second.
+    IteNeg2,
+    /// `not_not`: three negations are one.
+    NotNot,
+    /// `and`: `and_pos`, with the term in front as the premise.
+    And,
+    /// `not_and`: `and_neg`, with the term in front as the premise.
+    NotAnd,
+    /// `not_or`: `or_neg`, with the term in front as the premise.
+    NotOr,
+    /// `implies`: `implies_pos`, with the term in front as the premise.
+    Implies,
+    /// `not_implies1`: `implies_neg1`, with the term in front as the premise.
+    NotImplies1,
+    /// `not_implies2`: `implies_neg2`, with the term in front as the premise.
+    NotImplies2,
+    /// `equiv1`: `equiv_pos2`, with the term in front as the premise.
+    Equiv1,
+    /// `equiv2`: `equiv_pos1`, with the term in front as the premise.
+    Equiv2,
+    /// `not_equiv1`: `equiv_neg2`, with the term in front as the premise.
+    NotEquiv1,
+    /// `not_equiv2`: `equiv_neg1`, with the term in front as the premise.
+    NotEquiv2,
+    /// `xor1`: `xor_pos1`, with the term in front as the premise.
+    Xor1,
+    /// `xor2`: `xor_pos2`, with the term in front as the premise.
+    Xor2,
+    /// `not_xor1`: `xor_neg1`, with the term in front as the premise.
+    NotXor1,
+    /// `not_xor2`: `xor_neg2`, with the term in front as the premise.
+    NotXor2,
+    /// `ite1`: `ite_pos1`, with the term in front as the premise.
+    Ite1,
+    /// `ite2`: `ite_pos2`, with the term in front as the premise.
+    Ite2,
+    /// `not_ite1`: `ite_neg1`, with the term in front as the premise.
+    NotIte1,
+    /// `not_ite2`: `ite_neg2`, with the term in front as the premise.
+    NotIte2,
+}
+
+/// Names a literal by an argument of a term: the argument as it stands, or its negation. Source: own.
+#[derive(Clone, Copy, Debug, PartialEq, Eq)]
+pub struct Side {
+    /// The place of the argument, from 0.
+    pub place: usize,
+    /// Whether the argument is meant as it stands.
+    pub positive: bool,
+}
+
+/// Says which literals stand behind a term in a clause that a rule gives without premises, by the term's arguments.
+/// Source: Alethe specification, rules; to say it so is own.
+#[derive(Clone, Copy, Debug, PartialEq, Eq)]
+pub enum Rest {
+    /// None.
+    Nothing,
+    /// This one.
+    One(Side),
+    /// These two, in this order.
+    Two(Side, Side),
+    /// One of the arguments, any: as it stands where that is true, else its negation.
+    AnyOne(bool),
+    /// Each of the arguments, in their order: as they stand where that is true, else their negations.
+    Each(bool),
+    /// What the one argument, a negation, negates.
+    Innermost,
 }
 
 /// Tells why a proof is not accepted: P1 to P8, P10 and P11. Of several faults the first in the text counts, but for

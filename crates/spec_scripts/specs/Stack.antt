@@ -11,7 +11,7 @@ use Rattle.spec_text.specs.Shapes.{Word, is_symbol, is_reserved}
 use Rattle.spec_text.specs.Answers.{Answer, ◌>>=◌, refused, require}
 use Rattle.spec_text.specs.Trees.{Tree, Trees, atom, list, none, more, offset_of}
 use Rattle.spec_terms.specs.Terms.{Sort, Truth, Symbol, constant, Term}
-use Rattle.spec_terms.specs.Values.{truth, Interpretation}
+use Rattle.spec_terms.specs.Values.{truth, Interpretation, Interprets}
 use Rattle.spec_terms.specs.Meaning.{value_under}
 use Rattle.spec_terms.specs.Subterms.{roomy_terms}
 use Rattle.spec_scripts.specs.Commands.{Command, SetOption, DeclareConst, Assert, CheckSat, Exit, command_of}
@@ -193,15 +193,17 @@ pub record HasNoCheck (text : List ℕ) (k : ℕ) : Type 0 where
   -- no command is that check
   pub none_here : stack_at term_limit empty_stack k commands ≡ None
 
--- every current expression has the value true
+-- tables of the right sorts for the current symbols, under which every current expression has the value true
 pub record MakesTrue (i : Interpretation) (text : List ℕ) (k : ℕ) : Type 0 where
   -- what is current
   pub stack : Stack
   -- it is current at that check
   pub current : IsCurrent text k stack
+  -- each current symbol has its table
+  pub interprets : Interprets i stack.symbols
   -- each current expression is true
   pub each : All (λ (a : Assertion). value_under i a.text ≡ truth true) stack.assertions
 
--- no interpretation, of whatever tables, makes them true; it says nothing where there is no such check
+-- no interpretation makes them true, whatever its tables of the right sorts are; it says nothing where there is no such check
 abbrev pub HasNoModel : List ℕ → ℕ → Type 0
 HasNoModel text k = (i : Interpretation) → MakesTrue i text k → ⊥
