@@ -1,6 +1,6 @@
 //! The literals that hold, in the order in which they came to.
 
-ghost use Rattle.std.specs.Prelude.{◌≡◌, ◌<◌, ◌↔◌, [], map, length, Contains, IfOk, OnOk, MatchBool, MatchOption, slice_index_or};
+ghost use Rattle.std.specs.Prelude.{◌≡◌, ◌<◌, ◌↔◌, [], map, length, Contains, IfOk, OnOk, MatchBool, MatchOption, slice_index_or, take};
 ghost use Rattle.rule_bool.specs.Literals.{lit_complement, AddsLast, IsConsistent};
 
 use crate::lits::negated;
@@ -9,9 +9,11 @@ use std::alloc::{AllocError, Global};
 use std::marker::Model;
 use term_core::Lit;
 
-/// The literals that hold, each once, in the order in which they were added.
+/// Holds literals, each once, in the order in which they were added.
+///
+/// Contracts see it as the list. Source: own.
 #[derive(Drop)]
-pub(crate) struct Held {
+pub struct Held {
     literals: IndexSet<Lit>,
 }
 
@@ -25,8 +27,10 @@ impl Model for Held {
 }
 
 impl Held {
-    /// Makes the set of no literals.
-    pub(crate) fn new(alloc: Global) -> Held
+    /// Makes the set of no literals, which takes no memory before the first of them.
+    ///
+    /// Source: own.
+    pub fn new(alloc: Global) -> Held
         ensures { result ≡ [] }
     {
         Held {
@@ -34,36 +38,53 @@ impl Held {
         }
     }
 
-    /// Counts the literals.
-    pub(crate) fn len(&self) -> usize
+    /// Counts the literals. It takes no memory.
+    ///
+    /// Source: own.
+    pub fn len(&self) -> usize
         ensures { result ≡ length self.now }
     {
         self.literals.len()
     }
 
-    /// Gives the literal that was added after so many others.
-    pub(crate) fn at(&self, index: usize) -> Lit
+    /// Gives the literal that was added after so many others. It takes no memory.
+    ///
+    /// Source: own.
+    pub fn at(&self, index: usize) -> Lit
         requires { index < length self.now }
         ensures { result ≡ slice_index_or self.now index result }
     {
         self.literals.as_slice()[index]
     }
 
-    /// Tells whether a literal holds.
-    pub(crate) fn contains(&self, l: Lit) -> bool
+    /// Tells whether a literal holds. It takes no memory.
+    ///
+    /// Source: own.
+    pub fn contains(&self, l: Lit) -> bool
         ensures { MatchBool result (Contains self.now l) (Contains self.now l → ⊥) }
     {
         self.literals.contains(&l)
     }
 
     /// Adds a literal as the last, unless it holds.
-    pub(crate) fn add(&mut self, l: Lit) -> Result<(), AllocError>
+    ///
+    /// `AllocError` comes where a new literal finds no memory. Source: own.
+    pub fn add(&mut self, l: Lit) -> Result<(), AllocError>
         ensures { OnOk result (AddsLast self.old l self.new) }
     {
         match self.literals.insert(l) {
             Ok(_) => Ok(()),
             Err(_) => Err(AllocError),
         }
+    }
+
+    /// Takes away all literals but the first `len`. It takes no memory.
+    ///
+    /// Source: own.
+    pub fn truncate(&mut self, len: usize)
+        ensures { self.new ≡ take len self.old }
+    {
+        self.literals.truncate(len);
     }
 }
 

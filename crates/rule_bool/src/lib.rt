@@ -7,7 +7,7 @@
 mod distinct;
 mod held;
 mod lits;
-mod look;
+pub mod look;
 mod propagation;
 mod resolvent;
 mod rule_stop;
@@ -20,6 +20,8 @@ mod tests;
 mod watchers;
 mod within;
 
+pub use held::Held;
+pub use lits::{negated, same};
 pub use propagation::resolves;
 pub use resolvent::resolution;
 pub use rule_stop::RuleStop;

@@ -6,7 +6,9 @@ ghost use Rattle.rule_bool.specs.Literals.{lit_complement};
 use term_core::Lit;
 
 /// Gives the literal with the other sign.
-pub(crate) fn negated(l: Lit) -> Lit
+///
+/// Source: own.
+pub fn negated(l: Lit) -> Lit
     ensures { result ≡ lit_complement l }
 {
     Lit {
@@ -16,7 +18,9 @@ pub(crate) fn negated(l: Lit) -> Lit
 }
 
 /// Tells whether two literals are one.
-pub(crate) fn same(a: Lit, b: Lit) -> bool
+///
+/// Source: own.
+pub fn same(a: Lit, b: Lit) -> bool
     ensures { MatchBool result (a ≡ b) (a ≢ b) }
 {
     a == b

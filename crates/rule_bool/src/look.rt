@@ -7,9 +7,11 @@ use crate::held::Held;
 use crate::lits::{negated, same};
 use term_core::Lit;
 
-/// What a look at a clause finds.
+/// Says what a look at a clause finds under literals that hold.
+///
+/// Source: own; Davis, Logemann and Loveland 1962 for unit clauses.
 #[derive(Clone, Copy, Debug, PartialEq, Eq)]
-pub(crate) enum Finding {
+pub enum Finding {
     /// Each literal is false.
     False,
     /// This literal is open, and each other one is false.
@@ -43,8 +45,10 @@ fn found_with(found: Finding, m: Lit, held: &Held) -> Finding
     }
 }
 
-/// Looks at a clause under the literals that hold.
-pub(crate) fn look(clause: &[Lit], held: &Held) -> Finding
+/// Looks at a clause under the literals that hold. It takes no memory, and time in proportion to the clause.
+///
+/// Source: own.
+pub fn look(clause: &[Lit], held: &Held) -> Finding
     ensures { Finds held.now clause.now result }
 {
     let mut found = Finding::False;

@@ -1,0 +1,4 @@
+pub mod SearchTrails
+pub mod SearchPasses
+pub mod SearchMarks
+pub mod SearchAnalysis

@@ -1,0 +1,3 @@
+-- dev
+pub mod Search
+pub mod Analyses

@@ -1,0 +1,4 @@
+//! Dev.
+#![tactic(auto)]
+
+pub mod search;

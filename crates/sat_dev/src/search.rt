@@ -1,0 +1,9 @@
+//! A search for truths that make terms true: it decides, propagates, learns and goes back.
+//!
+//! It is plain and slow: propagation looks at all clauses until none is false or unit, and a learned clause is the negation of the
+//! decisions that a conflict rests on. What a faster search answers can be compared with it.
+
+pub mod store;
+pub mod trail;
+pub mod propagate;
+pub mod analysis;
