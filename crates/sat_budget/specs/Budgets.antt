@@ -1,8 +1,13 @@
 -- What a budget holds, and what comes of a conflict. Source: own.
-use Rattle.std.specs.Prelude.{◌≡◌, ℕ, ◌<◌, ◌++◌, List, [], ◌∷◌, length, Result, Ok, Err}
+use Rattle.std.specs.Prelude.{◌≡◌, ℕ, ◌<◌, ◌++◌, List, [], ◌∷◌, length, map, Vec, Result, Ok, Err}
+use Rattle.std.specs.declared.alloc.Global.{Global}
 use Rattle.term_core.specs.declared.ids.Lit.{Lit}
 use Rattle.sat_budget.specs.declared.limits.BudgetStop.{BudgetStop}
 use Rattle.sat_budget.specs.declared.limits.BudgetStop.TheVariants.{Spent, Memory}
+
+-- each vector's list
+abbrev pub lists : {T : Type 0} → List (Vec T Global) → List (List T)
+lists vs = map (λ v. v.items) vs
 
 -- A limit on the conflicts of a check, and the clauses that it has learned.
 pub record BudgetView : Type 0 where

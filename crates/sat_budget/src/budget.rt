@@ -20,12 +20,12 @@ pub struct Budget {
 }
 
 impl Model for Budget {
-    ghost use Rattle.std.specs.Prelude.{◌≤◌, length, map};
-    ghost use Rattle.sat_budget.specs.Budgets.{BudgetView};
+    ghost use Rattle.std.specs.Prelude.{◌≤◌, length};
+    ghost use Rattle.sat_budget.specs.Budgets.{BudgetView, lists};
 
     ghost Value = { BudgetView };
 
-    ghost view = { λ b. record { limit = b.limit; learned = map (λ v. v.items) b.learned.items } };
+    ghost view = { λ b. record { limit = b.limit; learned = lists b.learned.items } };
 
     ghost invariant = { λ b. length b.learned.items ≤ b.limit };
 }
@@ -33,7 +33,7 @@ impl Model for Budget {
 impl Budget {
     /// Makes the budget of a new check, which has learned nothing.
     ///
-    /// `NoMemory` comes where the list of clauses finds no memory. Source: own.
+    /// `NoMemory` would come where the list of clauses found no memory; an empty one takes none. Source: own.
     pub fn new(alloc: Global, limits: &Limits) -> Result<Budget, NoMemory>
         ensures { IfOk result (λ b. b ≡ record { limit = limits.now.conflicts; learned = [] }) }
     {
