@@ -6,6 +6,7 @@
 
 mod distinct;
 mod held;
+mod judging;
 mod lits;
 pub mod look;
 mod propagation;
@@ -22,6 +23,7 @@ mod within;
 
 pub use held::Held;
 pub use lits::{negated, same};
+pub use judging::judge;
 pub use propagation::resolves;
 pub use resolvent::resolution;
 pub use rule_stop::RuleStop;
