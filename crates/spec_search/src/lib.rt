@@ -3,3 +3,5 @@
 //! Nothing here runs. The functions with empty bodies are laws: what they ensure is proved of the definitions in
 //! `specs/`.
 #![tactic(auto)]
+
+pub mod laws;

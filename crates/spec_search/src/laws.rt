@@ -1,0 +1,36 @@
+//! What the definitions imply. Each law is a function whose contract is the law; it computes nothing.
+
+ghost use Rattle.std.specs.Prelude.{◌≡◌, List, [], ◌∷◌, ◌++◌, Contains};
+ghost use Rattle.spec_terms.specs.Literals.{Literal, complement};
+ghost use Rattle.spec_search.specs.Learned.{IsOpenIn, IsNew, IsSettled, IsQuiet, IsConsistent, OthersFail};
+
+/// States that where propagation is quiet and consistent, a clause whose literals but one are false, and whose one literal
+/// does not hold, is new. Source: own.
+pub fn quiet_clause_is_new()
+    ensures { (premises : List (List Literal)) (held clause : List Literal) (l : Literal)
+        → IsQuiet complement premises held → IsConsistent complement held
+        → Contains clause l → (Contains held l → ⊥) → OthersFail complement held clause l
+        → IsOpenIn premises clause l }
+{}
+
+/// States that a clause which has all literals of a premise is not new: so no new clause is a tautology over the premises,
+/// or one of them with more literals. Source: own.
+pub fn new_clauses_contain_none()
+    ensures { (premises : List (List Literal)) (clause premise : List Literal) → Contains premises premise
+        → ((m : Literal) → Contains premise m → Contains clause m) → IsNew premises clause → ⊥ }
+{}
+
+/// States that propagation stays quiet with one clause more, where that clause is settled. `settled_keeps` of
+/// `proofs/Learned.antt` says it of literals of any kind. Source: own.
+pub fn settled_clauses_keep_quiet()
+    ensures { (premises : List (List Literal)) (held clause : List Literal) → IsQuiet complement premises held
+        → IsSettled complement held clause → IsQuiet complement (premises ++ clause ∷ []) held }
+{}
+
+/// States that propagation that is quiet over more clauses is quiet over fewer. `quiet_fewer` of `proofs/Learned.antt` says
+/// it of literals of any kind. Source: own.
+pub fn quiet_over_fewer()
+    ensures { (more fewer : List (List Literal)) (held : List Literal)
+        → ((c : List Literal) → Contains fewer c → Contains more c)
+        → IsQuiet complement more held → IsQuiet complement fewer held }
+{}
