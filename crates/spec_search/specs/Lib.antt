@@ -3,3 +3,4 @@ pub mod Derivations
 pub mod Base
 pub mod Learned
 pub mod Spent
+pub mod Examples

@@ -1,8 +1,10 @@
 //! What the definitions imply. Each law is a function whose contract is the law; it computes nothing.
 
-ghost use Rattle.std.specs.Prelude.{◌≡◌, List, [], ◌∷◌, ◌++◌, Contains};
-ghost use Rattle.spec_terms.specs.Literals.{Literal, complement};
+ghost use Rattle.std.specs.Prelude.{◌≡◌, List, [], ◌∷◌, ◌++◌, map, Contains};
+ghost use Rattle.spec_terms.specs.Literals.{Literal, complement, literals_of};
+ghost use Rattle.spec_search.specs.Base.{base_clauses};
 ghost use Rattle.spec_search.specs.Learned.{IsOpenIn, IsNew, IsSettled, IsQuiet, IsConsistent, OthersFail};
+ghost use Rattle.spec_search.specs.Examples.{eight, not_both};
 
 /// States that where propagation is quiet and consistent, a clause whose literals but one are false, and whose one literal
 /// does not hold, is new. Source: own.
@@ -13,8 +15,7 @@ pub fn quiet_clause_is_new()
         → IsOpenIn premises clause l }
 {}
 
-/// States that a clause which has all literals of a premise is not new: so no new clause is a tautology over the premises,
-/// or one of them with more literals. Source: own.
+/// States that a clause which has all literals of a premise is not new, a premise itself among them. Source: own.
 pub fn new_clauses_contain_none()
     ensures { (premises : List (List Literal)) (clause premise : List Literal) → Contains premises premise
         → ((m : Literal) → Contains premise m → Contains clause m) → IsNew premises clause → ⊥ }
@@ -33,4 +34,10 @@ pub fn quiet_over_fewer()
     ensures { (more fewer : List (List Literal)) (held : List Literal)
         → ((c : List Literal) → Contains fewer c → Contains more c)
         → IsQuiet complement more held → IsQuiet complement fewer held }
+{}
+
+/// States that of the eight disjunctions of three constants or their negations a search may learn `(cl (not a) (not b))`:
+/// it is new over all their base clauses. Source: own.
+pub fn first_of_eight_is_new()
+    ensures { IsNew (map literals_of (base_clauses eight)) (literals_of not_both) }
 {}

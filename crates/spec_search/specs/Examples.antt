@@ -1,0 +1,28 @@
+-- The eight disjunctions of three constants or their negations, of which no truths make all true, and the clause that a search learns first. Source: own.
+use Rattle.std.specs.Prelude.{Bool, true, false, List, [], ◌∷◌, map, codes}
+use Rattle.spec_terms.specs.Terms.{Or, Truth, Term, of, constant, constant_term}
+use Rattle.spec_terms.specs.Literals.{Clause, Literal, literals_of}
+use Rattle.spec_proofs.specs.Schemes.{signed}
+use Rattle.spec_search.specs.Base.{base_clauses}
+
+-- the constants
+abbrev pub a : Term
+a = constant_term (constant (codes "a") Truth)
+
+abbrev pub b : Term
+b = constant_term (constant (codes "b") Truth)
+
+abbrev pub c : Term
+c = constant_term (constant (codes "c") Truth)
+
+-- the disjunction of the constants, each as it stands or negated
+abbrev pub one_of : Bool → Bool → Bool → Term
+one_of x y z = of Or (signed x a ∷ signed y b ∷ signed z c ∷ [])
+
+-- all eight
+abbrev pub eight : List Term
+eight = one_of true true true ∷ one_of true true false ∷ one_of true false true ∷ one_of true false false ∷ one_of false true true ∷ one_of false true false ∷ one_of false false true ∷ one_of false false false ∷ []
+
+-- a and b decided: not both
+abbrev pub not_both : Clause
+not_both = signed false a ∷ signed false b ∷ []
