@@ -1,7 +1,13 @@
 //! What the definitions imply. Each law is a function whose contract is the law; it computes nothing.
 
-ghost use Rattle.std.specs.Prelude.{◌≡◌, List, [], ◌∷◌, ◌++◌, map, Contains};
-ghost use Rattle.spec_terms.specs.Literals.{Literal, complement, literals_of};
+ghost use Rattle.std.specs.Prelude.{◌≡◌, ◌<◌, ℕ, true, List, [], ◌∷◌, ◌++◌, length, map, All, Contains};
+ghost use Rattle.spec_terms.specs.Terms.{Term};
+ghost use Rattle.spec_terms.specs.Values.{Interpretation};
+ghost use Rattle.spec_terms.specs.Literals.{Clause, Literal, complement, literals_of};
+ghost use Rattle.spec_proofs.specs.declared.Rule.{Rule};
+ghost use Rattle.spec_proofs.specs.Rules.{IsRight};
+ghost use Rattle.spec_proofs.specs.Clauses.{term_true, clause_true, HasTruth};
+ghost use Rattle.spec_search.specs.Derivations.{Derivation, «assumption», conclusion, inference_at, conclusion_at, IsDerivation, RestsOn};
 ghost use Rattle.spec_search.specs.Base.{base_clauses};
 ghost use Rattle.spec_search.specs.Learned.{IsOpenIn, IsNew, IsSettled, IsQuiet, IsConsistent, OthersFail};
 ghost use Rattle.spec_search.specs.Examples.{eight, not_both};
@@ -40,4 +46,15 @@ pub fn quiet_over_fewer()
 /// it is new over all their base clauses. Source: own.
 pub fn first_of_eight_is_new()
     ensures { IsNew (map literals_of (base_clauses eight)) (literals_of not_both) }
+{}
+
+/// States that in a derivation by rules that are sound, a clause is true under an interpretation where the assumptions
+/// that it rests on are, if the interpretation gives each term of its clauses a truth value. Source: own.
+pub fn derivations_are_sound()
+    ensures { (d : Derivation) (i : Interpretation)
+        → ((rule : Rule) (premises : List Clause) (clause : Clause) → All (λ c. clause_true i c ≡ true) premises
+            → All (HasTruth i) clause → IsRight rule premises clause → clause_true i clause ≡ true)
+        → IsDerivation d → All (λ x. All (HasTruth i) (conclusion x)) d → (n : ℕ) → n < length d
+        → ((m : ℕ) (t : Term) → RestsOn d n m → inference_at d m ≡ «assumption» t → term_true i t ≡ true)
+        → clause_true i (conclusion_at d n) ≡ true }
 {}
