@@ -1,8 +1,8 @@
 -- What is derived from true assumptions is true.
-use Rattle.std.proofs.Common.{◌≡◌, ℕ, zero, suc, ◌+◌, ◌<◌, true, false, ◌||◌, List, [], ◌∷◌, ◌++◌, length, get_or, take, drop, map, All, Contains, refl, sym, ap, ◌∙◌, subst, arith, add-one}
+use Rattle.std.proofs.Common.{◌≡◌, ℕ, zero, suc, ◌<◌, true, false, ◌||◌, List, ◌∷◌, ◌++◌, length, get_or, take, drop, map, All, Contains, refl, sym, ap, ◌∙◌, subst, arith}
 use Rattle.std.proofs.Math.Seq.{drop-cons}
 use Rattle.std.proofs.lemmas.List.{get_or-take, length-take-le, take-append-drop}
-use Rattle.std.proofs.lemmas.List.Elements.{All-contains, All-map, Contains-get_or}
+use Rattle.std.proofs.lemmas.List.Elements.{All-map, Contains-get_or}
 use Rattle.spec_terms.specs.Terms.{Term}
 use Rattle.spec_terms.specs.Values.{Interpretation}
 use Rattle.spec_terms.specs.Literals.{Clause}
@@ -34,8 +34,8 @@ module _ (d : Derivation) (i : Interpretation) (rules : (rule : Rule) (ps : List
           let f : FollowsFrom (take n d) (by_rule r ps c) = subst (FollowsFrom (take n d)) e follows in
           let earlier : (k : ℕ) → k < n → conclusion_at (take n d) k ≡ conclusion_at d k = front_means d n in
           let each : All (λ x. clause_true i x ≡ true) (map (conclusion_at (take n d)) ps) = All-map (λ x. clause_true i x ≡ true) (conclusion_at (take n d)) ps (λ k p h.
-              let less : get_or ps k p < n = omega (arith, f.0 k p h, length-take-le n d (omega arith)) in
-              ap (clause_true i) (earlier (get_or ps k p) less) ∙ before (get_or ps k p) less (λ m t rests. assumed m t (by_premise n (get_or ps k p) m (subst (λ (x : Inference). Contains (premises_of x) (get_or ps k p)) (sym e) (Contains-get_or ps k p h)) rests))) in
+          let less : get_or ps k p < n = omega (arith, f.0 k p h, length-take-le n d (omega arith)) in
+          ap (clause_true i) (earlier (get_or ps k p) less) ∙ before (get_or ps k p) less (λ m t rests. assumed m t (by_premise n (get_or ps k p) m (subst (λ (x : Inference). Contains (premises_of x) (get_or ps k p)) (sym e) (Contains-get_or ps k p h)) rests))) in
           let meant : All (HasTruth i) c = subst (λ (x : Inference). All (HasTruth i) (conclusion x)) e (have n no_inference lt) in
           ap (λ x. clause_true i (conclusion x)) e ∙ rules r (map (conclusion_at (take n d)) ps) c each meant f.1
 

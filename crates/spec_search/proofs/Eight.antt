@@ -9,7 +9,7 @@ use Rattle.spec_terms.specs.Literals.{Literal, complement, literals_of, literal_
 use Rattle.spec_terms.specs.Subterms.{with_subterms, with_all_subterms}
 use Rattle.spec_terms.proofs.Members.{first, later}
 use Rattle.spec_search.specs.Base.{base_clauses}
-use Rattle.spec_search.specs.Learned.{same_literal, IsSettled, IsQuiet, IsConsistent, OthersFail, IsNew}
+use Rattle.spec_search.specs.Learned.{same_literal, IsSettled, IsQuiet, IsConsistent, IsNew}
 use Rattle.spec_search.specs.Examples.{a, b, eight, not_both}
 use Rattle.spec_search.proofs.Learned.{literals_decide, quiet_is_new}
 

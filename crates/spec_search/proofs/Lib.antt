@@ -2,3 +2,6 @@
 pub mod Learned
 pub mod Eight
 pub mod Derived
+pub mod Meeting
+pub mod Obeying
+pub mod Modelling

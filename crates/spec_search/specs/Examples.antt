@@ -1,9 +1,8 @@
 -- The eight disjunctions of three constants or their negations, of which no truths make all true, and the clause that a search learns first. Source: own.
-use Rattle.std.specs.Prelude.{Bool, true, false, List, [], ◌∷◌, map, codes}
+use Rattle.std.specs.Prelude.{Bool, true, false, List, [], ◌∷◌, codes}
 use Rattle.spec_terms.specs.Terms.{Or, Truth, Term, of, constant, constant_term}
-use Rattle.spec_terms.specs.Literals.{Clause, Literal, literals_of}
+use Rattle.spec_terms.specs.Literals.{Clause}
 use Rattle.spec_proofs.specs.Schemes.{signed}
-use Rattle.spec_search.specs.Base.{base_clauses}
 
 -- the constants
 abbrev pub a : Term

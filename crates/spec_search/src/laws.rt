@@ -2,13 +2,17 @@
 
 ghost use Rattle.std.specs.Prelude.{◌≡◌, ◌<◌, ℕ, true, List, [], ◌∷◌, ◌++◌, length, map, All, Contains};
 ghost use Rattle.spec_terms.specs.Terms.{Term};
-ghost use Rattle.spec_terms.specs.Values.{Interpretation};
+ghost use Rattle.spec_terms.specs.Values.{Interpretation, truth};
+ghost use Rattle.spec_terms.specs.Agreement.{value_at};
+ghost use Rattle.spec_terms.specs.Subterms.{subterms_of};
 ghost use Rattle.spec_terms.specs.Literals.{Clause, Literal, complement, literals_of};
 ghost use Rattle.spec_proofs.specs.declared.Rule.{Rule};
 ghost use Rattle.spec_proofs.specs.Rules.{IsRight};
 ghost use Rattle.spec_proofs.specs.Clauses.{term_true, clause_true, HasTruth};
+ghost use Rattle.spec_proofs.specs.Truths.{Truths};
 ghost use Rattle.spec_search.specs.Derivations.{Derivation, «assumption», conclusion, inference_at, conclusion_at, IsDerivation, RestsOn};
 ghost use Rattle.spec_search.specs.Base.{base_clauses};
+ghost use Rattle.spec_search.specs.Models.{Meets, AreFormulas, Obeys, Realizes};
 ghost use Rattle.spec_search.specs.Learned.{IsOpenIn, IsNew, IsSettled, IsQuiet, IsConsistent, OthersFail};
 ghost use Rattle.spec_search.specs.Examples.{eight, not_both};
 
@@ -53,8 +57,20 @@ pub fn first_of_eight_is_new()
 pub fn derivations_are_sound()
     ensures { (d : Derivation) (i : Interpretation)
         → ((rule : Rule) (premises : List Clause) (clause : Clause) → All (λ c. clause_true i c ≡ true) premises
-            → All (HasTruth i) clause → IsRight rule premises clause → clause_true i clause ≡ true)
+        → All (HasTruth i) clause → IsRight rule premises clause → clause_true i clause ≡ true)
         → IsDerivation d → All (λ x. All (HasTruth i) (conclusion x)) d → (n : ℕ) → n < length d
         → ((m : ℕ) (t : Term) → RestsOn d n m → inference_at d m ≡ «assumption» t → term_true i t ≡ true)
         → clause_true i (conclusion_at d n) ≡ true }
 {}
+
+/// States that truths which meet the base clauses of terms give each subterm the value of its head at its arguments'
+/// values; and that the terms are true under each interpretation that gives the subterms with a declared symbol in front
+/// the truths that these have. Source: own; Tseitin 1968.
+pub fn base_clauses_define_their_terms()
+    ensures obey { (terms : List Term) (v : Truths) → AreFormulas (subterms_of terms) → Meets v (base_clauses terms)
+        → (t : Term) → Contains (subterms_of terms) t → Obeys v t }
+    ensures model { (terms : List Term) (v : Truths) (i : Interpretation) → AreFormulas (subterms_of terms)
+        → Realizes i v terms → Meets v (base_clauses terms) → All (λ t. value_at i t ≡ truth true) terms }
+{
+    spec_terms::subterms::subterms_are_least();
+}
