@@ -58,11 +58,11 @@ module _ (i : Interpretation) where
   or_true ((app Or ts ∷ []) ∷ []) clause each right = within_true (list_of ts) clause right (sym (one_argument ts) ∙ sym (or_false (any_true (values_at i ts))) ∙ All-head IsTrue (app Or ts ∷ []) [] each)
   or_true _ clause each right = absurd right
 
-  weakening_true : (premises : List Clause) (clause : Clause) → All IsTrue premises → IsWeakening premises clause → IsTrue clause
+  pub weakening_true : (premises : List Clause) (clause : Clause) → All IsTrue premises → IsWeakening premises clause → IsTrue clause
   weakening_true (c ∷ []) clause each right = within_true c clause right (All-head IsTrue c [] each)
   weakening_true _ clause each right = absurd right
 
-  resolution_true : (premises : List Clause) (clause : Clause) → All IsTrue premises → IsResolvent premises clause → IsTrue clause
+  pub resolution_true : (premises : List Clause) (clause : Clause) → All IsTrue premises → IsResolvent premises clause → IsTrue clause
   resolution_true premises clause each right = sym (by_literals clause) ∙ resolvent_true (term_true i) premises clause (λ k d h. by_literals (get_or premises k d) ∙ each k d h) right
 
   -- what follows by a rule from what is true is true

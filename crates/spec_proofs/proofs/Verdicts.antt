@@ -29,7 +29,7 @@ use Rattle.spec_proofs.specs.Judging.{with_entry, with_command, HasEmptyClause, 
 use Rattle.spec_proofs.specs.Accepted.{IsVerdict}
 use Rattle.spec_proofs.specs.Examples
 use Rattle.spec_proofs.specs.Examples.{read_commands, known, first_items, refutation, refutation_is_read, refutation_commands, listed, listed_is_read, listed_commands, behind_list, behind_list_commands, unknown_premise, unknown_premise_is_read, unknown_premise_commands, unknown_rule, unknown_rule_is_read, unknown_rule_commands, one_premise, one_premise_is_read, one_premise_commands, dropped_literal, dropped_literal_is_read, dropped_literal_commands, unknown_symbol, unknown_symbol_is_read, unknown_symbol_commands, not_asserted, not_asserted_is_read, not_asserted_commands, same_name, same_name_is_read, same_name_commands, assumption, assumption_is_read, assumption_commands, unclosed, nothing, nothing_is_read, nothing_commands, tautology, tautology_is_read, tautology_commands, double_negation, double_negation_is_read, double_negation_commands, opened, opened_is_read, opened_commands}
-use Rattle.spec_proofs.proofs.Rules.{rule_true}
+use Rattle.spec_proofs.proofs.Rules.{weakening_true, resolution_true}
 use Rattle.spec_proofs.proofs.Models.{model_of}
 
 -- the first fault of commands that are read, of the one that is not, and of what ends them
@@ -121,10 +121,10 @@ unfolding p_holds value_at values_at
 p_true = All-cons (λ c. clause_true p_holds c ≡ true) (p ∷ []) [] refl (All-nil (λ c. clause_true p_holds c ≡ true))
 
 nothing_follows : IsResolvent ((p ∷ []) ∷ []) [] → ⊥
-nothing_follows right = false≢true (rule_true p_holds rules.Resolution ((p ∷ []) ∷ []) [] p_true right)
+nothing_follows right = false≢true (resolution_true p_holds ((p ∷ []) ∷ []) [] p_true right)
 
 nothing_is_kept : IsWeakening ((p ∷ []) ∷ []) [] → ⊥
-nothing_is_kept right = false≢true (rule_true p_holds rules.Contraction ((p ∷ []) ∷ []) [] p_true right)
+nothing_is_kept right = false≢true (weakening_true p_holds ((p ∷ []) ∷ []) [] p_true right)
 
 pub refutation_verdict : IsVerdict contradiction 1 refutation None
 refutation_verdict = contradicts refutation (trees_in refutation) complete refutation_is_read _ None None refutation_commands (inl ((0, omega arith, refl), inl ((1, omega arith, refl), inl (units_resolve, (2, record { name = codes "t1"; clause = [] }, omega arith, refl, refl)))))

@@ -1,8 +1,8 @@
 -- Clauses by their truth, and those that follow by resolution. Source: Alethe specification, clauses.
-use Rattle.std.specs.Prelude.{Bool, List, map}
+use Rattle.std.specs.Prelude.{◌≡◌, Bool, List, map}
 use Rattle.std.specs.List.{list_any}
 use Rattle.spec_terms.specs.Terms.{Term}
-use Rattle.spec_terms.specs.Values.{Interpretation, is_true}
+use Rattle.spec_terms.specs.Values.{Interpretation, truth, is_true}
 use Rattle.spec_terms.specs.Agreement.{value_at}
 use Rattle.spec_terms.specs.Literals.{Clause, complement, literals_of}
 use Rattle.spec_proofs.specs.Resolution.{Resolves}
@@ -18,3 +18,7 @@ term_true i t = is_true (value_at i t)
 -- one of the clause's terms has the value true
 abbrev pub clause_true : Interpretation → Clause → Bool
 clause_true i c = list_any (term_true i) c
+
+-- the term's value is a truth value
+abbrev pub HasTruth : Interpretation → Term → Type 0
+HasTruth i t = (b : Bool) × (value_at i t ≡ truth b)

@@ -11,7 +11,7 @@ ghost use Rattle.spec_terms.specs.Literals.{Clause, complement, literals_of};
 ghost use Rattle.spec_scripts.specs.Stack.{Stack, Assertion, IsCurrent, MakesTrue, HasNoModel};
 ghost use Rattle.spec_proofs.specs.declared.Rule.{Rule};
 ghost use Rattle.spec_proofs.specs.Resolution.{IsWithin, IsChain};
-ghost use Rattle.spec_proofs.specs.Clauses.{IsResolvent, clause_true};
+ghost use Rattle.spec_proofs.specs.Clauses.{IsResolvent, clause_true, HasTruth};
 ghost use Rattle.spec_proofs.specs.Truths.{Truths, term_true_by};
 ghost use Rattle.spec_proofs.specs.Rules.{IsRight};
 ghost use Rattle.spec_proofs.specs.Commands.{Known, Command, known_at};
@@ -22,11 +22,11 @@ ghost use Rattle.spec_proofs.specs.Judging.{fault_of, FirstFault};
 ghost use Rattle.spec_proofs.specs.Good.{IsGood};
 ghost use Rattle.spec_proofs.specs.Accepted.{IsAccepted, IsVerdict};
 
-/// States that what follows by a rule from clauses that are true is true, under the same interpretation.
-/// Source: Alethe specification, rules; SMT-LIB 2.6, theory Core.
+/// States that what follows by a rule from clauses that are true is true, under the same interpretation, where this gives
+/// each of its terms a truth value. Source: Alethe specification, rules; SMT-LIB 2.6, theory Core.
 pub fn rules_are_sound()
     ensures { (rule : Rule) (premises : List Clause) (clause : Clause) (i : Interpretation) → All (λ c. clause_true i c ≡ true) premises
-        → IsRight rule premises clause → clause_true i clause ≡ true }
+        → All (HasTruth i) clause → IsRight rule premises clause → clause_true i clause ≡ true }
 {}
 
 /// States that each chain of binary resolutions passes, where each resolves the clause so far with a premise: premises

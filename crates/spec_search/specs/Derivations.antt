@@ -1,8 +1,6 @@
 -- Derivations: rows of clauses, each of which is assumed or follows by a rule from earlier ones. Source: Alethe specification, proofs as lists of commands; to number them is own.
-use Rattle.std.specs.Prelude.{◌≡◌, ℕ, ◌<◌, Bool, List, [], ◌∷◌, ◌++◌, length, map, All, Contains, slice_index_or}
+use Rattle.std.specs.Prelude.{◌≡◌, ℕ, ◌<◌, List, [], ◌∷◌, ◌++◌, length, map, All, Contains, slice_index_or}
 use Rattle.spec_terms.specs.Terms.{True, Term, of}
-use Rattle.spec_terms.specs.Values.{Interpretation, truth}
-use Rattle.spec_terms.specs.Agreement.{value_at}
 use Rattle.spec_terms.specs.Literals.{Clause}
 use Rattle.spec_proofs.specs.declared.Rule.{Rule}
 use Rattle.spec_proofs.specs.Rules.{IsRight}
@@ -65,7 +63,3 @@ pub record IsDerivedFrom (terms : List Term) (d : Derivation) (n : ℕ) : Type 0
   pub there : n < length d
   -- what it rests on
   pub assumptions : (m : ℕ) → RestsOn d n m → AssumesAmong terms (inference_at d m)
-
--- the term's value is a truth value
-abbrev pub HasTruth : Interpretation → Term → Type 0
-HasTruth i t = (b : Bool) × (value_at i t ≡ truth b)
