@@ -1,5 +1,6 @@
 -- The lemmas of this crate.
 pub mod Resolution
+pub mod Schemes
 pub mod Rules
 pub mod Chains
 pub mod Steps
