@@ -61,6 +61,7 @@ pub fn acceptance_is_sound()
 {
     rules_are_sound();
     spec_scripts::laws::checks_have_one_stack();
+    spec_scripts::laws::assertions_are_read();
     spec_scripts::laws::assertions_have_their_texts_value();
 }
 

@@ -11,9 +11,10 @@ pub returns : goal.returns
 returns c = λ script k s v current.
     let i = model_of v in
     let read = c.assertions_are_read.ensures.read script k s current in
+    let tabled = All-weaker IsDeclared (λ (x : Symbol). IsTableOf x (i.table x.name)) (tables v) s.symbols read.symbols in
     let values = c.assertions_have_their_texts_value.ensures script k s current i in (
       i,
-      All-weaker IsDeclared (λ (x : Symbol). IsTableOf x (i.table x.name)) (tables v) s.symbols read.symbols,
+      tabled,
       λ n. refl,
-      λ given. record { stack = s; current = current; each = λ n d h. values n d h ∙ given n d h },
+      λ given. record { stack = s; current = current; interprets = tabled; each = λ n d h. values n d h ∙ given n d h },
     )
