@@ -1,20 +1,20 @@
 -- What a text is read as has a truth value, where each symbol has one.
-use Rattle.std.proofs.Common.{◌≡◌, ℕ, Bool, true, false, not, ◌||◌, List, [], ◌∷◌, map, cond, Option, Some, None, All, get_or, refl, sym, ap, ◌∙◌, subst}
+use Rattle.std.proofs.Common.{◌≡◌, ℕ, Bool, true, false, List, [], ◌∷◌, cond, Option, Some, None, All, get_or, refl, ap, ◌∙◌, subst}
 use Rattle.std.specs.Prelude.{Ok, Err}
 use Rattle.std.specs.Str.{bytes_eq}
-use Rattle.std.proofs.lemmas.List.Elements.{All-head, All-tail, All-cons, All-nil, All-contains, All-weaker}
+use Rattle.std.proofs.lemmas.List.Elements.{All-head, All-tail, All-cons, All-nil}
 use Rattle.spec_text.specs.declared.Kind.{Kind}
 use Rattle.spec_text.specs.declared.Kind.TheVariants.{Numeral, Decimal, Text, Simple, Quoted, Reserved as word_kind, Keyword}
-use Rattle.spec_text.specs.declared.Fault.TheVariants.{BadShape, UnknownSymbol, Reserved, Full}
+use Rattle.spec_text.specs.declared.Fault.TheVariants.{BadShape, UnknownSymbol, Reserved}
 use Rattle.spec_text.specs.Bytes.{Name}
-use Rattle.spec_text.specs.Answers.{Answer, refused, require}
+use Rattle.spec_text.specs.Answers.{Answer, refused}
 use Rattle.spec_text.specs.Trees.{Tree, Trees, atom, list, none, more}
-use Rattle.spec_terms.specs.Terms.{Sort, Truth, Xor, Implies, Equal, Ite, same_sort, Symbol, constant, Apply, Term, of, terms_of}
-use Rattle.spec_terms.specs.Values.{Value, truth, number, element, is_true, Interpretation, Table, first_fit, table_value, sort_of_value, IsTableOf}
+use Rattle.spec_terms.specs.Terms.{Truth, Xor, Implies, Equal, Ite, same_sort, Symbol, Apply, Term, of, terms_of}
+use Rattle.spec_terms.specs.Values.{Value, truth, number, element, is_true, Interpretation, first_fit, table_value, sort_of_value, IsTableOf}
 use Rattle.spec_terms.specs.Lists.{left, right, neighbours, all_pairs}
 use Rattle.spec_terms.specs.Theory.{Rule, look_up, pair, unequal, each_pair, no_term, theory}
 use Rattle.spec_terms.specs.Forms.{Form, malformed, reserved, applies, form}
-use Rattle.spec_terms.specs.Reading.{symbol_named, by_rule, by_symbol, applied, applied_as, atom_term, by_form, term_in, terms_in}
+use Rattle.spec_terms.specs.Reading.{symbol_named, applied, applied_as, atom_term, by_form, term_in, terms_in}
 use Rattle.spec_terms.specs.Subterms.{roomy_terms}
 use Rattle.spec_terms.specs.Agreement.{value_at, values_at}
 use Rattle.spec_scripts.specs.Stack.{term_limit}

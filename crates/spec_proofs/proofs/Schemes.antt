@@ -1,7 +1,6 @@
 -- Each clause that a term gives by a scheme of the table is true, under every interpretation.
-use Rattle.std.proofs.Common.{◌≡◌, Bool, true, false, not, ◌&&◌, ◌||◌, List, [], ◌∷◌, map, cond, All, refl, sym, ap, ◌∙◌, subst}
+use Rattle.std.proofs.Common.{◌≡◌, Bool, true, false, not, ◌&&◌, ◌||◌, List, [], ◌∷◌, map, cond, All, refl, sym, ap, subst}
 use Rattle.std.specs.Prelude.{Contains}
-use Rattle.std.specs.List.{list_any}
 use Rattle.std.proofs.lemmas.Bool.{false≢true, and_parts}
 use Rattle.std.proofs.lemmas.List.Elements.{All-head, All-tail, All-cons, All-nil, All-map, All-contains}
 use Rattle.spec_terms.specs.Terms.{Sort, Truth, Head, True, False, Not, And, Or, Xor, Implies, Equal, Ite, Apply, same_head, Term, Terms, app, nil, cons, list_of, negated, sort_of, head_takes, all_same}
@@ -11,7 +10,7 @@ use Rattle.spec_terms.specs.Agreement.{value_at, values_at}
 use Rattle.spec_proofs.specs.declared.Rule.{Rule}
 use Rattle.spec_proofs.specs.declared.Rule.TheVariants as rules
 use Rattle.spec_proofs.specs.Clauses.{term_true, clause_true, HasTruth}
-use Rattle.spec_proofs.specs.Schemes.{Scheme, signed, rests_of, is_formula_of, clauses_by, Kind, opens, keeps, resolves, states, turns, kind_of, true_scheme, false_scheme, and_pos, and_neg, or_pos, or_neg, implies_pos, implies_neg1, implies_neg2, equiv_pos1, equiv_pos2, equiv_neg1, equiv_neg2, xor_pos1, xor_pos2, xor_neg1, xor_neg2, ite_pos1, ite_pos2, ite_neg1, ite_neg2, not_not}
+use Rattle.spec_proofs.specs.Schemes.{Scheme, signed, rests_of, is_formula_of, clauses_by, Kind, states, turns, kind_of, true_scheme, false_scheme, and_pos, and_neg, or_pos, or_neg, implies_pos, implies_neg1, implies_neg2, equiv_pos1, equiv_pos2, equiv_neg1, equiv_neg2, xor_pos1, xor_pos2, xor_neg1, xor_neg2, ite_pos1, ite_pos2, ite_neg1, ite_neg2, not_not}
 
 -- a test of one truth, and one of two, that passes in each case
 by_one : (f : Bool → Bool) → f true ≡ true → f false ≡ true → (x : Bool) → f x ≡ true
@@ -217,6 +216,7 @@ module _ (i : Interpretation) where
       first : (x a : Bool) → (x || a) || (not (x && true) || false) ≡ true
       first true a = refl
       first false a = or_true a
+
       later : (x a c : Bool) → a || c ≡ true → (x || a) || c ≡ true
       later true a c h = refl
       later false a c h = h
