@@ -5,3 +5,4 @@ pub mod Derived
 pub mod Meeting
 pub mod Obeying
 pub mod Modelling
+pub mod Holding

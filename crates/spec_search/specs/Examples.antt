@@ -1,6 +1,6 @@
 -- The eight disjunctions of three constants or their negations, of which no truths make all true, and the clause that a search learns first. Source: own.
 use Rattle.std.specs.Prelude.{Bool, true, false, List, [], ◌∷◌, codes}
-use Rattle.spec_terms.specs.Terms.{Or, Truth, Term, of, constant, constant_term}
+use Rattle.spec_terms.specs.Terms.{Or, Ite, Truth, Term, of, negated, constant, constant_term}
 use Rattle.spec_terms.specs.Literals.{Clause}
 use Rattle.spec_proofs.specs.Schemes.{signed}
 
@@ -25,3 +25,15 @@ eight = one_of true true true ∷ one_of true true false ∷ one_of true false t
 -- a and b decided: not both
 abbrev pub not_both : Clause
 not_both = signed false a ∷ signed false b ∷ []
+
+-- a disjunction of which one argument is a negation
+abbrev pub a_or_not_b : Term
+a_or_not_b = of Or (a ∷ negated b ∷ [])
+
+-- a choice
+abbrev pub a_then_b_else_c : Term
+a_then_b_else_c = of Ite (a ∷ b ∷ c ∷ [])
+
+-- three negations
+abbrev pub not_not_not_a : Term
+not_not_not_a = negated (negated (negated a))

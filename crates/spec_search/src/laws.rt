@@ -6,8 +6,6 @@ ghost use Rattle.spec_terms.specs.Values.{Interpretation, truth};
 ghost use Rattle.spec_terms.specs.Agreement.{value_at};
 ghost use Rattle.spec_terms.specs.Subterms.{subterms_of};
 ghost use Rattle.spec_terms.specs.Literals.{Clause, Literal, complement, literals_of};
-ghost use Rattle.spec_proofs.specs.declared.Rule.{Rule};
-ghost use Rattle.spec_proofs.specs.Rules.{IsRight};
 ghost use Rattle.spec_proofs.specs.Clauses.{term_true, clause_true, HasTruth};
 ghost use Rattle.spec_proofs.specs.Truths.{Truths};
 ghost use Rattle.spec_search.specs.Derivations.{Derivation, «assumption», conclusion, inference_at, conclusion_at, IsDerivation, RestsOn};
@@ -52,16 +50,16 @@ pub fn first_of_eight_is_new()
     ensures { IsNew (map literals_of (base_clauses eight)) (literals_of not_both) }
 {}
 
-/// States that in a derivation by rules that are sound, a clause is true under an interpretation where the assumptions
-/// that it rests on are, if the interpretation gives each term of its clauses a truth value. Source: own.
+/// States that in a derivation a clause is true under an interpretation where the assumptions that it rests on are, if the
+/// interpretation gives each term of the derivation's clauses a truth value. Source: own.
 pub fn derivations_are_sound()
-    ensures { (d : Derivation) (i : Interpretation)
-        → ((rule : Rule) (premises : List Clause) (clause : Clause) → All (λ c. clause_true i c ≡ true) premises
-        → All (HasTruth i) clause → IsRight rule premises clause → clause_true i clause ≡ true)
-        → IsDerivation d → All (λ x. All (HasTruth i) (conclusion x)) d → (n : ℕ) → n < length d
+    ensures { (d : Derivation) (i : Interpretation) → IsDerivation d → All (λ x. All (HasTruth i) (conclusion x)) d
+        → (n : ℕ) → n < length d
         → ((m : ℕ) (t : Term) → RestsOn d n m → inference_at d m ≡ «assumption» t → term_true i t ≡ true)
         → clause_true i (conclusion_at d n) ≡ true }
-{}
+{
+    spec_proofs::laws::rules_are_sound();
+}
 
 /// States that truths which meet the base clauses of terms give each subterm the value of its head at its arguments'
 /// values; and that the terms are true under each interpretation that gives the subterms with a declared symbol in front
@@ -72,5 +70,15 @@ pub fn base_clauses_define_their_terms()
     ensures model { (terms : List Term) (v : Truths) (i : Interpretation) → AreFormulas (subterms_of terms)
         → Realizes i v terms → Meets v (base_clauses terms) → All (λ t. value_at i t ≡ truth true) terms }
 {
+    spec_terms::subterms::subterms_are_least();
+}
+
+/// States that base clauses are no stronger than their terms: under an interpretation that makes the terms true, and gives
+/// each subterm a truth value, each base clause is true. Source: Alethe specification, the rules without premises.
+pub fn base_clauses_hold_in_models()
+    ensures { (terms : List Term) (i : Interpretation) → All (λ t. value_at i t ≡ truth true) terms
+        → All (HasTruth i) (subterms_of terms) → All (λ c. clause_true i c ≡ true) (base_clauses terms) }
+{
+    spec_proofs::laws::rules_are_sound();
     spec_terms::subterms::subterms_are_least();
 }
