@@ -1,2 +1,18 @@
-//! To come.
+//! A log of clauses, each assumed or right by a rule from earlier ones, so that what is claimed of any of them can be shown.
 #![tactic(auto)]
+
+mod entry;
+pub mod laws;
+mod log;
+mod log_fault;
+mod premises;
+mod step;
+#[cfg(test)]
+mod tests;
+
+pub use log::ProofLog;
+pub use log_fault::LogFault;
+pub use premises::{Premises, StepId};
+pub use spec_proofs::Rule;
+pub use step::Step;
+pub use term_core::{Clause, TermId};

@@ -6,6 +6,7 @@
 
 mod distinct;
 mod held;
+mod judging;
 mod lits;
 mod look;
 mod propagation;
@@ -20,6 +21,7 @@ mod tests;
 mod watchers;
 mod within;
 
+pub use judging::judge;
 pub use propagation::resolves;
 pub use resolvent::resolution;
 pub use rule_stop::RuleStop;

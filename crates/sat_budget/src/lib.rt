@@ -1,2 +1,11 @@
-//! To come.
+//! What a check may spend, and the learned clauses that it has spent it on.
 #![tactic(auto)]
+
+mod budget;
+mod limits;
+#[cfg(test)]
+mod tests;
+
+pub use budget::Budget;
+pub use limits::{BudgetStop, Limits, Reason};
+pub use term_core::{Lit, TermId};

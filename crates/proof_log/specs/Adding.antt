@@ -1,0 +1,48 @@
+-- What comes of adding to a log. Source: own.
+use Rattle.std.specs.Prelude.{◌≡◌, List, [], ◌∷◌, ◌++◌, length, map, Vec, Result, Ok, Err}
+use Rattle.std.specs.declared.alloc.Global.{Global}
+use Rattle.world_io.specs.declared.bytes.NoMemory.{NoMemory}
+use Rattle.spec_search.specs.Derivations.{FollowsFrom}
+use Rattle.term_core.specs.declared.ids.TermId.{TermId}
+use Rattle.term_core.specs.Tables.{TableView, IsIn}
+use Rattle.proof_log.specs.declared.premises.StepId.{StepId}
+use Rattle.proof_log.specs.declared.log_fault.LogFault.{LogFault}
+use Rattle.proof_log.specs.declared.log_fault.LogFault.TheVariants.{RuleFails, Memory}
+use Rattle.proof_log.specs.Logs.{Logged, assumed, named, logged_at, AreOf, inference_of, derivation_in, IsLogOf}
+
+-- A term is assumed last, under the next number.
+pub record IsAssumedLast (old : List Logged) (t : TermId) (id : StepId) (new : List Logged) : Type 0 where
+  -- the number is the next
+  pub number : id.0 ≡ length old
+  -- it stands last
+  pub last : new ≡ old ++ assumed t ∷ []
+  -- over each table that has the term, the log is right as before
+  pub right : (u : TableView) → IsLogOf u old → IsIn u t → IsLogOf u new
+
+-- a term is assumed, or nothing is changed
+abbrev pub Assumes : List Logged → TermId → Result StepId NoMemory → List Logged → Type 0
+Assumes old t (Ok id) new = IsAssumedLast old t id new
+Assumes old t (Err _) new = new ≡ old
+
+-- A clause that is right stands last, under the next number.
+pub record IsAdded (t : TableView) (old : List Logged) (l : Logged) (id : StepId) (new : List Logged) : Type 0 where
+  -- the number is the next
+  pub number : id.0 ≡ length old
+  -- it stands last
+  pub last : new ≡ old ++ l ∷ []
+  -- it follows from those before it
+  pub follows : FollowsFrom (derivation_in t old) (inference_of t l)
+  -- with it, the log is right over the table
+  pub right : IsLogOf t new
+
+-- what comes of adding a clause: it is right and stands last, or it isn't and nothing is changed, or nothing is changed for want of memory
+abbrev pub Adds : TableView → List Logged → Logged → Result StepId LogFault → List Logged → Type 0
+Adds t old l (Ok id) new = IsAdded t old l id new
+Adds t old l (Err RuleFails) new = (FollowsFrom (derivation_in t old) (inference_of t l) → ⊥) × (new ≡ old)
+Adds t old l (Err Memory) new = new ≡ old
+
+-- the clauses of numbers, where these are of the log's; that they aren't; or want of memory, which tells nothing
+abbrev pub Collects : List Logged → List StepId → Result (Vec (List TermId) Global) LogFault → Type 0
+Collects log ss (Ok cs) = AreOf log ss × (cs.items ≡ map (λ s. named (logged_at log s)) ss)
+Collects log ss (Err RuleFails) = AreOf log ss → ⊥
+Collects log ss (Err Memory) = Unit {0}

@@ -1,0 +1,65 @@
+//! Numbers of clauses, and lists of them.
+
+ghost use Rattle.std.specs.Prelude.{◌≡◌, length};
+
+use std::marker::Model;
+
+/// Names a clause of a log by its number, from 0 for the oldest.
+///
+/// Source: own; Alethe specification, names of steps.
+#[derive(Clone, Copy, Debug, Default, PartialEq, Eq, Hash)]
+pub struct StepId(pub u64);
+
+/// Owns a list of clauses of a log by their numbers: the premises of a step.
+///
+/// Contracts see it as the list. Source: Alethe specification, `:premises`.
+#[derive(Drop)]
+pub struct Premises {
+    steps: Vec<StepId>,
+}
+
+impl Model for Premises {
+    ghost use Rattle.std.specs.Prelude.{List};
+    ghost use Rattle.proof_log.specs.declared.premises.StepId.{StepId};
+
+    ghost Value = { List StepId };
+
+    ghost view = { λ p. p.steps.items };
+}
+
+impl From<Vec<StepId>> for Premises {
+    ghost from_gives = { λ v p. p ≡ v.items };
+
+    fn from(steps: Vec<StepId>) -> Premises {
+        Premises { steps }
+    }
+}
+
+impl Premises {
+    /// Gives the numbers back as a `Vec`. It takes no memory.
+    ///
+    /// Source: own.
+    pub fn into_vec(self) -> Vec<StepId>
+        ensures { result.items ≡ self }
+    {
+        self.steps
+    }
+
+    /// Lends the numbers. It takes no memory.
+    ///
+    /// Source: own.
+    pub fn as_slice(&self) -> &[StepId]
+        ensures { result.now ≡ self.now }
+    {
+        self.steps.as_slice()
+    }
+
+    /// Counts the numbers. It takes no memory.
+    ///
+    /// Source: own.
+    pub fn len(&self) -> usize
+        ensures { result ≡ length self.now }
+    {
+        self.steps.len()
+    }
+}

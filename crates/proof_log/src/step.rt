@@ -1,0 +1,18 @@
+//! Steps of a proof.
+
+use crate::premises::Premises;
+use spec_proofs::Rule;
+use term_core::Clause;
+
+/// Says that a clause follows by a rule from premises.
+///
+/// Source: Alethe specification, the command `step`.
+#[derive(Drop)]
+pub struct Step {
+    /// The rule.
+    pub rule: Rule,
+    /// The premises, in the rule's order, by their numbers in the log.
+    pub premises: Premises,
+    /// The clause, whose terms are of a table.
+    pub clause: Clause,
+}

@@ -1,0 +1,61 @@
+//! Limits of a check, and what is said where one of them is reached.
+
+ghost use Rattle.std.specs.Prelude.{◌≡◌};
+
+use std::alloc::{AllocError, AllocFailed};
+use thiserror::Error;
+
+/// Limits what a check may spend. A limit that is reached ends the check with the answer `unknown`.
+///
+/// Source: own; SMT-LIB 2.6, section 4.1.7, for the option of such a limit.
+#[derive(Clone, Copy, Debug, PartialEq, Eq)]
+pub struct Limits {
+    /// How many conflicts may be learned from, each as a clause, from 0.
+    pub conflicts: u64,
+    /// How many pivots arithmetic may make, from 0.
+    pub pivots: u64,
+    /// How many terms there may be at once, from 0.
+    pub terms: u64,
+}
+
+/// Says why a check was answered `unknown`.
+///
+/// Source: SMT-LIB 2.6, section 4.1.8, `:reason-unknown`.
+#[derive(Clone, Copy, Debug, PartialEq, Eq)]
+pub enum Reason {
+    /// So many conflicts were learned from, which is their limit.
+    Conflicts(u64),
+}
+
+/// Says why a clause is not learned.
+///
+/// Source: own.
+#[derive(Clone, Copy, Debug, PartialEq, Eq, Error)]
+pub enum BudgetStop {
+    /// The limit, this number of clauses, is reached.
+    #[error("the budget of {0} conflicts is spent")]
+    Spent(u64),
+    /// Memory ran out.
+    #[error("out of memory")]
+    Memory,
+}
+
+impl From<AllocError> for BudgetStop {
+    ghost use Rattle.sat_budget.specs.declared.limits.BudgetStop.TheVariants as stops;
+
+    ghost from_gives = { λ _ r. r ≡ stops.Memory };
+
+    fn from(_error: AllocError) -> BudgetStop {
+        BudgetStop::Memory
+    }
+}
+
+impl<T: Drop> From<AllocFailed<T>> for BudgetStop {
+    ghost use Rattle.sat_budget.specs.declared.limits.BudgetStop.TheVariants as stops;
+
+    ghost from_gives = { λ _ r. r ≡ stops.Memory };
+
+    fn from(_error: AllocFailed<T>) -> BudgetStop {
+        BudgetStop::Memory
+    }
+}
