@@ -1,9 +1,11 @@
 -- The lemmas of this crate.
 pub mod Resolution
+pub mod Schemes
 pub mod Rules
 pub mod Chains
 pub mod Steps
 pub mod Good
+pub mod HasTruths
 pub mod Judging
 pub mod Endings
 pub mod Models
