@@ -25,7 +25,7 @@ pub use held::Held;
 pub use lits::{negated, same};
 pub use judging::judge;
 pub use propagation::resolves;
-pub use resolvent::resolution;
+pub use resolvent::{literals_of, resolution};
 pub use rule_stop::RuleStop;
 pub use rules::{rule_contraction, rule_or, rule_reordering, rule_weakening};
 pub use term_core::{Lit, TermId};

@@ -11,8 +11,15 @@ use crate::rule_stop::RuleStop;
 use std::alloc::{AllocError, Global};
 use term_core::{Clause, Lit, TermId, TermTable};
 
-/// Gives the literal of each term.
-fn literals_of(alloc: Global, table: &TermTable, clause: &[TermId]) -> Result<Vec<Lit>, AllocError>
+/// Gives the literal of each term of a clause, in their order: the term without its leading negations, with the parity of their
+/// number.
+///
+/// `AllocError` comes where the list finds no memory. Source: Alethe specification, the rule `resolution`.
+pub fn literals_of(
+    alloc: Global,
+    table: &TermTable,
+    clause: &[TermId],
+) -> Result<Vec<Lit>, AllocError>
     requires { AreIn table.now clause.now }
     ensures { IfOk result (λ v. Means table.now v.items (clause_at table.now clause.now)) }
 {

@@ -1,3 +1,4 @@
 -- dev
 pub mod Search
 pub mod Analyses
+pub mod Stores
