@@ -30,9 +30,11 @@ right_push d x h last = right_by (d ++ x ∷ []) go
         subst (λ n. FollowsFrom (take n (d ++ x ∷ [])) (inference_at (d ++ x ∷ []) n)) e
         (subst (λ y. FollowsFrom (take (length d) (d ++ x ∷ [])) y) (sym (get_or-append_seam d x [] no_inference))
         (subst (λ l. FollowsFrom l x) (sym (take-append_seam d (x ∷ []))) last))
+
     before_end : (k : ℕ) → k < length d → FollowsFrom (take k (d ++ x ∷ [])) (inference_at (d ++ x ∷ []) k)
     before_end k lt =
         subst (λ y. FollowsFrom (take k (d ++ x ∷ [])) y) (sym (get_or_append_left d (x ∷ []) no_inference k lt))
         (subst (λ l. FollowsFrom l (inference_at d k)) (sym (take-append-le k d (x ∷ []) (omega (arith, lt)))) (follows_at d h k lt))
+
     go : (k : ℕ) → k < length (d ++ x ∷ []) → FollowsFrom (take k (d ++ x ∷ [])) (inference_at (d ++ x ∷ []) k)
     go k lt = elim (cases_lt k (length d)) [ inl below ↦ before_end k below | inr above ↦ at_end k (omega (arith, lt, above, length-append d (x ∷ []))) ]

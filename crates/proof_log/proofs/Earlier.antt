@@ -20,5 +20,6 @@ unfolding Before
 earlier_push log l h last k lt =
     let at : (n : ℕ) → Type 0 = λ n. Before n (get_or (log ++ l ∷ []) n no_logged) in
     elim (cases_lt k (length log)) as (λ _. at k) [
-      inl below ↦ subst (λ x. Before k x) (sym (get_or_append_left log (l ∷ []) no_logged k below)) (h k below)
-    | inr above ↦ subst at (omega (arith, lt, above, length-append log (l ∷ []))) (subst (λ x. Before (length log) x) (sym (get_or-append_seam log l [] no_logged)) last) ]
+      | inl below ↦ subst (λ x. Before k x) (sym (get_or_append_left log (l ∷ []) no_logged k below)) (h k below)
+      | inr above ↦ subst at (omega (arith, lt, above, length-append log (l ∷ []))) (subst (λ x. Before (length log) x) (sym (get_or-append_seam log l [] no_logged)) last)
+    ]
