@@ -40,6 +40,10 @@ logged_at log s = slice_index_or log s.0 no_logged
 abbrev pub AreOf : List Logged → List StepId → Type 0
 AreOf log ss = All (λ s. s.0 < length log) ss
 
+-- the clauses of numbers
+abbrev pub clauses_in : List Logged → List StepId → List (List TermId)
+clauses_in log ss = map (λ s. named (logged_at log s)) ss
+
 -- the premises of each stand before it
 abbrev pub AreEarlier : List Logged → Type 0
 AreEarlier log = (k : ℕ) → k < length log → All (λ s. s.0 < k) (premises_in (slice_index_or log k no_logged))
@@ -47,6 +51,10 @@ AreEarlier log = (k : ℕ) → k < length log → All (λ s. s.0 < k) (premises_
 -- numbers as plain ones
 abbrev pub numbers_of : List StepId → List ℕ
 numbers_of ss = map (λ s. s.0) ss
+
+-- each literal has a number below n
+abbrev pub AreBelow : ℕ → List Logged → Type 0
+AreBelow n log = All (λ l. All (λ (id : TermId). id.0 < n) (named l)) log
 
 -- what it says over a table
 abbrev pub inference_of : TableView → Logged → Inference
