@@ -19,5 +19,5 @@ pub fn logs_stand_in_grown_tables()
 /// Source: own.
 pub fn logs_stand_in_cut_tables()
     ensures right { (t u : TableView) (n : ℕ) (log : List Logged) → IsLogOf t log → u.terms ≡ take n t.terms → AreBelow n log → IsLogOf u log }
-    ensures same { (t u : TableView) (n : ℕ) (log : List Logged) → u.terms ≡ take n t.terms → AreBelow n log → derivation_in u log ≡ derivation_in t log }
+    ensures same { (t u : TableView) (n : ℕ) (log : List Logged) → IsLogOf t log → u.terms ≡ take n t.terms → AreBelow n log → derivation_in u log ≡ derivation_in t log }
 {}
