@@ -2,3 +2,4 @@ pub mod SearchTrails
 pub mod SearchPasses
 pub mod SearchMarks
 pub mod SearchAnalysis
+pub mod SearchStores

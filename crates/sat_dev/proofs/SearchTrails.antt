@@ -1,16 +1,18 @@
 -- Trails: one more literal, and fewer of them.
-use Rattle.std.proofs.Common.{◌≡◌, ◌≢◌, ℕ, ◌+◌, ◌<◌, ◌≤◌, Bool, true, false, ◌||◌, List, [], ◌∷◌, ◌++◌, length, get_or, take, Contains, ◌⊎◌, inl, inr, refl, sym, ap, ◌∙◌, subst, arith, zero, suc}
+use Rattle.std.proofs.Common.{◌≡◌, ◌≢◌, ℕ, ◌+◌, ◌<◌, ◌≤◌, Bool, true, false, ◌||◌, List, [], ◌∷◌, ◌++◌, length, get_or, take, map, Contains, ◌⊎◌, inl, inr, refl, sym, ap, ◌∙◌, subst, arith, zero, suc}
 use Rattle.std.specs.Prelude.{Option, Some, None}
 use Rattle.std.proofs.lemmas.Bool.{false≢true}
 use Rattle.std.proofs.lemmas.List.{length-append, append-nil, append_assoc}
-use Rattle.std.proofs.lemmas.List.Elements.{Contains-push, Contains-push_cases, Contains-append_left}
+use Rattle.std.proofs.lemmas.List.Elements.{Contains-push, Contains-push_cases, Contains-append_left, Contains-append_right}
+use Rattle.rule_bool.proofs.Counting.{Contains-cons_cases}
+use Rattle.rule_bool.proofs.Transport.{to_image}
 use Rattle.term_core.specs.declared.ids.TermId.{TermId}
 use Rattle.term_core.specs.declared.ids.Lit.{Lit}
 use Rattle.rule_bool.specs.Literals.{lit_complement, has, IsConsistent}
 use Rattle.rule_bool.specs.Findings.{IsUnit}
 use Rattle.rule_bool.proofs.Literals.{Contains-from_has, has-from_Contains, negation_twice, decide}
 use Rattle.rule_bool.proofs.Advancing.{fail_less, fail_fewer}
-use Rattle.sat_dev.specs.Search.{AreOver, IsQuiet, IsOpen, IsForced, IsAdded, IsTrail, is_assigned, open_count, Advances}
+use Rattle.sat_dev.specs.Search.{AreOver, IsQuiet, IsOpen, IsForced, IsAdded, IsTrail, atoms_in, is_assigned, open_count, Advances}
 
 -- the places of a list with one more
 module _ {A : Type 0} (xs : List A) (x : A) where
@@ -140,3 +142,11 @@ open_fewer atoms held l o (k, lt, e) =
       | inl h ↦ assigned_by (held ++ l ∷ []) _ (Contains-append_left held (l ∷ []) _ h)
       | inr h ↦ assigned_by (held ++ l ∷ []) _ (Contains-append_left held (l ∷ []) _ h)
     ]) atoms l.term k lt e was (assigned_by (held ++ l ∷ []) l (Contains-push held l))
+
+-- clauses are over the terms of their literals
+pub over_own : (clauses : List (List Lit)) → AreOver (atoms_in clauses) clauses
+over_own [] c l i j = absurd (omega (arith, i.1))
+over_own (d ∷ ds) c l i j = elim (Contains-cons_cases ds d c i) [
+  | inl e ↦ Contains-append_left (map (λ (m : Lit). m.term) d) (atoms_in ds) l.term (to_image (λ (m : Lit). m.term) d l (subst (λ (x : List Lit). Contains x l) (sym e) j))
+  | inr k ↦ Contains-append_right (map (λ (m : Lit). m.term) d) (atoms_in ds) l.term (over_own ds c l k j)
+]

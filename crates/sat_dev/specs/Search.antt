@@ -1,10 +1,10 @@
 -- What a search keeps: clauses, and literals that hold with the reasons why. Source: own.
-use Rattle.std.specs.Prelude.{◌≡◌, ◌≢◌, ◌+◌, ◌<◌, ◌≤◌, ◌||◌, ℕ, Bool, true, false, List, [], ◌∷◌, ◌++◌, length, take, get_or, Contains, Option, Some, None}
+use Rattle.std.specs.Prelude.{◌≡◌, ◌≢◌, ◌⊎◌, ◌+◌, ◌<◌, ◌≤◌, ◌||◌, ℕ, Bool, true, false, List, [], ◌∷◌, ◌++◌, length, take, get_or, map, flat_map, Contains, Option, Some, None}
 use Rattle.spec_proofs.specs.Resolution.{IsWithin}
 use Rattle.term_core.specs.declared.ids.TermId.{TermId}
 use Rattle.term_core.specs.declared.ids.Lit.{Lit}
 use Rattle.rule_bool.specs.Literals.{lit_complement, has}
-use Rattle.rule_bool.specs.Findings.{IsFalse, IsUnit, IsSettled}
+use Rattle.rule_bool.specs.Findings.{IsFalse, IsUnit, IsTouched, IsSettled}
 use Rattle.rule_bool.specs.declared.look.Finding.{Finding}
 use Rattle.rule_bool.specs.declared.look.Finding.TheVariants as findings
 use Rattle.rule_bool.specs.Propagation.{failing}
@@ -16,6 +16,10 @@ use Rattle.sat_dev.specs.declared.search.propagate.Propagation.TheVariants as en
 -- each literal's term is one of these
 abbrev pub AreOver : List TermId → List (List Lit) → Type 0
 AreOver atoms clauses = (c : List Lit) (l : Lit) → Contains clauses c → Contains c l → Contains atoms l.term
+
+-- the terms of all literals, in order
+abbrev pub atoms_in : List (List Lit) → List TermId
+atoms_in clauses = flat_map (map (λ l. l.term)) clauses
 
 -- nothing follows from any clause
 abbrev pub IsQuiet : List (List Lit) → List Lit → Type 0
@@ -84,3 +88,19 @@ Passes clauses seen old new before after passes.Same = (new ≡ old) × (after �
 abbrev pub Propagates : List (List Lit) → List Lit → List Lit → List (Option ℕ) → List (Option ℕ) → Propagation → Type 0
 Propagates clauses old new before after (ends.Clash n) = Advances clauses old new before after × IsClash clauses new n
 Propagates clauses old new before after ends.Quiet = Advances clauses old new before after × IsQuiet clauses new
+
+-- Of a clause this literal is open.
+pub record IsOpenOf (held clause : List Lit) (l : Lit) : Type 0 where
+  pub there : Contains clause l
+  pub is_open : IsOpen held l
+
+-- Of one of the clauses this literal is open.
+pub record IsOpenIn (clauses : List (List Lit)) (held : List Lit) (l : Lit) : Type 0 where
+  pub clause : List Lit
+  pub has_clause : Contains clauses clause
+  pub there : Contains clause l
+  pub is_open : IsOpen held l
+
+-- of each clause a literal holds, or all of its literals are false
+abbrev pub AreSettled : List (List Lit) → List Lit → Type 0
+AreSettled clauses held = (c : List Lit) → Contains clauses c → IsTouched held c ⊎ IsFalse held c

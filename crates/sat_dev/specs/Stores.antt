@@ -1,6 +1,5 @@
 -- Which clauses a store holds. Source: own.
-use Rattle.std.specs.Prelude.{◌≡◌, ◌<◌, ℕ, List, [], length, get_or, All, Contains}
-use Rattle.term_core.specs.declared.ids.TermId.{TermId}
+use Rattle.std.specs.Prelude.{◌≡◌, ◌<◌, ℕ, List, [], length, get_or}
 use Rattle.term_core.specs.declared.ids.Lit.{Lit}
 use Rattle.term_core.specs.Tables.{TableView}
 use Rattle.rule_bool.specs.Literals.{lists}
@@ -9,12 +8,6 @@ use Rattle.proof_log.specs.declared.premises.StepId.{StepId}
 use Rattle.proof_log.specs.Logs.{Logged}
 use Rattle.clausify.specs.Clausified.{stated}
 use Rattle.sat_dev.specs.declared.search.store.Store.{Store}
-use Rattle.sat_dev.specs.Search.{AreOver}
-
--- Terms are taken among others.
-pub record Mentions (clause : List Lit) (old new : List TermId) : Type 0 where
-  pub kept : (t : TermId) → Contains old t → Contains new t
-  pub added : (l : Lit) → Contains clause l → Contains new l.term
 
 -- what no number of a list of steps means
 abbrev pub no_step : StepId
@@ -29,11 +22,9 @@ pub record Derives (t : TableView) (log : List Logged) (clauses : List (List Lit
   -- its clause has these literals
   pub same : (k : ℕ) → k < length clauses → Means t (get_or clauses k []) (stated t log (get_or steps k no_step))
 
--- The store has the clauses of these steps, and the terms of their literals.
+-- The store has the clauses of these steps.
 pub record IsStoreOf (t : TableView) (log : List Logged) (steps : List StepId) (store : Store) : Type 0 where
   -- the steps are these
-  pub steps : store.steps.items ≡ steps
+  pub by : store.steps.items ≡ steps
   -- its clauses are theirs
   pub derives : Derives t log (lists store.clauses.items) store.steps.items
-  -- it has the terms
-  pub over : AreOver store.atoms.keys (lists store.clauses.items)

@@ -7,3 +7,4 @@ pub mod store;
 pub mod trail;
 pub mod propagate;
 pub mod analysis;
+pub mod decision;

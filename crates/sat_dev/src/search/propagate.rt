@@ -2,7 +2,7 @@
 
 ghost use Rattle.std.specs.Prelude.{IfOk};
 ghost use Rattle.rule_bool.specs.Literals.{lists};
-ghost use Rattle.sat_dev.specs.Search.{AreOver, TakesUp, Passes, Propagates};
+ghost use Rattle.sat_dev.specs.Search.{TakesUp, Passes, Propagates};
 
 use crate::search::store::Store;
 use crate::search::trail::Trail;
@@ -60,7 +60,6 @@ fn pass_over(clauses: &[Vec<Lit>], trail: &mut Trail) -> Result<Pass, AllocError
 
 /// Adds what the clauses force, until one is false or none is unit.
 pub(crate) fn propagate(store: &Store, trail: &mut Trail) -> Result<Propagation, AllocError>
-    requires { AreOver store.now.atoms.keys (lists store.now.clauses.items) }
     ensures { IfOk result (λ p. Propagates (lists store.now.clauses.items) trail.old.held trail.new.held trail.old.reasons.items trail.new.reasons.items p) }
 {
     'passes: loop {

@@ -5,13 +5,14 @@ use Rattle.term_core.specs.declared.ids.Lit.{Lit}
 use Rattle.rule_bool.specs.Literals.{lists}
 use Rattle.sat_dev.specs.Search.{Advances, Passes, Propagates}
 use Rattle.sat_dev.proofs.SearchPasses.{advances_on}
+use Rattle.sat_dev.proofs.SearchTrails.{over_own}
 use Rattle.sat_dev.proofs.search.propagate.propagate.Goals as goal
 
 pub returns-in-Clash : goal.returns-in-Clash
 returns-in-Clash c = let h = rw (c.in-Clash.is, c.deref.ensures.value) at c.in_ok-number.ensures in (advances_on _ _ _ _ _ _ _ c.passes.invariant h.0, h.1)
 
 pub passes-smaller : goal.passes-smaller
-passes-smaller c = let h = rw (c.in-Added.is, c.deref.ensures.value) at c.in_ok-number.ensures in let f = h.0.fewer _ c.requires in omega (arith, f, h.1)
+passes-smaller c = let h = rw (c.in-Added.is, c.deref.ensures.value) at c.in_ok-number.ensures in let f = h.0.fewer _ (over_own (lists c.args.store.now.clauses.items)) in omega (arith, f, h.1)
 
 pub passes-preserved : goal.passes-preserved
 passes-preserved c = let h = rw (c.in-Added.is, c.deref.ensures.value) at c.in_ok-number.ensures in advances_on _ _ _ _ _ _ _ c.passes.invariant h.0
