@@ -3,3 +3,4 @@ pub mod SearchPasses
 pub mod SearchMarks
 pub mod SearchAnalysis
 pub mod SearchStores
+pub mod SearchDecisions

@@ -23,6 +23,9 @@ module _ (vs : List (Vec Lit Global)) (n : ℕ) (v : Vec Lit Global) (lt : n < l
   pub in_lists : n < length (lists vs)
   in_lists = rw length-map lt
 
+  pub in_all : Contains (lists vs) v.items
+  in_all = (n, in_lists, get_or-map to_items vs n v v.items lt ∙ ap to_items (sym e))
+
   pub taken_next : take (n + 1) (lists vs) ≡ take n (lists vs) ++ v.items ∷ []
   taken_next = take_more (lists vs) n [] in_lists ∙ ap (λ (c : List Lit). take n (lists vs) ++ c ∷ []) item
 

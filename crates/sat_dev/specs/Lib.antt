@@ -2,3 +2,5 @@
 pub mod Search
 pub mod Analyses
 pub mod Stores
+pub mod SearchModels
+pub mod Rounds

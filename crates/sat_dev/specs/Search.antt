@@ -36,9 +36,19 @@ pub record IsForced (clauses : List (List Lit)) (held : List Lit) (number : ℕ)
   pub has_it : Contains (get_or clauses number []) l
   pub others : (m : Lit) → Contains (get_or clauses number []) m → m ≢ l → Contains held (lit_complement m)
 
--- the literal was forced by the clause of its reason, or it is a negative one that was decided where nothing followed
+-- a literal of the clauses has the term
+abbrev pub IsMentioned : List (List Lit) → TermId → Type 0
+IsMentioned clauses t = (c : List Lit) × (l : Lit) × Contains clauses c × Contains c l × (l.term ≡ t)
+
+-- What is decided: a negative literal of a term that the clauses mention, where nothing follows from them.
+pub record IsDecided (clauses : List (List Lit)) (held : List Lit) (l : Lit) : Type 0 where
+  pub negative : l.positive ≡ false
+  pub mentioned : IsMentioned clauses l.term
+  pub quiet : IsQuiet clauses held
+
+-- the literal was forced by the clause of its reason, or decided
 abbrev pub IsAdded : List (List Lit) → List Lit → Lit → Option ℕ → Type 0
-IsAdded clauses held l None = (l.positive ≡ false) × IsQuiet clauses held
+IsAdded clauses held l None = IsDecided clauses held l
 IsAdded clauses held l (Some number) = IsForced clauses held number l
 
 -- Each literal was open when it was added, and forced or decided.
@@ -104,3 +114,8 @@ pub record IsOpenIn (clauses : List (List Lit)) (held : List Lit) (l : Lit) : Ty
 -- of each clause a literal holds, or all of its literals are false
 abbrev pub AreSettled : List (List Lit) → List Lit → Type 0
 AreSettled clauses held = (c : List Lit) → Contains clauses c → IsTouched held c ⊎ IsFalse held c
+
+-- none of the literals holds; and none is open, or this one is
+abbrev pub Opens : List Lit → List Lit → Option Lit → Type 0
+Opens held front None = IsFalse held front
+Opens held front (Some l) = IsOpenOf held front l

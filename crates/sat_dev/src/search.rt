@@ -8,3 +8,7 @@ pub mod trail;
 pub mod propagate;
 pub mod analysis;
 pub mod decision;
+pub mod model;
+pub mod derive;
+pub mod rounds;
+pub mod decide;

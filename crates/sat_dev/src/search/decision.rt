@@ -1,12 +1,26 @@
 //! What is decided next.
 
-ghost use Rattle.std.specs.Prelude.{◌⊎◌, MatchOption};
+ghost use Rattle.std.specs.Prelude.{◌⊎◌, ◌++◌, ◌∷◌, [], List, Contains, MatchOption};
 ghost use Rattle.rule_bool.specs.Literals.{lists};
 ghost use Rattle.rule_bool.specs.Findings.{IsFalse, IsTouched};
-ghost use Rattle.sat_dev.specs.Search.{IsOpenOf, AreSettled, IsOpenIn};
+ghost use Rattle.sat_dev.specs.Search.{Opens, IsOpenOf, AreSettled, IsOpenIn};
 
 use rule_bool::{Held, negated};
 use term_core::Lit;
+
+/// Gives the first open literal with one literal more, which does not hold.
+fn first_open(first: Option<Lit>, m: Lit, held: &Held) -> Option<Lit>
+    requires { Contains held.now m → ⊥ }
+    ensures { (front : List Lit) → Opens held.now front first → Opens held.now (front ++ m ∷ []) result }
+{
+    if first.is_some() {
+        return first;
+    }
+    if held.contains(negated(m)) {
+        return None;
+    }
+    Some(m)
+}
 
 /// Gives the first open literal of a clause none of whose literals holds, or nothing where one holds or none is open.
 fn open_in(clause: &[Lit], held: &Held) -> Option<Lit>
@@ -17,9 +31,7 @@ fn open_in(clause: &[Lit], held: &Held) -> Option<Lit>
         if held.contains(*m) {
             return None;
         }
-        if first.is_none() && !held.contains(negated(*m)) {
-            first = Some(*m);
-        }
+        first = first_open(first, *m, held);
     }
     first
 }
