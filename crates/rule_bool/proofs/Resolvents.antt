@@ -15,7 +15,7 @@ use Rattle.rule_bool.specs.Resolvents.{AreOf, Means, MeansEach}
 use Rattle.rule_bool.proofs.Transport.{resolves_there, resolves_back}
 
 -- different literals of the table mean different ones
-literals_apart : (t : TableView) → AreDifferent t.terms → (l m : Lit) → IsIn t l.term → IsIn t m.term → literal_at t l ≡ literal_at t m → l ≡ m
+pub literals_apart : (t : TableView) → AreDifferent t.terms → (l m : Lit) → IsIn t l.term → IsIn t m.term → literal_at t l ≡ literal_at t m → l ≡ m
 literals_apart t differ l m l_in m_in e =
     let make : ℕ → Bool → Lit = λ n p. record { term = record { 0 = n }; positive = p } in
     let numbers = differ l.term.0 m.term.0 l_in m_in (ap (λ (x : Literal). x.atom) e) in

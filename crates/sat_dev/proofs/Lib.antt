@@ -4,3 +4,5 @@ pub mod SearchMarks
 pub mod SearchAnalysis
 pub mod SearchStores
 pub mod SearchDecisions
+pub mod SearchResolved
+pub mod SearchNew

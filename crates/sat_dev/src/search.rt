@@ -11,4 +11,5 @@ pub mod decision;
 pub mod model;
 pub mod derive;
 pub mod rounds;
+pub mod probe;
 pub mod decide;
