@@ -174,6 +174,17 @@ fn add_all(alloc: Global, table: &TermTable, log: &mut ProofLog) -> Result<bool,
     Ok(true)
 }
 
+/// Cuts the log, where it is so long.
+fn cut(table: &TermTable, log: &mut ProofLog, len: u64)
+    requires { IsLogOf table.now log.old }
+    ensures { IsLogOf table.now log.new }
+{
+    if len > log.len() {
+        return;
+    }
+    log.cut(len);
+}
+
 #[test]
 fn right_steps_alone_are_added(rt: HostRuntime) -> Result<(), Fail> {
     let alloc = rt.alloc();
@@ -202,9 +213,7 @@ fn what_is_cut_can_be_added_anew(rt: HostRuntime) -> Result<(), Fail> {
     let table = table_of(alloc)?;
     let mut log = log_of(alloc, &table)?;
     assert!(rt; add_all(alloc, &table, &mut log)?);
-    if log.len() >= 2 {
-        log.cut(2);
-    }
+    cut(&table, &mut log, 2);
     assert!(rt; log.len() == 2);
     assert!(rt; log.step(StepId(2)).is_none());
     assert!(rt; states(&log, StepId(1), None, &[], &[NOT_A]));
