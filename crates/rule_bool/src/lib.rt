@@ -6,7 +6,6 @@
 
 mod distinct;
 mod held;
-mod judging;
 mod lits;
 mod look;
 mod propagation;
@@ -21,7 +20,6 @@ mod tests;
 mod watchers;
 mod within;
 
-pub use judging::judge;
 pub use propagation::resolves;
 pub use resolvent::resolution;
 pub use rule_stop::RuleStop;
