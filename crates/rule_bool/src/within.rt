@@ -6,7 +6,7 @@ ghost use Rattle.spec_proofs.specs.Resolution.{IsWithin};
 use term_core::TermId;
 
 /// Tells whether two numbers are one.
-fn same_number(a: TermId, b: TermId) -> bool
+pub(crate) fn same_number(a: TermId, b: TermId) -> bool
     ensures { MatchBool result (a ≡ b) (a ≢ b) }
 {
     a == b
@@ -22,6 +22,13 @@ fn place_in(ids: &[TermId], id: TermId) -> Option<usize>
         }
     }
     None
+}
+
+/// Tells whether a term is one of a list.
+pub(crate) fn has_number(ids: &[TermId], id: TermId) -> bool
+    ensures { MatchBool result (Contains ids.now id) (Contains ids.now id → ⊥) }
+{
+    place_in(ids, id).is_some()
 }
 
 /// Gives a place of a term, where the places from `from` on are looked at before those in front of it, or nothing where it has none.
