@@ -29,7 +29,14 @@ pub fn rule_equiv_pos1(
     ensures { MatchResult result (λ _. IsRight rules.EquivPos1 (map (clause_at table.now) premises.now) (clause_at table.now clause.now))
         (λ _. IsRight rules.EquivPos1 (map (clause_at table.now) premises.now) (clause_at table.now clause.now) → ⊥) }
 {
-    stated(table, Head::Equal, false, Rest::Two(FIRST, NOT_SECOND), premises, clause)
+    stated(
+        table,
+        Head::Equal,
+        false,
+        Rest::Two(FIRST, NOT_SECOND),
+        premises,
+        clause,
+    )
 }
 
 /// Judges a step of the rule `equiv_pos2`, which opens an equality from left to right.
@@ -52,7 +59,14 @@ pub fn rule_equiv_pos2(
     ensures { MatchResult result (λ _. IsRight rules.EquivPos2 (map (clause_at table.now) premises.now) (clause_at table.now clause.now))
         (λ _. IsRight rules.EquivPos2 (map (clause_at table.now) premises.now) (clause_at table.now clause.now) → ⊥) }
 {
-    stated(table, Head::Equal, false, Rest::Two(NOT_FIRST, SECOND), premises, clause)
+    stated(
+        table,
+        Head::Equal,
+        false,
+        Rest::Two(NOT_FIRST, SECOND),
+        premises,
+        clause,
+    )
 }
 
 /// Judges a step of the rule `equiv_neg1`, which makes an equality of two terms that are true.
@@ -75,7 +89,14 @@ pub fn rule_equiv_neg1(
     ensures { MatchResult result (λ _. IsRight rules.EquivNeg1 (map (clause_at table.now) premises.now) (clause_at table.now clause.now))
         (λ _. IsRight rules.EquivNeg1 (map (clause_at table.now) premises.now) (clause_at table.now clause.now) → ⊥) }
 {
-    stated(table, Head::Equal, true, Rest::Two(NOT_FIRST, NOT_SECOND), premises, clause)
+    stated(
+        table,
+        Head::Equal,
+        true,
+        Rest::Two(NOT_FIRST, NOT_SECOND),
+        premises,
+        clause,
+    )
 }
 
 /// Judges a step of the rule `equiv_neg2`, which makes an equality of two terms that are not true.
@@ -98,7 +119,14 @@ pub fn rule_equiv_neg2(
     ensures { MatchResult result (λ _. IsRight rules.EquivNeg2 (map (clause_at table.now) premises.now) (clause_at table.now clause.now))
         (λ _. IsRight rules.EquivNeg2 (map (clause_at table.now) premises.now) (clause_at table.now clause.now) → ⊥) }
 {
-    stated(table, Head::Equal, true, Rest::Two(FIRST, SECOND), premises, clause)
+    stated(
+        table,
+        Head::Equal,
+        true,
+        Rest::Two(FIRST, SECOND),
+        premises,
+        clause,
+    )
 }
 
 /// Judges a step of the rule `equiv1`, which opens an equality from left to right.
@@ -121,7 +149,14 @@ pub fn rule_equiv1(
     ensures { MatchResult result (λ _. IsRight rules.Equiv1 (map (clause_at table.now) premises.now) (clause_at table.now clause.now))
         (λ _. IsRight rules.Equiv1 (map (clause_at table.now) premises.now) (clause_at table.now clause.now) → ⊥) }
 {
-    turned(table, Head::Equal, false, Rest::Two(NOT_FIRST, SECOND), premises, clause)
+    turned(
+        table,
+        Head::Equal,
+        false,
+        Rest::Two(NOT_FIRST, SECOND),
+        premises,
+        clause,
+    )
 }
 
 /// Judges a step of the rule `equiv2`, which opens an equality from right to left.
@@ -144,7 +179,14 @@ pub fn rule_equiv2(
     ensures { MatchResult result (λ _. IsRight rules.Equiv2 (map (clause_at table.now) premises.now) (clause_at table.now clause.now))
         (λ _. IsRight rules.Equiv2 (map (clause_at table.now) premises.now) (clause_at table.now clause.now) → ⊥) }
 {
-    turned(table, Head::Equal, false, Rest::Two(FIRST, NOT_SECOND), premises, clause)
+    turned(
+        table,
+        Head::Equal,
+        false,
+        Rest::Two(FIRST, NOT_SECOND),
+        premises,
+        clause,
+    )
 }
 
 /// Judges a step of the rule `not_equiv1`, by which one of two terms that are not equal is true.
@@ -167,7 +209,14 @@ pub fn rule_not_equiv1(
     ensures { MatchResult result (λ _. IsRight rules.NotEquiv1 (map (clause_at table.now) premises.now) (clause_at table.now clause.now))
         (λ _. IsRight rules.NotEquiv1 (map (clause_at table.now) premises.now) (clause_at table.now clause.now) → ⊥) }
 {
-    turned(table, Head::Equal, true, Rest::Two(FIRST, SECOND), premises, clause)
+    turned(
+        table,
+        Head::Equal,
+        true,
+        Rest::Two(FIRST, SECOND),
+        premises,
+        clause,
+    )
 }
 
 /// Judges a step of the rule `not_equiv2`, by which one of two terms that are not equal is not true.
@@ -190,5 +239,12 @@ pub fn rule_not_equiv2(
     ensures { MatchResult result (λ _. IsRight rules.NotEquiv2 (map (clause_at table.now) premises.now) (clause_at table.now clause.now))
         (λ _. IsRight rules.NotEquiv2 (map (clause_at table.now) premises.now) (clause_at table.now clause.now) → ⊥) }
 {
-    turned(table, Head::Equal, true, Rest::Two(NOT_FIRST, NOT_SECOND), premises, clause)
+    turned(
+        table,
+        Head::Equal,
+        true,
+        Rest::Two(NOT_FIRST, NOT_SECOND),
+        premises,
+        clause,
+    )
 }

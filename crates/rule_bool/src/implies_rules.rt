@@ -29,7 +29,14 @@ pub fn rule_implies_pos(
     ensures { MatchResult result (λ _. IsRight rules.ImpliesPos (map (clause_at table.now) premises.now) (clause_at table.now clause.now))
         (λ _. IsRight rules.ImpliesPos (map (clause_at table.now) premises.now) (clause_at table.now clause.now) → ⊥) }
 {
-    stated(table, Head::Implies, false, Rest::Two(NOT_FIRST, SECOND), premises, clause)
+    stated(
+        table,
+        Head::Implies,
+        false,
+        Rest::Two(NOT_FIRST, SECOND),
+        premises,
+        clause,
+    )
 }
 
 /// Judges a step of the rule `implies_neg1`, by which an implication is true, or its first argument.
@@ -51,7 +58,14 @@ pub fn rule_implies_neg1(
     ensures { MatchResult result (λ _. IsRight rules.ImpliesNeg1 (map (clause_at table.now) premises.now) (clause_at table.now clause.now))
         (λ _. IsRight rules.ImpliesNeg1 (map (clause_at table.now) premises.now) (clause_at table.now clause.now) → ⊥) }
 {
-    stated(table, Head::Implies, true, Rest::One(FIRST), premises, clause)
+    stated(
+        table,
+        Head::Implies,
+        true,
+        Rest::One(FIRST),
+        premises,
+        clause,
+    )
 }
 
 /// Judges a step of the rule `implies_neg2`, by which an implication is true, or its second argument is not.
@@ -73,7 +87,14 @@ pub fn rule_implies_neg2(
     ensures { MatchResult result (λ _. IsRight rules.ImpliesNeg2 (map (clause_at table.now) premises.now) (clause_at table.now clause.now))
         (λ _. IsRight rules.ImpliesNeg2 (map (clause_at table.now) premises.now) (clause_at table.now clause.now) → ⊥) }
 {
-    stated(table, Head::Implies, true, Rest::One(NOT_SECOND), premises, clause)
+    stated(
+        table,
+        Head::Implies,
+        true,
+        Rest::One(NOT_SECOND),
+        premises,
+        clause,
+    )
 }
 
 /// Judges a step of the rule `implies`, which opens an implication.
@@ -96,7 +117,14 @@ pub fn rule_implies(
     ensures { MatchResult result (λ _. IsRight rules.Implies (map (clause_at table.now) premises.now) (clause_at table.now clause.now))
         (λ _. IsRight rules.Implies (map (clause_at table.now) premises.now) (clause_at table.now clause.now) → ⊥) }
 {
-    turned(table, Head::Implies, false, Rest::Two(NOT_FIRST, SECOND), premises, clause)
+    turned(
+        table,
+        Head::Implies,
+        false,
+        Rest::Two(NOT_FIRST, SECOND),
+        premises,
+        clause,
+    )
 }
 
 /// Judges a step of the rule `not_implies1`, which takes the first argument out of the negation of an implication.
@@ -119,7 +147,14 @@ pub fn rule_not_implies1(
     ensures { MatchResult result (λ _. IsRight rules.NotImplies1 (map (clause_at table.now) premises.now) (clause_at table.now clause.now))
         (λ _. IsRight rules.NotImplies1 (map (clause_at table.now) premises.now) (clause_at table.now clause.now) → ⊥) }
 {
-    turned(table, Head::Implies, true, Rest::One(FIRST), premises, clause)
+    turned(
+        table,
+        Head::Implies,
+        true,
+        Rest::One(FIRST),
+        premises,
+        clause,
+    )
 }
 
 /// Judges a step of the rule `not_implies2`, which takes the second argument out of the negation of an implication.
@@ -142,5 +177,12 @@ pub fn rule_not_implies2(
     ensures { MatchResult result (λ _. IsRight rules.NotImplies2 (map (clause_at table.now) premises.now) (clause_at table.now clause.now))
         (λ _. IsRight rules.NotImplies2 (map (clause_at table.now) premises.now) (clause_at table.now clause.now) → ⊥) }
 {
-    turned(table, Head::Implies, true, Rest::One(NOT_SECOND), premises, clause)
+    turned(
+        table,
+        Head::Implies,
+        true,
+        Rest::One(NOT_SECOND),
+        premises,
+        clause,
+    )
 }

@@ -29,7 +29,14 @@ pub fn rule_ite_pos1(
     ensures { MatchResult result (λ _. IsRight rules.ItePos1 (map (clause_at table.now) premises.now) (clause_at table.now clause.now))
         (λ _. IsRight rules.ItePos1 (map (clause_at table.now) premises.now) (clause_at table.now clause.now) → ⊥) }
 {
-    stated(table, Head::Ite, false, Rest::Two(FIRST, THIRD), premises, clause)
+    stated(
+        table,
+        Head::Ite,
+        false,
+        Rest::Two(FIRST, THIRD),
+        premises,
+        clause,
+    )
 }
 
 /// Judges a step of the rule `ite_pos2`, which opens a choice where its condition is true.
@@ -52,7 +59,14 @@ pub fn rule_ite_pos2(
     ensures { MatchResult result (λ _. IsRight rules.ItePos2 (map (clause_at table.now) premises.now) (clause_at table.now clause.now))
         (λ _. IsRight rules.ItePos2 (map (clause_at table.now) premises.now) (clause_at table.now clause.now) → ⊥) }
 {
-    stated(table, Head::Ite, false, Rest::Two(NOT_FIRST, SECOND), premises, clause)
+    stated(
+        table,
+        Head::Ite,
+        false,
+        Rest::Two(NOT_FIRST, SECOND),
+        premises,
+        clause,
+    )
 }
 
 /// Judges a step of the rule `ite_neg1`, which makes a choice where its condition is not true.
@@ -75,7 +89,14 @@ pub fn rule_ite_neg1(
     ensures { MatchResult result (λ _. IsRight rules.IteNeg1 (map (clause_at table.now) premises.now) (clause_at table.now clause.now))
         (λ _. IsRight rules.IteNeg1 (map (clause_at table.now) premises.now) (clause_at table.now clause.now) → ⊥) }
 {
-    stated(table, Head::Ite, true, Rest::Two(FIRST, NOT_THIRD), premises, clause)
+    stated(
+        table,
+        Head::Ite,
+        true,
+        Rest::Two(FIRST, NOT_THIRD),
+        premises,
+        clause,
+    )
 }
 
 /// Judges a step of the rule `ite_neg2`, which makes a choice where its condition is true.
@@ -98,7 +119,14 @@ pub fn rule_ite_neg2(
     ensures { MatchResult result (λ _. IsRight rules.IteNeg2 (map (clause_at table.now) premises.now) (clause_at table.now clause.now))
         (λ _. IsRight rules.IteNeg2 (map (clause_at table.now) premises.now) (clause_at table.now clause.now) → ⊥) }
 {
-    stated(table, Head::Ite, true, Rest::Two(NOT_FIRST, NOT_SECOND), premises, clause)
+    stated(
+        table,
+        Head::Ite,
+        true,
+        Rest::Two(NOT_FIRST, NOT_SECOND),
+        premises,
+        clause,
+    )
 }
 
 /// Judges a step of the rule `ite1`, which opens a choice where its condition is not true.
@@ -117,7 +145,14 @@ pub fn rule_ite1(table: &TermTable, premises: &[Clause], clause: &[TermId]) -> R
     ensures { MatchResult result (λ _. IsRight rules.Ite1 (map (clause_at table.now) premises.now) (clause_at table.now clause.now))
         (λ _. IsRight rules.Ite1 (map (clause_at table.now) premises.now) (clause_at table.now clause.now) → ⊥) }
 {
-    turned(table, Head::Ite, false, Rest::Two(FIRST, THIRD), premises, clause)
+    turned(
+        table,
+        Head::Ite,
+        false,
+        Rest::Two(FIRST, THIRD),
+        premises,
+        clause,
+    )
 }
 
 /// Judges a step of the rule `ite2`, which opens a choice where its condition is true.
@@ -136,7 +171,14 @@ pub fn rule_ite2(table: &TermTable, premises: &[Clause], clause: &[TermId]) -> R
     ensures { MatchResult result (λ _. IsRight rules.Ite2 (map (clause_at table.now) premises.now) (clause_at table.now clause.now))
         (λ _. IsRight rules.Ite2 (map (clause_at table.now) premises.now) (clause_at table.now clause.now) → ⊥) }
 {
-    turned(table, Head::Ite, false, Rest::Two(NOT_FIRST, SECOND), premises, clause)
+    turned(
+        table,
+        Head::Ite,
+        false,
+        Rest::Two(NOT_FIRST, SECOND),
+        premises,
+        clause,
+    )
 }
 
 /// Judges a step of the rule `not_ite1`, which opens the negation of a choice where its condition is not true.
@@ -159,7 +201,14 @@ pub fn rule_not_ite1(
     ensures { MatchResult result (λ _. IsRight rules.NotIte1 (map (clause_at table.now) premises.now) (clause_at table.now clause.now))
         (λ _. IsRight rules.NotIte1 (map (clause_at table.now) premises.now) (clause_at table.now clause.now) → ⊥) }
 {
-    turned(table, Head::Ite, true, Rest::Two(FIRST, NOT_THIRD), premises, clause)
+    turned(
+        table,
+        Head::Ite,
+        true,
+        Rest::Two(FIRST, NOT_THIRD),
+        premises,
+        clause,
+    )
 }
 
 /// Judges a step of the rule `not_ite2`, which opens the negation of a choice where its condition is true.
@@ -182,5 +231,12 @@ pub fn rule_not_ite2(
     ensures { MatchResult result (λ _. IsRight rules.NotIte2 (map (clause_at table.now) premises.now) (clause_at table.now clause.now))
         (λ _. IsRight rules.NotIte2 (map (clause_at table.now) premises.now) (clause_at table.now clause.now) → ⊥) }
 {
-    turned(table, Head::Ite, true, Rest::Two(NOT_FIRST, NOT_SECOND), premises, clause)
+    turned(
+        table,
+        Head::Ite,
+        true,
+        Rest::Two(NOT_FIRST, NOT_SECOND),
+        premises,
+        clause,
+    )
 }

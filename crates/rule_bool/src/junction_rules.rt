@@ -29,7 +29,14 @@ pub fn rule_and_pos(
     ensures { MatchResult result (λ _. IsRight rules.AndPos (map (clause_at table.now) premises.now) (clause_at table.now clause.now))
         (λ _. IsRight rules.AndPos (map (clause_at table.now) premises.now) (clause_at table.now clause.now) → ⊥) }
 {
-    stated(table, Head::And, false, Rest::AnyOne(true), premises, clause)
+    stated(
+        table,
+        Head::And,
+        false,
+        Rest::AnyOne(true),
+        premises,
+        clause,
+    )
 }
 
 /// Judges a step of the rule `and_neg`, which makes a conjunction of its arguments.
@@ -72,7 +79,14 @@ pub fn rule_and(table: &TermTable, premises: &[Clause], clause: &[TermId]) -> Re
     ensures { MatchResult result (λ _. IsRight rules.And (map (clause_at table.now) premises.now) (clause_at table.now clause.now))
         (λ _. IsRight rules.And (map (clause_at table.now) premises.now) (clause_at table.now clause.now) → ⊥) }
 {
-    turned(table, Head::And, false, Rest::AnyOne(true), premises, clause)
+    turned(
+        table,
+        Head::And,
+        false,
+        Rest::AnyOne(true),
+        premises,
+        clause,
+    )
 }
 
 /// Judges a step of the rule `not_and`, which opens the negation of a conjunction.

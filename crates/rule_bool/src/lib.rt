@@ -24,8 +24,12 @@ mod scan;
 mod schemes;
 mod signs;
 #[cfg(test)]
+mod stated_tests;
+#[cfg(test)]
 mod tests;
 mod truth_rules;
+#[cfg(test)]
+mod turned_tests;
 mod watchers;
 mod within;
 mod xor_rules;

@@ -123,12 +123,7 @@ fn is_any(table: &TermTable, arguments: &[TermId], positive: bool, ids: &[TermId
 }
 
 /// Tells whether terms may stand behind a term of these arguments.
-pub(crate) fn has_rest(
-    table: &TermTable,
-    rest: Rest,
-    arguments: &[TermId],
-    ids: &[TermId],
-) -> bool
+pub(crate) fn has_rest(table: &TermTable, rest: Rest, arguments: &[TermId], ids: &[TermId]) -> bool
     requires arguments { AreIn table.now arguments.now }
     requires ids { AreIn table.now ids.now }
     requires places { HasPlaces (length arguments.now) rest }

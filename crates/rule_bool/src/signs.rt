@@ -37,11 +37,7 @@ pub(crate) fn without_sign(table: &TermTable, positive: bool, id: TermId) -> Opt
 ///
 /// The term so made need not be the table's. Where `positive` is true and it is not, there is nothing; where `positive` is false,
 /// there is nothing where it is made by taking off and is no negation.
-pub(crate) fn turned_without_sign(
-    table: &TermTable,
-    positive: bool,
-    id: TermId,
-) -> Option<TermId>
+pub(crate) fn turned_without_sign(table: &TermTable, positive: bool, id: TermId) -> Option<TermId>
     requires { IsIn table.now id }
     ensures { MatchOption result (HasNoTurn positive (term_at table.now id)) (IsSigned table.now positive (flipped (term_at table.now id))) }
 {

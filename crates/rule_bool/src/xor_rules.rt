@@ -29,7 +29,14 @@ pub fn rule_xor_pos1(
     ensures { MatchResult result (λ _. IsRight rules.XorPos1 (map (clause_at table.now) premises.now) (clause_at table.now clause.now))
         (λ _. IsRight rules.XorPos1 (map (clause_at table.now) premises.now) (clause_at table.now clause.now) → ⊥) }
 {
-    stated(table, Head::Xor, false, Rest::Two(FIRST, SECOND), premises, clause)
+    stated(
+        table,
+        Head::Xor,
+        false,
+        Rest::Two(FIRST, SECOND),
+        premises,
+        clause,
+    )
 }
 
 /// Judges a step of the rule `xor_pos2`, by which an argument of an exclusive disjunction is not true.
@@ -52,7 +59,14 @@ pub fn rule_xor_pos2(
     ensures { MatchResult result (λ _. IsRight rules.XorPos2 (map (clause_at table.now) premises.now) (clause_at table.now clause.now))
         (λ _. IsRight rules.XorPos2 (map (clause_at table.now) premises.now) (clause_at table.now clause.now) → ⊥) }
 {
-    stated(table, Head::Xor, false, Rest::Two(NOT_FIRST, NOT_SECOND), premises, clause)
+    stated(
+        table,
+        Head::Xor,
+        false,
+        Rest::Two(NOT_FIRST, NOT_SECOND),
+        premises,
+        clause,
+    )
 }
 
 /// Judges a step of the rule `xor_neg1`, which makes an exclusive disjunction of its second argument alone.
@@ -75,7 +89,14 @@ pub fn rule_xor_neg1(
     ensures { MatchResult result (λ _. IsRight rules.XorNeg1 (map (clause_at table.now) premises.now) (clause_at table.now clause.now))
         (λ _. IsRight rules.XorNeg1 (map (clause_at table.now) premises.now) (clause_at table.now clause.now) → ⊥) }
 {
-    stated(table, Head::Xor, true, Rest::Two(FIRST, NOT_SECOND), premises, clause)
+    stated(
+        table,
+        Head::Xor,
+        true,
+        Rest::Two(FIRST, NOT_SECOND),
+        premises,
+        clause,
+    )
 }
 
 /// Judges a step of the rule `xor_neg2`, which makes an exclusive disjunction of its first argument alone.
@@ -98,7 +119,14 @@ pub fn rule_xor_neg2(
     ensures { MatchResult result (λ _. IsRight rules.XorNeg2 (map (clause_at table.now) premises.now) (clause_at table.now clause.now))
         (λ _. IsRight rules.XorNeg2 (map (clause_at table.now) premises.now) (clause_at table.now clause.now) → ⊥) }
 {
-    stated(table, Head::Xor, true, Rest::Two(NOT_FIRST, SECOND), premises, clause)
+    stated(
+        table,
+        Head::Xor,
+        true,
+        Rest::Two(NOT_FIRST, SECOND),
+        premises,
+        clause,
+    )
 }
 
 /// Judges a step of the rule `xor1`, by which an argument of an exclusive disjunction is true.
@@ -117,7 +145,14 @@ pub fn rule_xor1(table: &TermTable, premises: &[Clause], clause: &[TermId]) -> R
     ensures { MatchResult result (λ _. IsRight rules.Xor1 (map (clause_at table.now) premises.now) (clause_at table.now clause.now))
         (λ _. IsRight rules.Xor1 (map (clause_at table.now) premises.now) (clause_at table.now clause.now) → ⊥) }
 {
-    turned(table, Head::Xor, false, Rest::Two(FIRST, SECOND), premises, clause)
+    turned(
+        table,
+        Head::Xor,
+        false,
+        Rest::Two(FIRST, SECOND),
+        premises,
+        clause,
+    )
 }
 
 /// Judges a step of the rule `xor2`, by which an argument of an exclusive disjunction is not true.
@@ -136,7 +171,14 @@ pub fn rule_xor2(table: &TermTable, premises: &[Clause], clause: &[TermId]) -> R
     ensures { MatchResult result (λ _. IsRight rules.Xor2 (map (clause_at table.now) premises.now) (clause_at table.now clause.now))
         (λ _. IsRight rules.Xor2 (map (clause_at table.now) premises.now) (clause_at table.now clause.now) → ⊥) }
 {
-    turned(table, Head::Xor, false, Rest::Two(NOT_FIRST, NOT_SECOND), premises, clause)
+    turned(
+        table,
+        Head::Xor,
+        false,
+        Rest::Two(NOT_FIRST, NOT_SECOND),
+        premises,
+        clause,
+    )
 }
 
 /// Judges a step of the rule `not_xor1`, which opens the negation of an exclusive disjunction from right to left.
@@ -159,7 +201,14 @@ pub fn rule_not_xor1(
     ensures { MatchResult result (λ _. IsRight rules.NotXor1 (map (clause_at table.now) premises.now) (clause_at table.now clause.now))
         (λ _. IsRight rules.NotXor1 (map (clause_at table.now) premises.now) (clause_at table.now clause.now) → ⊥) }
 {
-    turned(table, Head::Xor, true, Rest::Two(FIRST, NOT_SECOND), premises, clause)
+    turned(
+        table,
+        Head::Xor,
+        true,
+        Rest::Two(FIRST, NOT_SECOND),
+        premises,
+        clause,
+    )
 }
 
 /// Judges a step of the rule `not_xor2`, which opens the negation of an exclusive disjunction from left to right.
@@ -182,5 +231,12 @@ pub fn rule_not_xor2(
     ensures { MatchResult result (λ _. IsRight rules.NotXor2 (map (clause_at table.now) premises.now) (clause_at table.now clause.now))
         (λ _. IsRight rules.NotXor2 (map (clause_at table.now) premises.now) (clause_at table.now clause.now) → ⊥) }
 {
-    turned(table, Head::Xor, true, Rest::Two(NOT_FIRST, SECOND), premises, clause)
+    turned(
+        table,
+        Head::Xor,
+        true,
+        Rest::Two(NOT_FIRST, SECOND),
+        premises,
+        clause,
+    )
 }
