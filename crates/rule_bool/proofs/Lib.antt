@@ -13,3 +13,4 @@ pub mod Stepping
 pub mod Transport
 pub mod Resolvents
 pub mod OnePremise
+pub mod Behind

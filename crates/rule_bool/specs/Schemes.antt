@@ -1,5 +1,5 @@
 -- What a term gives by a scheme, over numbers of the table.
-use Rattle.std.specs.Prelude.{◌≡◌, ◌<◌, ◌×◌, ⊤, ℕ, Bool, true, false, List, [], ◌∷◌, length, Contains}
+use Rattle.std.specs.Prelude.{◌≡◌, ◌<◌, ℕ, Bool, true, false, List, [], ◌∷◌, length, Contains}
 use Rattle.spec_terms.specs.Terms.{Symbol, Head, Term, negated}
 use Rattle.spec_terms.specs.Subsets.{arguments_of}
 use Rattle.spec_terms.specs.Literals.{Clause}

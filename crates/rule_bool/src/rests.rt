@@ -7,7 +7,7 @@ ghost use Rattle.term_core.specs.Tables.{IsIn, AreIn, term_at, clause_at};
 ghost use Rattle.rule_bool.specs.Schemes.{HasPlaces};
 
 use crate::signs::without_sign;
-use crate::within::{has_number, same_number};
+use crate::within::{alone, has_number, same_number};
 use spec_proofs::{Rest, Side};
 use term_core::{TermId, TermTable};
 
@@ -55,14 +55,14 @@ fn is_innermost(table: &TermTable, arguments: &[TermId], ids: &[TermId]) -> bool
         (Contains (rests_of rests.Innermost (clause_at table.now arguments.now)) (clause_at table.now ids.now) → ⊥) }
 {
     table.numbers_tell_terms();
-    let [argument] = arguments else {
+    let Some(argument) = alone(arguments) else {
         return false;
     };
-    let [id] = ids else {
+    let Some(id) = alone(ids) else {
         return false;
     };
-    match without_sign(table, false, *argument) {
-        Some(inner) => same_number(inner, *id),
+    match without_sign(table, false, argument) {
+        Some(inner) => same_number(inner, id),
         None => false,
     }
 }
@@ -75,10 +75,10 @@ fn is_one(table: &TermTable, arguments: &[TermId], side: Side, ids: &[TermId]) -
     ensures { MatchBool result (Contains (rests_of (rests.One side) (clause_at table.now arguments.now)) (clause_at table.now ids.now))
         (Contains (rests_of (rests.One side) (clause_at table.now arguments.now)) (clause_at table.now ids.now) → ⊥) }
 {
-    let [id] = ids else {
+    let Some(id) = alone(ids) else {
         return false;
     };
-    is_side(table, arguments, side, *id)
+    is_side(table, arguments, side, id)
 }
 
 /// Tells whether there are two terms, the arguments of two places, as they stand or negated.
@@ -113,10 +113,10 @@ fn is_any(table: &TermTable, arguments: &[TermId], positive: bool, ids: &[TermId
         (Contains (rests_of (rests.AnyOne positive) (clause_at table.now arguments.now)) (clause_at table.now ids.now) → ⊥) }
 {
     table.numbers_tell_terms();
-    let [id] = ids else {
+    let Some(id) = alone(ids) else {
         return false;
     };
-    match without_sign(table, positive, *id) {
+    match without_sign(table, positive, id) {
         Some(argument) => has_number(arguments, argument),
         None => false,
     }

@@ -7,6 +7,7 @@ ghost use Rattle.rule_bool.specs.Schemes.{scheme_meant, IsStating, IsTurning, Gi
 
 use crate::rests::has_rest;
 use crate::signs::{turned_without_sign, without_sign};
+use crate::within::alone;
 use spec_proofs::{Rest, Side};
 use term_core::{Clause, Head, RuleFails, TermId, TermTable};
 
@@ -116,10 +117,10 @@ pub(crate) fn turned(
     let [premise] = premises else {
         return Err(RuleFails);
     };
-    let [front] = premise.as_slice() else {
+    let Some(front) = alone(premise.as_slice()) else {
         return Err(RuleFails);
     };
-    let Some(id) = turned_without_sign(table, positive, *front) else {
+    let Some(id) = turned_without_sign(table, positive, front) else {
         return Err(RuleFails);
     };
     if gives_rest(table, head, rest, id, clause) {

@@ -1,6 +1,6 @@
 //! Whether a clause has the terms of a list.
 
-ghost use Rattle.std.specs.Prelude.{◌≡◌, ◌≢◌, ◌<◌, ◌≤◌, length, Contains, MatchBool, MatchOption};
+ghost use Rattle.std.specs.Prelude.{[], ◌∷◌, ◌≡◌, ◌≢◌, ◌<◌, ◌≤◌, length, Contains, MatchBool, MatchOption};
 ghost use Rattle.spec_proofs.specs.Resolution.{IsWithin};
 
 use term_core::TermId;
@@ -10,6 +10,16 @@ pub(crate) fn same_number(a: TermId, b: TermId) -> bool
     ensures { MatchBool result (a ≡ b) (a ≢ b) }
 {
     a == b
+}
+
+/// Gives the one term of a list, or nothing where it has none or several.
+pub(crate) fn alone(ids: &[TermId]) -> Option<TermId>
+    ensures { MatchOption result (length ids.now ≢ 1) (λ id. ids.now ≡ id ∷ []) }
+{
+    let [id] = ids else {
+        return None;
+    };
+    Some(*id)
 }
 
 /// Gives the first place of a term, or nothing where it has none.
