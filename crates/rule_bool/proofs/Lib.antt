@@ -14,3 +14,4 @@ pub mod Transport
 pub mod Resolvents
 pub mod OnePremise
 pub mod Behind
+pub mod Given

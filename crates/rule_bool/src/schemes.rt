@@ -1,7 +1,8 @@
 //! Steps by which a clause is stated, and those that turn the term in front into a premise.
 
-ghost use Rattle.std.specs.Prelude.{◌≡◌, ◌≢◌, map, All, MatchBool, MatchResult};
+ghost use Rattle.std.specs.Prelude.{◌≡◌, ◌≢◌, [], ◌∷◌, map, All, MatchBool, MatchOption, MatchResult};
 ghost use Rattle.spec_proofs.specs.Rules.{IsStated, IsTurned};
+ghost use Rattle.term_core.specs.declared.ids.TermId.{TermId as Number};
 ghost use Rattle.term_core.specs.Tables.{IsIn, AreIn, term_at, clause_at, head_meant};
 ghost use Rattle.rule_bool.specs.Schemes.{scheme_meant, IsStating, IsTurning, GivesRest};
 
@@ -87,7 +88,7 @@ pub(crate) fn stated(
     if !premises.is_empty() {
         return Err(RuleFails);
     }
-    let [front, behind @ ..] = clause else {
+    let Some((front, behind)) = clause.split_first() else {
         return Err(RuleFails);
     };
     let Some(id) = without_sign(table, positive, *front) else {
@@ -97,6 +98,16 @@ pub(crate) fn stated(
         return Ok(());
     }
     Err(RuleFails)
+}
+
+/// Gives the one term of the one premise, or nothing where there is no such.
+fn term_alone(premises: &[Clause]) -> Option<TermId>
+    ensures { MatchOption result ((u : Number) → premises.now ≢ (u ∷ []) ∷ []) (λ u. premises.now ≡ (u ∷ []) ∷ []) }
+{
+    let [premise] = premises else {
+        return None;
+    };
+    alone(premise.as_slice())
 }
 
 /// Judges a step by one premise of one term, whose complement in front of the clause gives what a term of the head gives.
@@ -114,10 +125,7 @@ pub(crate) fn turned(
     ensures { MatchResult result (λ _. IsTurned (scheme_meant table.now.symbols head positive rest) (map (clause_at table.now) premises.now) (clause_at table.now clause.now))
         (λ _. IsTurned (scheme_meant table.now.symbols head positive rest) (map (clause_at table.now) premises.now) (clause_at table.now clause.now) → ⊥) }
 {
-    let [premise] = premises else {
-        return Err(RuleFails);
-    };
-    let Some(front) = alone(premise.as_slice()) else {
+    let Some(front) = term_alone(premises) else {
         return Err(RuleFails);
     };
     let Some(id) = turned_without_sign(table, positive, front) else {
