@@ -1,14 +1,14 @@
 -- The clauses that terms give by a scheme, by the numbers of their terms.
-use Rattle.std.proofs.Common.{◌≡◌, ◌≢◌, ◌+◌, ◌<◌, ℕ, zero, suc, Bool, true, false, ◌&&◌, if◌then◌else◌, List, [], ◌∷◌, map, length, get_or, All, Contains, refl, sym, ap, ◌∙◌, subst, arith}
+use Rattle.std.proofs.Common.{◌≡◌, ◌≢◌, suc, Bool, true, false, ◌&&◌, if◌then◌else◌, List, [], ◌∷◌, map, length, All, Contains, refl, sym, ap, ◌∙◌, subst, arith}
 use Rattle.std.specs.Prelude.{MatchBool}
 use Rattle.std.specs.Cmp.Derive.{both_true}
 use Rattle.std.proofs.lemmas.Bool.{false≢true}
 use Rattle.std.proofs.lemmas.List.Elements.{All-contains}
-use Rattle.spec_terms.specs.Terms.{Sort, Truth, Symbol, Head, Not, Term, app, of, terms_of, list_of, negated, sort_of, all_same, head_takes, same_head, same_sort}
+use Rattle.spec_terms.specs.Terms.{Truth, Symbol, Head, Term, of, negated, sort_of, all_same, head_takes, same_head, same_sort}
 use Rattle.spec_terms.specs.Subsets.{arguments_of}
 use Rattle.spec_terms.specs.Literals.{Clause}
 use Rattle.spec_proofs.specs.declared.Rest.{Rest}
-use Rattle.spec_proofs.specs.Schemes.{Scheme, signed, rests_of, is_formula_of, clauses_by}
+use Rattle.spec_proofs.specs.Schemes.{Scheme, signed, rests_of, is_formula_of}
 use Rattle.spec_proofs.specs.Rules.{IsGiven, IsStated, IsTurned, flipped}
 use Rattle.term_core.specs.declared.ids.TermId.{TermId}
 use Rattle.term_core.specs.declared.nodes.Head.{Head as NodeHead}
@@ -117,10 +117,10 @@ module _ (t : TableView) (truths : (id : TermId) → IsIn t id → sort_of (term
     formula_is =
         let sorts = subst (λ (h : NodeHead). head_takes (head_meant t.symbols h) (map sort_of (clause_at t s.arguments)) ≡ true) same fits.sorts in
         let all = all_truths (clause_at t s.arguments) (λ x i.
-            let id = from_image (term_at t) s.arguments x i in
-            subst (λ (y : Term). sort_of y ≡ Truth) id.2 (truths id.0 (All-contains (IsIn t) s.arguments id.0 fits.arguments id.1))) in
+        let id = from_image (term_at t) s.arguments x i in
+        subst (λ (y : Term). sort_of y ≡ Truth) id.2 (truths id.0 (All-contains (IsIn t) s.arguments id.0 fits.arguments id.1))) in
         subst (λ (v : Term). is_formula_of (head_meant t.symbols head) v ≡ true) (sym (is ∙ ap (λ (h : NodeHead). of (head_meant t.symbols h) (clause_at t s.arguments)) same))
-            (formula_of (head_meant t.symbols head) (clause_at t s.arguments) (same_self t.symbols head rest form) sorts all)
+        (formula_of (head_meant t.symbols head) (clause_at t s.arguments) (same_self t.symbols head rest form) sorts all)
 
     -- whether there may stand behind it what its arguments say
     pub gives_by : (behind : Clause) (yes : Bool) → MatchBool yes (Contains (rests_of rest (clause_at t s.arguments)) behind) (Contains (rests_of rest (clause_at t s.arguments)) behind → ⊥)

@@ -1,13 +1,12 @@
 -- What a term gives by a scheme, over numbers of the table.
-use Rattle.std.specs.Prelude.{◌≡◌, ◌<◌, ℕ, Bool, true, false, List, [], ◌∷◌, length, Contains}
+use Rattle.std.specs.Prelude.{◌≡◌, ◌<◌, ℕ, Bool, true, List, Contains}
 use Rattle.spec_terms.specs.Terms.{Symbol, Head, Term, negated}
 use Rattle.spec_terms.specs.Subsets.{arguments_of}
 use Rattle.spec_terms.specs.Literals.{Clause}
 use Rattle.spec_proofs.specs.declared.Rule.{Rule}
-use Rattle.spec_proofs.specs.declared.Side.{Side}
 use Rattle.spec_proofs.specs.declared.Rest.{Rest}
-use Rattle.spec_proofs.specs.declared.Rest.TheVariants.{Nothing, One, Two, AnyOne, Each, Innermost}
-use Rattle.spec_proofs.specs.Schemes.{Scheme, Kind, opens, keeps, resolves, states, turns, signed, rests_of, is_formula_of, kind_of}
+use Rattle.spec_proofs.specs.declared.Rest.TheVariants.{One, Two}
+use Rattle.spec_proofs.specs.Schemes.{Scheme, Kind, turns, signed, rests_of, is_formula_of, kind_of}
 use Rattle.spec_proofs.specs.Rules.{flipped}
 use Rattle.term_core.specs.declared.ids.TermId.{TermId}
 use Rattle.term_core.specs.declared.nodes.Head.{Head as NodeHead}

@@ -1,5 +1,5 @@
 -- That a term gives the clause, or no term does.
-use Rattle.std.proofs.Common.{◌≡◌, length, arith, eqb-true, sym}
+use Rattle.std.proofs.Common.{eqb-true, sym}
 use Rattle.rule_bool.proofs.Given.{behind_in, not_stated_empty, not_stated_front, stated_there, not_stated}
 use Rattle.rule_bool.proofs.schemes.stated.Goals as goal
 
