@@ -1,19 +1,18 @@
 -- A verdict on the fronts of two texts is that on the whole texts.
-use Rattle.std.proofs.Common.{◌≡◌, ◌≤◌, ◌<◌, ◌+◌, ℕ, Bool, true, false, List, length, take, nat_lt, Option, Some, None, Ok, Err, inl, inr, refl, sym, subst, arith, length-take}
-use Rattle.std.proofs.lemmas.Bool.{leb-true, le-leb, false≢true}
+use Rattle.std.proofs.Common.{◌≡◌, ◌+◌, ℕ, Bool, true, false, List, length, take, nat_lt, Option, Some, Ok, Err, inl, inr, refl, subst, arith, length-take}
 use Rattle.std.proofs.lemmas.Bool.Decides.{nat_tests}
 use Rattle.std.proofs.lemmas.List.{take-take, take_all}
 use Rattle.spec_text.specs.Lexemes.{lexemes}
 use Rattle.spec_text.specs.Trees.{Trees, none, more}
 use Rattle.spec_text.specs.Faults.{Located}
-use Rattle.spec_text.specs.Readings.{AreTrees, Stops, text_limit, kept, front, is_long, too_long, at_limit, limited, IsReadUpTo}
+use Rattle.spec_text.specs.Readings.{AreTrees, Stops, text_limit, front, is_long, too_long, at_limit, limited, IsReadUpTo}
 use Rattle.spec_scripts.specs.Stack.{Stack, IsCurrent, HasNoCheck}
 use Rattle.spec_proofs.specs.declared.ProofKind.TheVariants.{BadShape}
 use Rattle.spec_proofs.specs.Faults.{Fault, Read, fault_at, text_fault}
 use Rattle.spec_proofs.specs.Commands.{Known, Command, known_at}
 use Rattle.spec_proofs.specs.Known.{command_of}
 use Rattle.spec_proofs.specs.Texts.{behind_unsat, begins_listed, Ending, complete, broken, left_over, AreCommands, IsProofText, ending_fault}
-use Rattle.spec_proofs.specs.Judging.{with_command, fault_of, FaultBy, FirstFault}
+use Rattle.spec_proofs.specs.Judging.{with_command, FaultBy, FirstFault}
 use Rattle.spec_proofs.specs.Accepted.{IsJudged, IsVerdict}
 
 -- of a front the same bytes are kept

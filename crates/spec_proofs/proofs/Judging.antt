@@ -11,12 +11,13 @@ use Rattle.spec_terms.specs.Values.{Interpretation}
 use Rattle.spec_terms.specs.Literals.{Clause}
 use Rattle.spec_proofs.specs.declared.Rule.{Rule}
 use Rattle.spec_proofs.specs.declared.ProofKind.TheVariants.{BadShape, UnknownPremise}
-use Rattle.spec_proofs.specs.Clauses.{term_true, clause_true}
+use Rattle.spec_proofs.specs.Clauses.{term_true, clause_true, HasTruth}
 use Rattle.spec_proofs.specs.Rules.{IsRight}
 use Rattle.spec_proofs.specs.Faults.{Fault, Read, wrong}
 use Rattle.spec_proofs.specs.Commands.{Known, Entry, Command, Assume, Step, Shape, assumes, steps, shape_of}
 use Rattle.spec_proofs.specs.Known.{clause_of, fresh_name, clause_in, known_rule, premise_of, premises_of, term_alone, read_shape, shaped, command_of}
 use Rattle.spec_proofs.specs.Judging.{with_command, fault_of, IsRightAfter, HasEmptyClause, EndsBy, FaultBy, FirstFault}
+use Rattle.spec_proofs.proofs.HasTruths.{IsTruthful, clause_truths}
 use Rattle.spec_proofs.proofs.Steps.{answer, went, in_turn, clause_by, known_by}
 
 module _ (i : Interpretation) where
@@ -51,50 +52,64 @@ module _ (i : Interpretation) where
       let b = went (premises_of k ts) _ cs a.then in
       subst (All IsTrue) (answer (Ok (a.first ∷ b.first)) cs b.then) (All-cons IsTrue a.first b.first (premise_true k t a.first h a.was) (premises_true k ts b.first h b.was))
 
-  -- the premises of a step that is read are true
-  abbrev PremisesTrue : Read Command → Type 0
-  PremisesTrue (Ok (Step at n c r ps)) = All IsTrue ps
-  PremisesTrue _ = Unit {0}
+  -- the premises of a step that is read are true, and the terms of its clause have truth values
+  abbrev IsGrounded : Read Command → Type 0
+  IsGrounded (Ok (Step at n c r ps)) = All IsTrue ps × All (HasTruth i) c
+  IsGrounded _ = Unit {0}
 
-  shape_premises : (k : Known) (at : ℕ) (s : Shape) → All EntryTrue k.entries → PremisesTrue (read_shape k at s)
+  shape_grounded : (k : Known) (at : ℕ) (s : Shape) → All (IsTruthful i) k.symbols → All EntryTrue k.entries → IsGrounded (read_shape k at s)
   unfolding read_shape
-  shape_premises k at (assumes h t) es =
-      in_turn PremisesTrue (λ _. tt) (fresh_name k h) _ λ n _.
-      in_turn PremisesTrue (λ _. tt) (clause_in k at (more t none)) _ λ us _.
-      in_turn PremisesTrue (λ _. tt) (term_alone at us) _ λ u _. tt
-  shape_premises k at (steps n ls r ps) es =
-      in_turn PremisesTrue (λ _. tt) (fresh_name k n) _ λ m _.
-      in_turn PremisesTrue (λ _. tt) (clause_in k at ls) _ λ c _.
-      in_turn PremisesTrue (λ _. tt) (known_rule r) _ λ rule _.
-      in_turn PremisesTrue (λ _. tt) (premises_of k ps) _ λ qs e. premises_true k ps qs es e
+  shape_grounded k at (assumes h t) ss es =
+      in_turn IsGrounded (λ _. tt) (fresh_name k h) _ λ n _.
+      in_turn IsGrounded (λ _. tt) (clause_in k at (more t none)) _ λ us _.
+      in_turn IsGrounded (λ _. tt) (term_alone at us) _ λ u _. tt
+  shape_grounded k at (steps n ls r ps) ss es =
+      in_turn IsGrounded (λ _. tt) (fresh_name k n) _ λ m _.
+      in_turn IsGrounded (λ _. tt) (clause_in k at ls) _ λ c read.
+      in_turn IsGrounded (λ _. tt) (known_rule r) _ λ rule _.
+      in_turn IsGrounded (λ _. tt) (premises_of k ps) _ λ qs e. (premises_true k ps qs es e, clause_truths i k ss at ls c read)
 
-  command_premises : (k : Known) (t : Tree) → All EntryTrue k.entries → PremisesTrue (command_of k t)
+  command_grounded : (k : Known) (t : Tree) → All (IsTruthful i) k.symbols → All EntryTrue k.entries → IsGrounded (command_of k t)
   unfolding command_of
-  command_premises k (atom at kind n) h = tt
-  command_premises k (list at ts end) h = in_turn PremisesTrue (λ _. tt) (shaped at (shape_of ts)) _ λ s _. shape_premises k at s h
+  command_grounded k (atom at kind n) ss h = tt
+  command_grounded k (list at ts end) ss h = in_turn IsGrounded (λ _. tt) (shaped at (shape_of ts)) _ λ s _. shape_grounded k at s ss h
 
   -- no clause that is true is empty
   none_empty : (k : Known) → All EntryTrue k.entries → HasEmptyClause k → ⊥
   none_empty k h empty = false≢true (sym (ap (clause_true i) empty.4) ∙ All-contains EntryTrue k.entries empty.1 h (empty.0, empty.2, empty.3))
 
-  module _ (law : (rule : Rule) (premises : List Clause) (clause : Clause) → All IsTrue premises → IsRight rule premises clause → IsTrue clause) where
+  -- what is known, where all that is known is true
+  pub record IsTruly (k : Known) : Type 0 where
+    -- each symbol has a truth value
+    pub symbols : All (IsTruthful i) k.symbols
+    -- each clause is true
+    pub entries : All EntryTrue k.entries
+    -- each assertion is true
+    pub asserted : All TermTrue k.asserted
+
+  module _ (law : (rule : Rule) (premises : List Clause) (clause : Clause) → All IsTrue premises → All (HasTruth i) clause → IsRight rule premises clause → IsTrue clause) where
     -- a command that is right makes known what is true
-    right_true : (k : Known) (c : Command) → PremisesTrue (Ok c) → IsRightAfter k c → All EntryTrue k.entries → All TermTrue k.asserted → All EntryTrue (with_command k c).entries × All TermTrue (with_command k c).asserted
-    right_true k (Assume at n t) ps right es ts =
+    right_true : (k : Known) (c : Command) → IsGrounded (Ok c) → IsRightAfter k c → All EntryTrue k.entries → All TermTrue k.asserted → All EntryTrue (with_command k c).entries
+    right_true k (Assume at n t) ground right es ts =
         let one : clause_true i (t ∷ []) ≡ true = ap (λ b. b || false) (All-contains TermTrue k.asserted t ts right) in
-        (All-push EntryTrue k.entries (record { name = n; clause = t ∷ [] }) es one, ts)
-    right_true k (Step at n c r ps) true_ones right es ts = (All-push EntryTrue k.entries (record { name = n; clause = c }) es (law r ps c true_ones right), ts)
+        All-push EntryTrue k.entries (record { name = n; clause = t ∷ [] }) es one
+    right_true k (Step at n c r ps) ground right es ts = All-push EntryTrue k.entries (record { name = n; clause = c }) es (law r ps c ground.0 ground.1 right)
+
+    -- a command that is right keeps it
+    truly_kept : (k : Known) (c : Command) → IsGrounded (Ok c) → IsRightAfter k c → IsTruly k → IsTruly (with_command k c)
+    truly_kept k (Assume at n t) ground right all = record { symbols = all.symbols; entries = right_true k (Assume at n t) ground right all.entries all.asserted; asserted = all.asserted }
+    truly_kept k (Step at n c r ps) ground right all = record { symbols = all.symbols; entries = right_true k (Step at n c r ps) ground right all.entries all.asserted; asserted = all.asserted }
 
     -- where all assertions and clauses are true, no proof from there is without a fault
-    pub sound : (k : Known) (end : ℕ) (ts : Trees) → All EntryTrue k.entries → All TermTrue k.asserted → FirstFault k end None ts None → ⊥
+    pub sound : (k : Known) (end : ℕ) (ts : Trees) → IsTruly k → FirstFault k end None ts None → ⊥
     unfolding FirstFault
-    sound k end none es given h = none_empty k es h
-    sound k end (more t ts) es given h = go (command_of k t) (command_premises k t es) h (λ next. sound next end ts)
+    sound k end none all h = none_empty k all.entries h
+    sound k end (more t ts) all h = go (command_of k t) (command_grounded k t all.symbols all.entries) h (λ next. sound next end ts)
       where
-        go : (o : Read Command) → PremisesTrue o → FaultBy k o (λ next. FirstFault next end None ts None) None → ((next : Known) → All EntryTrue next.entries → All TermTrue next.asserted → FirstFault next end None ts None → ⊥) → ⊥
-        go (Err f) ps h rec = let none : None ≡ Some f = h in cc
-        go (Ok c) ps (inl right) rec = let a = right_true k c ps right.0 es given in rec (with_command k c) a.0 a.1 right.1
-        go (Ok c) ps (inr x) rec = let none : None ≡ Some (fault_of c) = x.1 in cc
+        go : (o : Read Command) → IsGrounded o → FaultBy k o (λ next. FirstFault next end None ts None) None → ((next : Known) → IsTruly next → FirstFault next end None ts None → ⊥) → ⊥
+        go (Err f) ground h rec = let none : None ≡ Some f = h in cc
+        go (Ok c) ground (inl right) rec = rec (with_command k c) (truly_kept k c ground right.0 all) right.1
+        go (Ok c) ground (inr x) rec = let none : None ≡ Some (fault_of c) = x.1 in cc
 
 ends_one : (k : Known) (end : ℕ) (ending a b : Option Fault) → EndsBy k end ending a → EndsBy k end ending b → a ≡ b
 ends_one k end (Some f) a b x y = x ∙ sym y

@@ -1,18 +1,20 @@
 -- What follows by a rule from what is true is true.
 use Rattle.std.proofs.Common.{◌≡◌, Bool, true, false, not, ◌&&◌, ◌||◌, List, [], ◌∷◌, get_or, All, refl, sym, ap, ap₂, ◌∙◌}
-use Rattle.std.proofs.lemmas.List.Elements.{All-head}
+use Rattle.std.proofs.lemmas.Bool.{false≢true}
+use Rattle.std.proofs.lemmas.List.Elements.{All-head, All-tail}
 use Rattle.std.proofs.lemmas.List.Folds.{Any-from_list_any, list_any_at}
 use Rattle.spec_terms.specs.Terms.{Not, Or, Term, Terms, app, nil, cons, list_of}
 use Rattle.spec_terms.specs.Values.{Interpretation, any_true}
 use Rattle.spec_terms.specs.Literals.{Clause, literal_of}
 use Rattle.spec_terms.specs.Agreement.{value_at, values_at}
 use Rattle.spec_proofs.specs.declared.Rule.{Rule}
-use Rattle.spec_proofs.specs.declared.Rule.TheVariants as rules
 use Rattle.spec_proofs.specs.Resolution.{IsWithin}
-use Rattle.spec_proofs.specs.Clauses.{IsResolvent, term_true, clause_true}
-use Rattle.spec_proofs.specs.Rules.{IsOr, IsWeakening, IsRight}
+use Rattle.spec_proofs.specs.Clauses.{IsResolvent, term_true, clause_true, HasTruth}
+use Rattle.spec_proofs.specs.Rules.{IsOr, IsWeakening, IsStated, flipped, IsTurned, IsBy, IsRight}
+use Rattle.spec_proofs.specs.Schemes.{Scheme, Kind, opens, keeps, resolves, states, turns, kind_of}
 use Rattle.spec_proofs.specs.Truths.{term_true_by}
 use Rattle.spec_proofs.proofs.Resolution.{complement_true, clause_true_by, resolvent_true}
+use Rattle.spec_proofs.proofs.Schemes.{IsSound, IsSoundKind, kind_sound, given_true, none_given}
 
 and_true : (b : Bool) → b && true ≡ b
 and_true true = refl
@@ -65,3 +67,36 @@ module _ (i : Interpretation) where
   pub resolution_true : (premises : List Clause) (clause : Clause) → All IsTrue premises → IsResolvent premises clause → IsTrue clause
   resolution_true premises clause each right = sym (by_literals clause) ∙ resolvent_true (term_true i) premises clause (λ k d h. by_literals (get_or premises k d) ∙ each k d h) right
 
+  -- a term's truth is not that of what it denies
+  flipped_true : (t : Term) → term_true i (flipped t) ≡ not (term_true i t)
+  unfolding value_at values_at
+  flipped_true (app Not (cons t nil)) = twice (term_true i t)
+    where
+      twice : (b : Bool) → b ≡ not (not (b && true))
+      twice true = refl
+      twice false = refl
+  flipped_true t = ap not (and_true (term_true i t))
+
+  stated_true : (s : Scheme) → IsSound i s → (premises : List Clause) (clause : Clause) → All (HasTruth i) clause → IsStated s premises clause → IsTrue clause
+  stated_true s sound [] [] truths right = none_given i s sound right.0 right.1
+  stated_true s sound [] (u ∷ us) truths right = given_true i s sound right.0 u us right.1 (All-tail (HasTruth i) u us truths)
+  stated_true s sound (_ ∷ _) clause truths right = absurd right
+
+  turned_true : (s : Scheme) → IsSound i s → (premises : List Clause) (clause : Clause) → All IsTrue premises → All (HasTruth i) clause → IsTurned s premises clause → IsTrue clause
+  turned_true s sound ((u ∷ []) ∷ []) clause each truths right = remaining (term_true i u) (term_true i (flipped u)) (clause_true i clause) (sym (or_false (term_true i u)) ∙ All-head IsTrue (u ∷ []) [] each) (flipped_true u) (given_true i s sound right.0 (flipped u) clause right.1 truths)
+    where
+      remaining : (x y c : Bool) → x ≡ true → y ≡ not x → y || c ≡ true → c ≡ true
+      remaining x true c e f h = absurd (false≢true (sym (f ∙ ap not e)))
+      remaining x false c e f h = h
+  turned_true s sound _ clause each truths right = absurd right
+
+  by_true : (k : Kind) → IsSoundKind i k → (premises : List Clause) (clause : Clause) → All IsTrue premises → All (HasTruth i) clause → IsBy k premises clause → IsTrue clause
+  by_true opens sound premises clause each truths right = or_true premises clause each right
+  by_true keeps sound premises clause each truths right = weakening_true premises clause each right
+  by_true resolves sound premises clause each truths right = resolution_true premises clause each right
+  by_true (states s) sound premises clause each truths right = stated_true s sound premises clause truths right
+  by_true (turns s) sound premises clause each truths right = turned_true s sound premises clause each truths right
+
+  -- what follows by a rule from what is true is true, where its terms have truth values
+  pub rule_true : (rule : Rule) (premises : List Clause) (clause : Clause) → All IsTrue premises → All (HasTruth i) clause → IsRight rule premises clause → IsTrue clause
+  rule_true rule premises clause each truths right = by_true (kind_of rule) (kind_sound i rule) premises clause each truths right

@@ -17,7 +17,6 @@ use Rattle.spec_terms.specs.Examples.{built, trees_in, p}
 use Rattle.spec_scripts.specs.Stack.{Stack, IsCurrent}
 use Rattle.spec_scripts.specs.Examples.{contradiction, contradiction_stack, contradiction_is_current, disjunction, disjunction_stack, disjunction_is_current}
 use Rattle.spec_proofs.specs.Resolution.{Derives, given, unit, both_ways}
-use Rattle.spec_proofs.specs.declared.Rule.TheVariants as rules
 use Rattle.spec_proofs.specs.declared.ProofKind.TheVariants.{Lexical, Term as term_fault, BadShape, UnknownPremise, UnknownRule, TwiceName, NotAsserted, RuleFails, NoEmptyClause}
 use Rattle.spec_proofs.specs.Clauses.{IsResolvent, clause_true}
 use Rattle.spec_proofs.specs.Rules.{IsWeakening}

@@ -36,6 +36,12 @@ pub fn commands_are_read()
         × IsAt unknown_premise 79 3 46 }
 {}
 
+/// States where a command is told that is read, but not right. Source: own.
+pub fn commands_are_judged()
+    ensures assumed { IsVerdict contradiction 1 not_asserted (Some (fault_at 25 NotAsserted)) × IsAt not_asserted 25 2 12 }
+    ensures resolved { IsVerdict contradiction 1 one_premise (Some (fault_at 34 RuleFails)) × IsAt one_premise 34 3 1 }
+    ensures dropped { IsVerdict contradiction 1 dropped_literal (Some (fault_at 14 RuleFails)) × IsAt dropped_literal 14 2 1 }
+{}
 
 /// States that a proof without an empty clause is none, though its commands are right, and even where there are none.
 /// Source: own.

@@ -11,7 +11,7 @@ ghost use Rattle.spec_terms.specs.Literals.{Clause, complement, literals_of};
 ghost use Rattle.spec_scripts.specs.Stack.{Stack, Assertion, IsCurrent, MakesTrue, HasNoModel};
 ghost use Rattle.spec_proofs.specs.declared.Rule.{Rule};
 ghost use Rattle.spec_proofs.specs.Resolution.{IsWithin, IsChain};
-ghost use Rattle.spec_proofs.specs.Clauses.{IsResolvent, clause_true};
+ghost use Rattle.spec_proofs.specs.Clauses.{IsResolvent, clause_true, HasTruth};
 ghost use Rattle.spec_proofs.specs.Truths.{Truths, term_true_by};
 ghost use Rattle.spec_proofs.specs.Rules.{IsRight};
 ghost use Rattle.spec_proofs.specs.Commands.{Known, Command, known_at};
@@ -22,6 +22,12 @@ ghost use Rattle.spec_proofs.specs.Judging.{fault_of, FirstFault};
 ghost use Rattle.spec_proofs.specs.Good.{IsGood};
 ghost use Rattle.spec_proofs.specs.Accepted.{IsAccepted, IsVerdict};
 
+/// States that what follows by a rule from clauses that are true is true, under the same interpretation, where this gives
+/// each of its terms a truth value. Source: Alethe specification, rules; SMT-LIB 2.6, theory Core.
+pub fn rules_are_sound()
+    ensures { (rule : Rule) (premises : List Clause) (clause : Clause) (i : Interpretation) → All (λ c. clause_true i c ≡ true) premises
+        → All (HasTruth i) clause → IsRight rule premises clause → clause_true i clause ≡ true }
+{}
 
 /// States that each chain of binary resolutions passes, where each resolves the clause so far with a premise: premises
 /// may be used in any order and as often as wanted, and so in the order in which they stand. Source: own.
@@ -48,6 +54,16 @@ pub fn accepted_proofs_have_no_fault()
     good_proofs_have_no_fault();
 }
 
+/// States that no interpretation makes true what is current at a check of which a proof is accepted.
+/// Source: own.
+pub fn acceptance_is_sound()
+    ensures { (script proof : List ℕ) (k : ℕ) → IsAccepted script k proof → HasNoModel script k }
+{
+    rules_are_sound();
+    spec_scripts::laws::checks_have_one_stack();
+    spec_scripts::laws::assertions_are_read();
+    spec_scripts::laws::assertions_have_their_texts_value();
+}
 
 /// States that commands have at most one first fault. Source: own.
 pub fn first_fault_is_one()
@@ -78,6 +94,17 @@ pub fn verdicts_need_a_front_alone()
         → IsVerdict script k proof found }
 {}
 
+/// States that the definition of models is met where it should be: whatever truths names have, some interpretation of the
+/// current symbols gives them to its constants, and where under it the terms of all current assertions have the value
+/// true, it makes the current expressions true. Source: own.
+pub fn satisfied_scripts_have_a_model()
+    ensures { (script : List ℕ) (k : ℕ) (s : Stack) (v : Name → Bool) → IsCurrent script k s
+        → (i : Interpretation) × Interprets i s.symbols × ((n : Name) → table_value i n [] ≡ truth (v n))
+        × (All (λ (a : Assertion). value_at i a.term ≡ truth true) s.assertions → MakesTrue i script k) }
+{
+    spec_scripts::laws::assertions_are_read();
+    spec_scripts::laws::assertions_have_their_texts_value();
+}
 
 /// States that goodness is not asked in vain: where at a check no truths of the terms below negations make all current
 /// assertions true, there is a good proof. It is given by its trees: its text may be longer than a text may be.
