@@ -3,7 +3,7 @@ use Rattle.std.specs.Prelude.{List, [], ◌∷◌, ◌++◌, map, flat_map}
 use Rattle.spec_terms.specs.Terms.{Term}
 use Rattle.spec_terms.specs.Subterms.{subterms_of}
 use Rattle.spec_terms.specs.Literals.{Clause}
-use Rattle.spec_proofs.specs.Schemes.{Scheme, clauses_by, schemes}
+use Rattle.spec_proofs.specs.Schemes.{clauses_by, schemes}
 
 -- all clauses that a term gives by rules without premises
 abbrev pub clauses_of : Term → List Clause

@@ -3,3 +3,5 @@ pub mod Derivations
 pub mod Base
 pub mod Learned
 pub mod Spent
+pub mod Models
+pub mod Examples

@@ -3,3 +3,6 @@
 //! Nothing here runs. The functions with empty bodies are laws: what they ensure is proved of the definitions in
 //! `specs/`.
 #![tactic(auto)]
+
+pub mod examples;
+pub mod laws;

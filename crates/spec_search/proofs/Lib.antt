@@ -1,0 +1,8 @@
+-- The lemmas of this crate.
+pub mod Learned
+pub mod Eight
+pub mod Derived
+pub mod Meeting
+pub mod Obeying
+pub mod Modelling
+pub mod Holding
