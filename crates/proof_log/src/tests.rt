@@ -122,6 +122,9 @@ const STEPS: &[(Row, Option<u64>)] = &[
     ((Rule::Reordering, &[StepId(4)], &[B, C]), Some(5)),
     ((Rule::Resolution, &[], &[A, NOT_A]), Some(6)),
     ((Rule::Resolution, &[StepId(5)], &[]), None),
+    ((Rule::OrNeg, &[], &[A_OR_B, NOT_A]), Some(7)),
+    ((Rule::OrNeg, &[], &[A_OR_B, A]), None),
+    ((Rule::OrNeg, &[StepId(0)], &[A_OR_B, NOT_A]), None),
 ];
 
 /// Tells whether the log holds that step, or that assumed clause where there is no rule, under a number.
@@ -192,7 +195,7 @@ fn right_steps_alone_are_added(rt: HostRuntime) -> Result<(), Fail> {
     let mut log = log_of(alloc, &table)?;
     assert!(rt; log.len() == 2);
     assert!(rt; add_all(alloc, &table, &mut log)?);
-    assert!(rt; log.len() == 7);
+    assert!(rt; log.len() == 8);
     Ok(())
 }
 
@@ -218,7 +221,7 @@ fn what_is_cut_can_be_added_anew(rt: HostRuntime) -> Result<(), Fail> {
     assert!(rt; log.step(StepId(2)).is_none());
     assert!(rt; states(&log, StepId(1), None, &[], &[NOT_A]));
     assert!(rt; add_all(alloc, &table, &mut log)?);
-    assert!(rt; log.len() == 7);
+    assert!(rt; log.len() == 8);
     log.cut(0);
     assert!(rt; log.len() == 0);
     Ok(())
