@@ -203,10 +203,13 @@ fn right_steps_alone_are_added(rt: HostRuntime) -> Result<(), Fail> {
 fn assumed_terms_are_clauses_without_a_step(rt: HostRuntime) -> Result<(), Fail> {
     let alloc = rt.alloc();
     let table = table_of(alloc)?;
-    let log = log_of(alloc, &table)?;
+    let mut log = log_of(alloc, &table)?;
+    assert!(rt; assume(&table, &mut log, C)? == Some(StepId(2)));
+    assert!(rt; log.len() == 3);
     assert!(rt; states(&log, StepId(0), None, &[], &[A_OR_B]));
     assert!(rt; states(&log, StepId(1), None, &[], &[NOT_A]));
-    assert!(rt; log.step(StepId(2)).is_none());
+    assert!(rt; states(&log, StepId(2), None, &[], &[C]));
+    assert!(rt; log.step(StepId(3)).is_none());
     Ok(())
 }
 
