@@ -4,3 +4,4 @@ pub mod Logged
 pub mod Earlier
 pub mod Added
 pub mod Tables
+pub mod Sound

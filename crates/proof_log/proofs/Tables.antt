@@ -1,11 +1,10 @@
 -- Logs over tables that have the same terms by the numbers that the logs name.
-use Rattle.std.proofs.Common.{◌≡◌, ℕ, suc, ◌<◌, List, [], ◌∷◌, ◌++◌, length, map, take, get_or, All, refl, sym, ap, ◌∙◌, subst, arith, length-append, length-take}
+use Rattle.std.proofs.Common.{◌≡◌, ℕ, suc, ◌<◌, List, [], ◌∷◌, length, take, get_or, All, refl, sym, ap, ◌∙◌, subst, arith, length-append, length-take}
 use Rattle.std.proofs.lemmas.List.{get_or_append_left, get_or-take}
-use Rattle.spec_terms.specs.Terms.{Term}
-use Rattle.spec_search.specs.Derivations.{Derivation, Inference, «assumption», by_rule, IsDerivation}
+use Rattle.spec_search.specs.Derivations.{Derivation, «assumption», by_rule, IsDerivation}
 use Rattle.term_core.specs.declared.ids.TermId.{TermId}
-use Rattle.term_core.specs.Tables.{TableView, no_term, term_at, IsIn, AreIn, clause_at, Extends}
-use Rattle.proof_log.specs.Logs.{Logged, assumed, stepped, named, no_logged, numbers_of, inference_of, derivation_in, AreBelow, IsLogOf}
+use Rattle.term_core.specs.Tables.{TableView, no_term, term_at, IsIn, clause_at, Extends}
+use Rattle.proof_log.specs.Logs.{Logged, assumed, stepped, named, numbers_of, inference_of, derivation_in, AreBelow, IsLogOf}
 
 -- a log without clauses
 pub empty_right : (t : TableView) → IsLogOf t []
@@ -45,9 +44,10 @@ module _ (t u : TableView) where
   unfolding IsKept
   grown log h more k d lt j e lt_j =
       let id = get_or (named (get_or log k d)) j e in
-      let here : id.0 < length t.terms = h.there k d lt j e lt_j in
-      (subst (λ ts. id.0 < length ts) (sym more.terms) (omega (arith, here, length-append t.terms more.more_terms)),
-        ap (λ ts. get_or ts id.0 no_term) more.terms ∙ get_or_append_left t.terms more.more_terms no_term id.0 here)
+      let here : id.0 < length t.terms = h.there k d lt j e lt_j in (
+        subst (λ ts. id.0 < length ts) (sym more.terms) (omega (arith, here, length-append t.terms more.more_terms)),
+        ap (λ ts. get_or ts id.0 no_term) more.terms ∙ get_or_append_left t.terms more.more_terms no_term id.0 here,
+      )
 
   -- a table that was cut
   cut : (n : ℕ) (log : List Logged) → IsLogOf t log → u.terms ≡ take n t.terms → AreBelow n log → All (λ l. All IsKept (named l)) log
@@ -55,9 +55,10 @@ module _ (t u : TableView) where
   cut n log h front below k d lt j e lt_j =
       let id = get_or (named (get_or log k d)) j e in
       let here : id.0 < length t.terms = h.there k d lt j e lt_j in
-      let under : id.0 < n = below k d lt j e lt_j in
-      (subst (λ ts. id.0 < length ts) (sym front) (omega (arith, here, under, length-take n t.terms)),
-        ap (λ ts. get_or ts id.0 no_term) front ∙ get_or-take n t.terms id.0 no_term under)
+      let under : id.0 < n = below k d lt j e lt_j in (
+        subst (λ ts. id.0 < length ts) (sym front) (omega (arith, here, under, length-take n t.terms)),
+        ap (λ ts. get_or ts id.0 no_term) front ∙ get_or-take n t.terms id.0 no_term under,
+      )
 
   pub grown_right : (log : List Logged) → IsLogOf t log → Extends t u → IsLogOf u log
   grown_right log h more = log_kept log (grown log h more) h

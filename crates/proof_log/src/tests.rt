@@ -122,6 +122,9 @@ const STEPS: &[(Row, Option<u64>)] = &[
     ((Rule::Reordering, &[StepId(4)], &[B, C]), Some(5)),
     ((Rule::Resolution, &[], &[A, NOT_A]), Some(6)),
     ((Rule::Resolution, &[StepId(5)], &[]), None),
+    ((Rule::OrNeg, &[], &[A_OR_B, NOT_A]), Some(7)),
+    ((Rule::OrNeg, &[], &[A_OR_B, A]), None),
+    ((Rule::OrNeg, &[StepId(0)], &[A_OR_B, NOT_A]), None),
 ];
 
 /// Tells whether the log holds that step, or that assumed clause where there is no rule, under a number.
@@ -174,6 +177,17 @@ fn add_all(alloc: Global, table: &TermTable, log: &mut ProofLog) -> Result<bool,
     Ok(true)
 }
 
+/// Cuts the log, where it is so long.
+fn cut(table: &TermTable, log: &mut ProofLog, len: u64)
+    requires { IsLogOf table.now log.old }
+    ensures { IsLogOf table.now log.new }
+{
+    if len > log.len() {
+        return;
+    }
+    log.cut(len);
+}
+
 #[test]
 fn right_steps_alone_are_added(rt: HostRuntime) -> Result<(), Fail> {
     let alloc = rt.alloc();
@@ -181,7 +195,7 @@ fn right_steps_alone_are_added(rt: HostRuntime) -> Result<(), Fail> {
     let mut log = log_of(alloc, &table)?;
     assert!(rt; log.len() == 2);
     assert!(rt; add_all(alloc, &table, &mut log)?);
-    assert!(rt; log.len() == 7);
+    assert!(rt; log.len() == 8);
     Ok(())
 }
 
@@ -189,10 +203,13 @@ fn right_steps_alone_are_added(rt: HostRuntime) -> Result<(), Fail> {
 fn assumed_terms_are_clauses_without_a_step(rt: HostRuntime) -> Result<(), Fail> {
     let alloc = rt.alloc();
     let table = table_of(alloc)?;
-    let log = log_of(alloc, &table)?;
+    let mut log = log_of(alloc, &table)?;
+    assert!(rt; assume(&table, &mut log, C)? == Some(StepId(2)));
+    assert!(rt; log.len() == 3);
     assert!(rt; states(&log, StepId(0), None, &[], &[A_OR_B]));
     assert!(rt; states(&log, StepId(1), None, &[], &[NOT_A]));
-    assert!(rt; log.step(StepId(2)).is_none());
+    assert!(rt; states(&log, StepId(2), None, &[], &[C]));
+    assert!(rt; log.step(StepId(3)).is_none());
     Ok(())
 }
 
@@ -202,14 +219,12 @@ fn what_is_cut_can_be_added_anew(rt: HostRuntime) -> Result<(), Fail> {
     let table = table_of(alloc)?;
     let mut log = log_of(alloc, &table)?;
     assert!(rt; add_all(alloc, &table, &mut log)?);
-    if log.len() >= 2 {
-        log.cut(2);
-    }
+    cut(&table, &mut log, 2);
     assert!(rt; log.len() == 2);
     assert!(rt; log.step(StepId(2)).is_none());
     assert!(rt; states(&log, StepId(1), None, &[], &[NOT_A]));
     assert!(rt; add_all(alloc, &table, &mut log)?);
-    assert!(rt; log.len() == 7);
+    assert!(rt; log.len() == 8);
     log.cut(0);
     assert!(rt; log.len() == 0);
     Ok(())
