@@ -6,3 +6,4 @@ pub mod SearchStores
 pub mod SearchDecisions
 pub mod SearchResolved
 pub mod SearchNew
+pub mod SearchRounds

@@ -1,5 +1,5 @@
 -- What the rounds of a search keep, and what its answers show. Source: own.
-use Rattle.std.specs.Prelude.{◌≡◌, ◌<◌, ◌≤◌, ℕ, Bool, true, List, [], ◌∷◌, ◌++◌, length, map, get_or, All, Contains, Option, Some, None, Result, Ok, Err}
+use Rattle.std.specs.Prelude.{◌≡◌, ◌+◌, ◌<◌, ◌≤◌, ℕ, Bool, true, List, [], ◌∷◌, ◌++◌, length, map, get_or, All, Contains, Option, Some, None, Result, Ok, Err}
 use Rattle.spec_terms.specs.Terms.{Term}
 use Rattle.spec_terms.specs.Values.{Interpretation, Interprets, truth}
 use Rattle.spec_terms.specs.Agreement.{value_at}
@@ -25,6 +25,7 @@ use Rattle.sat_budget.specs.Budgets.{BudgetView}
 use Rattle.sat_budget.specs.declared.limits.Reason.TheVariants.{Conflicts}
 use Rattle.sat_dev.specs.declared.search.rounds.Answer.{Answer}
 use Rattle.sat_dev.specs.declared.search.rounds.Answer.TheVariants.{Sat, Unsat, Unknown}
+use Rattle.sat_dev.specs.Search.{AreOver, IsTrail}
 use Rattle.sat_dev.specs.Stores.{no_step, Derives}
 
 -- the clauses of numbers
@@ -94,3 +95,31 @@ abbrev pub HasEvidence : TableView → List Term → List Logged → BudgetView 
 HasEvidence t terms log budget (Sat interp) = HasTables t.symbols interp × ((i : Interpretation) → Stands t.symbols interp i → Interprets i t.symbols × All (λ u. value_at i u ≡ truth true) terms)
 HasEvidence t terms log budget (Unsat step) = (stated t log step ≡ []) × IsDerivedFrom terms (derivation_in t log) step.0
 HasEvidence t terms log budget (Unknown (Conflicts n)) = IsConflictBudgetSpent terms (derivation_in t log) budget.limit n (map (map (literal_at t)) budget.learned)
+
+-- What a search has fits together, whatever the terms are.
+pub record IsReady (t : TableView) (log : List Logged) (clauses : List (List Lit)) (steps : List StepId) (held : List Lit) (reasons : List (Option ℕ)) : Type 0 where
+  -- each step of the log is right
+  pub log_right : IsLogOf t log
+  -- each clause has the literals of its step's
+  pub derives : Derives t log clauses steps
+  -- each literal was added rightly
+  pub trail : IsTrail clauses held reasons
+
+-- A conflict was learned from, and the search goes on.
+pub record GoesOn (t : TableView) (log new_log : List Logged) (clauses new_clauses : List (List Lit)) (steps new_steps : List StepId) (held : List Lit) (reasons : List (Option ℕ)) (budget new_budget : BudgetView) : Type 0 where
+  -- it fits together
+  pub ready : IsReady t new_log new_clauses new_steps held reasons
+  -- there was room for a clause
+  pub room : length budget.learned < budget.limit
+  -- the limit is the same
+  pub limit : new_budget.limit ≡ budget.limit
+  -- and a clause more is learned
+  pub learned : length new_budget.learned ≡ length budget.learned + 1
+  -- over the same terms
+  pub over : (atoms : List TermId) → AreOver atoms clauses → AreOver atoms new_clauses
+  -- for the terms of the search
+  pub search : (terms : List Term) → IsSearch t terms log clauses steps budget.learned → IsSearch t terms new_log new_clauses new_steps new_budget.learned
+
+-- the answer shows what it should of the terms of the search
+abbrev pub Shows : TableView → List Logged → List (List Lit) → List StepId → BudgetView → List Logged → BudgetView → Answer → Type 0
+Shows t log clauses steps budget new_log new_budget a = (terms : List Term) → IsSearch t terms log clauses steps budget.learned → HasEvidence t terms new_log new_budget a

@@ -1,9 +1,11 @@
 //! The search loop: propagate, decide, learn, go back.
 
-ghost use Rattle.std.specs.Prelude.{◌≡◌, [], IfOk, OnOk};
+ghost use Rattle.std.specs.Prelude.{◌≡◌, [], IfOk, MatchOption};
 ghost use Rattle.rule_bool.specs.Literals.{lists};
 ghost use Rattle.proof_log.specs.Logs.{IsLogOf};
+ghost use Rattle.sat_dev.specs.Search.{IsClash};
 ghost use Rattle.sat_dev.specs.Stores.{Derives};
+ghost use Rattle.sat_dev.specs.Rounds.{IsReady, GoesOn, Shows};
 
 use crate::search::analysis::analyze;
 use crate::search::decision::next_open;
@@ -39,7 +41,15 @@ fn resolve(
     trail: &mut Trail,
     clash: usize,
 ) -> Result<Option<Answer>, NoMemory>
+    requires ready { IsReady table.now log.old (lists store.old.clauses.items) store.old.steps.items trail.old.held trail.old.reasons.items }
+    requires clash { IsClash (lists store.old.clauses.items) trail.old.held clash }
+    ensures right { IfOk result (λ _. IsLogOf table.now log.new) }
+    ensures comes { IfOk result (λ o. MatchOption o
+        (GoesOn table.now log.old log.new (lists store.old.clauses.items) (lists store.new.clauses.items) store.old.steps.items store.new.steps.items trail.new.held trail.new.reasons.items budget.old budget.new)
+        (λ a. (budget.new.limit ≡ budget.old.limit) × Shows table.now log.old (lists store.old.clauses.items) store.old.steps.items budget.old log.new budget.new a)) }
 {
+    table.numbers_tell_terms();
+    table.terms_are_truths();
     let found = analyze(alloc, store, trail, clash)?;
     if found.clause.is_empty() {
         let step = derive(alloc, table, log, store, &found.premises, &found.clause)?;
@@ -64,7 +74,13 @@ pub(crate) fn search(
     store: &mut Store,
     budget: &mut Budget,
 ) -> Result<Answer, NoMemory>
+    requires log { IsLogOf table.now log.old }
+    requires store { Derives table.now log.old (lists store.old.clauses.items) store.old.steps.items }
+    ensures right { IfOk result (λ _. IsLogOf table.now log.new) }
+    ensures limit { IfOk result (λ _. budget.new.limit ≡ budget.old.limit) }
+    ensures evidence { IfOk result (λ a. Shows table.now log.old (lists store.old.clauses.items) store.old.steps.items budget.old log.new budget.new a) }
 {
+    table.numbers_tell_terms();
     let mut trail = Trail::new(alloc);
     'rounds: loop {
         match propagate(store, &mut trail)? {
