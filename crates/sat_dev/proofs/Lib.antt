@@ -4,3 +4,4 @@ pub mod SearchMarks
 pub mod SearchAnalysis
 pub mod SearchStores
 pub mod SearchDecisions
+pub mod SearchDerive
