@@ -51,12 +51,13 @@ module _ (t : TableView) where
     module _ (ns : List ℕ) (clause : List Lit) (resolved : IsResolved t clauses ns clause) where
       -- what is resolved from clauses follows from their steps
       follows : FollowsFrom (derivation_in t log) (inference_of t (stepped Resolution (steps_at steps ns) (terms_in clause)))
-      follows = (
-        numbers_there t log (steps_at steps ns) (steps_there ns resolved.are_clauses),
-        subst (λ (ls : List Literal). Resolves complement (map literals_of (map (conclusion_at (derivation_in t log)) (numbers_of (steps_at steps ns)))) ls) (atoms_are clause resolved.atoms)
-            (subst (λ (cs : List (List Literal)). Resolves complement cs (map (literal_at t) clause)) (clauses_are ns resolved.are_clauses)
-            (resolves_there lit_complement complement (literal_at t) (λ l. refl) (numbered clauses ns) clause resolved.right)),
-      )
+      follows =
+          let stated_by = map (conclusion_at (derivation_in t log)) (numbers_of (steps_at steps ns)) in
+          let there = resolves_there lit_complement complement (literal_at t) (λ l. refl) (numbered clauses ns) clause resolved.right in
+          let of_steps = subst (λ (cs : List (List Literal)). Resolves complement cs (map (literal_at t) clause)) (clauses_are ns resolved.are_clauses) there in (
+            numbers_there t log (steps_at steps ns) (steps_there ns resolved.are_clauses),
+            subst (λ (ls : List Literal). Resolves complement (map literals_of stated_by) ls) (atoms_are clause resolved.atoms) of_steps,
+          )
 
       module _ (premises : List StepId) (terms : List TermId) (premises_are : premises ≡ steps_at steps ns) (terms_are : terms ≡ terms_in clause) where
         -- so does the step with these premises and terms

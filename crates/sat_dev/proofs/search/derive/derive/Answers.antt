@@ -8,8 +8,13 @@ add-requires-clause-clause c = terms_there c.args.table.now c.args.clause.now _ 
 
 pub unreachable-requires : goal.unreachable-requires
 unreachable-requires c =
+    let premises_are = c.from.ensures ∙ c.in_ok-premises.ensures in
+    let terms_are = c.from-2.ensures ∙ c.in_ok-clause.ensures in
     let fails = rw c.in-Err-RuleFails.field-0-is at c.in-Err-RuleFails.ensures in
-    fails.0 (step_follows c.args.table.now c.args.log.now _ _ c.requires.store _ c.args.clause.now c.requires.resolved _ _ (c.from.ensures ∙ c.in_ok-premises.ensures) (c.from-2.ensures ∙ c.in_ok-clause.ensures))
+    fails.0 (step_follows _ _ _ _ c.requires.store _ _ c.requires.resolved _ _ premises_are terms_are)
 
 pub returns-in-Ok : goal.returns-in-Ok
-returns-in-Ok c = step_logs c.args.table.now c.args.log.now _ _ c.requires.store _ c.args.clause.now c.requires.resolved _ _ (c.from.ensures ∙ c.in_ok-premises.ensures) (c.from-2.ensures ∙ c.in_ok-clause.ensures) _ _ c.in-Ok.ensures
+returns-in-Ok c =
+    let premises_are = c.from.ensures ∙ c.in_ok-premises.ensures in
+    let terms_are = c.from-2.ensures ∙ c.in_ok-clause.ensures in
+    step_logs _ _ _ _ c.requires.store _ _ c.requires.resolved _ _ premises_are terms_are _ _ c.in-Ok.ensures
