@@ -7,3 +7,4 @@ pub mod SearchDecisions
 pub mod SearchResolved
 pub mod SearchNew
 pub mod SearchRounds
+pub mod SearchDerive
