@@ -3,3 +3,5 @@ pub mod SearchPasses
 pub mod SearchMarks
 pub mod SearchAnalysis
 pub mod SearchStores
+pub mod SearchModels
+pub mod SearchModelsMade

@@ -2,3 +2,4 @@
 pub mod Search
 pub mod Analyses
 pub mod Stores
+pub mod SearchModels

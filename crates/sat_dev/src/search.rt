@@ -8,3 +8,4 @@ pub mod trail;
 pub mod propagate;
 pub mod analysis;
 pub mod decision;
+pub mod model;
