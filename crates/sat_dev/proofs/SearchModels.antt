@@ -1,15 +1,15 @@
 -- The truths of the literals that hold meet the clauses, and an interpretation by them makes the terms true.
-use Rattle.std.proofs.Common.{◌≡◌, ℕ, ◌+◌, ◌<◌, Bool, true, false, not, ◌&&◌, ◌||◌, List, [], ◌∷◌, ◌++◌, length, get_or, map, All, Contains, refl, sym, ap, ◌∙◌, subst, arith, if◌then◌else◌}
+use Rattle.std.proofs.Common.{◌≡◌, ℕ, Bool, true, false, not, List, [], ◌∷◌, get_or, map, All, Contains, refl, sym, ap, ◌∙◌, subst, arith, if◌then◌else◌}
 use Rattle.std.specs.List.{list_any}
 use Rattle.std.specs.Cmp.Derive.{both_true}
 use Rattle.std.proofs.lemmas.Bool.{false≢true, and_parts}
-use Rattle.std.proofs.lemmas.List.{get_or_default, get_or-map, length-map}
+use Rattle.std.proofs.lemmas.List.{get_or_default}
 use Rattle.std.proofs.lemmas.List.Elements.{All-contains, Contains-get_or}
 use Rattle.std.proofs.lemmas.List.Folds.{Any-from_list_any, list_any_at}
-use Rattle.spec_terms.specs.Terms.{Sort, Truth, Symbol, Head, Apply, Term, Terms, app, nil, cons, list_of, sort_of, same_term, same_sort, same_sorts, all_same, head_takes, constant_term}
+use Rattle.spec_terms.specs.Terms.{Truth, Symbol, Head, Apply, Term, Terms, app, nil, cons, list_of, sort_of, same_term, same_sort, same_sorts, all_same, head_takes, constant_term}
 use Rattle.spec_terms.specs.Values.{Table, truth, Interpretation, first_fit, Interprets, IsTableOf}
 use Rattle.spec_terms.specs.Agreement.{value_at, values_at}
-use Rattle.spec_terms.specs.Literals.{Clause, literal_of, literals_of}
+use Rattle.spec_terms.specs.Literals.{Clause, literal_of}
 use Rattle.spec_terms.specs.Subterms.{subterms_of}
 use Rattle.spec_terms.specs.Subsets.{AreAmong, IsClosed}
 use Rattle.spec_terms.proofs.SameTerms.{terms_decide}
@@ -62,7 +62,7 @@ module _ (t : TableView) (held : List Lit) (different : AreDifferent t.terms) (t
           let m : Lit = a.1 in
           let parts = and_parts m.positive (same_term (term_at t m.term) (term_at t l.term)) a.4 in
           let same : m.term ≡ l.term = one_number m.term l.term (All-contains (λ (x : Lit). IsIn t x.term) held m there (a.0, a.2, a.3)) (All-contains (λ (x : Lit). IsIn t x.term) held l there c)
-              ((terms_decide (term_at t m.term) (term_at t l.term)).0 parts.1) in
+          ((terms_decide (term_at t m.term) (term_at t l.term)).0 parts.1) in
           let sign : m.positive ≡ not l.positive = parts.0 ∙ ap not (sym e) in
           let is : m ≡ lit_complement l = λ i. record { term = same i; positive = sign i } in
           absurd (consistent l c (subst (λ (x : Lit). Contains held x) is (a.0, a.2, a.3)))
@@ -116,7 +116,7 @@ module _ (t : TableView) (roots : List TermId) (closed : IsClosed t.terms) (sort
   are_formulas k d lt = formula (get_or (subterms_of (clause_at t roots)) k d) (subterm_there (get_or (subterms_of (clause_at t roots)) k d) (Contains-get_or (subterms_of (clause_at t roots)) k d lt))
 
 -- a symbol that takes no arguments has none
-no_arguments : (s : Symbol) (ts : Terms) → s.parameters ≡ [] → head_takes (Apply s) (map sort_of (list_of ts)) ≡ true → ts ≡ nil
+pub no_arguments : (s : Symbol) (ts : Terms) → s.parameters ≡ [] → head_takes (Apply s) (map sort_of (list_of ts)) ≡ true → ts ≡ nil
 no_arguments s nil bare e = refl
 no_arguments s (cons u us) bare e = absurd (false≢true (sym (ap (λ ps. same_sorts ps (map sort_of (list_of (cons u us)))) bare) ∙ e))
 

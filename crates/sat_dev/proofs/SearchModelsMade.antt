@@ -1,28 +1,20 @@
 -- How the truth values of symbols come together, literal by literal.
-use Rattle.std.proofs.Common.{◌≡◌, ◌≢◌, ℕ, ◌+◌, ◌<◌, Bool, true, false, ◌&&◌, ◌||◌, List, [], ◌∷◌, ◌++◌, length, get_or, map, All, Contains, ◌⊎◌, inl, inr, refl, sym, ap, ◌∙◌, subst, arith}
+use Rattle.std.proofs.Common.{◌≡◌, ◌≢◌, ℕ, ◌<◌, Bool, true, false, ◌&&◌, ◌||◌, List, [], ◌∷◌, ◌++◌, length, get_or, map, refl, sym, ap, ◌∙◌, subst, arith}
 use Rattle.std.specs.Prelude.{Option, Some, None, slice_set}
-use Rattle.std.specs.List.{list_any}
 use Rattle.std.specs.Cmp.Derive.{both_true}
 use Rattle.std.proofs.lemmas.Bool.{false≢true, and_parts}
-use Rattle.std.proofs.lemmas.List.{get_or_default, get_or-map, length-map, length-set, get_or-set_same, get_or-set_other, get_or-replicate, length-replicate}
+use Rattle.std.proofs.lemmas.List.{get_or-map, length-map, length-set, get_or-set_same, get_or-set_other}
 use Rattle.std.proofs.lemmas.List.Folds.{list_any-append}
-use Rattle.spec_terms.specs.Terms.{Symbol, Term, Apply, app, nil, of, terms_of, sort_of, constant_term, same_head, same_term, same_terms, same_sorts, head_takes}
-use Rattle.spec_terms.specs.Values.{Table}
+use Rattle.spec_terms.specs.Terms.{Symbol, Term, Apply, app, nil, terms_of, sort_of, constant_term, same_head, same_term, same_terms, head_takes}
 use Rattle.spec_terms.proofs.SameTerms.{terms_decide}
-use Rattle.term_core.specs.declared.ids.TermId.{TermId}
 use Rattle.term_core.specs.declared.ids.SymbolId.{SymbolId}
 use Rattle.term_core.specs.declared.ids.Lit.{Lit}
 use Rattle.term_core.specs.declared.nodes.Head.{Head as NodeHead}
 use Rattle.term_core.specs.declared.nodes.Head.TheVariants as heads
-use Rattle.term_core.specs.declared.values.Interp.{Interp}
 use Rattle.term_core.specs.Tables.{TableView, no_symbol, symbol_at, IsSymbol, term_at, clause_at, head_meant, HasHead, Shape, shape_term, Fits, AreTruths, AreDeclared}
-use Rattle.term_core.specs.Valuations.{no_table, table_meant, tables_meant}
-use Rattle.sat_dev.specs.SearchModels.{affirms, truths_of, constant_table, IsModelOf, IsApplied, AffirmsSymbol, AreTruthsOf}
-use Rattle.sat_dev.proofs.SearchModels.{model_is_true}
-
--- no literals affirm nothing
-pub truths_of_none : (t : TableView) (truths : List Bool) → length truths ≡ length t.symbols → ((k : ℕ) → k < length t.symbols → get_or truths k false ≡ false) → AreTruthsOf t [] truths
-truths_of_none t truths long all = record { paired = long; each = all }
+use Rattle.term_core.proofs.TermsApart.{list_back}
+use Rattle.sat_dev.specs.SearchModels.{affirms, truths_of, IsApplied, AffirmsSymbol, AreTruthsOf}
+use Rattle.sat_dev.proofs.SearchModels.{no_arguments}
 
 -- a head that is no symbol is that of no constant
 other_head : (symbols : List Symbol) (h : NodeHead) (u : Symbol) → ((s : SymbolId) → h ≢ heads.Apply s) → same_head (head_meant symbols h) (Apply u) ≡ false
@@ -33,22 +25,17 @@ other_term : (t : TableView) (s : Shape) (u : Symbol) → ((k : SymbolId) → s.
 unfolding same_term
 other_term t s u differs = ap (λ b. b && same_terms (terms_of (clause_at t s.arguments)) nil) (other_head t.symbols s.head u differs)
 
--- a constant has no arguments
-no_arguments : (t : TableView) (f : Symbol) (ids : List TermId) → f.parameters ≡ [] → head_takes (Apply f) (map sort_of (clause_at t ids)) ≡ true → ids ≡ []
-no_arguments t f [] bare e = refl
-no_arguments t f (a ∷ ids) bare e = absurd (false≢true (sym (ap (λ ps. same_sorts ps (map sort_of (clause_at t (a ∷ ids)))) bare) ∙ e))
-
-constant_written : (t : TableView) (h : NodeHead) (ids : List TermId) (s : SymbolId) → h ≡ heads.Apply s → ids ≡ [] → shape_term t (record { head = h; arguments = ids }) ≡ constant_term (symbol_at t.symbols s)
-constant_written t h ids s e none = λ i. of (head_meant t.symbols (e i)) (clause_at t (none i))
-
 -- what a literal affirms that is meant as it stands, by the head of its term
 pub affirms_by : (t : TableView) (l : Lit) (s : Shape) (o : Option SymbolId) → AreTruths t.symbols → l.positive ≡ true → term_at t l.term ≡ shape_term t s → Fits t s → IsApplied s.head o → AffirmsSymbol t l o
 affirms_by t l s None truths sign is fits differs = λ u. (λ i. sign i && same_term (is i) (constant_term u)) ∙ other_term t s u differs
 affirms_by t l s (Some k) truths sign is fits e =
+    let f = symbol_at t.symbols k in
+    let us = clause_at t s.arguments in
     let k_in : IsSymbol t.symbols k = subst (HasHead t.symbols) e fits.head in
-    let bare : (symbol_at t.symbols k).parameters ≡ [] = ap (λ (x : Symbol). x.parameters) (truths k.0 no_symbol k_in) in
-    let takes : head_takes (Apply (symbol_at t.symbols k)) (map sort_of (clause_at t s.arguments)) ≡ true = subst (λ h. head_takes (head_meant t.symbols h) (map sort_of (clause_at t s.arguments)) ≡ true) e fits.sorts in
-    (k_in, sign, is ∙ constant_written t s.head s.arguments k e (no_arguments t (symbol_at t.symbols k) s.arguments bare takes))
+    let bare : f.parameters ≡ [] = ap (λ (x : Symbol). x.parameters) (truths k.0 no_symbol k_in) in
+    let takes : head_takes (Apply f) (map sort_of us) ≡ true = subst (λ h. head_takes (head_meant t.symbols h) (map sort_of us) ≡ true) e fits.sorts in
+    let none : terms_of us ≡ nil = no_arguments f (terms_of us) bare (subst (λ ts. head_takes (Apply f) (map sort_of ts) ≡ true) (sym (list_back us)) takes) in
+    (k_in, sign, is ∙ (λ i. app (head_meant t.symbols (e i)) (none i)))
 
 -- the symbol in front, if there is one
 abbrev symbol_in : Term → Symbol
@@ -73,16 +60,7 @@ module _ (t : TableView) (held : List Lit) (l : Lit) where
   or_true : (a b : Bool) → b ≡ true → (a || (b || false)) ≡ true
   or_true a b e = grind (arith, e)
 
-  -- a literal that affirms no constant
-  pub truths_same : (truths : List Bool) → AffirmsSymbol t l None → AreTruthsOf t held truths → AreTruthsOf t (held ++ l ∷ []) truths
-  truths_same truths never h = record {
-    paired = h.paired;
-    each = λ k lt.
-        let u = constant_term (get_or t.symbols k no_symbol) in
-        h.each k lt ∙ sym (truth_more u ∙ or_false (truths_of t held u) (affirms t l u) (never (get_or t.symbols k no_symbol)));
-  }
-
-  -- and one that affirms the constant of a symbol
+  -- a literal that affirms the constant of a symbol makes it true
   pub truths_more : (truths : List Bool) (s : SymbolId) → AreDeclared t.symbols → AffirmsSymbol t l (Some s) → AreTruthsOf t held truths → AreTruthsOf t (held ++ l ∷ []) (slice_set truths s.0 true)
   truths_more truths s declared a h = record {
     paired = length-set truths s.0 true ∙ h.paired;
@@ -100,10 +78,3 @@ module _ (t : TableView) (held : List Lit) (l : Lit) where
           let u = constant_term (get_or t.symbols k no_symbol) in
           let other : k ≢ s.0 = λ number. false≢true (sym e ∙ both_true a.1 ((terms_decide (term_at t l.term) u).1 (a.2 ∙ ap (λ n. constant_term (get_or t.symbols n no_symbol)) (sym number)))) in
           get_or-set_other truths s.0 k true false other ∙ h.each k lt ∙ sym (truth_more u ∙ or_false (truths_of t held u) (affirms t l u) e)
-
--- the interpretation by the truth values
-pub model_made : (t : TableView) (held : List Lit) (truths : List Bool) (interp : Interp) → AreTruthsOf t held truths → tables_meant interp ≡ map constant_table truths → IsModelOf t held interp
-model_made t held truths interp h e = record {
-  tables = sym (length-map interp.tables.items table_meant) ∙ ap (λ (xs : List Table). length xs) e ∙ length-map truths constant_table ∙ h.paired;
-  each = λ k lt. ap (λ (xs : List Table). get_or xs k no_table) e ∙ get_or-map constant_table truths k false no_table (omega (arith, lt, h.paired)) ∙ ap constant_table (h.each k lt);
-}

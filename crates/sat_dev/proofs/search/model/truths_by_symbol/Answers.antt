@@ -1,5 +1,5 @@
 -- That the truth values are those that the literals so far give.
-use Rattle.std.proofs.Common.{◌≡◌, ◌∷◌, ◌++◌, ◌∙◌, [], sym, ap, subst, take, arith}
+use Rattle.std.proofs.Common.{◌∷◌, ◌++◌, ◌∙◌, [], sym, ap, subst, take, arith}
 use Rattle.std.proofs.lemmas.List.{take_more}
 use Rattle.term_core.specs.declared.ids.Lit.{Lit}
 use Rattle.sat_dev.specs.SearchModels.{AreTruthsOf}
