@@ -6,7 +6,9 @@ pub mod SearchStores
 pub mod SearchDecisions
 pub mod SearchResolved
 pub mod SearchNew
-pub mod SearchRounds
+pub mod SearchLogs
+pub mod SearchAtoms
+pub mod SearchCuts
 pub mod SearchDerive
 pub mod SearchModels
 pub mod SearchModelsMade

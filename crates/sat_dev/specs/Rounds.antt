@@ -14,7 +14,7 @@ use Rattle.spec_search.specs.Spent.{IsLearnedFrom, IsAtomOf, IsConflictBudgetSpe
 use Rattle.world_io.specs.declared.bytes.NoMemory.{NoMemory}
 use Rattle.term_core.specs.declared.ids.TermId.{TermId}
 use Rattle.term_core.specs.declared.ids.Lit.{Lit}
-use Rattle.term_core.specs.Tables.{TableView, term_at, literal_at, IsIn, positive_literal}
+use Rattle.term_core.specs.Tables.{TableView, term_at, clause_at, literal_at, IsIn, AreIn, positive_literal}
 use Rattle.term_core.specs.Valuations.{Stands, HasTables}
 use Rattle.rule_bool.specs.Literals.{lit_complement}
 use Rattle.rule_bool.specs.Resolvents.{Means}
@@ -75,6 +75,10 @@ LogsClause t old clause (Err _) new = new ≡ old
 
 -- What a search for terms has: a log, the clauses with their steps, and what was learned.
 pub record IsSearch (t : TableView) (terms : List Term) (log : List Logged) (clauses : List (List Lit)) (steps : List StepId) (learned : List (List Lit)) : Type 0 where
+  -- the terms are the table's, by their numbers
+  pub roots : List TermId
+  pub roots_in : AreIn t roots
+  pub meant : clause_at t roots ≡ terms
   -- the log assumes the terms alone
   pub assumes : All (λ l. AssumesAmong terms (inference_of t l)) log
   -- each base clause is one of the clauses
