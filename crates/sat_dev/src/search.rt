@@ -9,3 +9,5 @@ pub mod propagate;
 pub mod analysis;
 pub mod decision;
 pub mod model;
+#[cfg(test)]
+mod model_tests;
