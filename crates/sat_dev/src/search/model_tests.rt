@@ -61,7 +61,10 @@ const ROWS: &[(&[(u64, bool)], [bool; 3])] = &[
     (&[(0, true)], [true, false, false]),
     (&[(2, true), (0, false), (1, true)], [false, true, true]),
     (&[(0, false), (3, true)], [false, false, false]),
-    (&[(4, true), (1, true), (3, false), (0, true)], [true, true, false]),
+    (
+        &[(4, true), (1, true), (3, false), (0, true)],
+        [true, true, false],
+    ),
 ];
 
 #[test]
