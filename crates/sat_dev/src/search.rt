@@ -13,3 +13,5 @@ pub mod derive;
 pub mod rounds;
 pub mod probe;
 pub mod decide;
+#[cfg(test)]
+mod model_tests;
