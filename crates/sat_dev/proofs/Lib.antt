@@ -12,3 +12,4 @@ pub mod SearchCuts
 pub mod SearchDerive
 pub mod SearchModels
 pub mod SearchModelsMade
+pub mod SearchRounds
