@@ -13,3 +13,4 @@ pub mod SearchDerive
 pub mod SearchModels
 pub mod SearchModelsMade
 pub mod SearchRounds
+pub mod SearchLoop

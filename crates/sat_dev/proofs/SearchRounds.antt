@@ -1,6 +1,7 @@
 -- What a conflict leaves of a search.
 use Rattle.std.proofs.Common.{◌≡◌, ◌≢◌, ℕ, ◌+◌, ◌<◌, ◌≤◌, Bool, true, false, not, List, [], ◌∷◌, ◌++◌, length, get_or, take, map, All, Contains, ◌⊎◌, inl, inr, refl, sym, ap, ◌∙◌, subst, arith, zero, suc}
-use Rattle.std.specs.Prelude.{Option, Some, None}
+use Rattle.std.specs.Prelude.{Option, Some, None, ◌==◌}
+use Rattle.std.proofs.lemmas.Bool.{false≢true, eqb-true, eq-eqb}
 use Rattle.std.proofs.lemmas.List.{length-append, length-map, map-append}
 use Rattle.std.proofs.lemmas.List.Elements.{All-push, All-map, Contains-get_or, Contains-push_cases, Contains-push, Contains-append_left, Contains-append_cases}
 use Rattle.spec_terms.specs.Terms.{Truth, Term, sort_of}
@@ -172,3 +173,13 @@ module _ (t : TableView) (differ : AreDifferent t.terms) (sorts : (id : TermId) 
       over = over_more;
       search = λ terms s. subst (λ (b : BudgetView). IsSearch t terms new (clauses ++ clause ∷ []) (steps ++ id ∷ []) b.learned) (sym is) (search_on terms budget.learned s new id l some);
     }
+
+-- a list of length 0 is empty
+pub empty_of : (n : ℕ) (c : List Lit) → length c ≡ n → n == 0 ≡ true → c ≡ []
+empty_of n [] e f = refl
+empty_of n (m ∷ ms) e f = absurd (omega (arith, e, eqb-true n 0 f))
+
+-- and of another one has a first
+pub some_of : (n : ℕ) (c : List Lit) → length c ≡ n → n == 0 ≡ false → (m : Lit) × (ms : List Lit) × (c ≡ m ∷ ms)
+some_of n [] e f = absurd (false≢true (sym f ∙ eq-eqb n 0 (sym e)))
+some_of n (m ∷ ms) e f = (m, ms, refl)

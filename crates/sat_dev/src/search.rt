@@ -11,7 +11,7 @@ pub mod decision;
 pub mod model;
 pub mod derive;
 pub mod rounds;
-pub mod probe;
+
 pub mod decide;
 #[cfg(test)]
 mod model_tests;

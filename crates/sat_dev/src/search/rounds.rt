@@ -16,6 +16,7 @@ use crate::search::store::Store;
 use crate::search::trail::Trail;
 use proof_log::{ProofLog, StepId};
 use sat_budget::{Budget, BudgetStop, Reason};
+use spec_search::laws::base_clauses_define_their_terms;
 use std::alloc::Global;
 use term_core::{Interp, Lit, TermTable};
 use world_io::NoMemory;
@@ -81,6 +82,13 @@ pub(crate) fn search(
     ensures evidence { IfOk result (λ a. Shows table.now log.old (lists store.old.clauses.items) store.old.steps.items budget.old log.new budget.new a) }
 {
     table.numbers_tell_terms();
+    table.terms_are_closed();
+    table.terms_are_truths();
+    table.heads_take_their_arguments();
+    table.heads_are_declared();
+    table.symbols().are_declared();
+    base_clauses_define_their_terms();
+    budget.is_within();
     let mut trail = Trail::new(alloc);
     'rounds: loop {
         match propagate(store, &mut trail)? {
