@@ -1,0 +1,44 @@
+-- The clauses of terms in a log, and what making them leaves. Source: own; Tseitin 1968.
+use Rattle.std.specs.Prelude.{◌≡◌, ℕ, ◌<◌, List, ◌++◌, length, map, All, Contains}
+use Rattle.spec_terms.specs.Terms.{Term}
+use Rattle.spec_terms.specs.Literals.{Clause}
+use Rattle.spec_proofs.specs.Resolution.{IsWithin}
+use Rattle.spec_search.specs.Derivations.{conclusion_at}
+use Rattle.spec_search.specs.Base.{base_clauses}
+use Rattle.term_core.specs.declared.ids.TermId.{TermId}
+use Rattle.term_core.specs.Tables.{TableView, Extends}
+use Rattle.proof_log.specs.declared.premises.StepId.{StepId}
+use Rattle.proof_log.specs.Logs.{Logged, assumed, stepped, derivation_in, IsLogOf}
+
+-- the clause of a number, as the log says it over the table
+abbrev pub stated : TableView → List Logged → StepId → Clause
+stated t log s = conclusion_at (derivation_in t log) s.0
+
+-- The numbers are those of the base clauses of terms, and of no others.
+pub record HasClauses (t : TableView) (log : List Logged) (terms : List Term) (steps : List StepId) : Type 0 where
+  -- each is a number of the log
+  pub there : All (λ s. s.0 < length log) steps
+  -- each base clause has a number
+  pub base : IsWithin (base_clauses terms) (map (stated t log) steps)
+  -- each number has a base clause
+  pub only : IsWithin (map (stated t log) steps) (base_clauses terms)
+
+-- what it assumes, if it does, is one of these
+abbrev pub AssumesOneOf : List TermId → Logged → Type 0
+AssumesOneOf roots (assumed id) = Contains roots id
+AssumesOneOf roots (stepped r ps c) = Unit {0}
+
+-- The table has more terms and the log more clauses, of which those that are assumed are among the roots.
+pub record Grows (roots : List TermId) (t u : TableView) (old new : List Logged) : Type 0 where
+  -- the terms that were there have their numbers
+  pub table : Extends t u
+  -- the symbols are the same
+  pub symbols : u.symbols ≡ t.symbols
+  -- the clauses that came
+  pub more : List Logged
+  -- they stand behind those that were there
+  pub log : new ≡ old ++ more
+  -- the log is right over the table as it is now
+  pub right : IsLogOf u new
+  -- what came and is assumed is a root
+  pub assumes : All (AssumesOneOf roots) more
