@@ -1,5 +1,5 @@
 -- What comes of adding to a log. Source: own.
-use Rattle.std.specs.Prelude.{◌≡◌, List, [], ◌∷◌, ◌++◌, length, map, Vec, Result, Ok, Err}
+use Rattle.std.specs.Prelude.{◌≡◌, List, [], ◌∷◌, ◌++◌, length, Vec, Result, Ok, Err}
 use Rattle.std.specs.declared.alloc.Global.{Global}
 use Rattle.world_io.specs.declared.bytes.NoMemory.{NoMemory}
 use Rattle.spec_search.specs.Derivations.{FollowsFrom}
@@ -8,7 +8,7 @@ use Rattle.term_core.specs.Tables.{TableView, IsIn}
 use Rattle.proof_log.specs.declared.premises.StepId.{StepId}
 use Rattle.proof_log.specs.declared.log_fault.LogFault.{LogFault}
 use Rattle.proof_log.specs.declared.log_fault.LogFault.TheVariants.{RuleFails, Memory}
-use Rattle.proof_log.specs.Logs.{Logged, assumed, named, logged_at, AreOf, inference_of, derivation_in, IsLogOf}
+use Rattle.proof_log.specs.Logs.{Logged, assumed, AreOf, clauses_in, inference_of, derivation_in, IsLogOf}
 
 -- A term is assumed last, under the next number.
 pub record IsAssumedLast (old : List Logged) (t : TermId) (id : StepId) (new : List Logged) : Type 0 where
@@ -41,8 +41,14 @@ Adds t old l (Ok id) new = IsAdded t old l id new
 Adds t old l (Err RuleFails) new = (FollowsFrom (derivation_in t old) (inference_of t l) → ⊥) × (new ≡ old)
 Adds t old l (Err Memory) new = new ≡ old
 
+-- a clause follows from those before it, or it doesn't; want of memory tells nothing
+abbrev pub Judges : TableView → List Logged → Logged → Result (Unit {0}) LogFault → Type 0
+Judges t log l (Ok _) = FollowsFrom (derivation_in t log) (inference_of t l)
+Judges t log l (Err RuleFails) = FollowsFrom (derivation_in t log) (inference_of t l) → ⊥
+Judges t log l (Err Memory) = Unit {0}
+
 -- the clauses of numbers, where these are of the log's; that they aren't; or want of memory, which tells nothing
 abbrev pub Collects : List Logged → List StepId → Result (Vec (List TermId) Global) LogFault → Type 0
-Collects log ss (Ok cs) = AreOf log ss × (cs.items ≡ map (λ s. named (logged_at log s)) ss)
+Collects log ss (Ok cs) = AreOf log ss × (cs.items ≡ clauses_in log ss)
 Collects log ss (Err RuleFails) = AreOf log ss → ⊥
 Collects log ss (Err Memory) = Unit {0}

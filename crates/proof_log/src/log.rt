@@ -3,7 +3,7 @@
 ghost use Rattle.std.specs.Prelude.{◌≡◌, ◌<◌, ◌≤◌, [], length, take, MatchOption};
 ghost use Rattle.term_core.specs.Tables.{TableView, AreIn};
 ghost use Rattle.proof_log.specs.Logs.{IsLogOf, named, stepped, logged_at, IsAssumed, AreEarlier};
-ghost use Rattle.proof_log.specs.Adding.{Assumes, Adds, Collects};
+ghost use Rattle.proof_log.specs.Adding.{Assumes, Adds, Judges, Collects};
 
 use crate::entry::Entry;
 use crate::log_fault::LogFault;
@@ -114,11 +114,21 @@ impl ProofLog {
         requires clause { AreIn table.now step.clause }
         ensures { Adds table.now self.old (stepped step.rule step.premises step.clause) result self.new }
     {
-        let premises = self.clauses_of(step.premises.as_slice())?;
-        judge(self.alloc, table, step.rule, &premises, step.clause.as_slice())?;
+        self.follows(table, &step)?;
         let id = StepId(self.len());
         self.entries.push(Entry::Stepped(step))?;
         Ok(id)
+    }
+
+    /// Judges whether a step follows from the clauses so far.
+    fn follows(&self, table: &TermTable, step: &Step) -> Result<(), LogFault>
+        requires log { IsLogOf table.now self.now }
+        requires clause { AreIn table.now step.now.clause }
+        ensures { Judges table.now self.now (stepped step.now.rule step.now.premises step.now.clause) result }
+    {
+        let premises = self.clauses_of(step.premises.as_slice())?;
+        judge(self.alloc, table, step.rule, &premises, step.clause.as_slice())?;
+        Ok(())
     }
 
     /// Copies the clauses of these numbers; `RuleFails` where one of them is not there.

@@ -1,0 +1,5 @@
+-- The lemmas of this crate.
+pub mod Derivations
+pub mod Logged
+pub mod Earlier
+pub mod Added
