@@ -3,3 +3,4 @@ pub mod Derivations
 pub mod Logged
 pub mod Earlier
 pub mod Added
+pub mod GrownTables
