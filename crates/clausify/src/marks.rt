@@ -1,7 +1,7 @@
 //! Which terms terms are made of.
 
-ghost use Rattle.std.specs.Prelude.{ℕ, ◌<◌, ◌≤◌, ◌-◌, ◌^◌, length, All, IfOk};
-ghost use Rattle.term_core.specs.Tables.{AreIn};
+ghost use Rattle.std.specs.Prelude.{ℕ, ◌<◌, ◌≤◌, length, All, IfOk};
+ghost use Rattle.term_core.specs.Tables.{IsIn, AreIn};
 ghost use Rattle.clausify.specs.Marks.{Marks, IsMarked, AreMarksOf};
 
 use spec_terms::subterms::subterms_are_least;
@@ -21,22 +21,33 @@ pub(crate) fn marks_of(
     requires { AreIn table.now roots.now }
     ensures { IfOk result (λ marks. AreMarksOf table.now roots.now marks.items) }
 {
-    let mut marks = vec![in alloc; false; bound_of(roots)]?;
+    let mut marks = vec![in alloc; false; bound_of(table, roots) as usize]?;
     mark_subterms(table, roots, &mut marks);
     Ok(marks)
 }
 
-/// Gives the least number above all of these.
-fn bound_of(ids: &[TermId]) -> usize
-    requires { All (λ id. id.0 < 2 ^ 64 - 1) ids.now }
+/// Gives a number above all of these.
+fn bound_of(table: &TermTable, ids: &[TermId]) -> u64
+    requires { AreIn table.now ids.now }
     ensures above { All (λ id. id.0 < result) ids.now }
-    ensures least { (n : ℕ) → All (λ id. id.0 < n) ids.now → result ≤ n }
+    ensures within { result ≤ length table.now.terms }
 {
     let mut bound = 0;
     'ids: for id in ids.iter() {
-        if id.0 as usize >= bound {
-            bound = id.0 as usize + 1;
-        }
+        bound = above(table, bound, *id);
+    }
+    bound
+}
+
+/// Gives the bound, or the next number behind this one where that is greater.
+fn above(table: &TermTable, bound: u64, id: TermId) -> u64
+    requires there { IsIn table.now id }
+    requires within { bound ≤ length table.now.terms }
+    ensures { (bound ≤ result) × (id.0 < result) × (result ≤ length table.now.terms) }
+{
+    let terms = table.len();
+    if bound <= id.0 && id.0 < terms {
+        return id.0 + 1;
     }
     bound
 }
