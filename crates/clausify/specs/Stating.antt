@@ -10,12 +10,19 @@ use Rattle.spec_proofs.specs.Schemes.{Scheme, plain, refuted, states, kind_of, c
 use Rattle.spec_search.specs.Base.{clauses_of}
 use Rattle.term_core.specs.declared.nodes.Head.{Head as NodeHead}
 use Rattle.term_core.specs.declared.nodes.Head.TheVariants as heads
-use Rattle.term_core.specs.Tables.{TableView, head_meant}
+use Rattle.term_core.specs.Tables.{TableView, head_meant, Extends}
 use Rattle.proof_log.specs.declared.premises.StepId.{StepId}
 use Rattle.proof_log.specs.Logs.{Logged}
 use Rattle.clausify.specs.declared.schemes.Stating.{Stating}
 use Rattle.clausify.specs.declared.schemes.Stating.TheVariants.{Plain, Refuted}
 use Rattle.clausify.specs.Clausified.{stated}
+
+-- The table has more terms, and the same symbols.
+pub record Widens (old new : TableView) : Type 0 where
+  -- the terms that were there have their numbers
+  pub terms : Extends old new
+  -- the symbols are the same
+  pub symbols : new.symbols ≡ old.symbols
 
 -- The numbers are those of these clauses, in their order.
 pub record Says (t : TableView) (log : List Logged) (steps : List StepId) (clauses : List Clause) : Type 0 where

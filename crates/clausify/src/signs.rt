@@ -5,7 +5,8 @@ ghost use Rattle.spec_terms.specs.Terms.{negated};
 ghost use Rattle.spec_terms.specs.Theory.{no_term};
 ghost use Rattle.spec_terms.specs.Subsets.{arguments_of};
 ghost use Rattle.spec_proofs.specs.Schemes.{signed, side_of, innermost};
-ghost use Rattle.term_core.specs.Tables.{term_at, clause_at, IsIn, AreIn, Extends};
+ghost use Rattle.term_core.specs.Tables.{term_at, clause_at, IsIn, AreIn};
+ghost use Rattle.clausify.specs.Stating.{Widens};
 
 use spec_proofs::Side;
 use std::alloc::Global;
@@ -15,7 +16,7 @@ use world_io::NoMemory;
 /// Puts the negation of a term, or finds it.
 fn negation(alloc: Global, table: &mut TermTable, id: TermId) -> Result<TermId, NoMemory>
     requires { IsIn table.old id }
-    ensures wider { Extends table.old table.new × (table.new.symbols ≡ table.old.symbols) }
+    ensures wider { Widens table.old table.new }
     ensures means { IfOk result (λ n. IsIn table.new n × (term_at table.new n ≡ negated (term_at table.old id))) }
 {
     table.terms_are_truths();
@@ -31,7 +32,7 @@ pub(crate) fn signed(
     positive: bool,
 ) -> Result<TermId, NoMemory>
     requires { IsIn table.old id }
-    ensures wider { Extends table.old table.new × (table.new.symbols ≡ table.old.symbols) }
+    ensures wider { Widens table.old table.new }
     ensures means { IfOk result (λ n. IsIn table.new n × (term_at table.new n ≡ signed positive (term_at table.old id))) }
 {
     if positive {
@@ -59,7 +60,7 @@ pub(crate) fn side(
 ) -> Result<TermId, NoMemory>
     requires there { IsIn table.old id }
     requires place { side.place < length (arguments_of (term_at table.old id)) }
-    ensures wider { Extends table.old table.new × (table.new.symbols ≡ table.old.symbols) }
+    ensures wider { Widens table.old table.new }
     ensures means { IfOk result (λ n. IsIn table.new n × (term_at table.new n ≡ side_of (arguments_of (term_at table.old id)) side)) }
 {
     let term = argument(table, id, side.place);
@@ -83,7 +84,7 @@ pub(crate) fn with_each(
     positive: bool,
 ) -> Result<Vec<TermId>, NoMemory>
     requires { IsIn table.old id × IsIn table.old front }
-    ensures wider { Extends table.old table.new × (table.new.symbols ≡ table.old.symbols) }
+    ensures wider { Widens table.old table.new }
     ensures means { IfOk result (λ v. AreIn table.new v.items × (clause_at table.new v.items ≡ term_at table.old front ∷ map (signed positive) (arguments_of (term_at table.old id)))) }
 {
     let count = argument_count(table, id);
@@ -102,12 +103,12 @@ pub(crate) fn innermost(table: &TermTable, id: TermId) -> Option<TermId>
     ensures { MatchOption result (innermost (arguments_of (term_at table.now id)) ≡ [])
         (λ u. IsIn table.now u × (innermost (arguments_of (term_at table.now id)) ≡ (term_at table.now u ∷ []) ∷ [])) }
 {
-    let [only] = table.node(id).arguments.as_slice() else {
+    if argument_count(table, id) != 1 {
         return None;
-    };
-    let node = table.node(*only);
-    match node.head {
-        Head::Not => Some(node.arguments.as_slice()[0]),
+    }
+    let only = argument(table, id, 0);
+    match table.node(only).head {
+        Head::Not => Some(argument(table, only, 0)),
         _ => None,
     }
 }
