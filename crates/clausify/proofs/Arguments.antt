@@ -5,7 +5,7 @@ use Rattle.std.proofs.lemmas.List.{length-map, get_or-map, map-append, take_more
 use Rattle.std.proofs.lemmas.List.Elements.{All-push}
 use Rattle.spec_terms.specs.Terms.{Symbol, Truth, Not, Sort, Term, Terms, app, nil, cons, terms_of, of, negated, head_takes, sort_of}
 use Rattle.spec_terms.specs.Subsets.{arguments_of}
-use Rattle.spec_proofs.specs.Schemes.{signed, innermost}
+use Rattle.spec_proofs.specs.Schemes.{innermost}
 use Rattle.term_core.specs.declared.ids.TermId.{TermId}
 use Rattle.term_core.specs.declared.nodes.Head.{Head as NodeHead}
 use Rattle.term_core.specs.declared.nodes.Head.TheVariants as heads
@@ -81,6 +81,6 @@ module _ (now new : TableView) (wider : Widens now new) (ids all : List TermId) 
   pub literal_more : (said : List Term) (u : Term) → clause_at now ids ≡ said → term_at new n ≡ u → clause_at new all ≡ said ++ u ∷ []
   literal_more said u same means = ap (clause_at new) pushed ∙ map-append (term_at new) ids (n ∷ []) ∙ ap₂ (λ (xs : List Term) (x : Term). xs ++ x ∷ []) (clause_at-kept now new wider.terms ids there ∙ same) means
 
--- an argument more of a list
-pub signed_more : (p : Bool) (front : Term) (args : List Term) (k : ℕ) (d : Term) → k < length args → (front ∷ map (signed p) (take k args)) ++ signed p (get_or args k d) ∷ [] ≡ front ∷ map (signed p) (take (k + 1) args)
-signed_more p front args k d lt = ap (λ (ts : List Term). front ∷ ts) (sym (map-append (signed p) (take k args) (get_or args k d ∷ [])) ∙ ap (map (signed p)) (sym (take_more args k d lt)))
+-- a literal more behind a term
+pub literals_more : {X : Type 0} (f : X → Term) (front : Term) (xs : List X) (k : ℕ) (d : X) → k < length xs → (front ∷ map f (take k xs)) ++ f (get_or xs k d) ∷ [] ≡ front ∷ map f (take (k + 1) xs)
+literals_more f front xs k d lt = ap (λ (ts : List Term). front ∷ ts) (sym (map-append f (take k xs) (get_or xs k d ∷ [])) ∙ ap (map f) (sym (take_more xs k d lt)))

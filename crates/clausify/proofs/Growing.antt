@@ -10,7 +10,7 @@ use Rattle.term_core.proofs.TermsExtend.{Extends-trans, term_at-kept, clause_at-
 use Rattle.proof_log.specs.declared.premises.StepId.{StepId}
 use Rattle.proof_log.specs.Logs.{Logged, assumed, stepped, named, numbers_of, inference_of, derivation_in, IsLogOf}
 use Rattle.clausify.specs.Clausified.{stated, AssumesOneOf, Grows}
-use Rattle.clausify.specs.Stating.{Widens, Says}
+use Rattle.clausify.specs.Stating.{Widens, Says, Tells}
 use Rattle.clausify.proofs.Arguments.{Widens-self}
 
 -- a wider table, over which the log is still right
@@ -109,3 +109,18 @@ Says-push roots t old new l id steps all said g right number last pushed says =
       there = subst (λ (ss : List StepId). All (λ s. s.0 < length new) ss) (sym pushed) (All-push (λ (s : StepId). s.0 < length new) steps id kept.there (omega (arith, count, number)));
       same = ap (map (stated t new)) pushed ∙ map-append (stated t new) steps (id ∷ []) ∙ ap₂ (λ (xs : List Clause) (x : Clause). xs ++ x ∷ []) kept.same here;
     }
+
+-- a table that got wider before the clauses came
+module _ (t u : TableView) (wider : Widens t u) (old new : List Logged) (right : IsLogOf t old) (still : IsLogOf u old) where
+  pub Grows-made : Grows [] u u old new → Grows [] t u old new
+  Grows-made g = Grows-trans [] t u u old old new (Grows-wider [] t u old wider still) g
+
+  pub Tells-made : (steps all : List StepId) (clauses : List Clause) → Tells u u old new steps all clauses → Tells t u old new steps all clauses
+  Tells-made steps all clauses tells said says = tells said (Says-kept [] t u old old (Grows-wider [] t u old wider still) right steps said says)
+
+-- no clause, then some, then others
+pub Tells-none : (t : TableView) (log : List Logged) (steps : List StepId) → Tells t t log log steps steps []
+Tells-none t log steps said says = subst (Says t log steps) (sym (append-nil said)) says
+
+pub Tells-trans : (t u v : TableView) (a b c : List Logged) (one two three : List StepId) (cs ds : List Clause) → Tells t u a b one two cs → Tells u v b c two three ds → Tells t v a c one three (cs ++ ds)
+Tells-trans t u v a b c one two three cs ds f g said says = subst (Says v c three) (append_assoc said cs ds) (g (said ++ cs) (f said says))

@@ -6,7 +6,7 @@ use Rattle.spec_terms.specs.Literals.{Clause}
 use Rattle.spec_proofs.specs.declared.Rule.{Rule}
 use Rattle.spec_proofs.specs.declared.Rest.{Rest}
 use Rattle.spec_proofs.specs.declared.Rest.TheVariants.{Nothing, One, Two, AnyOne, Each, Innermost}
-use Rattle.spec_proofs.specs.Schemes.{Scheme, plain, refuted, states, kind_of, clauses_by}
+use Rattle.spec_proofs.specs.Schemes.{signed, side_of, Scheme, plain, refuted, states, kind_of, clauses_by}
 use Rattle.spec_search.specs.Base.{clauses_of}
 use Rattle.term_core.specs.declared.nodes.Head.{Head as NodeHead}
 use Rattle.term_core.specs.declared.nodes.Head.TheVariants as heads
@@ -63,6 +63,20 @@ abbrev pub HasPlaces : ℕ → Rest → Type 0
 HasPlaces n (One x) = x.place < n
 HasPlaces n (Two x y) = (x.place < n) × (y.place < n)
 HasPlaces n r = Unit {0}
+
+-- what stands behind a term in the one clause of a scheme
+abbrev pub single : Rest → List Term → Clause
+single Nothing ts = []
+single (One x) ts = side_of ts x ∷ []
+single (Two x y) ts = side_of ts x ∷ side_of ts y ∷ []
+single (Each p) ts = map (signed p) ts
+single r ts = []
+
+-- the scheme has one clause, whatever the arguments are
+abbrev pub IsSingle : Rest → Type 0
+IsSingle (AnyOne p) = ⊥
+IsSingle Innermost = ⊥
+IsSingle r = Unit {0}
 
 -- how many arguments the head takes at least
 abbrev pub least_of : NodeHead → ℕ

@@ -1,14 +1,14 @@
 //! Terms that stand in a clause: a term or its negation, and those of its arguments.
 
-ghost use Rattle.std.specs.Prelude.{◌≡◌, ◌<◌, [], ◌∷◌, length, map, IfOk, MatchOption, slice_index_or};
+ghost use Rattle.std.specs.Prelude.{◌≡◌, ◌<◌, [], ◌∷◌, length, map, All, IfOk, MatchOption, slice_index_or};
 ghost use Rattle.spec_terms.specs.Terms.{negated};
 ghost use Rattle.spec_terms.specs.Theory.{no_term};
 ghost use Rattle.spec_terms.specs.Subsets.{arguments_of};
 ghost use Rattle.spec_proofs.specs.Schemes.{signed, side_of, innermost};
 ghost use Rattle.term_core.specs.Tables.{term_at, clause_at, IsIn, AreIn};
-ghost use Rattle.clausify.specs.Stating.{Widens};
+ghost use Rattle.clausify.specs.Stating.{Widens, HasPlaces, IsSingle, single};
 
-use spec_proofs::Side;
+use spec_proofs::{Rest, Side};
 use std::alloc::Global;
 use term_core::{Head, Node, TermId, TermTable};
 use world_io::NoMemory;
@@ -52,7 +52,7 @@ pub(crate) fn argument(table: &TermTable, id: TermId, place: usize) -> TermId
 }
 
 /// Gives the argument of a place as it stands, or puts its negation.
-pub(crate) fn side(
+fn side(
     alloc: Global,
     table: &mut TermTable,
     id: TermId,
@@ -75,8 +75,53 @@ pub(crate) fn argument_count(table: &TermTable, id: TermId) -> usize
     table.node(id).arguments.len()
 }
 
+/// Makes the clause of a term and, behind it, what a scheme with one clause says by the arguments of a term.
+pub(crate) fn with_rest(
+    alloc: Global,
+    table: &mut TermTable,
+    id: TermId,
+    front: TermId,
+    rest: Rest,
+) -> Result<Vec<TermId>, NoMemory>
+    requires there { IsIn table.old id × IsIn table.old front }
+    requires places { HasPlaces (length (arguments_of (term_at table.old id))) rest }
+    requires one { IsSingle rest }
+    ensures wider { Widens table.old table.new }
+    ensures means { IfOk result (λ v. AreIn table.new v.items × (clause_at table.new v.items ≡ term_at table.old front ∷ single rest (arguments_of (term_at table.old id)))) }
+{
+    match rest {
+        Rest::Nothing => with_sides(alloc, table, id, front, &[]),
+        Rest::One(x) => with_sides(alloc, table, id, front, &[x]),
+        Rest::Two(x, y) => with_sides(alloc, table, id, front, &[x, y]),
+        Rest::Each(positive) => with_each(alloc, table, id, front, positive),
+        Rest::AnyOne(_) => unreachable!(),
+        Rest::Innermost => unreachable!(),
+    }
+}
+
+/// Makes the clause of a term and, behind it, arguments of a term by their places, as they stand or negated.
+fn with_sides(
+    alloc: Global,
+    table: &mut TermTable,
+    id: TermId,
+    front: TermId,
+    sides: &[Side],
+) -> Result<Vec<TermId>, NoMemory>
+    requires there { IsIn table.old id × IsIn table.old front }
+    requires places { All (λ x. x.place < length (arguments_of (term_at table.old id))) sides.now }
+    ensures wider { Widens table.old table.new }
+    ensures means { IfOk result (λ v. AreIn table.new v.items × (clause_at table.new v.items ≡ term_at table.old front ∷ map (side_of (arguments_of (term_at table.old id))) sides.now)) }
+{
+    let mut clause = Vec::new(alloc);
+    clause.push(front)?;
+    'sides: for x in sides.iter() {
+        clause.push(side(alloc, table, id, *x)?)?;
+    }
+    Ok(clause)
+}
+
 /// Makes the clause of a term and, behind it, all arguments of a term, as they stand or negated.
-pub(crate) fn with_each(
+fn with_each(
     alloc: Global,
     table: &mut TermTable,
     id: TermId,

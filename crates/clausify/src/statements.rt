@@ -3,16 +3,16 @@
 ghost use Rattle.std.specs.Prelude.{◌≡◌, List, [], ◌∷◌, length, map, Contains, OnOk};
 ghost use Rattle.spec_terms.specs.Terms.{Term};
 ghost use Rattle.spec_terms.specs.Subsets.{arguments_of};
-ghost use Rattle.spec_proofs.specs.Schemes.{signed, rests_of, clauses_by};
+ghost use Rattle.spec_proofs.specs.Schemes.{signed, innermost, rests_of, clauses_by};
 ghost use Rattle.spec_proofs.specs.Rules.{IsRight};
 ghost use Rattle.spec_search.specs.Base.{clauses_of};
 ghost use Rattle.term_core.specs.Tables.{term_at, IsIn};
 ghost use Rattle.proof_log.specs.Logs.{IsLogOf};
 ghost use Rattle.clausify.specs.Clausified.{Grows};
-ghost use Rattle.clausify.specs.Stating.{Tells, head_of, scheme_by, IsRuleOf, HasPlaces, rest_by, before};
+ghost use Rattle.clausify.specs.Stating.{Tells, head_of, scheme_by, IsRuleOf, HasPlaces, IsSingle, single, rest_by, before};
 
 use crate::schemes::{Stating, schemes_of};
-use crate::signs::{argument, argument_count, innermost, side, signed, with_each};
+use crate::signs::{argument, argument_count, innermost, signed, with_rest};
 use crate::steps::state;
 use proof_log::{ProofLog, Rule, StepId};
 use spec_proofs::Rest;
@@ -84,30 +84,60 @@ fn state_rests(
     ensures grows { Grows [] table.old table.new log.old log.new }
     ensures tells { OnOk result (Tells table.old table.new log.old log.new steps.old.items steps.new.items (before (term_at table.old front) (rests_of rest (arguments_of (term_at table.old id))))) }
 {
-    proof_log::laws::logs_stand_in_grown_tables();
     match rest {
-        Rest::Nothing => state(alloc, table, log, steps, rule, &[front]),
-        Rest::One(x) => {
-            let one = side(alloc, table, id, x)?;
-            state(alloc, table, log, steps, rule, &[front, one])
-        }
-        Rest::Two(x, y) => {
-            let one = side(alloc, table, id, x)?;
-            let two = side(alloc, table, id, y)?;
-            state(alloc, table, log, steps, rule, &[front, one, two])
-        }
         Rest::AnyOne(positive) => {
             state_any(alloc, table, log, steps, id, front, rule, positive)
         }
-        Rest::Each(positive) => {
-            let clause = with_each(alloc, table, id, front, positive)?;
-            state(alloc, table, log, steps, rule, clause.as_slice())
-        }
-        Rest::Innermost => match innermost(table, id) {
-            Some(inner) => state(alloc, table, log, steps, rule, &[front, inner]),
-            None => Ok(()),
-        },
+        Rest::Innermost => state_innermost(alloc, table, log, steps, id, front, rule),
+        _ => state_single(alloc, table, log, steps, id, front, rule, rest),
     }
+}
+
+/// States the one clause that has a term in front and behind it what a scheme says by the arguments of a term.
+fn state_single(
+    alloc: Global,
+    table: &mut TermTable,
+    log: &mut ProofLog,
+    steps: &mut Vec<StepId>,
+    id: TermId,
+    front: TermId,
+    rule: Rule,
+    rest: Rest,
+) -> Result<(), NoMemory>
+    requires there { IsIn table.old id × IsIn table.old front }
+    requires log { IsLogOf table.old log.old }
+    requires places { HasPlaces (length (arguments_of (term_at table.old id))) rest }
+    requires one { IsSingle rest }
+    requires right { IsRight rule [] (term_at table.old front ∷ single rest (arguments_of (term_at table.old id))) }
+    ensures grows { Grows [] table.old table.new log.old log.new }
+    ensures tells { OnOk result (Tells table.old table.new log.old log.new steps.old.items steps.new.items ((term_at table.old front ∷ single rest (arguments_of (term_at table.old id))) ∷ [])) }
+{
+    proof_log::laws::logs_stand_in_grown_tables();
+    let clause = with_rest(alloc, table, id, front, rest)?;
+    state(alloc, table, log, steps, rule, clause)
+}
+
+/// States the clause of a term and what the argument of a term, a negation, negates, if it is one.
+fn state_innermost(
+    alloc: Global,
+    table: &TermTable,
+    log: &mut ProofLog,
+    steps: &mut Vec<StepId>,
+    id: TermId,
+    front: TermId,
+    rule: Rule,
+) -> Result<(), NoMemory>
+    requires there { IsIn table.now id × IsIn table.now front }
+    requires log { IsLogOf table.now log.old }
+    requires right { (ls : List Term) → Contains (innermost (arguments_of (term_at table.now id))) ls → IsRight rule [] (term_at table.now front ∷ ls) }
+    ensures grows { Grows [] table.now table.now log.old log.new }
+    ensures tells { OnOk result (Tells table.now table.now log.old log.new steps.old.items steps.new.items (before (term_at table.now front) (innermost (arguments_of (term_at table.now id))))) }
+{
+    let Some(inner) = innermost(table, id) else {
+        return Ok(());
+    };
+    let clause = vec![in alloc; front, inner]?;
+    state(alloc, table, log, steps, rule, clause)
 }
 
 /// States the clauses that have a term in front and behind it one of the arguments of a term, or its negation.
@@ -135,7 +165,8 @@ fn state_any(
     'places: for place in 0..count {
         let term = argument(table, id, place);
         let one = signed(alloc, table, term, positive)?;
-        state(alloc, table, log, steps, rule, &[front, one])?;
+        let clause = vec![in alloc; front, one]?;
+        state(alloc, table, log, steps, rule, clause)?;
     }
     Ok(())
 }

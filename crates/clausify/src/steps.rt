@@ -19,19 +19,18 @@ pub(crate) fn state(
     log: &mut ProofLog,
     steps: &mut Vec<StepId>,
     rule: Rule,
-    clause: &[TermId],
+    clause: Vec<TermId>,
 ) -> Result<(), NoMemory>
     requires log { IsLogOf table.now log.old }
-    requires clause { AreIn table.now clause.now }
-    requires right { IsRight rule [] (clause_at table.now clause.now) }
+    requires clause { AreIn table.now clause.items }
+    requires right { IsRight rule [] (clause_at table.now clause.items) }
     ensures grows { Grows [] table.now table.now log.old log.new }
-    ensures tells { OnOk result (Tells table.now table.now log.old log.new steps.old.items steps.new.items (clause_at table.now clause.now ∷ [])) }
+    ensures tells { OnOk result (Tells table.now table.now log.old log.new steps.old.items steps.new.items (clause_at table.now clause.items ∷ [])) }
 {
-    let copy = Vec::from_slice(alloc, clause)?;
     let step = Step {
         rule,
         premises: Premises::from(Vec::new(alloc)),
-        clause: Clause::from(copy),
+        clause: Clause::from(clause),
     };
     match log.add(table, step) {
         Ok(number) => {

@@ -7,7 +7,7 @@ use Rattle.spec_proofs.specs.Schemes.{signed}
 use Rattle.term_core.specs.declared.ids.TermId.{TermId}
 use Rattle.term_core.specs.Tables.{term_at, clause_at, AreIn}
 use Rattle.term_core.proofs.TermsExtend.{IsIn-kept, term_at-kept}
-use Rattle.clausify.proofs.Arguments.{Widens-self, Widens-trans, literal_there, literal_more, signed_more}
+use Rattle.clausify.proofs.Arguments.{Widens-self, Widens-trans, literal_there, literal_more, literals_more}
 use Rattle.clausify.proofs.signs.with_each.Goals as goal
 
 pub returns-in_err-push-clause-wider : goal.returns-in_err-push-clause-wider
@@ -43,5 +43,5 @@ places-preserved c =
     record {
       wider = Widens-trans t now new h.wider made.wider;
       there = literal_there now new made.wider c.places.clause.items c.push-in-places.new.self.items n items h.there made.means.0;
-      same = literal_more now new made.wider c.places.clause.items c.push-in-places.new.self.items n items h.there made.means.0 (front ∷ map (signed p) (take k args)) (signed p (get_or args k no_term)) h.same means ∙ signed_more p front args k no_term lt;
+      same = literal_more now new made.wider c.places.clause.items c.push-in-places.new.self.items n items h.there made.means.0 (front ∷ map (signed p) (take k args)) (signed p (get_or args k no_term)) h.same means ∙ literals_more (signed p) front args k no_term lt;
     }

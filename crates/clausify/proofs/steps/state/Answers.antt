@@ -1,5 +1,5 @@
 -- The step is right, so it stands last, or there is no memory.
-use Rattle.std.proofs.Common.{◌≡◌, [], ◌∷◌, ◌++◌, List, ◌∙◌, sym, subst}
+use Rattle.std.proofs.Common.{◌≡◌, [], ◌∷◌, ◌++◌, List, sym, subst}
 use Rattle.spec_terms.specs.Literals.{Clause}
 use Rattle.term_core.specs.declared.ids.TermId.{TermId}
 use Rattle.term_core.specs.Tables.{clause_at}
@@ -14,9 +14,6 @@ use Rattle.clausify.proofs.steps.state.Goals.{In-Ok}
 grows : (c : In-Ok) → Grows [] c.args.table.now c.args.table.now c.args.log.now c.add.new.self
 grows c = Grows-push [] c.args.table.now c.args.log.now c.add.new.self (stepped c.args.rule c.from.result c.from-2.result) c.in-Ok.ensures.last tt c.in-Ok.ensures.right
 
-pub returns-in_err-copy-clause-grows : goal.returns-in_err-copy-clause-grows
-returns-in_err-copy-clause-grows c = Grows-self [] c.args.table.now c.args.log.now c.requires.log
-
 pub returns-in_err-push-in-Ok-clause-grows : goal.returns-in_err-push-in-Ok-clause-grows
 returns-in_err-push-in-Ok-clause-grows c = grows (goal.at.returns-in_err-push-in-Ok-clause-grows c).In-Ok
 
@@ -27,9 +24,8 @@ pub returns-in_ok-push-in-Ok-clause-tells : goal.returns-in_ok-push-in-Ok-clause
 returns-in_ok-push-in-Ok-clause-tells c said says =
     let t = c.args.table.now in
     let h = c.in-Ok.ensures in
-    let clause : c.from-2.result ≡ c.args.clause.now = c.from-2.ensures ∙ c.in_ok-copy.ensures.items in
     let l = stepped c.args.rule c.from.result c.from-2.result in
-    subst (λ (ids : List TermId). Says t c.add.new.self c.push.new.self.items (said ++ clause_at t ids ∷ [])) clause
+    subst (λ (ids : List TermId). Says t c.add.new.self c.push.new.self.items (said ++ clause_at t ids ∷ [])) c.from-2.ensures
         (Says-push [] t c.args.log.now c.add.new.self l c.in-Ok.number c.args.steps.now.items c.push.new.self.items said
             (grows (goal.at.returns-in_ok-push-in-Ok-clause-tells c).In-Ok) c.requires.log h.number h.last c.in_ok-push-in-Ok.ensures.items says)
 
