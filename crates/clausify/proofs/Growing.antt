@@ -124,3 +124,7 @@ Tells-none t log steps said says = subst (Says t log steps) (sym (append-nil sai
 
 pub Tells-trans : (t u v : TableView) (a b c : List Logged) (one two three : List StepId) (cs ds : List Clause) → Tells t u a b one two cs → Tells u v b c two three ds → Tells t v a c one three (cs ++ ds)
 Tells-trans t u v a b c one two three cs ds f g said says = subst (Says v c three) (append_assoc said cs ds) (g (said ++ cs) (f said says))
+
+-- clauses told where they are the same
+pub Tells-same : (t u : TableView) (old new : List Logged) (steps all : List StepId) (cs ds : List Clause) → cs ≡ ds → Tells t u old new steps all cs → Tells t u old new steps all ds
+Tells-same t u old new steps all cs ds e tells said says = subst (λ (xs : List Clause). Says u new all (said ++ xs)) e (tells said says)

@@ -42,7 +42,7 @@ pub(crate) fn signed(
 }
 
 /// Gives the argument of a place.
-pub(crate) fn argument(table: &TermTable, id: TermId, place: usize) -> TermId
+fn argument(table: &TermTable, id: TermId, place: usize) -> TermId
     requires there { IsIn table.now id }
     requires place { place < length (arguments_of (term_at table.now id)) }
     ensures there { IsIn table.now result }

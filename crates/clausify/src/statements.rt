@@ -12,10 +12,10 @@ ghost use Rattle.clausify.specs.Clausified.{Grows};
 ghost use Rattle.clausify.specs.Stating.{Tells, head_of, scheme_by, IsRuleOf, HasPlaces, IsSingle, single, rest_by, before};
 
 use crate::schemes::{Stating, schemes_of};
-use crate::signs::{argument, argument_count, innermost, signed, with_rest};
+use crate::signs::{argument_count, innermost, signed, with_rest};
 use crate::steps::state;
 use proof_log::{ProofLog, Rule, StepId};
-use spec_proofs::Rest;
+use spec_proofs::{Rest, Side};
 use std::alloc::Global;
 use term_core::{TermId, TermTable};
 use world_io::NoMemory;
@@ -33,7 +33,6 @@ pub(crate) fn state_term(
     ensures grows { Grows [] table.old table.new log.old log.new }
     ensures tells { OnOk result (Tells table.old table.new log.old log.new steps.old.items steps.new.items (clauses_of (term_at table.old id))) }
 {
-    proof_log::laws::logs_stand_in_grown_tables();
     let list = schemes_of(table.node(id).head);
     'schemes: for by in list.iter() {
         state_scheme(alloc, table, log, steps, id, *by)?;
@@ -57,6 +56,9 @@ fn state_scheme(
     ensures grows { Grows [] table.old table.new log.old log.new }
     ensures tells { OnOk result (Tells table.old table.new log.old log.new steps.old.items steps.new.items (clauses_by (scheme_by (head_of (term_at table.old id)) by) (term_at table.old id))) }
 {
+    proof_log::laws::logs_stand_in_grown_tables();
+    table.terms_are_truths();
+    let _ = table.node(id);
     match by {
         Stating::Plain(rule, rest) => state_rests(alloc, table, log, steps, id, id, rule, rest),
         Stating::Refuted(rule, rest) => {
@@ -160,13 +162,10 @@ fn state_any(
     ensures grows { Grows [] table.old table.new log.old log.new }
     ensures tells { OnOk result (Tells table.old table.new log.old log.new steps.old.items steps.new.items (before (term_at table.old front) (map (λ u. signed positive u ∷ []) (arguments_of (term_at table.old id))))) }
 {
-    proof_log::laws::logs_stand_in_grown_tables();
     let count = argument_count(table, id);
     'places: for place in 0..count {
-        let term = argument(table, id, place);
-        let one = signed(alloc, table, term, positive)?;
-        let clause = vec![in alloc; front, one]?;
-        state(alloc, table, log, steps, rule, clause)?;
+        let rest = Rest::One(Side { place, positive });
+        state_single(alloc, table, log, steps, id, front, rule, rest)?;
     }
     Ok(())
 }
