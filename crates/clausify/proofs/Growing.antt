@@ -111,11 +111,11 @@ Says-push roots t old new l id steps all said g right number last pushed says =
     }
 
 -- a table that got wider before the clauses came
-module _ (t u : TableView) (wider : Widens t u) (old new : List Logged) (right : IsLogOf t old) (still : IsLogOf u old) where
-  pub Grows-made : Grows [] u u old new → Grows [] t u old new
-  Grows-made g = Grows-trans [] t u u old old new (Grows-wider [] t u old wider still) g
+module _ (t u v : TableView) (wider : Widens t u) (old new : List Logged) (right : IsLogOf t old) (still : IsLogOf u old) where
+  pub Grows-made : Grows [] u v old new → Grows [] t v old new
+  Grows-made g = Grows-trans [] t u v old old new (Grows-wider [] t u old wider still) g
 
-  pub Tells-made : (steps all : List StepId) (clauses : List Clause) → Tells u u old new steps all clauses → Tells t u old new steps all clauses
+  pub Tells-made : (steps all : List StepId) (clauses : List Clause) → Tells u v old new steps all clauses → Tells t v old new steps all clauses
   Tells-made steps all clauses tells said says = tells said (Says-kept [] t u old old (Grows-wider [] t u old wider still) right steps said says)
 
 -- no clause, then some, then others

@@ -2,5 +2,6 @@
 pub mod Arguments
 pub mod Growing
 pub mod Stated
+pub mod Formulas
 pub mod Marked
 pub mod Marking
