@@ -3,5 +3,6 @@ pub mod Arguments
 pub mod Growing
 pub mod Stated
 pub mod Formulas
+pub mod Bases
 pub mod Marked
 pub mod Marking

@@ -120,9 +120,10 @@ fn state_marked(
     ensures tells { OnOk result (Tells table.old table.new log.old log.new steps.old.items steps.new.items (flat_map clauses_of (marked marks.now table.old.terms))) }
 {
     'marks: for number in 0..marks.len() {
-        if marks[number] {
-            state_term(alloc, table, log, steps, TermId(number as u64))?;
+        if !marks[number] {
+            continue;
         }
+        state_term(alloc, table, log, steps, TermId(number as u64))?;
     }
     Ok(())
 }
