@@ -1,5 +1,5 @@
 -- Derivations: their fronts, and one clause more.
-use Rattle.std.proofs.Common.{◌≡◌, inl, inr, ℕ, suc, ◌+◌, ◌<◌, List, [], ◌∷◌, ◌++◌, length, take, drop, get_or, sym, ap, ◌∙◌, subst, arith, length-append, append_assoc}
+use Rattle.std.proofs.Common.{◌≡◌, inl, inr, ℕ, suc, ◌<◌, [], ◌∷◌, ◌++◌, length, take, drop, sym, ap, ◌∙◌, subst, arith, length-append, append_assoc}
 use Rattle.std.proofs.lemmas.List.{take-append-drop, take-append-le, get_or_append_left}
 use Rattle.std.proofs.lemmas.Bool.{cases_lt}
 use Rattle.std.proofs.Math.Seq.{drop-cons, take-append_seam, get_or-append_seam}
@@ -10,7 +10,7 @@ pub front_right : (d e : Derivation) → IsDerivation (d ++ e) → IsDerivation 
 front_right d e h before x after is = h before x (after ++ e) (ap (λ l. l ++ e) is ∙ append_assoc before (x ∷ after) e)
 
 -- the clause of each number follows from those before it
-follows_at : (d : Derivation) → IsDerivation d → (k : ℕ) → k < length d → FollowsFrom (take k d) (inference_at d k)
+pub follows_at : (d : Derivation) → IsDerivation d → (k : ℕ) → k < length d → FollowsFrom (take k d) (inference_at d k)
 follows_at d h k lt = h (take k d) (inference_at d k) (drop (suc k) d) (sym (take-append-drop k d) ∙ ap (λ l. take k d ++ l) (drop-cons d k no_inference lt))
 
 -- and where that is so, all is right
@@ -30,9 +30,11 @@ right_push d x h last = right_by (d ++ x ∷ []) go
         subst (λ n. FollowsFrom (take n (d ++ x ∷ [])) (inference_at (d ++ x ∷ []) n)) e
         (subst (λ y. FollowsFrom (take (length d) (d ++ x ∷ [])) y) (sym (get_or-append_seam d x [] no_inference))
         (subst (λ l. FollowsFrom l x) (sym (take-append_seam d (x ∷ []))) last))
+
     before_end : (k : ℕ) → k < length d → FollowsFrom (take k (d ++ x ∷ [])) (inference_at (d ++ x ∷ []) k)
     before_end k lt =
         subst (λ y. FollowsFrom (take k (d ++ x ∷ [])) y) (sym (get_or_append_left d (x ∷ []) no_inference k lt))
         (subst (λ l. FollowsFrom l (inference_at d k)) (sym (take-append-le k d (x ∷ []) (omega (arith, lt)))) (follows_at d h k lt))
+
     go : (k : ℕ) → k < length (d ++ x ∷ []) → FollowsFrom (take k (d ++ x ∷ [])) (inference_at (d ++ x ∷ []) k)
     go k lt = elim (cases_lt k (length d)) [ inl below ↦ before_end k below | inr above ↦ at_end k (omega (arith, lt, above, length-append d (x ∷ []))) ]

@@ -1,5 +1,5 @@
 -- That the premises stand before each clause, of fronts and with one clause more.
-use Rattle.std.proofs.Common.{◌≡◌, inl, inr, ℕ, ◌<◌, List, [], ◌∷◌, ◌++◌, length, take, get_or, All, sym, subst, arith, length-append, length-take}
+use Rattle.std.proofs.Common.{inl, inr, ℕ, ◌<◌, List, [], ◌∷◌, ◌++◌, length, take, get_or, All, sym, subst, arith, length-append, length-take}
 use Rattle.std.proofs.lemmas.List.{get_or_append_left, get_or-take}
 use Rattle.std.proofs.lemmas.Bool.{cases_lt}
 use Rattle.std.proofs.Math.Seq.{get_or-append_seam}
@@ -20,5 +20,6 @@ unfolding Before
 earlier_push log l h last k lt =
     let at : (n : ℕ) → Type 0 = λ n. Before n (get_or (log ++ l ∷ []) n no_logged) in
     elim (cases_lt k (length log)) as (λ _. at k) [
-      inl below ↦ subst (λ x. Before k x) (sym (get_or_append_left log (l ∷ []) no_logged k below)) (h k below)
-    | inr above ↦ subst at (omega (arith, lt, above, length-append log (l ∷ []))) (subst (λ x. Before (length log) x) (sym (get_or-append_seam log l [] no_logged)) last) ]
+      | inl below ↦ subst (λ x. Before k x) (sym (get_or_append_left log (l ∷ []) no_logged k below)) (h k below)
+      | inr above ↦ subst at (omega (arith, lt, above, length-append log (l ∷ []))) (subst (λ x. Before (length log) x) (sym (get_or-append_seam log l [] no_logged)) last)
+    ]

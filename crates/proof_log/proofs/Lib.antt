@@ -3,4 +3,5 @@ pub mod Derivations
 pub mod Logged
 pub mod Earlier
 pub mod Added
-pub mod GrownTables
+pub mod Tables
+pub mod Sound

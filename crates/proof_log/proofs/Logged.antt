@@ -14,7 +14,7 @@ use Rattle.proof_log.specs.Logs.{Logged, assumed, stepped, named, no_logged, log
 use Rattle.proof_log.proofs.Derivations.{front_right, right_push}
 
 -- the clause that is stated
-conclusion_of : (t : TableView) (l : Logged) → conclusion (inference_of t l) ≡ clause_at t (named l)
+pub conclusion_of : (t : TableView) (l : Logged) → conclusion (inference_of t l) ≡ clause_at t (named l)
 conclusion_of t (assumed id) = refl
 conclusion_of t (stepped r ps c) = refl
 

@@ -52,6 +52,10 @@ AreEarlier log = (k : ℕ) → k < length log → All (λ s. s.0 < k) (premises_
 abbrev pub numbers_of : List StepId → List ℕ
 numbers_of ss = map (λ s. s.0) ss
 
+-- each literal has a number below n
+abbrev pub AreBelow : ℕ → List Logged → Type 0
+AreBelow n log = All (λ l. All (λ (id : TermId). id.0 < n) (named l)) log
+
 -- what it says over a table
 abbrev pub inference_of : TableView → Logged → Inference
 inference_of t (assumed id) = «assumption» (term_at t id)

@@ -127,7 +127,13 @@ impl ProofLog {
         ensures { Judges table.now self.now (stepped step.now.rule step.now.premises step.now.clause) result }
     {
         let premises = self.clauses_of(step.premises.as_slice())?;
-        judge(self.alloc, table, step.rule, &premises, step.clause.as_slice())?;
+        judge(
+            self.alloc,
+            table,
+            step.rule,
+            &premises,
+            step.clause.as_slice(),
+        )?;
         Ok(())
     }
 

@@ -1,1 +1,240 @@
-//! Tests of the log.
+//! Tests of the log: steps that are added and refused, clauses and steps by their numbers, cuts.
+
+ghost use Rattle.std.specs.Prelude.{◌≡◌, IfOk};
+ghost use Rattle.proof_log.specs.Logs.{IsLogOf};
+
+use crate::laws::empty_logs_are_right;
+use crate::{Clause, LogFault, Premises, ProofLog, Rule, Step, StepId, TermId};
+use std::alloc::{AllocError, Global};
+use std::test::Fail;
+use term_core::{Head, Node, SymbolId, TermTable};
+use world_io::NoMemory;
+
+const A: TermId = TermId(0);
+
+const B: TermId = TermId(1);
+
+const C: TermId = TermId(2);
+
+const A_OR_B: TermId = TermId(3);
+
+const NOT_A: TermId = TermId(4);
+
+/// The nodes of a table: the constants `a`, `b` and `c`, `(or a b)` and `(not a)`.
+const NODES: &[(Head, &[TermId])] = &[
+    (Head::Apply(SymbolId(0)), &[]),
+    (Head::Apply(SymbolId(1)), &[]),
+    (Head::Apply(SymbolId(2)), &[]),
+    (Head::Or, &[A, B]),
+    (Head::Not, &[A]),
+];
+
+/// Makes a table with the terms of these nodes.
+fn table_of(alloc: Global) -> Result<TermTable, NoMemory> {
+    let mut table = TermTable::new(alloc);
+    for name in [b"a".as_slice(), b"b".as_slice(), b"c".as_slice()].iter() {
+        if table.symbols().find(name) == None {
+            table.declare(name)?;
+        }
+    }
+    for (head, arguments) in NODES.iter() {
+        let node = Node::new(alloc, *head, arguments)?;
+        if table.takes(&node) {
+            table.put(node)?;
+        }
+    }
+    Ok(table)
+}
+
+/// A step: rule, premises, clause.
+type Row = (Rule, &'static [StepId], &'static [TermId]);
+
+/// Makes a step by copies.
+fn step_of(
+    alloc: Global,
+    rule: Rule,
+    premises: &[StepId],
+    clause: &[TermId],
+) -> Result<Step, AllocError>
+    ensures { IfOk result (λ s. s.clause ≡ clause.now) }
+{
+    let premises = Vec::from_slice(alloc, premises)?;
+    let clause = Vec::from_slice(alloc, clause)?;
+    Ok(Step {
+        rule,
+        premises: Premises::from(premises),
+        clause: Clause::from(clause),
+    })
+}
+
+/// Adds a step whose clause is of the table; `None` where it isn't.
+fn add(
+    alloc: Global,
+    table: &TermTable,
+    log: &mut ProofLog,
+    row: &Row,
+) -> Result<Option<Result<StepId, LogFault>>, AllocError>
+    requires { IsLogOf table.now log.old }
+    ensures { IsLogOf table.now log.new }
+{
+    if !table.has_terms(row.2) {
+        return Ok(None);
+    }
+    let step = step_of(alloc, row.0, row.1, row.2)?;
+    Ok(Some(log.add(table, step)))
+}
+
+/// Assumes a term of the table; `None` where it isn't.
+fn assume(table: &TermTable, log: &mut ProofLog, t: TermId) -> Result<Option<StepId>, NoMemory>
+    requires { IsLogOf table.now log.old }
+    ensures { IsLogOf table.now log.new }
+{
+    if t.0 >= table.len() {
+        return Ok(None);
+    }
+    Ok(Some(log.assume(t)?))
+}
+
+/// Makes a log that assumes `(or a b)` and `(not a)`.
+fn log_of(alloc: Global, table: &TermTable) -> Result<ProofLog, NoMemory>
+    ensures { IfOk result (IsLogOf table.now) }
+{
+    let mut log = ProofLog::new(alloc);
+    empty_logs_are_right();
+    assume(table, &mut log, A_OR_B)?;
+    assume(table, &mut log, NOT_A)?;
+    Ok(log)
+}
+
+/// The steps, and the numbers that they get; `None` where a step is refused.
+const STEPS: &[(Row, Option<u64>)] = &[
+    ((Rule::Or, &[StepId(0)], &[A, B]), Some(2)),
+    ((Rule::Or, &[StepId(1)], &[A, B]), None),
+    ((Rule::Or, &[StepId(0)], &[A]), None),
+    ((Rule::Or, &[], &[A, B]), None),
+    ((Rule::Or, &[StepId(3)], &[A, B]), None),
+    ((Rule::Resolution, &[StepId(2), StepId(1)], &[A]), None),
+    ((Rule::Resolution, &[StepId(2), StepId(9)], &[B]), None),
+    ((Rule::Resolution, &[StepId(2), StepId(3)], &[B]), None),
+    ((Rule::Resolution, &[StepId(2), StepId(1)], &[B]), Some(3)),
+    ((Rule::Weakening, &[StepId(3)], &[C, B]), Some(4)),
+    ((Rule::Weakening, &[StepId(4)], &[B]), None),
+    ((Rule::Reordering, &[StepId(4)], &[B, C]), Some(5)),
+    ((Rule::Resolution, &[], &[A, NOT_A]), Some(6)),
+    ((Rule::Resolution, &[StepId(5)], &[]), None),
+    ((Rule::OrNeg, &[], &[A_OR_B, NOT_A]), Some(7)),
+    ((Rule::OrNeg, &[], &[A_OR_B, A]), None),
+    ((Rule::OrNeg, &[StepId(0)], &[A_OR_B, NOT_A]), None),
+];
+
+/// Tells whether the log holds that step, or that assumed clause where there is no rule, under a number.
+fn states(
+    log: &ProofLog,
+    id: StepId,
+    rule: Option<Rule>,
+    premises: &[StepId],
+    clause: &[TermId],
+) -> bool {
+    if id.0 >= log.len() {
+        return false;
+    }
+    if log.clause(id) != clause {
+        return false;
+    }
+    match log.step(id) {
+        None => rule == None,
+        Some(step) => {
+            rule == Some(step.rule)
+                && step.premises.as_slice() == premises
+                && step.clause.as_slice() == clause
+        }
+    }
+}
+
+/// Adds the steps and tells whether each gets its number, or is refused and changes nothing.
+fn add_all(alloc: Global, table: &TermTable, log: &mut ProofLog) -> Result<bool, AllocError>
+    requires { IsLogOf table.now log.old }
+    ensures { IsLogOf table.now log.new }
+{
+    'steps: for (row, number) in STEPS.iter() {
+        let before = log.len();
+        let got = add(alloc, table, log, row)?;
+        match number {
+            None => {
+                if got != Some(Err(LogFault::RuleFails)) || log.len() != before {
+                    return Ok(false);
+                }
+            }
+            Some(n) => {
+                if got != Some(Ok(StepId(*n)))
+                    || !states(log, StepId(*n), Some(row.0), row.1, row.2)
+                {
+                    return Ok(false);
+                }
+            }
+        }
+    }
+    Ok(true)
+}
+
+/// Cuts the log, where it is so long.
+fn cut(table: &TermTable, log: &mut ProofLog, len: u64)
+    requires { IsLogOf table.now log.old }
+    ensures { IsLogOf table.now log.new }
+{
+    if len > log.len() {
+        return;
+    }
+    log.cut(len);
+}
+
+#[test]
+fn right_steps_alone_are_added(rt: HostRuntime) -> Result<(), Fail> {
+    let alloc = rt.alloc();
+    let table = table_of(alloc)?;
+    let mut log = log_of(alloc, &table)?;
+    assert!(rt; log.len() == 2);
+    assert!(rt; add_all(alloc, &table, &mut log)?);
+    assert!(rt; log.len() == 8);
+    Ok(())
+}
+
+#[test]
+fn assumed_terms_are_clauses_without_a_step(rt: HostRuntime) -> Result<(), Fail> {
+    let alloc = rt.alloc();
+    let table = table_of(alloc)?;
+    let mut log = log_of(alloc, &table)?;
+    assert!(rt; assume(&table, &mut log, C)? == Some(StepId(2)));
+    assert!(rt; log.len() == 3);
+    assert!(rt; states(&log, StepId(0), None, &[], &[A_OR_B]));
+    assert!(rt; states(&log, StepId(1), None, &[], &[NOT_A]));
+    assert!(rt; states(&log, StepId(2), None, &[], &[C]));
+    assert!(rt; log.step(StepId(3)).is_none());
+    Ok(())
+}
+
+#[test]
+fn what_is_cut_can_be_added_anew(rt: HostRuntime) -> Result<(), Fail> {
+    let alloc = rt.alloc();
+    let table = table_of(alloc)?;
+    let mut log = log_of(alloc, &table)?;
+    assert!(rt; add_all(alloc, &table, &mut log)?);
+    cut(&table, &mut log, 2);
+    assert!(rt; log.len() == 2);
+    assert!(rt; log.step(StepId(2)).is_none());
+    assert!(rt; states(&log, StepId(1), None, &[], &[NOT_A]));
+    assert!(rt; add_all(alloc, &table, &mut log)?);
+    assert!(rt; log.len() == 8);
+    log.cut(0);
+    assert!(rt; log.len() == 0);
+    Ok(())
+}
+
+#[test]
+fn lists_of_premises_are_given_back(rt: HostRuntime) -> Result<(), Fail> {
+    let premises = Premises::from(Vec::from_slice(rt.alloc(), &[StepId(4), StepId(4)])?);
+    assert!(rt; premises.len() == 2);
+    assert!(rt; premises.as_slice() == [StepId(4), StepId(4)].as_slice());
+    assert!(rt; premises.into_vec().as_slice() == [StepId(4), StepId(4)].as_slice());
+    Ok(())
+}

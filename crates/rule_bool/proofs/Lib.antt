@@ -13,3 +13,5 @@ pub mod Stepping
 pub mod Transport
 pub mod Resolvents
 pub mod OnePremise
+pub mod Behind
+pub mod Given

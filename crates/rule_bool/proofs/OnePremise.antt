@@ -35,7 +35,7 @@ module _ (t : TableView) (ids clause : List TermId) where
       subst (λ (x : TermId). Contains clause x) (ap number same) other.1
 
 -- the terms of a list are those of the list
-list_of-terms_of : (ts : List Term) → list_of (terms_of ts) ≡ ts
+pub list_of-terms_of : (ts : List Term) → list_of (terms_of ts) ≡ ts
 list_of-terms_of [] = refl
 list_of-terms_of (t ∷ ts) = λ i. t ∷ list_of-terms_of ts i
 

@@ -1,4 +1,4 @@
--- Literals, what propagation finds under those that hold, and how it goes on; what premises are as terms of the table.
+-- Literals, what propagation finds under those that hold, and how it goes on; what premises are as terms of the table; what terms give.
 pub mod Literals
 pub mod Findings
 pub mod Watching
@@ -6,3 +6,4 @@ pub mod Propagation
 pub mod Scanning
 pub mod Resolvents
 pub mod Premises
+pub mod Schemes

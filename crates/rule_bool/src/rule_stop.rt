@@ -3,6 +3,7 @@
 ghost use Rattle.std.specs.Prelude.{◌≡◌};
 
 use std::alloc::AllocError;
+use term_core::RuleFails;
 use thiserror::Error;
 
 /// Says why a step of a proof is not taken.
@@ -25,5 +26,15 @@ impl From<AllocError> for RuleStop {
 
     fn from(_error: AllocError) -> RuleStop {
         RuleStop::Memory
+    }
+}
+
+impl From<RuleFails> for RuleStop {
+    ghost use Rattle.rule_bool.specs.declared.rule_stop.RuleStop.TheVariants as stops;
+
+    ghost from_gives = { λ _ r. r ≡ stops.Fails };
+
+    fn from(_fails: RuleFails) -> RuleStop {
+        RuleStop::Fails
     }
 }

@@ -3,7 +3,7 @@
 ghost use Rattle.std.specs.Prelude.{All, IfOk};
 ghost use Rattle.term_core.specs.Tables.{AreIn};
 
-use crate::{RuleStop, resolution, rule_contraction, rule_or, rule_reordering, rule_weakening};
+use crate::{RuleStop, judge};
 use spec_proofs::Rule;
 use std::alloc::{AllocError, Global};
 use std::test::Fail;
@@ -12,9 +12,48 @@ use world_io::NoMemory;
 
 /// The letters that mean the terms of the table, in their order.
 ///
-/// `A` is the negation of `a`, `1` that of `A`, `0` is false, `|` is `(or a b)`, `o` is `(or a)`, `w` is `(or a b a)`, `e` is `(or)`,
-/// `&` is `(and a b)`, and `n` is the negation of `|`.
-const LETTERS: &[u8] = b"abcdABCD120|owe&n";
+/// `a` to `d` are constants, `A` to `D` their negations. `1` negates `A`, `2` negates `B`, `3` negates `1`, `4` negates `3`. `t` is true,
+/// `0` is false, `f` negates `0`. Then come terms over `a` and `b`, each with its negation: `&` is `(and a b)`, negated `N`, of which `@`
+/// is the negation; `u` is `(and)`, negated `U`; `|` is `(or a b)`, negated `n`; `o` is `(or a)`, negated `O`; `w` is `(or a b a)`,
+/// negated `W`; `e` is `(or)`, negated `E`; `>` is `(=> a b)`, negated `i`; `=` is `(= a b)`, negated `q`; `x` is `(xor a b)`, negated
+/// `X`; `?` is `(ite c a b)`, negated `I`.
+const LETTERS: &[u8] = b"abcdABCD1234t0f&N@uU|noOwWeE>i=qxX?I";
+
+/// The terms of the letters but for the constants, each by its head and its arguments.
+const TERMS: &[(Head, &[TermId])] = &[
+    (Head::Not, &[TermId(0)]),
+    (Head::Not, &[TermId(1)]),
+    (Head::Not, &[TermId(2)]),
+    (Head::Not, &[TermId(3)]),
+    (Head::Not, &[TermId(4)]),
+    (Head::Not, &[TermId(5)]),
+    (Head::Not, &[TermId(8)]),
+    (Head::Not, &[TermId(10)]),
+    (Head::True, &[]),
+    (Head::False, &[]),
+    (Head::Not, &[TermId(13)]),
+    (Head::And, &[TermId(0), TermId(1)]),
+    (Head::Not, &[TermId(15)]),
+    (Head::Not, &[TermId(16)]),
+    (Head::And, &[]),
+    (Head::Not, &[TermId(18)]),
+    (Head::Or, &[TermId(0), TermId(1)]),
+    (Head::Not, &[TermId(20)]),
+    (Head::Or, &[TermId(0)]),
+    (Head::Not, &[TermId(22)]),
+    (Head::Or, &[TermId(0), TermId(1), TermId(0)]),
+    (Head::Not, &[TermId(24)]),
+    (Head::Or, &[]),
+    (Head::Not, &[TermId(26)]),
+    (Head::Implies, &[TermId(0), TermId(1)]),
+    (Head::Not, &[TermId(28)]),
+    (Head::Equal, &[TermId(0), TermId(1)]),
+    (Head::Not, &[TermId(30)]),
+    (Head::Xor, &[TermId(0), TermId(1)]),
+    (Head::Not, &[TermId(32)]),
+    (Head::Ite, &[TermId(2), TermId(0), TermId(1)]),
+    (Head::Not, &[TermId(34)]),
+];
 
 /// Puts a term that the table takes.
 fn put(
@@ -39,17 +78,9 @@ fn letters(alloc: Global) -> Result<TermTable, NoMemory> {
             put(alloc, &mut table, Head::Apply(symbol), &[])?;
         }
     }
-    for negated in [0, 1, 2, 3, 4, 5] {
-        put(alloc, &mut table, Head::Not, &[TermId(negated)])?;
+    for (head, arguments) in TERMS.iter() {
+        put(alloc, &mut table, *head, arguments)?;
     }
-    let (a, b) = (TermId(0), TermId(1));
-    put(alloc, &mut table, Head::False, &[])?;
-    put(alloc, &mut table, Head::Or, &[a, b])?;
-    put(alloc, &mut table, Head::Or, &[a])?;
-    put(alloc, &mut table, Head::Or, &[a, b, a])?;
-    put(alloc, &mut table, Head::Or, &[])?;
-    put(alloc, &mut table, Head::And, &[a, b])?;
-    put(alloc, &mut table, Head::Not, &[TermId(11)])?;
     Ok(table)
 }
 
@@ -90,21 +121,31 @@ fn takes(
     requires premises { All (AreIn table.now) premises.now }
     requires clause { AreIn table.now clause.now }
 {
-    match rule {
-        Rule::Or => Ok(rule_or(table, premises, clause).is_ok()),
-        Rule::Contraction => Ok(rule_contraction(table, premises, clause).is_ok()),
-        Rule::Reordering => Ok(rule_reordering(table, premises, clause).is_ok()),
-        Rule::Weakening => Ok(rule_weakening(table, premises, clause).is_ok()),
-        Rule::Resolution | Rule::ThResolution => match resolution(alloc, table, premises, clause) {
-            Ok(()) => Ok(true),
-            Err(RuleStop::Fails) => Ok(false),
-            Err(RuleStop::Memory) => Err(AllocError),
-        },
+    match judge(alloc, table, rule, premises, clause) {
+        Ok(()) => Ok(true),
+        Err(RuleStop::Fails) => Ok(false),
+        Err(RuleStop::Memory) => Err(AllocError),
     }
 }
 
 /// A rule, premises, a clause, and whether the step is right.
-const STEPS: &[(Rule, &str, &str, bool)] = &[
+pub(crate) type Row = (Rule, &'static str, &'static str, bool);
+
+/// Gives the place of the first row whose step is judged otherwise.
+pub(crate) fn first_wrong(alloc: Global, rows: &[Row]) -> Result<Option<usize>, NoMemory> {
+    let table = letters(alloc)?;
+    for (place, (rule, premises, clause, wanted)) in rows.iter().enumerate() {
+        let premises = clauses_of(alloc, &table, premises)?;
+        let clause = clause_of(alloc, &table, clause)?;
+        if takes(alloc, *rule, &table, &premises, clause.as_slice())? != *wanted {
+            return Ok(Some(place));
+        }
+    }
+    Ok(None)
+}
+
+/// Steps by the rules that are by no scheme.
+const STEPS: &[Row] = &[
     (Rule::Or, "|;", "ab", true),
     (Rule::Or, "|;", "ba", true),
     (Rule::Or, "|;", "cab", true),
@@ -190,14 +231,16 @@ const STEPS: &[(Rule, &str, &str, bool)] = &[
 ];
 
 #[test]
-fn takes_right_steps_alone(rt: HostRuntime) -> Result<(), Fail> {
+fn means_each_term_by_its_letter(rt: HostRuntime) -> Result<(), Fail> {
     let alloc = rt.alloc();
     let table = letters(alloc).expect(&rt, "memory");
     assert!(rt; table.len() == LETTERS.len() as u64);
-    for (rule, premises, clause, wanted) in STEPS.iter() {
-        let premises = clauses_of(alloc, &table, premises)?;
-        let clause = clause_of(alloc, &table, clause)?;
-        assert!(rt; takes(alloc, *rule, &table, &premises, clause.as_slice())? == *wanted);
-    }
+    Ok(())
+}
+
+#[test]
+fn takes_right_steps_alone(rt: HostRuntime) -> Result<(), Fail> {
+    let alloc = rt.alloc();
+    assert!(rt; first_wrong(alloc, STEPS).expect(&rt, "memory") == None);
     Ok(())
 }

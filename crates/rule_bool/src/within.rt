@@ -1,15 +1,25 @@
 //! Whether a clause has the terms of a list.
 
-ghost use Rattle.std.specs.Prelude.{◌≡◌, ◌≢◌, ◌<◌, ◌≤◌, length, Contains, MatchBool, MatchOption};
+ghost use Rattle.std.specs.Prelude.{[], ◌∷◌, ◌≡◌, ◌≢◌, ◌<◌, ◌≤◌, length, Contains, MatchBool, MatchOption};
 ghost use Rattle.spec_proofs.specs.Resolution.{IsWithin};
 
 use term_core::TermId;
 
 /// Tells whether two numbers are one.
-fn same_number(a: TermId, b: TermId) -> bool
+pub(crate) fn same_number(a: TermId, b: TermId) -> bool
     ensures { MatchBool result (a ≡ b) (a ≢ b) }
 {
     a == b
+}
+
+/// Gives the one term of a list, or nothing where it has none or several.
+pub(crate) fn alone(ids: &[TermId]) -> Option<TermId>
+    ensures { MatchOption result (length ids.now ≢ 1) (λ id. ids.now ≡ id ∷ []) }
+{
+    let [id] = ids else {
+        return None;
+    };
+    Some(*id)
 }
 
 /// Gives the first place of a term, or nothing where it has none.
@@ -22,6 +32,13 @@ fn place_in(ids: &[TermId], id: TermId) -> Option<usize>
         }
     }
     None
+}
+
+/// Tells whether a term is one of a list.
+pub(crate) fn has_number(ids: &[TermId], id: TermId) -> bool
+    ensures { MatchBool result (Contains ids.now id) (Contains ids.now id → ⊥) }
+{
+    place_in(ids, id).is_some()
 }
 
 /// Gives a place of a term, where the places from `from` on are looked at before those in front of it, or nothing where it has none.

@@ -11,6 +11,7 @@ pub mod Endings
 pub mod Models
 pub mod Same
 pub mod Refuting
+pub mod Given
 pub mod Verdicts
 pub mod Parts
 pub mod Offsets

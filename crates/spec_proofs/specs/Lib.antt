@@ -12,4 +12,5 @@ pub mod Judging
 pub mod Good
 pub mod Accepted
 pub mod Examples
+pub mod ExamplesRules
 pub mod ExamplesUnread

@@ -8,6 +8,7 @@ use spec_text::Fault;
 
 pub mod examples;
 pub mod laws;
+pub mod rule_examples;
 
 /// Names a rule by which a step follows from earlier clauses. Which steps it takes says the table `kind_of` of
 /// `specs/Schemes.antt`. Source: Alethe specification, rules.

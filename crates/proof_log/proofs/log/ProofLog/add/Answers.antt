@@ -20,5 +20,5 @@ pub returns : goal.returns
 returns c =
     let s = c.args.step in
     let last : log_of c.push.new.self.items ≡ c.args.self.now ++ stepped s.rule s.premises s.clause ∷ [] =
-        ap log_of c.in_ok-push.ensures.items ∙ map-append logged_of c.self.inside.entries.items _ ∙ ap (λ l. l ++ stepped s.rule s.premises s.clause ∷ []) c.self.view_is in
+    ap log_of c.in_ok-push.ensures.items ∙ map-append logged_of c.self.inside.entries.items _ ∙ ap (λ l. l ++ stepped s.rule s.premises s.clause ∷ []) c.self.view_is in
     added c.args.table.now c.args.self.now (stepped s.rule s.premises s.clause) (record { 0 = c.len.result }) _ c.requires.log c.requires.clause c.in_ok-follows.ensures c.len.ensures last

@@ -1,0 +1,67 @@
+-- Clauses of a log are true where the assumed terms that they rest on are.
+use Rattle.std.proofs.Common.{◌≡◌, true, ℕ, ◌<◌, List, [], length, take, get_or, All, Contains, refl, sym, ap, ◌∙◌, subst, arith, length-take}
+use Rattle.std.proofs.lemmas.List.{length-map, get_or-map}
+use Rattle.std.proofs.lemmas.List.Elements.{All-map, All-contains, All-from_get_or, Contains-get_or}
+use Rattle.spec_terms.specs.Terms.{Term}
+use Rattle.spec_terms.specs.Values.{Interpretation}
+use Rattle.spec_proofs.specs.Clauses.{term_true, clause_true, HasTruth}
+use Rattle.spec_search.specs.Derivations.{Derivation, Inference, «assumption», by_rule, conclusion, premises_of, no_inference, inference_at, conclusion_at, FollowsFrom, IsDerivation, RestsOn, itself, by_premise}
+use Rattle.term_core.specs.declared.ids.TermId.{TermId}
+use Rattle.term_core.specs.Tables.{TableView, no_term, term_at, clause_at}
+use Rattle.proof_log.specs.declared.premises.StepId.{StepId}
+use Rattle.proof_log.specs.Logs.{Logged, assumed, stepped, named, no_logged, logged_at, inference_of, derivation_in, IsLogOf}
+use Rattle.proof_log.proofs.Derivations.{follows_at}
+use Rattle.proof_log.proofs.Logged.{conclusion_of, conclusion_there}
+
+-- a premise stands before the clause
+premise_before : (earlier : Derivation) (x : Inference) (m : ℕ) → FollowsFrom earlier x → Contains (premises_of x) m → m < length earlier
+premise_before earlier («assumption» u) m follows here = absurd (All-contains (λ n. ⊥) [] m (λ k d lt. omega (arith, lt)) here)
+premise_before earlier (by_rule r ps c) m follows here = All-contains (λ n. n < length earlier) ps m follows.0 here
+
+-- what a clause rests on is there
+rests_within : (d : Derivation) → IsDerivation d → (n m : ℕ) → RestsOn d n m → n < length d → m < length d
+rests_within d h _ _ (itself n) lt = lt
+rests_within d h _ _ (by_premise n m k here rest) lt =
+    let before : m < length (take n d) = premise_before (take n d) (inference_at d n) m (follows_at d h n lt) here in
+    rests_within d h m k rest (omega (arith, before, length-take n d))
+
+-- A term that was assumed under a number.
+record IsAssumedAs (t : TableView) (l : Logged) (u : Term) : Type 0 where
+  id : TermId
+  is : l ≡ assumed id
+  means : term_at t id ≡ u
+
+assumed_as : (t : TableView) (l : Logged) (u : Term) → inference_of t l ≡ «assumption» u → IsAssumedAs t l u
+assumed_as t (assumed id) u e = record { id = id; is = refl; means = cc }
+assumed_as t (stepped r ps c) u e = cc
+
+-- what the law of derivations says
+abbrev pub IsLaw : Type 0
+IsLaw = (d : Derivation) (i : Interpretation) → IsDerivation d → All (λ x. All (HasTruth i) (conclusion x)) d
+    → (n : ℕ) → n < length d
+    → ((m : ℕ) (u : Term) → RestsOn d n m → inference_at d m ≡ «assumption» u → term_true i u ≡ true)
+    → clause_true i (conclusion_at d n) ≡ true
+
+module _ (t : TableView) (log : List Logged) (i : Interpretation) (h : IsLogOf t log) (truths : All (HasTruth i) t.terms) where
+  -- the literals of its clauses have truth values
+  truths_there : All (λ x. All (HasTruth i) (conclusion x)) (derivation_in t log)
+  truths_there = All-map (λ x. All (HasTruth i) (conclusion x)) (inference_of t) log (λ k d lt.
+      subst (λ (c : List Term). All (HasTruth i) c) (sym (conclusion_of t (get_or log k d)))
+      (All-map (HasTruth i) (term_at t) (named (get_or log k d)) (λ j e lt_j. truths (get_or (named (get_or log k d)) j e).0 no_term (h.there k d lt j e lt_j))))
+
+  -- a clause is true where the assumed terms that it rests on are
+  pub clause_sound : IsLaw → (s : StepId) → s.0 < length log
+      → ((m : StepId) (id : TermId) → RestsOn (derivation_in t log) s.0 m.0 → m.0 < length log → logged_at log m ≡ assumed id → term_true i (term_at t id) ≡ true)
+      → clause_true i (clause_at t (named (logged_at log s))) ≡ true
+  clause_sound law s lt assumptions =
+      let lt_d : s.0 < length (derivation_in t log) = subst (λ n. s.0 < n) (sym (length-map log (inference_of t))) lt in
+      ap (clause_true i) (sym (conclusion_there t log s lt)) ∙ law (derivation_in t log) i h.right truths_there s.0 lt_d (λ m u rests is.
+      let m_d : m < length (derivation_in t log) = rests_within (derivation_in t log) h.right s.0 m rests lt_d in
+      let m_lt : m < length log = subst (λ n. m < n) (length-map log (inference_of t)) m_d in
+      let a = assumed_as t (get_or log m no_logged) u (sym (get_or-map (inference_of t) log m no_logged no_inference m_lt) ∙ is) in
+      ap (term_true i) (sym a.means) ∙ assumptions (record { 0 = m }) a.id rests m_lt a.is)
+
+  -- all clauses are true where the assumed terms are
+  pub all_sound : IsLaw → ((id : TermId) → Contains log (assumed id) → term_true i (term_at t id) ≡ true) → All (λ l. clause_true i (clause_at t (named l)) ≡ true) log
+  all_sound law assumptions = All-from_get_or (λ l. clause_true i (clause_at t (named l)) ≡ true) log no_logged (λ k lt.
+      clause_sound law (record { 0 = k }) lt (λ m id rests m_lt is. assumptions id (subst (λ l. Contains log l) is (Contains-get_or log m.0 no_logged m_lt))))

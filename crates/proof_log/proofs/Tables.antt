@@ -1,0 +1,73 @@
+-- Logs over tables that have the same terms by the numbers that the logs name.
+use Rattle.std.proofs.Common.{◌≡◌, ℕ, suc, ◌<◌, List, [], ◌∷◌, length, take, get_or, All, refl, sym, ap, ◌∙◌, subst, arith, length-append, length-take}
+use Rattle.std.proofs.lemmas.List.{get_or_append_left, get_or-take}
+use Rattle.spec_search.specs.Derivations.{Derivation, «assumption», by_rule, IsDerivation}
+use Rattle.term_core.specs.declared.ids.TermId.{TermId}
+use Rattle.term_core.specs.Tables.{TableView, no_term, term_at, IsIn, clause_at, Extends}
+use Rattle.proof_log.specs.Logs.{Logged, assumed, stepped, named, numbers_of, inference_of, derivation_in, AreBelow, IsLogOf}
+
+-- a log without clauses
+pub empty_right : (t : TableView) → IsLogOf t []
+empty_right t = record {
+  there = λ k d lt. absurd (omega (arith, lt));
+  right = λ before x after is. absurd (omega (arith, ap length is, length-append before (x ∷ after)));
+}
+
+module _ (t u : TableView) where
+  -- the number means the same in both tables
+  IsKept : TermId → Type 0
+  IsKept id = IsIn u id × (term_at u id ≡ term_at t id)
+
+  clause_kept : (ids : List TermId) → All IsKept ids → clause_at u ids ≡ clause_at t ids
+  unfolding IsKept
+  clause_kept [] kept = refl
+  clause_kept (id ∷ ids) kept = λ i. (kept 0 id (omega arith)).1 i ∷ clause_kept ids (λ k d lt. kept (suc k) d (omega (arith, lt))) i
+
+  inference_kept : (l : Logged) → All IsKept (named l) → inference_of u l ≡ inference_of t l
+  unfolding IsKept
+  inference_kept (assumed id) kept = ap (λ x. «assumption» x) (kept 0 id (omega arith)).1
+  inference_kept (stepped r ps c) kept = ap (λ x. by_rule r (numbers_of ps) x) (clause_kept c kept)
+
+  derivation_kept : (log : List Logged) → All (λ l. All IsKept (named l)) log → derivation_in u log ≡ derivation_in t log
+  derivation_kept [] kept = refl
+  derivation_kept (l ∷ log) kept = λ i. inference_kept l (kept 0 l (omega arith)) i ∷ derivation_kept log (λ k d lt. kept (suc k) d (omega (arith, lt))) i
+
+  log_kept : (log : List Logged) → All (λ l. All IsKept (named l)) log → IsLogOf t log → IsLogOf u log
+  unfolding IsKept
+  log_kept log kept h = record {
+    there = λ k d lt j e lt_j. (kept k d lt j e lt_j).0;
+    right = subst (λ (d : Derivation). IsDerivation d) (sym (derivation_kept log kept)) h.right;
+  }
+
+  -- a table that has grown
+  grown : (log : List Logged) → IsLogOf t log → Extends t u → All (λ l. All IsKept (named l)) log
+  unfolding IsKept
+  grown log h more k d lt j e lt_j =
+      let id = get_or (named (get_or log k d)) j e in
+      let here : id.0 < length t.terms = h.there k d lt j e lt_j in (
+        subst (λ ts. id.0 < length ts) (sym more.terms) (omega (arith, here, length-append t.terms more.more_terms)),
+        ap (λ ts. get_or ts id.0 no_term) more.terms ∙ get_or_append_left t.terms more.more_terms no_term id.0 here,
+      )
+
+  -- a table that was cut
+  cut : (n : ℕ) (log : List Logged) → IsLogOf t log → u.terms ≡ take n t.terms → AreBelow n log → All (λ l. All IsKept (named l)) log
+  unfolding IsKept
+  cut n log h front below k d lt j e lt_j =
+      let id = get_or (named (get_or log k d)) j e in
+      let here : id.0 < length t.terms = h.there k d lt j e lt_j in
+      let under : id.0 < n = below k d lt j e lt_j in (
+        subst (λ ts. id.0 < length ts) (sym front) (omega (arith, here, under, length-take n t.terms)),
+        ap (λ ts. get_or ts id.0 no_term) front ∙ get_or-take n t.terms id.0 no_term under,
+      )
+
+  pub grown_right : (log : List Logged) → IsLogOf t log → Extends t u → IsLogOf u log
+  grown_right log h more = log_kept log (grown log h more) h
+
+  pub grown_same : (log : List Logged) → IsLogOf t log → Extends t u → derivation_in u log ≡ derivation_in t log
+  grown_same log h more = derivation_kept log (grown log h more)
+
+  pub cut_right : (n : ℕ) (log : List Logged) → IsLogOf t log → u.terms ≡ take n t.terms → AreBelow n log → IsLogOf u log
+  cut_right n log h front below = log_kept log (cut n log h front below) h
+
+  pub cut_same : (n : ℕ) (log : List Logged) → IsLogOf t log → u.terms ≡ take n t.terms → AreBelow n log → derivation_in u log ≡ derivation_in t log
+  cut_same n log h front below = derivation_kept log (cut n log h front below)

@@ -1,0 +1,48 @@
+//! Terms as they stand, and what negations negate.
+
+ghost use Rattle.std.specs.Prelude.{MatchOption, false};
+ghost use Rattle.spec_proofs.specs.Rules.{flipped};
+ghost use Rattle.term_core.specs.Tables.{IsIn, term_at};
+ghost use Rattle.rule_bool.specs.Schemes.{IsSigned, HasNoSign, HasNoTurn};
+
+use term_core::{Head, TermId, TermTable};
+
+/// Gives the argument of a negation, or nothing where the term is none.
+fn negated(table: &TermTable, id: TermId) -> Option<TermId>
+    requires { IsIn table.now id }
+    ensures { MatchOption result (HasNoSign false (term_at table.now id)) (IsSigned table.now false (term_at table.now id)) }
+{
+    let node = table.node(id);
+    let [inner] = node.arguments.as_slice() else {
+        return None;
+    };
+    match node.head {
+        Head::Not => Some(*inner),
+        _ => None,
+    }
+}
+
+/// Gives the term as it stands, or where `positive` is false what it negates; nothing where it is no negation.
+pub(crate) fn without_sign(table: &TermTable, positive: bool, id: TermId) -> Option<TermId>
+    requires { IsIn table.now id }
+    ensures { MatchOption result (HasNoSign positive (term_at table.now id)) (IsSigned table.now positive (term_at table.now id)) }
+{
+    if positive {
+        return Some(id);
+    }
+    negated(table, id)
+}
+
+/// Gives what is without its sign the term with a leading `not` off, or else one on.
+///
+/// The term so made need not be the table's. Where `positive` is true and it is not, there is nothing; where `positive` is false,
+/// there is nothing where it is made by taking off and is no negation.
+pub(crate) fn turned_without_sign(table: &TermTable, positive: bool, id: TermId) -> Option<TermId>
+    requires { IsIn table.now id }
+    ensures { MatchOption result (HasNoTurn positive (term_at table.now id)) (IsSigned table.now positive (flipped (term_at table.now id))) }
+{
+    match negated(table, id) {
+        Some(inner) => without_sign(table, positive, inner),
+        None => { if positive { None } else { Some(id) } }
+    }
+}
