@@ -22,14 +22,14 @@ use Rattle.spec_proofs.proofs.Chains.{mapped}
 use Rattle.spec_search.specs.Base.{clauses_of, base_clauses}
 
 -- what an element gives comes from one
-from_flat : {X Y : Type 0} (f : X → List Y) (xs : List X) (y : Y) → Contains (flat_map f xs) y → (x : X) × Contains xs x × Contains (f x) y
+pub from_flat : {X Y : Type 0} (f : X → List Y) (xs : List X) (y : Y) → Contains (flat_map f xs) y → (x : X) × Contains xs x × Contains (f x) y
 from_flat f [] y h = absurd (none y h)
 from_flat f (z ∷ zs) y h = elim (Contains-append_cases (f z) (flat_map f zs) y h) [
   | inl here ↦ (z, first z zs, here)
   | inr rest ↦ let r = from_flat f zs y rest in (r.0, later z zs r.0 r.1, r.2)
 ]
 
-from_map : {X Y : Type 0} (f : X → Y) (xs : List X) (y : Y) → Contains (map f xs) y → (x : X) × Contains xs x × (f x ≡ y)
+pub from_map : {X Y : Type 0} (f : X → Y) (xs : List X) (y : Y) → Contains (map f xs) y → (x : X) × Contains xs x × (f x ≡ y)
 from_map f [] y h = absurd (none y h)
 from_map f (z ∷ zs) y h = elim (cases (f z) (map f zs) y h) [
   | inl e ↦ (z, first z zs, e)

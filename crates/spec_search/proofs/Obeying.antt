@@ -14,23 +14,23 @@ use Rattle.spec_search.specs.Models.{is_formula, value_by, Obeys}
 use Rattle.spec_search.proofs.Meeting.{negated_true, alone, with_one, with_two, with_any, with_each, xor_by, implies_by, equal_by, ite_by, none_false, one_true, all_follow, all_lead, same_truth}
 
 -- how many arguments a head takes
-not_takes : (ss : List Sort) → head_takes Not ss ≡ true → length ss ≡ 1
+pub not_takes : (ss : List Sort) → head_takes Not ss ≡ true → length ss ≡ 1
 not_takes (Truth ∷ []) e = refl
 not_takes _ e = absurd (false≢true e)
 
-xor_takes : (ss : List Sort) → head_takes Xor ss ≡ true → length ss ≡ 2
+pub xor_takes : (ss : List Sort) → head_takes Xor ss ≡ true → length ss ≡ 2
 xor_takes (Truth ∷ Truth ∷ []) e = refl
 xor_takes _ e = absurd (false≢true e)
 
-implies_takes : (ss : List Sort) → head_takes Implies ss ≡ true → length ss ≡ 2
+pub implies_takes : (ss : List Sort) → head_takes Implies ss ≡ true → length ss ≡ 2
 implies_takes (Truth ∷ Truth ∷ []) e = refl
 implies_takes _ e = absurd (false≢true e)
 
-equal_takes : (ss : List Sort) → head_takes Equal ss ≡ true → length ss ≡ 2
+pub equal_takes : (ss : List Sort) → head_takes Equal ss ≡ true → length ss ≡ 2
 equal_takes (s ∷ t ∷ []) e = refl
 equal_takes _ e = absurd (false≢true e)
 
-ite_takes : (ss : List Sort) → head_takes Ite ss ≡ true → length ss ≡ 3
+pub ite_takes : (ss : List Sort) → head_takes Ite ss ≡ true → length ss ≡ 3
 ite_takes (Truth ∷ s ∷ t ∷ []) e = refl
 ite_takes _ e = absurd (false≢true e)
 

@@ -1,0 +1,8 @@
+-- The lemmas of this crate.
+pub mod Arguments
+pub mod Growing
+pub mod Stated
+pub mod Formulas
+pub mod Bases
+pub mod Marked
+pub mod Marking

@@ -1,0 +1,12 @@
+-- The terms so far are assumed.
+use Rattle.std.proofs.Common.{[], ◌∷◌, map, take}
+use Rattle.term_core.specs.Tables.{clause_at}
+use Rattle.clausify.specs.Clausified.{Grows}
+use Rattle.clausify.specs.Stating.{Tells}
+use Rattle.clausify.proofs.roots.assume_each.Given as goal
+
+abbrev pub invariant-roots : goal.invariant-roots
+invariant-roots l = record {
+  grows : Grows l.roots l.table l.table l.fn.log l.log;
+  tells : Tells l.table l.table l.fn.log l.log l.fn.steps.items l.steps.items (map (λ t. t ∷ []) (clause_at l.table (take l.root-index l.roots)));
+}

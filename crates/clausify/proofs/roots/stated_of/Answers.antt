@@ -1,0 +1,42 @@
+-- The terms are assumed, and the clauses of the marked ones stated.
+use Rattle.std.proofs.Common.{◌≡◌, ◌++◌, List, [], Bool, ap, sym, subst}
+use Rattle.std.specs.Prelude.{flat_map}
+use Rattle.spec_terms.specs.Literals.{Clause}
+use Rattle.term_core.specs.Tables.{clause_at}
+use Rattle.proof_log.specs.declared.premises.StepId.{StepId}
+use Rattle.clausify.specs.Clausified.{HasClauses, Grows}
+use Rattle.clausify.specs.Stating.{Says}
+use Rattle.clausify.specs.Marks.{AreMarksOf}
+use Rattle.clausify.proofs.Growing.{Grows-self, Grows-trans, Grows-weaker}
+use Rattle.clausify.proofs.Bases.{alone, marked_clauses, has_clauses, Says-none}
+use Rattle.clausify.proofs.roots.stated_of.Goals as goal
+use Rattle.clausify.proofs.roots.stated_of.Goals.{After-state_marked}
+
+pub returns-in_err-marks-clause-grows : goal.returns-in_err-marks-clause-grows
+returns-in_err-marks-clause-grows c = Grows-self c.args.roots.now c.args.table.now c.args.log.now c.requires.log
+
+-- both together
+both_grow : (c : After-state_marked) → Grows c.args.roots.now c.args.table.now c.state_marked.new.table c.args.log.now c.state_marked.new.log
+both_grow c =
+    let t = c.args.table.now in
+    let roots = c.args.roots.now in
+    Grows-trans roots t t c.state_marked.new.table c.args.log.now c.assume_each.new.log c.state_marked.new.log c.assume_each.ensures.grows (Grows-weaker roots t c.state_marked.new.table c.assume_each.new.log c.state_marked.new.log c.state_marked.ensures.grows)
+
+pub returns-in_err-state_marked-clause-grows : goal.returns-in_err-state_marked-clause-grows
+returns-in_err-state_marked-clause-grows c = both_grow (goal.at.returns-in_err-state_marked-clause-grows c).After-state_marked
+
+pub returns-clause-grows : goal.returns-clause-grows
+returns-clause-grows c = both_grow (goal.at.returns-clause-grows c).After-state_marked
+
+pub returns-clause-clauses : goal.returns-clause-clauses
+returns-clause-clauses c =
+    let t = c.args.table.now in
+    let u = c.state_marked.new.table in
+    let log = c.state_marked.new.log in
+    let roots = c.args.roots.now in
+    let marks = c.in_ok-marks.marks.items in
+    let units = alone (clause_at t roots) in
+    let none = Says-none t c.args.log.now c.new-steps.result.items c.new-steps.ensures.items in
+    let assumed = c.in_ok-assume_each.ensures.tells [] none in
+    let stated : Says u log c.state_marked.new.steps.items (units ++ marked_clauses marks t.terms) = subst (λ (ms : List Bool). Says u log c.state_marked.new.steps.items (units ++ marked_clauses ms t.terms)) c.deref.ensures.value (c.in_ok-state_marked.ensures.tells units assumed) in
+    subst (λ (ss : List StepId). HasClauses u log (clause_at t roots) ss) (sym c.from.ensures) (has_clauses t u log roots marks c.state_marked.new.steps.items c.in_ok-marks.ensures stated)

@@ -1,0 +1,76 @@
+-- One scheme after the other.
+use Rattle.std.proofs.Common.{◌≡◌, ◌+◌, ◌++◌, ◌<◌, List, [], ◌∷◌, length, take, get_or, ap, sym, ◌∙◌, subst, arith}
+use Rattle.std.proofs.lemmas.List.{take_all}
+use Rattle.spec_terms.specs.Terms.{Term}
+use Rattle.spec_terms.specs.Literals.{Clause}
+use Rattle.spec_terms.specs.Subsets.{arguments_of}
+use Rattle.spec_proofs.specs.declared.Rule.TheVariants as rules
+use Rattle.spec_proofs.specs.declared.Rest.TheVariants.{Nothing}
+use Rattle.spec_proofs.specs.Schemes.{clauses_by}
+use Rattle.spec_search.specs.Base.{clauses_of}
+use Rattle.term_core.specs.Tables.{TableView, term_at, shape_of}
+use Rattle.term_core.proofs.TermsExtend.{term_at-kept}
+use Rattle.clausify.specs.declared.schemes.Stating.{Stating}
+use Rattle.clausify.specs.declared.schemes.Stating.TheVariants.{Plain}
+use Rattle.clausify.specs.Stating.{Tells, head_of, scheme_by, rest_by, IsRuleOf, HasPlaces, clauses_in}
+use Rattle.clausify.proofs.Growing.{Grows-self, Grows-trans, Tells-none, Tells-trans, Tells-same}
+use Rattle.clausify.proofs.Formulas.{rule_at, places_at, all_clauses, schemes_more}
+use Rattle.clausify.proofs.statements.state_term.Goals as goal
+
+-- what no number of schemes means
+abbrev no_stating : Stating
+no_stating = Plain rules.Or Nothing
+
+pub schemes-init : goal.schemes-init
+schemes-init c = record {
+  grows = Grows-self [] c.args.table.now c.args.log.now c.requires.log;
+  tells = Tells-none c.args.table.now c.args.log.now c.args.steps.now.items;
+}
+
+pub state_scheme-requires-clause-rule : goal.state_scheme-requires-clause-rule
+state_scheme-requires-clause-rule c =
+    let t = c.args.table.now in
+    let list = c.schemes_of-list.result.now in
+    let kept = term_at-kept t c.schemes.table c.schemes.invariant.grows.table c.args.id c.requires.there in
+    subst (λ (u : Term). IsRuleOf (head_of u) (get_or list c.schemes.by-index no_stating)) (sym kept)
+        (rule_at t (shape_of c.node.result.now) (term_at t c.args.id) c.node.ensures.means list c.schemes_of-list.ensures c.schemes.by-index no_stating c.schemes-test.true)
+
+pub state_scheme-requires-clause-places : goal.state_scheme-requires-clause-places
+state_scheme-requires-clause-places c =
+    let t = c.args.table.now in
+    let list = c.schemes_of-list.result.now in
+    let kept = term_at-kept t c.schemes.table c.schemes.invariant.grows.table c.args.id c.requires.there in
+    subst (λ (u : Term). HasPlaces (length (arguments_of u)) (rest_by (get_or list c.schemes.by-index no_stating))) (sym kept)
+        (places_at t (shape_of c.node.result.now) (term_at t c.args.id) c.node.ensures.means list c.schemes_of-list.ensures c.node.ensures.placed c.schemes.by-index no_stating c.schemes-test.true)
+
+pub returns-in_err-state_scheme-clause-grows : goal.returns-in_err-state_scheme-clause-grows
+returns-in_err-state_scheme-clause-grows c = Grows-trans [] c.args.table.now c.schemes.table c.state_scheme.new.table c.args.log.now c.schemes.log c.state_scheme.new.log c.schemes.invariant.grows c.state_scheme.ensures.grows
+
+pub schemes-preserved : goal.schemes-preserved
+schemes-preserved c =
+    let t = c.args.table.now in
+    let now = c.schemes.table in
+    let new = c.state_scheme.new.table in
+    let h = c.schemes.invariant in
+    let k = c.schemes.by-index in
+    let list = c.schemes_of-list.result.now in
+    let by = get_or list k no_stating in
+    let term = term_at t c.args.id in
+    let f : Term → List Clause = λ u. clauses_by (scheme_by (head_of u) by) u in
+    let told = clauses_in term (take k list) in
+    let same : f (term_at now c.args.id) ≡ f term = ap f (term_at-kept t now h.grows.table c.args.id c.requires.there) in
+    let one : Tells now new c.schemes.log c.state_scheme.new.log c.schemes.steps.items c.state_scheme.new.steps.items (f term) = Tells-same now new c.schemes.log c.state_scheme.new.log c.schemes.steps.items c.state_scheme.new.steps.items (f (term_at now c.args.id)) (f term) same c.in_ok-state_scheme.ensures.tells in
+    record {
+      grows = Grows-trans [] t now new c.args.log.now c.schemes.log c.state_scheme.new.log h.grows c.state_scheme.ensures.grows;
+      tells = Tells-same t new c.args.log.now c.state_scheme.new.log c.args.steps.now.items c.state_scheme.new.steps.items (told ++ f term) (clauses_in term (take (k + 1) list)) (schemes_more term list k no_stating c.schemes-test.true)
+          (Tells-trans t now new c.args.log.now c.schemes.log c.state_scheme.new.log c.args.steps.now.items c.schemes.steps.items c.state_scheme.new.steps.items told (f term) h.tells one);
+    }
+
+pub returns-clause-tells : goal.returns-clause-tells
+returns-clause-tells c =
+    let t = c.args.table.now in
+    let term = term_at t c.args.id in
+    let list = c.schemes_of-list.result.now in
+    let front : take c.schemes.by-index list ≡ list = take_all c.schemes.by-index list (omega (arith, c.schemes-test.false)) in
+    let whole = ap (clauses_in term) front ∙ all_clauses t (shape_of c.node.result.now) term c.node.ensures.means list c.schemes_of-list.ensures in
+    Tells-same t c.schemes.table c.args.log.now c.schemes.log c.args.steps.now.items c.schemes.steps.items (clauses_in term (take c.schemes.by-index list)) (clauses_of term) whole c.schemes.invariant.tells
