@@ -6,3 +6,4 @@ pub mod Meeting
 pub mod Obeying
 pub mod Modelling
 pub mod Holding
+pub mod Over

@@ -82,3 +82,11 @@ pub fn base_clauses_hold_in_models()
     spec_proofs::laws::rules_are_sound();
     spec_terms::subterms::subterms_are_least();
 }
+
+/// States that the literals of base clauses are over subterms of their terms. Source: own.
+pub fn base_clauses_are_over_subterms()
+    ensures { (terms : List Term) (c : Clause) (l : Literal) → Contains (base_clauses terms) c → Contains (literals_of c) l
+        → Contains (subterms_of terms) l.atom }
+{
+    spec_terms::subterms::subterms_are_least();
+}
