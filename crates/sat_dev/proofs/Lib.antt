@@ -14,3 +14,4 @@ pub mod SearchModels
 pub mod SearchModelsMade
 pub mod SearchRounds
 pub mod SearchLoop
+pub mod SearchDecided

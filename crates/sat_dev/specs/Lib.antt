@@ -4,3 +4,4 @@ pub mod Analyses
 pub mod Stores
 pub mod SearchModels
 pub mod Rounds
+pub mod Decisions

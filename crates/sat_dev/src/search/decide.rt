@@ -1,12 +1,16 @@
 //! The answer of a check.
 
-ghost use Rattle.std.specs.Prelude.{◌≡◌, IfOk, OnOk, OnErr};
+ghost use Rattle.std.specs.Prelude.{◌≡◌, IfOk, OnErr};
+ghost use Rattle.term_core.specs.Tables.{AreIn, Extends, clause_at};
+ghost use Rattle.sat_dev.specs.Decisions.{IsDecided};
 
 use crate::search::rounds::{Answer, search};
 use crate::search::store::store_of;
 use clausify::clauses_of_all;
 use proof_log::ProofLog;
+use proof_log::laws::empty_logs_are_right;
 use sat_budget::{Budget, Limits};
+use spec_search::laws::base_clauses_are_over_subterms;
 use std::alloc::Global;
 use term_core::{TermId, TermTable};
 use world_io::NoMemory;
@@ -29,6 +33,11 @@ pub(crate) fn decide(
     roots: &[TermId],
     limits: &Limits,
 ) -> Result<Decision, NoMemory>
+    requires roots { AreIn table.old roots.now }
+    ensures grown { Extends table.old table.new }
+    ensures symbols { table.new.symbols ≡ table.old.symbols }
+    ensures decided { IfOk result (IsDecided table.new (clause_at table.old roots.now) limits.now.conflicts) }
+    ensures same { OnErr result (table.new ≡ table.old) }
 {
     let len = table.len();
     match decided(alloc, table, roots, limits) {
@@ -47,7 +56,13 @@ fn decided(
     roots: &[TermId],
     limits: &Limits,
 ) -> Result<Decision, NoMemory>
+    requires roots { AreIn table.old roots.now }
+    ensures grown { Extends table.old table.new }
+    ensures symbols { table.new.symbols ≡ table.old.symbols }
+    ensures decided { IfOk result (IsDecided table.new (clause_at table.old roots.now) limits.now.conflicts) }
 {
+    base_clauses_are_over_subterms();
+    empty_logs_are_right();
     let mut log = ProofLog::new(alloc);
     let list = clauses_of_all(alloc, table, &mut log, roots)?;
     let mut store = store_of(alloc, table, &log, list.as_slice())?;
