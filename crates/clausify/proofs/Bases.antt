@@ -1,5 +1,5 @@
 -- The clauses of terms, from those of the marked numbers.
-use Rattle.std.proofs.Common.{◌≡◌, ℕ, zero, suc, ◌+◌, ◌<◌, ◌≤◌, Bool, true, false, List, [], ◌∷◌, ◌++◌, length, map, get_or, take, All, Contains, if◌then◌else◌, inl, inr, refl, sym, ap, ◌∙◌, subst, arith, add-one}
+use Rattle.std.proofs.Common.{◌≡◌, ℕ, ◌+◌, ◌<◌, ◌≤◌, Bool, false, List, [], ◌∷◌, ◌++◌, length, map, get_or, take, Contains, if◌then◌else◌, inl, inr, sym, ap, ◌∙◌, subst, arith, add-one}
 use Rattle.std.specs.Prelude.{flat_map}
 use Rattle.std.proofs.lemmas.List.{append-nil, map-append, take_more}
 use Rattle.std.proofs.lemmas.List.Elements.{Contains-append_left, Contains-append_right, Contains-append_cases}
@@ -9,7 +9,7 @@ use Rattle.spec_terms.specs.Literals.{Clause}
 use Rattle.spec_terms.specs.Subterms.{subterms_of}
 use Rattle.spec_terms.specs.Subsets.{AreAmong}
 use Rattle.spec_proofs.specs.Resolution.{IsWithin}
-use Rattle.spec_search.specs.Base.{clauses_of, base_clauses}
+use Rattle.spec_search.specs.Base.{clauses_of}
 use Rattle.spec_search.proofs.Meeting.{in_flat}
 use Rattle.spec_search.proofs.Holding.{from_flat}
 use Rattle.term_core.specs.declared.ids.TermId.{TermId}

@@ -1,11 +1,11 @@
 -- Terms of a table are formulas: what their schemes give, and by which rules it is right.
-use Rattle.std.proofs.Common.{◌≡◌, ℕ, zero, suc, ◌+◌, ◌<◌, ◌≤◌, Bool, true, false, ◌&&◌, List, [], ◌∷◌, ◌++◌, length, map, get_or, take, All, Contains, if◌then◌else◌, refl, sym, ap, ap₂, ◌∙◌, subst, arith}
+use Rattle.std.proofs.Common.{◌≡◌, ℕ, zero, suc, ◌+◌, ◌<◌, ◌≤◌, Bool, true, ◌&&◌, List, [], ◌∷◌, ◌++◌, length, map, get_or, take, Contains, if◌then◌else◌, refl, sym, ap, ◌∙◌, subst, arith}
 use Rattle.std.specs.Prelude.{flat_map}
 use Rattle.std.specs.List.{AllByRecursion}
 use Rattle.std.proofs.lemmas.Bool.{and_parts}
 use Rattle.std.proofs.lemmas.List.{append-nil, length-map, take_more}
 use Rattle.std.proofs.lemmas.Grind.{flat_map-append}
-use Rattle.spec_terms.specs.Terms.{Symbol, Sort, Truth, same_sort, Head, same_head, Term, terms_of, app, list_of, sort_of, all_same, head_takes, same_term, same_terms}
+use Rattle.spec_terms.specs.Terms.{Symbol, Sort, Truth, same_sort, same_head, Term, terms_of, app, sort_of, all_same, head_takes, same_term, same_terms}
 use Rattle.spec_terms.specs.Literals.{Clause}
 use Rattle.spec_terms.specs.Subsets.{arguments_of}
 use Rattle.spec_terms.proofs.SameTerms.{terms_decide}
@@ -24,7 +24,7 @@ use Rattle.term_core.specs.Tables.{TableView, term_at, IsIn, AreIn, clause_at, h
 use Rattle.term_core.proofs.TermsApart.{list_back}
 use Rattle.clausify.specs.declared.schemes.Stating.{Stating}
 use Rattle.clausify.specs.Stating.{head_of, scheme_by, rest_by, IsRuleOf, HasPlaces, single, IsSingle, least_of, before, clauses_in, AreSchemesOf}
-use Rattle.clausify.proofs.Arguments.{arguments_are, arguments_count}
+use Rattle.clausify.proofs.Arguments.{arguments_are}
 
 -- what is none of the others has one clause
 pub is_single : (r : Rest) → ((p : Bool) → r ≡ AnyOne p → ⊥) → (r ≡ Innermost → ⊥) → IsSingle r

@@ -1,14 +1,15 @@
 -- Tables and logs that grow, and what numbers of a log say then.
-use Rattle.std.proofs.Common.{◌≡◌, ℕ, zero, suc, ◌+◌, ◌<◌, List, [], ◌∷◌, ◌++◌, length, map, get_or, All, Contains, refl, sym, ap, ap₂, ◌∙◌, subst, arith, length-append, append_assoc}
+use Rattle.std.proofs.Common.{◌≡◌, ◌+◌, ◌<◌, List, [], ◌∷◌, ◌++◌, length, map, get_or, All, refl, sym, ap, ap₂, ◌∙◌, subst, arith, length-append, append_assoc}
 use Rattle.std.proofs.lemmas.List.{append-nil, map-append, length-map, get_or_append_left, get_or_push}
 use Rattle.std.proofs.lemmas.List.Elements.{All-nil, All-append, All-push, All-head, All-tail}
 use Rattle.spec_terms.specs.Literals.{Clause}
-use Rattle.spec_search.specs.Derivations.{Inference, Derivation, «assumption», by_rule, conclusion, no_inference}
+use Rattle.spec_search.specs.Derivations.{Derivation, conclusion, no_inference}
 use Rattle.term_core.specs.declared.ids.TermId.{TermId}
-use Rattle.term_core.specs.Tables.{TableView, AreIn, clause_at, Extends}
-use Rattle.term_core.proofs.TermsExtend.{Extends-trans, term_at-kept, clause_at-kept}
+use Rattle.term_core.specs.Tables.{TableView, clause_at}
+use Rattle.term_core.proofs.TermsExtend.{Extends-trans}
 use Rattle.proof_log.specs.declared.premises.StepId.{StepId}
-use Rattle.proof_log.specs.Logs.{Logged, assumed, stepped, named, numbers_of, inference_of, derivation_in, IsLogOf}
+use Rattle.proof_log.specs.Logs.{Logged, assumed, stepped, named, inference_of, derivation_in, IsLogOf}
+use Rattle.proof_log.proofs.Tables.{grown_same}
 use Rattle.clausify.specs.Clausified.{stated, AssumesOneOf, Grows}
 use Rattle.clausify.specs.Stating.{Widens, Says, Tells}
 use Rattle.clausify.proofs.Arguments.{Widens-self}
@@ -68,20 +69,11 @@ pub conclusion_of : (t : TableView) (l : Logged) → conclusion (inference_of t 
 conclusion_of t (assumed id) = refl
 conclusion_of t (stepped r ps c) = refl
 
-module _ (t u : TableView) (grows : Extends t u) where
-  inference_of-kept : (l : Logged) → AreIn t (named l) → inference_of u l ≡ inference_of t l
-  inference_of-kept (assumed id) here = ap «assumption» (term_at-kept t u grows id (here 0 id (omega arith)))
-  inference_of-kept (stepped r ps c) here = ap (by_rule r (numbers_of ps)) (clause_at-kept t u grows c here)
-
-  derivation_in-kept : (log : List Logged) → All (λ l. AreIn t (named l)) log → derivation_in u log ≡ derivation_in t log
-  derivation_in-kept [] there = refl
-  derivation_in-kept (l ∷ ls) there = ap₂ (λ (x : Inference) (xs : Derivation). x ∷ xs) (inference_of-kept l (All-head (λ x. AreIn t (named x)) l ls there)) (derivation_in-kept ls (All-tail (λ x. AreIn t (named x)) l ls there))
-
 module _ (roots : List TermId) (t u : TableView) (old new : List Logged) (g : Grows roots t u old new) (right : IsLogOf t old) where
   -- a number says what it said
   pub stated-kept : (s : StepId) → s.0 < length old → stated u new s ≡ stated t old s
   stated-kept s lt =
-      let split : derivation_in u new ≡ derivation_in t old ++ derivation_in u g.more = ap (derivation_in u) g.log ∙ map-append (inference_of u) old g.more ∙ ap (λ (d : Derivation). d ++ derivation_in u g.more) (derivation_in-kept t u g.table old right.there) in
+      let split : derivation_in u new ≡ derivation_in t old ++ derivation_in u g.more = ap (derivation_in u) g.log ∙ map-append (inference_of u) old g.more ∙ ap (λ (d : Derivation). d ++ derivation_in u g.more) (grown_same t u old right g.table) in
       ap (λ (d : Derivation). conclusion (get_or d s.0 no_inference)) split
       ∙ ap conclusion (get_or_append_left (derivation_in t old) (derivation_in u g.more) no_inference s.0 (subst (λ n. s.0 < n) (sym (length-map old (inference_of t))) lt))
 
@@ -102,9 +94,9 @@ Says-push roots t old new l id steps all said g right number last pushed says =
     let kept = Says-kept roots t t old new g right steps said says in
     let count : length new ≡ length old + 1 = ap length last ∙ length-append old (l ∷ []) in
     let here : stated t new id ≡ clause_at t (named l) =
-        ap (λ (d : Derivation). conclusion (get_or d id.0 no_inference)) (ap (derivation_in t) last ∙ map-append (inference_of t) old (l ∷ []))
-        ∙ ap conclusion (get_or_push (derivation_in t old) (inference_of t l) no_inference id.0 (length-map old (inference_of t) ∙ sym number))
-        ∙ conclusion_of t l in
+    ap (λ (d : Derivation). conclusion (get_or d id.0 no_inference)) (ap (derivation_in t) last ∙ map-append (inference_of t) old (l ∷ []))
+    ∙ ap conclusion (get_or_push (derivation_in t old) (inference_of t l) no_inference id.0 (length-map old (inference_of t) ∙ sym number))
+    ∙ conclusion_of t l in
     record {
       there = subst (λ (ss : List StepId). All (λ s. s.0 < length new) ss) (sym pushed) (All-push (λ (s : StepId). s.0 < length new) steps id kept.there (omega (arith, count, number)));
       same = ap (map (stated t new)) pushed ∙ map-append (stated t new) steps (id ∷ []) ∙ ap₂ (λ (xs : List Clause) (x : Clause). xs ++ x ∷ []) kept.same here;

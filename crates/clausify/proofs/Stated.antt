@@ -1,11 +1,10 @@
 -- Clauses by schemes, one after the other.
-use Rattle.std.proofs.Common.{◌≡◌, Bool, ℕ, ◌+◌, ◌<◌, List, [], ◌∷◌, ◌++◌, length, map, get_or, take, Contains, refl, sym, ap, ◌∙◌, subst}
+use Rattle.std.proofs.Common.{◌≡◌, Bool, ℕ, ◌+◌, ◌<◌, List, [], ◌∷◌, ◌++◌, length, map, get_or, take, Contains, sym, ap, ◌∙◌, subst}
 use Rattle.std.proofs.lemmas.List.{map-append, take_more}
 use Rattle.std.proofs.lemmas.List.Elements.{Contains-get_or}
 use Rattle.spec_terms.specs.Terms.{Term}
 use Rattle.spec_terms.specs.Literals.{Clause}
 use Rattle.spec_terms.specs.Theory.{no_term}
-use Rattle.spec_terms.specs.Subsets.{arguments_of}
 use Rattle.spec_proofs.specs.declared.Rule.{Rule}
 use Rattle.spec_proofs.specs.Rules.{IsRight}
 use Rattle.spec_proofs.specs.Schemes.{signed}
@@ -22,4 +21,4 @@ clauses_more front f xs k d lt =
 pub right_same : (rule : Rule) (front front2 : Term) (args args2 : List Term) (p : Bool) (k : ℕ) → front2 ≡ front → args2 ≡ args → k < length args → ((u : Term) → Contains args u → IsRight rule [] (front ∷ signed p u ∷ [])) → IsRight rule [] (front2 ∷ signed p (get_or args2 k no_term) ∷ [])
 right_same rule front front2 args args2 p k same one lt right =
     subst (λ (t : Term). IsRight rule [] (t ∷ signed p (get_or args2 k no_term) ∷ [])) (sym same)
-        (subst (λ (ts : List Term). IsRight rule [] (front ∷ signed p (get_or ts k no_term) ∷ [])) (sym one) (right (get_or args k no_term) (Contains-get_or args k no_term lt)))
+    (subst (λ (ts : List Term). IsRight rule [] (front ∷ signed p (get_or ts k no_term) ∷ [])) (sym one) (right (get_or args k no_term) (Contains-get_or args k no_term lt)))

@@ -64,7 +64,10 @@ fn mark_subterms(table: &TermTable, roots: &[TermId], marks: &mut [bool])
     mark_each(marks, roots);
     'terms: for number in (0..marks.len()).rev() {
         if marks[number] {
-            mark_each(marks, table.node(TermId(number as u64)).arguments.as_slice());
+            mark_each(
+                marks,
+                table.node(TermId(number as u64)).arguments.as_slice(),
+            );
         }
     }
 }

@@ -22,6 +22,7 @@ const A: Side = Side {
     place: 0,
     positive: true,
 };
+
 const NOT_A: Side = Side {
     place: 0,
     positive: false,
@@ -32,6 +33,7 @@ const B: Side = Side {
     place: 1,
     positive: true,
 };
+
 const NOT_B: Side = Side {
     place: 1,
     positive: false,
@@ -42,6 +44,7 @@ const C: Side = Side {
     place: 2,
     positive: true,
 };
+
 const NOT_C: Side = Side {
     place: 2,
     positive: false,

@@ -52,12 +52,7 @@ fn argument(table: &TermTable, id: TermId, place: usize) -> TermId
 }
 
 /// Gives the argument of a place as it stands, or puts its negation.
-fn side(
-    alloc: Global,
-    table: &mut TermTable,
-    id: TermId,
-    side: Side,
-) -> Result<TermId, NoMemory>
+fn side(alloc: Global, table: &mut TermTable, id: TermId, side: Side) -> Result<TermId, NoMemory>
     requires there { IsIn table.old id }
     requires place { side.place < length (arguments_of (term_at table.old id)) }
     ensures wider { Widens table.old table.new }

@@ -87,9 +87,7 @@ fn state_rests(
     ensures tells { OnOk result (Tells table.old table.new log.old log.new steps.old.items steps.new.items (before (term_at table.old front) (rests_of rest (arguments_of (term_at table.old id))))) }
 {
     match rest {
-        Rest::AnyOne(positive) => {
-            state_any(alloc, table, log, steps, id, front, rule, positive)
-        }
+        Rest::AnyOne(positive) => { state_any(alloc, table, log, steps, id, front, rule, positive) }
         Rest::Innermost => state_innermost(alloc, table, log, steps, id, front, rule),
         _ => state_single(alloc, table, log, steps, id, front, rule, rest),
     }

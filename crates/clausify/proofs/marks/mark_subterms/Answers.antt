@@ -1,7 +1,6 @@
 -- The arguments of one term more are marked, or it is not marked itself.
 use Rattle.std.proofs.Common.{◌≡◌, suc, ◌-◌, List, subst, sym, ◌∙◌, arith}
 use Rattle.std.proofs.lemmas.Bool.{false≢true}
-use Rattle.spec_terms.specs.Subterms.{subterms_of}
 use Rattle.term_core.specs.declared.ids.TermId.{TermId}
 use Rattle.term_core.specs.Tables.{clause_at, shape_of}
 use Rattle.clausify.specs.Marks.{Marks}

@@ -1,5 +1,5 @@
 -- One term after the other is assumed.
-use Rattle.std.proofs.Common.{◌≡◌, ◌+◌, ◌++◌, ◌≤◌, List, [], ◌∷◌, length, take, get_or, ap, sym, ◌∙◌, subst, arith}
+use Rattle.std.proofs.Common.{◌≡◌, ◌+◌, ◌++◌, List, [], ◌∷◌, take, get_or, ap, arith}
 use Rattle.std.proofs.lemmas.List.{take_all}
 use Rattle.std.proofs.lemmas.List.Elements.{Contains-get_or}
 use Rattle.term_core.specs.declared.ids.TermId.{TermId}
@@ -27,7 +27,7 @@ one_grows c =
     let root = get_or roots c.roots.root-index no_number in
     let h = c.in_ok-assume.ensures in
     Grows-push roots t c.roots.log c.assume.new.self (assumed root) h.last (Contains-get_or roots c.roots.root-index no_number c.roots-test.true)
-        (h.right t c.roots.invariant.grows.right (c.requires.roots c.roots.root-index no_number c.roots-test.true))
+    (h.right t c.roots.invariant.grows.right (c.requires.roots c.roots.root-index no_number c.roots-test.true))
 
 pub returns-in_err-push-clause-grows : goal.returns-in_err-push-clause-grows
 returns-in_err-push-clause-grows c =

@@ -1,11 +1,9 @@
 -- One marked term after the other has its clauses.
-use Rattle.std.proofs.Common.{◌≡◌, ◌+◌, ◌++◌, ◌≤◌, ◌<◌, Bool, List, [], ◌∷◌, length, take, get_or, ap, sym, ◌∙◌, subst, arith}
+use Rattle.std.proofs.Common.{◌≡◌, ◌+◌, ◌++◌, ◌<◌, Bool, List, [], length, take, ap, arith}
 use Rattle.std.proofs.lemmas.List.{take_all}
-use Rattle.spec_terms.specs.Terms.{Term}
-use Rattle.spec_terms.specs.Literals.{Clause}
 use Rattle.spec_search.specs.Base.{clauses_of}
 use Rattle.term_core.specs.declared.ids.TermId.{TermId}
-use Rattle.term_core.specs.Tables.{term_at, no_term}
+use Rattle.term_core.specs.Tables.{term_at}
 use Rattle.term_core.proofs.TermsExtend.{term_at-kept}
 use Rattle.clausify.specs.Stating.{Tells}
 use Rattle.clausify.proofs.Growing.{Grows-self, Grows-trans, Tells-none, Tells-trans, Tells-same}

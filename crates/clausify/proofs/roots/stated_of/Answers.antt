@@ -1,12 +1,9 @@
 -- The terms are assumed, and the clauses of the marked ones stated.
-use Rattle.std.proofs.Common.{◌≡◌, ◌++◌, List, [], Bool, ap, sym, subst}
-use Rattle.std.specs.Prelude.{flat_map}
-use Rattle.spec_terms.specs.Literals.{Clause}
+use Rattle.std.proofs.Common.{◌++◌, List, [], Bool, sym, subst}
 use Rattle.term_core.specs.Tables.{clause_at}
 use Rattle.proof_log.specs.declared.premises.StepId.{StepId}
 use Rattle.clausify.specs.Clausified.{HasClauses, Grows}
 use Rattle.clausify.specs.Stating.{Says}
-use Rattle.clausify.specs.Marks.{AreMarksOf}
 use Rattle.clausify.proofs.Growing.{Grows-self, Grows-trans, Grows-weaker}
 use Rattle.clausify.proofs.Bases.{alone, marked_clauses, has_clauses, Says-none}
 use Rattle.clausify.proofs.roots.stated_of.Goals as goal

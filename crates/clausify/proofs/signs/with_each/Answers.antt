@@ -1,12 +1,12 @@
 -- One argument after the other comes to the clause.
-use Rattle.std.proofs.Common.{◌≡◌, ◌<◌, [], ◌∷◌, ◌++◌, List, length, map, take, get_or, ap, ◌∙◌, subst, refl, arith}
+use Rattle.std.proofs.Common.{◌≡◌, ◌<◌, [], ◌∷◌, ◌++◌, List, length, map, take, get_or, ap, ◌∙◌, refl, arith}
 use Rattle.spec_terms.specs.Terms.{Term}
 use Rattle.spec_terms.specs.Theory.{no_term}
 use Rattle.spec_terms.specs.Subsets.{arguments_of}
 use Rattle.spec_proofs.specs.Schemes.{signed}
 use Rattle.term_core.specs.declared.ids.TermId.{TermId}
-use Rattle.term_core.specs.Tables.{term_at, clause_at, AreIn}
-use Rattle.term_core.proofs.TermsExtend.{IsIn-kept, term_at-kept}
+use Rattle.term_core.specs.Tables.{term_at, AreIn}
+use Rattle.term_core.proofs.TermsExtend.{term_at-kept}
 use Rattle.clausify.proofs.Arguments.{Widens-self, Widens-trans, literal_there, literal_more, literals_more}
 use Rattle.clausify.proofs.signs.with_each.Goals as goal
 

@@ -1,5 +1,5 @@
 -- One argument after the other has its clause.
-use Rattle.std.proofs.Common.{◌≡◌, ◌+◌, ◌++◌, ◌<◌, ◌≤◌, List, [], ◌∷◌, length, map, take, get_or, ap, ap₂, ◌∙◌, subst, arith}
+use Rattle.std.proofs.Common.{◌≡◌, ◌+◌, ◌++◌, ◌<◌, List, [], ◌∷◌, length, map, take, get_or, ap, ap₂, arith}
 use Rattle.std.proofs.lemmas.List.{take_all}
 use Rattle.spec_terms.specs.Terms.{Term}
 use Rattle.spec_terms.specs.Literals.{Clause}
@@ -27,9 +27,9 @@ state_single-requires-clause-right c =
     let args = arguments_of (term_at t c.args.id) in
     let lt : c.places.place < length args = omega (arith, c.places-test.true, c.argument_count-count.ensures) in
     right_same c.args.rule (term_at t c.args.front) (term_at now c.args.front) args (arguments_of (term_at now c.args.id)) c.args.positive c.places.place
-        (term_at-kept t now grown c.args.front c.requires.there.1)
-        (ap arguments_of (term_at-kept t now grown c.args.id c.requires.there.0))
-        lt c.requires.right
+    (term_at-kept t now grown c.args.front c.requires.there.1)
+    (ap arguments_of (term_at-kept t now grown c.args.id c.requires.there.0))
+    lt c.requires.right
 
 pub returns-in_err-state_single-clause-grows : goal.returns-in_err-state_single-clause-grows
 returns-in_err-state_single-clause-grows c = Grows-trans [] c.args.table.now c.places.table c.state_single.new.table c.args.log.now c.places.log c.state_single.new.log c.places.invariant.grows c.state_single.ensures.grows

@@ -1,5 +1,5 @@
 -- One scheme after the other.
-use Rattle.std.proofs.Common.{◌≡◌, ◌+◌, ◌++◌, ◌<◌, List, [], ◌∷◌, length, take, get_or, ap, sym, ◌∙◌, subst, arith}
+use Rattle.std.proofs.Common.{◌≡◌, ◌+◌, ◌++◌, List, [], length, take, get_or, ap, sym, ◌∙◌, subst, arith}
 use Rattle.std.proofs.lemmas.List.{take_all}
 use Rattle.spec_terms.specs.Terms.{Term}
 use Rattle.spec_terms.specs.Literals.{Clause}
@@ -8,7 +8,7 @@ use Rattle.spec_proofs.specs.declared.Rule.TheVariants as rules
 use Rattle.spec_proofs.specs.declared.Rest.TheVariants.{Nothing}
 use Rattle.spec_proofs.specs.Schemes.{clauses_by}
 use Rattle.spec_search.specs.Base.{clauses_of}
-use Rattle.term_core.specs.Tables.{TableView, term_at, shape_of}
+use Rattle.term_core.specs.Tables.{term_at, shape_of}
 use Rattle.term_core.proofs.TermsExtend.{term_at-kept}
 use Rattle.clausify.specs.declared.schemes.Stating.{Stating}
 use Rattle.clausify.specs.declared.schemes.Stating.TheVariants.{Plain}
@@ -33,7 +33,7 @@ state_scheme-requires-clause-rule c =
     let list = c.schemes_of-list.result.now in
     let kept = term_at-kept t c.schemes.table c.schemes.invariant.grows.table c.args.id c.requires.there in
     subst (λ (u : Term). IsRuleOf (head_of u) (get_or list c.schemes.by-index no_stating)) (sym kept)
-        (rule_at t (shape_of c.node.result.now) (term_at t c.args.id) c.node.ensures.means list c.schemes_of-list.ensures c.schemes.by-index no_stating c.schemes-test.true)
+    (rule_at t (shape_of c.node.result.now) (term_at t c.args.id) c.node.ensures.means list c.schemes_of-list.ensures c.schemes.by-index no_stating c.schemes-test.true)
 
 pub state_scheme-requires-clause-places : goal.state_scheme-requires-clause-places
 state_scheme-requires-clause-places c =
@@ -41,7 +41,7 @@ state_scheme-requires-clause-places c =
     let list = c.schemes_of-list.result.now in
     let kept = term_at-kept t c.schemes.table c.schemes.invariant.grows.table c.args.id c.requires.there in
     subst (λ (u : Term). HasPlaces (length (arguments_of u)) (rest_by (get_or list c.schemes.by-index no_stating))) (sym kept)
-        (places_at t (shape_of c.node.result.now) (term_at t c.args.id) c.node.ensures.means list c.schemes_of-list.ensures c.node.ensures.placed c.schemes.by-index no_stating c.schemes-test.true)
+    (places_at t (shape_of c.node.result.now) (term_at t c.args.id) c.node.ensures.means list c.schemes_of-list.ensures c.node.ensures.placed c.schemes.by-index no_stating c.schemes-test.true)
 
 pub returns-in_err-state_scheme-clause-grows : goal.returns-in_err-state_scheme-clause-grows
 returns-in_err-state_scheme-clause-grows c = Grows-trans [] c.args.table.now c.schemes.table c.state_scheme.new.table c.args.log.now c.schemes.log c.state_scheme.new.log c.schemes.invariant.grows c.state_scheme.ensures.grows

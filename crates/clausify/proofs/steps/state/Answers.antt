@@ -1,6 +1,5 @@
 -- The step is right, so it stands last, or there is no memory.
 use Rattle.std.proofs.Common.{◌≡◌, [], ◌∷◌, ◌++◌, List, sym, subst}
-use Rattle.spec_terms.specs.Literals.{Clause}
 use Rattle.term_core.specs.declared.ids.TermId.{TermId}
 use Rattle.term_core.specs.Tables.{clause_at}
 use Rattle.proof_log.specs.Logs.{Logged, stepped}
@@ -26,8 +25,8 @@ returns-in_ok-push-in-Ok-clause-tells c said says =
     let h = c.in-Ok.ensures in
     let l = stepped c.args.rule c.from.result c.from-2.result in
     subst (λ (ids : List TermId). Says t c.add.new.self c.push.new.self.items (said ++ clause_at t ids ∷ [])) c.from-2.ensures
-        (Says-push [] t c.args.log.now c.add.new.self l c.in-Ok.number c.args.steps.now.items c.push.new.self.items said
-            (grows (goal.at.returns-in_ok-push-in-Ok-clause-tells c).In-Ok) c.requires.log h.number h.last c.in_ok-push-in-Ok.ensures.items says)
+    (Says-push [] t c.args.log.now c.add.new.self l c.in-Ok.number c.args.steps.now.items c.push.new.self.items said
+    (grows (goal.at.returns-in_ok-push-in-Ok-clause-tells c).In-Ok) c.requires.log h.number h.last c.in_ok-push-in-Ok.ensures.items says)
 
 pub returns-in-Err-Memory-clause-grows : goal.returns-in-Err-Memory-clause-grows
 returns-in-Err-Memory-clause-grows c =
