@@ -1,7 +1,7 @@
 -- What a search begins with.
 use Rattle.std.proofs.Common.{◌≡◌, ℕ, ◌+◌, ◌<◌, List, [], ◌∷◌, ◌++◌, length, get_or, take, map, All, Contains, refl, sym, ap, ◌∙◌, subst, arith}
-use Rattle.std.proofs.lemmas.List.{get_or_default}
-use Rattle.std.proofs.lemmas.List.Elements.{All-contains, All-nil, All-append_right}
+use Rattle.std.proofs.lemmas.List.{get_or_default, append-nil}
+use Rattle.std.proofs.lemmas.List.Elements.{All-contains, All-nil}
 use Rattle.spec_terms.specs.Terms.{Term}
 use Rattle.spec_terms.specs.Literals.{Clause, Literal, literals_of}
 use Rattle.spec_terms.specs.Subterms.{subterms_of}
@@ -11,12 +11,12 @@ use Rattle.spec_search.specs.Spent.{IsLearnedFrom, IsAtomOf}
 use Rattle.term_core.specs.declared.ids.TermId.{TermId}
 use Rattle.term_core.specs.declared.ids.Lit.{Lit}
 use Rattle.term_core.specs.Tables.{TableView, AreIn, Extends, term_at, literal_at, clause_at}
-use Rattle.term_core.proofs.TermsExtend.{AreIn-kept, clause_at-kept}
+use Rattle.term_core.proofs.TermsExtend.{Extends-self, AreIn-kept, clause_at-kept}
 use Rattle.rule_bool.specs.Literals.{lists}
 use Rattle.rule_bool.specs.Resolvents.{Means}
 use Rattle.rule_bool.proofs.Transport.{to_image, from_image}
 use Rattle.proof_log.specs.declared.premises.StepId.{StepId}
-use Rattle.proof_log.specs.Logs.{Logged, assumed, stepped, inference_of, IsLogOf}
+use Rattle.proof_log.specs.Logs.{Logged, assumed, stepped, inference_of, derivation_in, IsLogOf}
 use Rattle.clausify.specs.Clausified.{stated, HasClauses, AssumesOneOf, Grows}
 use Rattle.sat_dev.specs.declared.search.store.Store.{Store}
 use Rattle.sat_dev.specs.Stores.{no_step, Derives, IsStoreOf}
@@ -90,7 +90,25 @@ module _ (t u : TableView) (roots : List TermId) (roots_in : AreIn t roots) (log
     base = base;
     subterms = subterms;
     kept = λ c i. absurd (omega (arith, i.1));
-    derived = All-nil (IsLearnedFrom _ _);
-    atoms = All-nil (λ c. All (λ (l : Literal). IsAtomOf _ l.atom) c);
+    derived = All-nil (IsLearnedFrom (clause_at t roots) (derivation_in u log));
+    atoms = All-nil (λ c. All (λ (l : Literal). IsAtomOf (clause_at t roots) l.atom) c);
     new = tt;
   })
+
+-- the front of a list that grew
+take_front : {A : Type 0} (xs ys : List A) → take (length xs) (xs ++ ys) ≡ xs
+take_front [] ys = refl
+take_front (x ∷ xs) ys = ap (λ zs. x ∷ zs) (take_front xs ys)
+
+-- a table that is the same has all that it had
+pub extends_same : (t u : TableView) → u ≡ t → Extends t u
+extends_same t u e = subst (λ (v : TableView). Extends t v) (sym e) (Extends-self t)
+
+-- and so has one that is cut back
+pub extends_cut : (t u v : TableView) (n : ℕ) → n ≡ length t.terms → Extends t u → u.symbols ≡ t.symbols → v.terms ≡ take n u.terms → v.symbols ≡ u.symbols → Extends t v
+extends_cut t u v n len g symbols cut kept = record {
+  more_symbols = [];
+  symbols = kept ∙ symbols ∙ sym (append-nil t.symbols);
+  more_terms = [];
+  terms = cut ∙ ap (λ (k : ℕ). take k u.terms) len ∙ ap (take (length t.terms)) g.terms ∙ take_front t.terms g.more_terms ∙ sym (append-nil t.terms);
+}
