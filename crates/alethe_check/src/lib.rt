@@ -18,6 +18,7 @@ mod premises;
 mod proof;
 #[cfg(test)]
 mod proof_tests;
+mod rule_names;
 mod rules;
 pub mod script;
 #[cfg(test)]
