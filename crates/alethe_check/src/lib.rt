@@ -19,6 +19,8 @@ mod proof;
 #[cfg(test)]
 mod proof_tests;
 mod rule_names;
+#[cfg(test)]
+mod rule_tests;
 mod rules;
 pub mod script;
 #[cfg(test)]
