@@ -1,9 +1,9 @@
 -- All commands of a proof, in a list or not: where one has a fault, what comes behind.
-use Rattle.std.proofs.Common.{◌≡◌, ℕ, true, false, List, [], ◌∷◌, ◌++◌, length, inl, inr, refl, sym, ◌∙◌, subst, arith, append_assoc}
-use Rattle.std.specs.Prelude.{Ok, Err}
-use Rattle.spec_text.specs.Lexemes.{Lexeme, blank, opens, closes, word, wrong, lexemes_from}
-use Rattle.spec_text.specs.Trees.{Tree, Trees, atom, list, none, more, spelled, spelled_all, offset_of}
-use Rattle.spec_text.specs.Readings.{IsBroken, AreTrees, StopsAt}
+use Rattle.std.proofs.Common.{ℕ, true, false, List, [], ◌∷◌, ◌++◌, length, inl, inr, refl, sym, ◌∙◌, subst, arith, append_assoc}
+use Rattle.std.specs.Prelude.{Err}
+use Rattle.spec_text.specs.Lexemes.{Lexeme, blank, opens, closes, word, wrong}
+use Rattle.spec_text.specs.Trees.{Trees, none, more, spelled, spelled_all, offset_of}
+use Rattle.spec_text.specs.Readings.{AreTrees, StopsAt}
 use Rattle.spec_text.proofs.Blanks.{HasNoBlank}
 use Rattle.spec_text.proofs.Parsing.{each_parsed}
 use Rattle.spec_proofs.specs.Commands.{Known}

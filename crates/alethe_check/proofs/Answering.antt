@@ -1,12 +1,11 @@
 -- From what was read to the verdict.
 use Rattle.std.proofs.Common.{◌≡◌, ◌≤◌, ℕ, inl, inr, List, [], length, map, Option, Some, None, refl, sym, ap, ◌∙◌, subst, arith}
-use Rattle.std.specs.Prelude.{Result, Ok, Err, OnOk, All}
-use Rattle.spec_scripts.specs.Stack.{Stack, Assertion, IsCurrent, HasNoCheck}
-use Rattle.spec_proofs.specs.declared.ProofKind.{ProofKind}
+use Rattle.std.specs.Prelude.{Result, Ok, Err, OnOk}
+use Rattle.spec_scripts.specs.Stack.{Stack, IsCurrent, HasNoCheck}
 use Rattle.spec_proofs.specs.declared.ProofKind.TheVariants.{NoSuchCheck}
 use Rattle.spec_proofs.specs.Commands.{Known, known_at}
 use Rattle.spec_proofs.specs.Faults.{Fault}
-use Rattle.spec_proofs.specs.Accepted.{IsJudged, IsVerdict}
+use Rattle.spec_proofs.specs.Accepted.{IsVerdict}
 use Rattle.term_core.specs.Tables.{term_at, AreIn}
 use Rattle.alethe_check.specs.declared.ProofStop.{ProofStop}
 use Rattle.alethe_check.specs.declared.ProofStop.TheVariants as stops

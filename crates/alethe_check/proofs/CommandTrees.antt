@@ -3,8 +3,8 @@ use Rattle.std.proofs.Common.{◌≡◌, ℕ, List, sym, ap, ◌∙◌, refl}
 use Rattle.spec_text.specs.declared.Kind.{Kind}
 use Rattle.spec_text.specs.declared.Fault.TheVariants.{BadShape}
 use Rattle.spec_text.specs.Trees.{Tree, Trees, atom, list, none, more}
-use Rattle.spec_text.specs.Answers.{Answer, refused}
-use Rattle.spec_scripts.specs.Commands.{Command, command_of}
+use Rattle.spec_text.specs.Answers.{refused}
+use Rattle.spec_scripts.specs.Commands.{command_of}
 use Rattle.alethe_check.specs.Scripts.{listed}
 
 -- an atom is none

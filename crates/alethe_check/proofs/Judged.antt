@@ -1,15 +1,15 @@
 -- Commands judged one after the other.
-use Rattle.std.proofs.Common.{◌≡◌, ◌≢◌, ◌≤◌, ℕ, List, [], ◌∷◌, length, Option, Some, None, inl, inr, refl, sym, ap, ◌∙◌, subst, arith}
-use Rattle.std.specs.Prelude.{Result, Ok, Err}
+use Rattle.std.proofs.Common.{◌≡◌, ◌≤◌, ℕ, List, [], length, Option, Some, inl, inr, refl, sym, ap, subst, arith}
+use Rattle.std.specs.Prelude.{Ok, Err}
 use Rattle.spec_text.specs.declared.Place.{Place}
-use Rattle.spec_text.specs.Lexemes.{Lexeme, closes, lexemes_from}
+use Rattle.spec_text.specs.Lexemes.{Lexeme, lexemes_from}
 use Rattle.spec_text.specs.Trees.{Tree, Trees, none, more}
 use Rattle.spec_text.specs.Faults.{nesting_limit}
 use Rattle.spec_text.specs.Readings.{AreTrees, StopsAt}
 use Rattle.spec_proofs.specs.Faults.{Fault, Read}
 use Rattle.spec_proofs.specs.Commands.{Known, Command}
 use Rattle.spec_proofs.specs.Known.{command_of}
-use Rattle.spec_proofs.specs.Judging.{with_command, fault_of, FaultBy, FirstFault}
+use Rattle.spec_proofs.specs.Judging.{FaultBy, FirstFault}
 use Rattle.smt_sexpr.specs.declared.sexpr.Sexpr.{Sexpr}
 use Rattle.smt_sexpr.specs.Items.{tree_of}
 use Rattle.smt_sexpr.specs.Reads.{Reads, Closes, Breaks}

@@ -11,6 +11,7 @@ pub mod Images
 pub mod Numbers
 pub mod ReadCommands
 pub mod Within
+pub mod FewPremises
 pub mod Rows
 pub mod Judged
 pub mod AllCommands

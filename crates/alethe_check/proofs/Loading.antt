@@ -7,7 +7,7 @@ use Rattle.spec_text.specs.Trees.{Tree, Trees, none, more}
 use Rattle.spec_text.specs.Faults.{Located}
 use Rattle.spec_text.specs.Answers.{Answer}
 use Rattle.spec_text.specs.Readings.{AreTrees, StopsAt, Stops, kept, is_long, limited, IsReadUpTo}
-use Rattle.spec_scripts.specs.Stack.{Stack, Effect, check, leave, done, unsupported, Taken, behind, at_check, empty_stack, step, stack_at, term_limit, IsCurrent, HasNoCheck}
+use Rattle.spec_scripts.specs.Stack.{Stack, Effect, check, leave, Taken, behind, at_check, empty_stack, step, stack_at, term_limit, HasNoCheck}
 use Rattle.smt_lexer.specs.declared.Refusal.{Refusal}
 use Rattle.smt_lexer.specs.declared.Refused.TheVariants as refusals
 use Rattle.smt_sexpr.specs.declared.sexpr.Sexpr.{Sexpr}

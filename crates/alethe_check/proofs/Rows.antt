@@ -1,5 +1,5 @@
 -- Rows of trees in front of lexemes, and what comes behind them.
-use Rattle.std.proofs.Common.{◌≡◌, ◌≤◌, ◌+◌, ◌-◌, ℕ, List, [], ◌∷◌, ◌++◌, length, refl, sym, ap, ◌∙◌, append_assoc, arith}
+use Rattle.std.proofs.Common.{◌≡◌, ◌≤◌, ◌-◌, ℕ, List, ◌++◌, length, refl, sym, ap, ◌∙◌, append_assoc, arith}
 use Rattle.spec_text.specs.declared.Place.{Place}
 use Rattle.spec_text.specs.Lexemes.{Lexeme, lexemes_from}
 use Rattle.spec_text.specs.Trees.{Tree, Trees, none, more, spelled, spelled_all, offset_of}

@@ -1,6 +1,6 @@
 -- What a script states, command by command.
 use Rattle.std.proofs.Common.{◌≡◌, ◌<◌, ◌≤◌, ℕ, Bool, true, false, not, cond, ◌||◌, List, [], ◌∷◌, ◌++◌, map, length, Option, Some, None, refl, sym, ap, ◌∙◌, subst, arith}
-use Rattle.std.specs.Prelude.{Result, Ok, Err, Vec, nat_lt, slice_index_or}
+use Rattle.std.specs.Prelude.{Result, Ok, Err, nat_lt, slice_index_or}
 use Rattle.std.specs.Str.{bytes_eq}
 use Rattle.std.proofs.lemmas.List.{map-append}
 use Rattle.std.proofs.lemmas.List.Elements.{All-push}
@@ -10,8 +10,8 @@ use Rattle.spec_text.specs.Bytes.{Name, among}
 use Rattle.spec_text.specs.Faults.{Located}
 use Rattle.spec_text.specs.Shapes.{Word}
 use Rattle.spec_text.specs.Answers.{Answer, ◌>>=◌, refused, require}
-use Rattle.spec_text.specs.Trees.{Tree, Trees, atom, list, none, more, offset_of}
-use Rattle.spec_terms.specs.Terms.{Sort, Truth, Symbol, Term, constant}
+use Rattle.spec_text.specs.Trees.{Tree, Trees, atom, none, more, offset_of}
+use Rattle.spec_terms.specs.Terms.{Truth, Symbol, Term, constant}
 use Rattle.spec_terms.specs.Reading.{symbol_named, term_in, terms_in}
 use Rattle.spec_terms.specs.Subterms.{roomy_terms}
 use Rattle.spec_scripts.specs.Commands.{Command, DeclareConst, Assert, command_of}

@@ -1,5 +1,5 @@
 -- Resolution depends on what the premises contain, and on nothing else of them.
-use Rattle.std.proofs.Common.{List, map, Contains, subst}
+use Rattle.std.proofs.Common.{List, map, Contains}
 use Rattle.std.specs.Prelude.{◌↔◌}
 use Rattle.spec_proofs.specs.Resolution.{Derives, given, unit, Conflicts, false_clause, both_ways, IsWithin}
 use Rattle.spec_proofs.specs.Clauses.{IsResolvent}

@@ -1,13 +1,14 @@
 -- Commands of a proof as the code has them, and what judging comes to. Source: own.
-use Rattle.std.specs.Prelude.{◌≡◌, ◌≢◌, ◌⊎◌, ℕ, ◌+◌, Bool, true, false, List, [], ◌∷◌, length, Option, Some, None, Result, Ok, Err}
+use Rattle.std.specs.Prelude.{◌≡◌, ◌≢◌, ◌⊎◌, ℕ, Bool, true, false, List, [], ◌∷◌, length, Option, Some, None, Result, Ok, Err}
 use Rattle.spec_text.specs.Bytes.{among}
-use Rattle.spec_text.specs.declared.Place.{Place}
 use Rattle.spec_text.specs.Places.{IsPlaceOf}
 use Rattle.spec_text.specs.Lexemes.{Lexeme, opens, closes, lexemes_from}
 use Rattle.spec_text.specs.Faults.{Located}
 use Rattle.spec_text.specs.Readings.{IsBroken, AreTrees, StopsAt, is_long}
 use Rattle.spec_text.specs.Shapes.{Word}
-use Rattle.spec_text.specs.Trees.{Tree, Trees, none}
+use Rattle.spec_text.specs.Trees.{Tree, Trees}
+use Rattle.spec_proofs.specs.declared.Rule.{Rule}
+use Rattle.spec_proofs.specs.Schemes.{Kind, resolves, kind_of}
 use Rattle.spec_proofs.specs.Faults.{Fault, Read}
 use Rattle.spec_proofs.specs.Commands.{Known, Command, Assume, Step, Shape, assumes}
 use Rattle.spec_proofs.specs.Texts.{Ending, complete, broken, left_over, EndsBehind, AreCommands, IsProofText, ending_fault}
@@ -25,6 +26,15 @@ use Rattle.alethe_check.specs.declared.stop.Stop.{Stop}
 use Rattle.alethe_check.specs.declared.stop.Stop.TheVariants as stops
 use Rattle.alethe_check.specs.Views.{found_view}
 use Rattle.alethe_check.specs.Holding.{known_view, clauses_numbered, AreNumbers}
+
+-- such a step has one premise at most
+abbrev pub takes_few : Kind → Type 0
+takes_few resolves = ⊥
+takes_few k = Unit {0}
+
+-- a step by the rule has one premise at most
+abbrev pub TakesFew : Rule → Type 0
+TakesFew rule = takes_few (kind_of rule)
 
 -- an assume by its shape
 abbrev pub assume_view : Word → Tree → Shape

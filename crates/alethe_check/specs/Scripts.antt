@@ -1,5 +1,5 @@
 -- What is known of a script while it is read. Source: own.
-use Rattle.std.specs.Prelude.{◌≡◌, ℕ, List, map, length, nat_lt, Option, Some, None, Result, Ok, Err}
+use Rattle.std.specs.Prelude.{◌≡◌, ℕ, List, map, length, nat_lt, Result, Ok, Err}
 use Rattle.spec_text.specs.declared.Fault.{Fault}
 use Rattle.spec_text.specs.declared.Fault.TheVariants.{BadShape, Full}
 use Rattle.spec_text.specs.Places.{IsPlaceOf}

@@ -1,5 +1,7 @@
 -- What the values that reading returns mean. Source: own.
-use Rattle.std.specs.Prelude.{◌≡◌, ℕ, List, Option, Some, None, Result, Ok, Err}
+use Rattle.std.specs.Prelude.{◌≡◌, ℕ, List, map, Result, Ok, Err}
+use Rattle.std.specs.Borrow.{Bor}
+use Rattle.spec_text.specs.Bytes.{Name}
 use Rattle.spec_text.specs.Faults.{Located}
 use Rattle.spec_text.specs.Answers.{Answer}
 use Rattle.spec_proofs.specs.declared.Rule.{Rule}
@@ -39,6 +41,10 @@ Reads view (Err stops.Memory) read = Unit {0}
 abbrev pub stop_meant : TermStop → Stop
 stop_meant (term_stops.Fault f) = stops.Fault (record { offset = f.offset; kind = term_kind f.fault })
 stop_meant term_stops.Memory = stops.Memory
+
+-- the names and rules of a table's rows
+abbrev pub rules_of : List (Bor (List ℕ) × Rule) → List (Name × Rule)
+rules_of rows = map (λ r. (r.0.now, r.1)) rows
 
 -- a rule is itself
 abbrev pub rule_meant : Rule → Rule

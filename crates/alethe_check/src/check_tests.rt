@@ -26,7 +26,7 @@ pub(crate) fn answer(
 }
 
 /// Scripts and checks, with what is answered to a refutation of `p` and `(not p)`.
-const CHECKS: [(&str, u64, &str, u64, u64); 14] = [
+const CHECKS: &[(&str, u64, &str, u64, u64)] = &[
     (
         "(declare-const p Bool)(assert p)(assert (not p))(check-sat)",
         1,
@@ -139,8 +139,8 @@ fn scripts_run_to_their_checks(rt: HostRuntime) -> Result<(), Fail> {
     Ok(())
 }
 
-/// A script and a proof of each rule, and what is answered.
-const RULES: [(&str, &str, &str, u64, u64); 8] = [
+/// Scripts and proofs by several rules, and what is answered.
+const RULES: &[(&str, &str, &str, u64, u64)] = &[
     (
         "(declare-const p Bool)(declare-const q Bool)(assert (or p q))(assert (not p))(assert (not q))(check-sat)",
         "(assume h1 (or p q))\n(assume h2 (not p))\n(assume h3 (not q))\n(step t1 (cl p q) :rule or :premises (h1))\n(step t2 (cl) :rule th_resolution :premises (t1 h2 h3))",
@@ -231,7 +231,7 @@ fn nested(alloc: Global, before: &[u8], depth: usize, after: &[u8]) -> Result<Ve
 }
 
 /// How a proof is written, how many `not`s it has, and what is answered: the list of commands counts as a list.
-const DEPTHS: [(&str, &str, usize, &str, u64); 4] = [
+const DEPTHS: &[(&str, &str, usize, &str, u64)] = &[
     ("(assume h1 ", ")", 499, "NotAsserted", 12),
     ("(assume h1 ", ")", 500, "TooDeep", 12 + 5 * 499),
     ("((assume h1 ", "))", 498, "NotAsserted", 13),

@@ -18,6 +18,9 @@ mod premises;
 mod proof;
 #[cfg(test)]
 mod proof_tests;
+mod rule_names;
+#[cfg(test)]
+mod rule_tests;
 mod rules;
 pub mod script;
 #[cfg(test)]

@@ -1,6 +1,6 @@
 //! The clauses of a step's premises.
 
-ghost use Rattle.std.specs.Prelude.{◌≡◌, ◌≢◌, ◌<◌, [], slice_index_or, ℕ, ◌↔◌, All, Contains, IfOk, length, map, MatchOption};
+ghost use Rattle.std.specs.Prelude.{◌≡◌, ◌<◌, ◌≤◌, [], slice_index_or, ℕ, ◌↔◌, All, Contains, IfOk, length, map, MatchOption};
 ghost use Rattle.spec_terms.specs.Literals.{Clause as Meant};
 ghost use Rattle.term_core.specs.Tables.{AreIn, clause_at};
 ghost use Rattle.alethe_check.specs.Holding.{IsSound, clauses_numbered, AreNumbers};
@@ -65,15 +65,18 @@ pub fn distinct_clauses(
     clauses_of(alloc, held, taken.as_slice())
 }
 
-/// Lends the clause of the one number, as a list of one; `None` where there is none, or more than one.
-pub fn single<'a>(held: &'a Held, numbers: &[u64]) -> Option<&'a [Clause]>
+/// Lends the clause of the one number, as a list of one, or no clause of none; `None` where there are several.
+pub fn one_or_none<'a>(held: &'a Held, numbers: &[u64]) -> Option<&'a [Clause]>
     requires sound { IsSound held.now }
     requires numbers { AreNumbers held.now numbers.now }
-    ensures { MatchOption result (length numbers.now ≢ 1) (λ cs. (map (clause_at held.now.table) cs.now ≡ clauses_numbered held.now numbers.now) × (length numbers.now ≡ 1) × All (λ p. AreIn held.now.table p) cs.now) }
+    ensures { MatchOption result (2 ≤ length numbers.now) (λ cs. (map (clause_at held.now.table) cs.now ≡ clauses_numbered held.now numbers.now) × All (λ p. AreIn held.now.table p) cs.now) }
 {
-    let [number] = numbers else {
-        return None;
-    };
-    let at = *number as usize;
-    Some(&held.clauses[at..at + 1])
+    match numbers {
+        [] => Some(&held.clauses[..0]),
+        [number] => {
+            let at = *number as usize;
+            Some(&held.clauses[at..at + 1])
+        }
+        _ => None,
+    }
 }

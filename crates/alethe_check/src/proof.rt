@@ -2,7 +2,6 @@
 
 ghost use Rattle.std.specs.Prelude.{◌≡◌, ◌≢◌, ◌∷◌, [], length, MatchOption, ℕ, IfOk, false};
 ghost use Rattle.spec_proofs.specs.Known.{known_rule, read_shape, shaped, command_of};
-ghost use Rattle.spec_proofs.specs.Rules.{rule_named};
 ghost use Rattle.spec_text.specs.Trees.{none, more};
 ghost use Rattle.smt_sexpr.specs.Items.{trees_in, tree_in};
 ghost use Rattle.smt_sexpr.specs.Views.{word_view};
@@ -12,9 +11,10 @@ ghost use Rattle.alethe_check.specs.Holding.{known_view, IsSound};
 ghost use Rattle.alethe_check.specs.Judging.{command_view, IsReady, assume_view};
 
 use crate::held::{Held, clause, fresh_name, read_premises};
+use crate::rule_names::rule_named;
 use crate::shapes::{Shape, StepParts, shape_of};
 use crate::stop::{Stop, fault};
-use smt_sexpr::{Item, View, Word, look, offset, same_bytes};
+use smt_sexpr::{Item, View, Word, look, offset};
 use spec_proofs::{ProofKind, Rule};
 use std::alloc::Global;
 use term_core::TermId;
@@ -26,31 +26,6 @@ pub enum ReadCommand<'a> {
     Assume(u64, &'a [u8], TermId),
     /// The offset of the step, its name, its clause, its rule, and the numbers of its premises' clauses.
     Step(u64, &'a [u8], Vec<TermId>, Rule, Vec<u64>),
-}
-
-/// The rule of a name.
-fn rule_named(name: &[u8]) -> Option<Rule>
-    ensures { result ≡ rule_named name.now }
-{
-    if same_bytes(b"or", name) {
-        return Some(Rule::Or);
-    }
-    if same_bytes(b"contraction", name) {
-        return Some(Rule::Contraction);
-    }
-    if same_bytes(b"reordering", name) {
-        return Some(Rule::Reordering);
-    }
-    if same_bytes(b"weakening", name) {
-        return Some(Rule::Weakening);
-    }
-    if same_bytes(b"resolution", name) {
-        return Some(Rule::Resolution);
-    }
-    if same_bytes(b"th_resolution", name) {
-        return Some(Rule::ThResolution);
-    }
-    None
 }
 
 /// The rule of a word, where it is one.

@@ -4,7 +4,7 @@ use crate::check_tests::{SCRIPT, answer};
 use std::test::Fail;
 
 /// Proofs, and what is answered to them.
-const PROOFS: [(&str, &str, u64, u64); 91] = [
+const PROOFS: &[(&str, &str, u64, u64)] = &[
     (
         "(assume h1 p)\n(assume h2 (not p))\n(step t1 (cl) :rule resolution :premises (h1 h2))",
         "valid",
@@ -209,10 +209,22 @@ const PROOFS: [(&str, &str, u64, u64); 91] = [
         21,
     ),
     (
-        "(assume h1 p)\n(assume h2 (not p))\n(step t1 (cl) :rule and :premises (h1))",
+        "(assume h1 p)\n(assume h2 (not p))\n(step t1 (cl) :rule cong :premises (h1))",
         "UnknownRule",
         3,
         21,
+    ),
+    (
+        "(assume h1 p)\n(assume h2 (not p))\n(step t1 (cl) :rule and_pos1 :premises (h1))",
+        "UnknownRule",
+        3,
+        21,
+    ),
+    (
+        "(assume h1 p)\n(assume h2 (not p))\n(step t1 (cl) :rule and :premises (h1))",
+        "RuleFails",
+        3,
+        1,
     ),
     ("(assume h1 q)", "UnknownSymbol", 1, 12),
     ("(assume h1 (not q))", "UnknownSymbol", 1, 17),

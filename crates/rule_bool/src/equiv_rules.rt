@@ -15,7 +15,7 @@ use term_core::{Clause, Head, RuleFails, TermId, TermTable};
 /// sort Bool are equal, both are true or neither is. Premises and clause give their terms by their numbers in the table, and terms
 /// are compared as they are read.
 ///
-/// It takes no memory. It takes the same time for all terms.
+/// It takes no memory, and the same time for all terms.
 ///
 /// `RuleFails` comes exactly where the step is not right.
 /// Source: Alethe specification, rule `equiv_pos1`.
@@ -45,7 +45,7 @@ pub fn rule_equiv_pos1(
 /// sort Bool are equal, both are true or neither is. Premises and clause give their terms by their numbers in the table, and terms
 /// are compared as they are read.
 ///
-/// It takes no memory. It takes the same time for all terms.
+/// It takes no memory, and the same time for all terms.
 ///
 /// `RuleFails` comes exactly where the step is not right.
 /// Source: Alethe specification, rule `equiv_pos2`.
@@ -75,7 +75,7 @@ pub fn rule_equiv_pos2(
 /// Bool that are true are equal. Premises and clause give their terms by their numbers in the table, and terms are compared as they
 /// are read.
 ///
-/// It takes no memory. It takes the same time for all terms.
+/// It takes no memory, and the same time for all terms.
 ///
 /// `RuleFails` comes exactly where the step is not right.
 /// Source: Alethe specification, rule `equiv_neg1`.
@@ -105,7 +105,7 @@ pub fn rule_equiv_neg1(
 /// neither of which is true are equal. Premises and clause give their terms by their numbers in the table, and terms are compared
 /// as they are read.
 ///
-/// It takes no memory. It takes the same time for all terms.
+/// It takes no memory, and the same time for all terms.
 ///
 /// `RuleFails` comes exactly where the step is not right.
 /// Source: Alethe specification, rule `equiv_neg2`.
@@ -135,7 +135,7 @@ pub fn rule_equiv_neg2(
 /// where terms of sort Bool are equal, both are true or neither is. Premises and clause give their terms by their numbers in the
 /// table, and terms are compared as they are read.
 ///
-/// It takes no memory. It takes the same time for all terms.
+/// It takes no memory, and the same time for all terms.
 ///
 /// `RuleFails` comes exactly where the step is not right.
 /// Source: Alethe specification, rule `equiv1`; that the premise may stand under two negations is own.
@@ -165,7 +165,7 @@ pub fn rule_equiv1(
 /// where terms of sort Bool are equal, both are true or neither is. Premises and clause give their terms by their numbers in the
 /// table, and terms are compared as they are read.
 ///
-/// It takes no memory. It takes the same time for all terms.
+/// It takes no memory, and the same time for all terms.
 ///
 /// `RuleFails` comes exactly where the step is not right.
 /// Source: Alethe specification, rule `equiv2`; that the premise may stand under two negations is own.
@@ -195,7 +195,7 @@ pub fn rule_equiv2(
 /// where terms of sort Bool are not equal, exactly one of them is true. Premises and clause give their terms by their numbers in
 /// the table, and terms are compared as they are read.
 ///
-/// It takes no memory. It takes the same time for all terms.
+/// It takes no memory, and the same time for all terms.
 ///
 /// `RuleFails` comes exactly where the step is not right.
 /// Source: Alethe specification, rule `not_equiv1`.
@@ -225,7 +225,7 @@ pub fn rule_not_equiv1(
 /// sound, since where terms of sort Bool are not equal, exactly one of them is true. Premises and clause give their terms by their
 /// numbers in the table, and terms are compared as they are read.
 ///
-/// It takes no memory. It takes the same time for all terms.
+/// It takes no memory, and the same time for all terms.
 ///
 /// `RuleFails` comes exactly where the step is not right.
 /// Source: Alethe specification, rule `not_equiv2`.

@@ -15,7 +15,7 @@ use term_core::{Clause, Head, RuleFails, TermId, TermTable};
 /// argument is not, or its second is. Premises and clause give their terms by their numbers in the table, and terms are compared as
 /// they are read.
 ///
-/// It takes no memory. It takes the same time for all terms.
+/// It takes no memory, and the same time for all terms.
 ///
 /// `RuleFails` comes exactly where the step is not right.
 /// Source: Alethe specification, rule `implies_pos`.
@@ -44,7 +44,7 @@ pub fn rule_implies_pos(
 /// No premise; the conclusion is `(cl (=> a b) a)`. It is sound, since where its first argument is not true, an implication is.
 /// Premises and clause give their terms by their numbers in the table, and terms are compared as they are read.
 ///
-/// It takes no memory. It takes the same time for all terms.
+/// It takes no memory, and the same time for all terms.
 ///
 /// `RuleFails` comes exactly where the step is not right.
 /// Source: Alethe specification, rule `implies_neg1`.
@@ -73,7 +73,7 @@ pub fn rule_implies_neg1(
 /// No premise; the conclusion is `(cl (=> a b) (not b))`. It is sound, since where its second argument is true, an implication is.
 /// Premises and clause give their terms by their numbers in the table, and terms are compared as they are read.
 ///
-/// It takes no memory. It takes the same time for all terms.
+/// It takes no memory, and the same time for all terms.
 ///
 /// `RuleFails` comes exactly where the step is not right.
 /// Source: Alethe specification, rule `implies_neg2`.
@@ -103,7 +103,7 @@ pub fn rule_implies_neg2(
 /// its first argument is not, or its second is. Premises and clause give their terms by their numbers in the table, and terms are
 /// compared as they are read.
 ///
-/// It takes no memory. It takes the same time for all terms.
+/// It takes no memory, and the same time for all terms.
 ///
 /// `RuleFails` comes exactly where the step is not right.
 /// Source: Alethe specification, rule `implies`; that the premise may stand under two negations is own.
@@ -133,7 +133,7 @@ pub fn rule_implies(
 /// true, its first argument is. Premises and clause give their terms by their numbers in the table, and terms are compared as they
 /// are read.
 ///
-/// It takes no memory. It takes the same time for all terms.
+/// It takes no memory, and the same time for all terms.
 ///
 /// `RuleFails` comes exactly where the step is not right.
 /// Source: Alethe specification, rule `not_implies1`.
@@ -163,7 +163,7 @@ pub fn rule_not_implies1(
 /// not true, its second argument is not. Premises and clause give their terms by their numbers in the table, and terms are compared
 /// as they are read.
 ///
-/// It takes no memory. It takes the same time for all terms.
+/// It takes no memory, and the same time for all terms.
 ///
 /// `RuleFails` comes exactly where the step is not right.
 /// Source: Alethe specification, rule `not_implies2`.

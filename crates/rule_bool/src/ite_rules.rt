@@ -15,7 +15,7 @@ use term_core::{Clause, Head, RuleFails, TermId, TermTable};
 /// value of its third argument where its first is not true. Premises and clause give their terms by their numbers in the table, and
 /// terms are compared as they are read.
 ///
-/// It takes no memory. It takes the same time for all terms.
+/// It takes no memory, and the same time for all terms.
 ///
 /// `RuleFails` comes exactly where the step is not right.
 /// Source: Alethe specification, rule `ite_pos1`.
@@ -45,7 +45,7 @@ pub fn rule_ite_pos1(
 /// the value of its second argument where its first is true. Premises and clause give their terms by their numbers in the table,
 /// and terms are compared as they are read.
 ///
-/// It takes no memory. It takes the same time for all terms.
+/// It takes no memory, and the same time for all terms.
 ///
 /// `RuleFails` comes exactly where the step is not right.
 /// Source: Alethe specification, rule `ite_pos2`.
@@ -75,7 +75,7 @@ pub fn rule_ite_pos2(
 /// value of its third argument where its first is not true. Premises and clause give their terms by their numbers in the table, and
 /// terms are compared as they are read.
 ///
-/// It takes no memory. It takes the same time for all terms.
+/// It takes no memory, and the same time for all terms.
 ///
 /// `RuleFails` comes exactly where the step is not right.
 /// Source: Alethe specification, rule `ite_neg1`.
@@ -105,7 +105,7 @@ pub fn rule_ite_neg1(
 /// the value of its second argument where its first is true. Premises and clause give their terms by their numbers in the table,
 /// and terms are compared as they are read.
 ///
-/// It takes no memory. It takes the same time for all terms.
+/// It takes no memory, and the same time for all terms.
 ///
 /// `RuleFails` comes exactly where the step is not right.
 /// Source: Alethe specification, rule `ite_neg2`.
@@ -135,7 +135,7 @@ pub fn rule_ite_neg2(
 /// choice has the value of its third argument where its first is not true. Premises and clause give their terms by their numbers in
 /// the table, and terms are compared as they are read.
 ///
-/// It takes no memory. It takes the same time for all terms.
+/// It takes no memory, and the same time for all terms.
 ///
 /// `RuleFails` comes exactly where the step is not right.
 /// Source: Alethe specification, rule `ite1`; that the premise may stand under two negations is own.
@@ -161,7 +161,7 @@ pub fn rule_ite1(table: &TermTable, premises: &[Clause], clause: &[TermId]) -> R
 /// since a choice has the value of its second argument where its first is true. Premises and clause give their terms by their
 /// numbers in the table, and terms are compared as they are read.
 ///
-/// It takes no memory. It takes the same time for all terms.
+/// It takes no memory, and the same time for all terms.
 ///
 /// `RuleFails` comes exactly where the step is not right.
 /// Source: Alethe specification, rule `ite2`; that the premise may stand under two negations is own.
@@ -187,7 +187,7 @@ pub fn rule_ite2(table: &TermTable, premises: &[Clause], clause: &[TermId]) -> R
 /// sound, since a choice has the value of its third argument where its first is not true. Premises and clause give their terms by
 /// their numbers in the table, and terms are compared as they are read.
 ///
-/// It takes no memory. It takes the same time for all terms.
+/// It takes no memory, and the same time for all terms.
 ///
 /// `RuleFails` comes exactly where the step is not right.
 /// Source: Alethe specification, rule `not_ite1`.
@@ -217,7 +217,7 @@ pub fn rule_not_ite1(
 /// is sound, since a choice has the value of its second argument where its first is true. Premises and clause give their terms by
 /// their numbers in the table, and terms are compared as they are read.
 ///
-/// It takes no memory. It takes the same time for all terms.
+/// It takes no memory, and the same time for all terms.
 ///
 /// `RuleFails` comes exactly where the step is not right.
 /// Source: Alethe specification, rule `not_ite2`.

@@ -1,7 +1,9 @@
 //! Rules of Alethe on clauses of the table of terms.
 //!
-//! A rule on one premise looks for terms by their numbers and takes no memory. `resolution` takes literals, over which `resolves`
-//! propagates units in time in proportion to them; a plain slow body beside it is what tests compare it with.
+//! There is a call for each rule, and `judge` calls the one of a rule that is named. The rules on one connective are judged by the
+//! table of schemes of `spec_proofs`: `stated` and `turned` of `schemes.rt`. A rule on one premise, or on none, looks for terms by
+//! their numbers and takes no memory. `resolution` takes literals, over which `resolves` propagates units in time in proportion to
+//! them; a plain slow body beside it is what tests compare it with.
 #![tactic(auto)]
 
 mod by_rule;

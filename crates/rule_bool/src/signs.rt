@@ -33,10 +33,10 @@ pub(crate) fn without_sign(table: &TermTable, positive: bool, id: TermId) -> Opt
     negated(table, id)
 }
 
-/// Gives what is without its sign the term with a leading `not` off, or else one on.
+/// Takes a leading `not` off a term, or else puts one on, and gives what is left of that without the sign.
 ///
-/// The term so made need not be the table's. Where `positive` is true and it is not, there is nothing; where `positive` is false,
-/// there is nothing where it is made by taking off and is no negation.
+/// A negation that is put on need not be the table's, and is not made. Where `positive` is false, the term itself is left of it; where
+/// `positive` is true, there is nothing, though that negation, as it stands, would be left.
 pub(crate) fn turned_without_sign(table: &TermTable, positive: bool, id: TermId) -> Option<TermId>
     requires { IsIn table.now id }
     ensures { MatchOption result (HasNoTurn positive (term_at table.now id)) (IsSigned table.now positive (flipped (term_at table.now id))) }

@@ -14,7 +14,7 @@ use term_core::{Clause, Head, RuleFails, TermId, TermTable};
 /// No premise; the conclusion is `(cl true)`. It is sound, since `true` is true under every interpretation. Premises and clause
 /// give their terms by their numbers in the table, and terms are compared as they are read.
 ///
-/// It takes no memory. It takes the same time for all terms.
+/// It takes no memory, and the same time for all terms.
 ///
 /// `RuleFails` comes exactly where the step is not right.
 /// Source: Alethe specification, rule `true`.
@@ -32,7 +32,7 @@ pub fn rule_true(table: &TermTable, premises: &[Clause], clause: &[TermId]) -> R
 /// No premise; the conclusion is `(cl (not false))`. It is sound, since `false` is true under no interpretation. Premises and
 /// clause give their terms by their numbers in the table, and terms are compared as they are read.
 ///
-/// It takes no memory. It takes the same time for all terms.
+/// It takes no memory, and the same time for all terms.
 ///
 /// `RuleFails` comes exactly where the step is not right.
 /// Source: Alethe specification, rule `false`.
@@ -51,10 +51,10 @@ pub fn rule_false(
 
 /// Judges a step of the rule `not_not`, which takes two of three negations away.
 ///
-/// No premise; the conclusion is `(cl (not (not (not a))) a)`. It is sound, since where the term under the first negation is true,
-/// so is `a`. Premises and clause give their terms by their numbers in the table, and terms are compared as they are read.
+/// No premise; the conclusion is `(cl (not (not (not a))) a)`. It is sound, since where `(not (not a))` is true, so is `a`. Premises
+/// and clause give their terms by their numbers in the table, and terms are compared as they are read.
 ///
-/// It takes no memory. It takes the same time for all terms.
+/// It takes no memory, and the same time for all terms.
 ///
 /// `RuleFails` comes exactly where the step is not right.
 /// Source: Alethe specification, rule `not_not`.

@@ -15,7 +15,7 @@ use term_core::{Clause, Head, RuleFails, TermId, TermTable};
 /// of its arguments is. Premises and clause give their terms by their numbers in the table, and terms are compared as they are
 /// read.
 ///
-/// It takes no memory. It takes the same time for all terms.
+/// It takes no memory, and the same time for all terms.
 ///
 /// `RuleFails` comes exactly where the step is not right.
 /// Source: Alethe specification, rule `xor_pos1`.
@@ -45,7 +45,7 @@ pub fn rule_xor_pos1(
 /// exactly one of its arguments is. Premises and clause give their terms by their numbers in the table, and terms are compared as
 /// they are read.
 ///
-/// It takes no memory. It takes the same time for all terms.
+/// It takes no memory, and the same time for all terms.
 ///
 /// `RuleFails` comes exactly where the step is not right.
 /// Source: Alethe specification, rule `xor_pos2`.
@@ -75,7 +75,7 @@ pub fn rule_xor_pos2(
 /// exclusive disjunction is. Premises and clause give their terms by their numbers in the table, and terms are compared as they are
 /// read.
 ///
-/// It takes no memory. It takes the same time for all terms.
+/// It takes no memory, and the same time for all terms.
 ///
 /// `RuleFails` comes exactly where the step is not right.
 /// Source: Alethe specification, rule `xor_neg1`.
@@ -105,7 +105,7 @@ pub fn rule_xor_neg1(
 /// exclusive disjunction is. Premises and clause give their terms by their numbers in the table, and terms are compared as they are
 /// read.
 ///
-/// It takes no memory. It takes the same time for all terms.
+/// It takes no memory, and the same time for all terms.
 ///
 /// `RuleFails` comes exactly where the step is not right.
 /// Source: Alethe specification, rule `xor_neg2`.
@@ -135,7 +135,7 @@ pub fn rule_xor_neg2(
 /// true, exactly one of its arguments is. Premises and clause give their terms by their numbers in the table, and terms are
 /// compared as they are read.
 ///
-/// It takes no memory. It takes the same time for all terms.
+/// It takes no memory, and the same time for all terms.
 ///
 /// `RuleFails` comes exactly where the step is not right.
 /// Source: Alethe specification, rule `xor1`; that the premise may stand under two negations is own.
@@ -161,7 +161,7 @@ pub fn rule_xor1(table: &TermTable, premises: &[Clause], clause: &[TermId]) -> R
 /// disjunction is true, exactly one of its arguments is. Premises and clause give their terms by their numbers in the table, and
 /// terms are compared as they are read.
 ///
-/// It takes no memory. It takes the same time for all terms.
+/// It takes no memory, and the same time for all terms.
 ///
 /// `RuleFails` comes exactly where the step is not right.
 /// Source: Alethe specification, rule `xor2`; that the premise may stand under two negations is own.
@@ -187,7 +187,7 @@ pub fn rule_xor2(table: &TermTable, premises: &[Clause], clause: &[TermId]) -> R
 /// disjunction is not true, both of its arguments are true or neither is. Premises and clause give their terms by their numbers in
 /// the table, and terms are compared as they are read.
 ///
-/// It takes no memory. It takes the same time for all terms.
+/// It takes no memory, and the same time for all terms.
 ///
 /// `RuleFails` comes exactly where the step is not right.
 /// Source: Alethe specification, rule `not_xor1`.
@@ -217,7 +217,7 @@ pub fn rule_not_xor1(
 /// disjunction is not true, both of its arguments are true or neither is. Premises and clause give their terms by their numbers in
 /// the table, and terms are compared as they are read.
 ///
-/// It takes no memory. It takes the same time for all terms.
+/// It takes no memory, and the same time for all terms.
 ///
 /// `RuleFails` comes exactly where the step is not right.
 /// Source: Alethe specification, rule `not_xor2`.

@@ -1,8 +1,7 @@
-use Rattle.std.proofs.Common.{◌≡◌, ℕ, List, ap, ◌∙◌, subst}
+use Rattle.std.proofs.Common.{List, ap, ◌∙◌}
 use Rattle.spec_text.specs.Trees.{offset_of}
 use Rattle.smt_sexpr.specs.declared.items.Item.{Item}
-use Rattle.smt_sexpr.specs.Items.{text_of, items_of, tree_in}
-use Rattle.smt_sexpr.specs.Reads.{Reads}
+use Rattle.smt_sexpr.specs.Items.{text_of, tree_in}
 use Rattle.alethe_check.proofs.Rows.{left_behind}
 use Rattle.alethe_check.proofs.judge.behind_list.Goals as goal
 

@@ -1,4 +1,3 @@
-use Rattle.std.proofs.Common.{arith}
 use Rattle.alethe_check.proofs.Judged.{row_closes, row_finishes, row_breaks, row_stops, goes_on}
 use Rattle.alethe_check.proofs.judge.judge_row.Goals as goal
 

@@ -1,3 +1,4 @@
+-- That the rules of resolution are judged by resolution.
 use Rattle.alethe_check.proofs.rules.follows.Goals as goal
 
 pub returns-in-Resolution-clause-exact : goal.returns-in-Resolution-clause-exact
