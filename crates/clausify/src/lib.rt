@@ -1,8 +1,16 @@
-//! Stub.
+//! Clauses of terms: what a search begins with. Each subterm of the terms gets the clauses that its rules without premises
+//! state, as steps of a log, and each term itself is assumed.
 #![tactic(auto)]
 
 mod clause_list;
+mod marks;
 mod roots;
+mod schemes;
+mod signs;
+mod statements;
+mod steps;
+#[cfg(test)]
+mod tests;
 
 pub use clause_list::ClauseList;
-pub use roots::clauses_of_all;
+pub use roots::{clauses_of, clauses_of_all};

@@ -1,15 +1,40 @@
-//! Stub.
+//! The clauses of terms and of all their subterms.
 
-ghost use Rattle.std.specs.Prelude.{◌≡◌, IfOk, OnOk, OnErr};
-ghost use Rattle.term_core.specs.Tables.{AreIn, clause_at};
+ghost use Rattle.std.specs.Prelude.{◌≡◌, ◌≤◌, [], ◌∷◌, length, map, flat_map, IfOk, OnOk, OnErr};
+ghost use Rattle.spec_search.specs.Base.{clauses_of};
+ghost use Rattle.term_core.specs.Tables.{IsIn, AreIn, clause_at};
 ghost use Rattle.proof_log.specs.Logs.{IsLogOf};
 ghost use Rattle.clausify.specs.Clausified.{HasClauses, Grows};
+ghost use Rattle.clausify.specs.Stating.{Tells};
+ghost use Rattle.clausify.specs.Marks.{marked};
 
 use crate::clause_list::ClauseList;
-use proof_log::ProofLog;
+use crate::marks::marks_of;
+use crate::statements::state_term;
+use proof_log::{ProofLog, StepId};
 use std::alloc::Global;
+use std::slice;
 use term_core::{TermId, TermTable};
 use world_io::NoMemory;
+
+/// Makes the clauses of a term: `clauses_of_all` for one term.
+///
+/// `NoMemory` comes where a clause or a term of it finds no memory; then table and log are as they were.
+/// Source: own; Tseitin 1968; Alethe specification, the rules without premises.
+pub fn clauses_of(
+    alloc: Global,
+    table: &mut TermTable,
+    log: &mut ProofLog,
+    root: TermId,
+) -> Result<ClauseList, NoMemory>
+    requires root { IsIn table.old root }
+    requires log { IsLogOf table.old log.old }
+    ensures clauses { IfOk result (λ list. HasClauses table.new log.new (clause_at table.old (root ∷ [])) list) }
+    ensures grown { OnOk result (Grows (root ∷ []) table.old table.new log.old log.new) }
+    ensures same { OnErr result ((table.new ≡ table.old) × (log.new ≡ log.old)) }
+{
+    clauses_of_all(alloc, table, log, slice::from_ref(&root))
+}
 
 /// Makes the clauses of terms, which say together that each of them is true: each term is assumed, and each of their subterms gets
 /// the clauses that its rules without premises state, a shared one once. Gives the numbers of these clauses in the log.
@@ -32,5 +57,72 @@ pub fn clauses_of_all(
     ensures grown { OnOk result (Grows roots.now table.old table.new log.old log.new) }
     ensures same { OnErr result ((table.new ≡ table.old) × (log.new ≡ log.old)) }
 {
-    Err(NoMemory)
+    let terms = table.len();
+    let clauses = log.len();
+    match stated_of(alloc, table, log, roots) {
+        Ok(list) => Ok(list),
+        Err(NoMemory) => {
+            log.cut(clauses);
+            table.cut(terms);
+            Err(NoMemory)
+        }
+    }
+}
+
+/// Makes the clauses of terms. Where memory runs out, what was made stays.
+fn stated_of(
+    alloc: Global,
+    table: &mut TermTable,
+    log: &mut ProofLog,
+    roots: &[TermId],
+) -> Result<ClauseList, NoMemory>
+    requires roots { AreIn table.old roots.now }
+    requires log { IsLogOf table.old log.old }
+    ensures clauses { IfOk result (λ list. HasClauses table.new log.new (clause_at table.old roots.now) list) }
+    ensures grows { Grows roots.now table.old table.new log.old log.new }
+{
+    let marks = marks_of(alloc, table, roots)?;
+    let mut steps = Vec::new(alloc);
+    assume_each(table, log, roots, &mut steps)?;
+    state_marked(alloc, table, log, &marks, &mut steps)?;
+    Ok(ClauseList::from(steps))
+}
+
+/// Assumes terms, and puts the numbers of their clauses behind the others.
+fn assume_each(
+    table: &TermTable,
+    log: &mut ProofLog,
+    roots: &[TermId],
+    steps: &mut Vec<StepId>,
+) -> Result<(), NoMemory>
+    requires roots { AreIn table.now roots.now }
+    requires log { IsLogOf table.now log.old }
+    ensures grows { Grows roots.now table.now table.now log.old log.new }
+    ensures tells { OnOk result (Tells table.now table.now log.old log.new steps.old.items steps.new.items (map (λ t. t ∷ []) (clause_at table.now roots.now))) }
+{
+    'roots: for root in roots.iter() {
+        steps.push(log.assume(*root)?)?;
+    }
+    Ok(())
+}
+
+/// States the clauses of the marked terms, and puts their numbers behind the others.
+fn state_marked(
+    alloc: Global,
+    table: &mut TermTable,
+    log: &mut ProofLog,
+    marks: &[bool],
+    steps: &mut Vec<StepId>,
+) -> Result<(), NoMemory>
+    requires short { length marks.now ≤ length table.old.terms }
+    requires log { IsLogOf table.old log.old }
+    ensures grows { Grows [] table.old table.new log.old log.new }
+    ensures tells { OnOk result (Tells table.old table.new log.old log.new steps.old.items steps.new.items (flat_map clauses_of (marked marks.now table.old.terms))) }
+{
+    'marks: for number in 0..marks.len() {
+        if marks[number] {
+            state_term(alloc, table, log, steps, TermId(number as u64))?;
+        }
+    }
+    Ok(())
 }

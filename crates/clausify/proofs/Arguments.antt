@@ -1,0 +1,86 @@
+-- The arguments of a term of a table, and wider tables.
+use Rattle.std.proofs.Common.{◌≡◌, ◌≢◌, ℕ, suc, ◌+◌, ◌<◌, ◌≤◌, false, true, List, [], ◌∷◌, ◌++◌, length, map, get_or, take, Bool, refl, sym, ap, ap₂, ◌∙◌, subst, arith}
+use Rattle.std.proofs.lemmas.Bool.{false≢true}
+use Rattle.std.proofs.lemmas.List.{length-map, get_or-map, map-append, take_more}
+use Rattle.std.proofs.lemmas.List.Elements.{All-push}
+use Rattle.spec_terms.specs.Terms.{Symbol, Truth, Not, Sort, Term, Terms, app, nil, cons, terms_of, of, negated, head_takes, sort_of}
+use Rattle.spec_terms.specs.Subsets.{arguments_of}
+use Rattle.spec_proofs.specs.Schemes.{innermost}
+use Rattle.term_core.specs.declared.ids.TermId.{TermId}
+use Rattle.term_core.specs.declared.nodes.Head.{Head as NodeHead}
+use Rattle.term_core.specs.declared.nodes.Head.TheVariants as heads
+use Rattle.term_core.specs.Tables.{TableView, term_at, IsIn, AreIn, clause_at, head_meant, Shape, Fits, shape_term, Extends}
+use Rattle.term_core.proofs.TermsExtend.{Extends-self, Extends-trans, AreIn-kept, clause_at-kept}
+use Rattle.term_core.proofs.TermsApart.{list_back}
+use Rattle.spec_search.proofs.Obeying.{not_takes}
+use Rattle.clausify.specs.Stating.{Widens}
+
+pub Widens-self : (t : TableView) → Widens t t
+Widens-self t = record { terms = Extends-self t; symbols = refl }
+
+pub Widens-trans : (s t u : TableView) → Widens s t → Widens t u → Widens s u
+Widens-trans s t u a b = record { terms = Extends-trans s t u a.terms b.terms; symbols = b.symbols ∙ a.symbols }
+
+module _ (t : TableView) (s : Shape) (term : Term) (means : term ≡ shape_term t s) where
+  -- the arguments of a term by its node
+  pub arguments_are : arguments_of term ≡ clause_at t s.arguments
+  arguments_are = ap arguments_of means ∙ list_back (clause_at t s.arguments)
+
+  -- as many as the node has
+  pub arguments_count : length (arguments_of term) ≡ length s.arguments
+  arguments_count = ap length arguments_are ∙ length-map s.arguments (term_at t)
+
+  -- and each the term of its number
+  pub argument_at : (k : ℕ) (d : TermId) (e : Term) → k < length s.arguments → term_at t (get_or s.arguments k d) ≡ get_or (arguments_of term) k e
+  argument_at k d e lt = sym (ap (λ (ts : List Term). get_or ts k e) arguments_are ∙ get_or-map (term_at t) s.arguments k d e lt)
+
+-- no one argument
+pub innermost_not_one : (ts : List Term) → length ts ≢ 1 → innermost ts ≡ []
+innermost_not_one [] e = refl
+innermost_not_one (t ∷ []) e = absurd (e refl)
+innermost_not_one (app Not (cons x nil) ∷ u ∷ us) e = refl
+innermost_not_one _ e = refl
+
+-- one argument, that is no negation
+pub innermost_other : (symbols : List Symbol) (h : NodeHead) (us : Terms) → (h ≡ heads.Not → ⊥) → innermost (app (head_meant symbols h) us ∷ []) ≡ []
+innermost_other symbols heads.Not us differs = absurd (differs refl)
+innermost_other symbols _ us differs = refl
+
+-- one argument, that is one
+pub one_of_length : (ts : List Term) (d : Term) → length ts ≡ 1 → ts ≡ get_or ts 0 d ∷ []
+one_of_length [] d e = absurd (omega (arith, e))
+one_of_length (t ∷ []) d e = refl
+one_of_length (t ∷ u ∷ us) d e = absurd (omega (arith, e))
+
+-- the one argument is a negation
+pub innermost_there : (ts : List Term) (w x d : Term) → length ts ≡ 1 → w ≡ get_or ts 0 d → w ≡ negated x → innermost ts ≡ (x ∷ []) ∷ []
+innermost_there ts w x d one e f = ap innermost (one_of_length ts d one ∙ ap (λ u. u ∷ []) (sym e ∙ f))
+
+-- the one argument is no negation
+pub innermost_none : (t : TableView) (ts : List Term) (s : Shape) (w d : Term) → length ts ≡ 1 → w ≡ get_or ts 0 d → w ≡ shape_term t s → (s.head ≡ heads.Not → ⊥) → innermost ts ≡ []
+innermost_none t ts s w d one e f differs = ap innermost (one_of_length ts d one ∙ ap (λ u. u ∷ []) (sym e ∙ f)) ∙ innermost_other t.symbols s.head (terms_of (clause_at t s.arguments)) differs
+
+-- a negation has one argument
+module _ (t : TableView) (s : Shape) (term : Term) (fits : Fits t s) (is_not : s.head ≡ heads.Not) (means : term ≡ shape_term t s) where
+  pub negation_count : length (arguments_of term) ≡ 1
+  negation_count =
+      let sorts : head_takes Not (map sort_of (clause_at t s.arguments)) ≡ true = subst (λ h. head_takes (head_meant t.symbols h) (map sort_of (clause_at t s.arguments)) ≡ true) is_not fits.sorts in
+      ap length (arguments_are t s term means) ∙ sym (length-map (clause_at t s.arguments) sort_of) ∙ not_takes (map sort_of (clause_at t s.arguments)) sorts
+
+  pub negation_of : (d : Term) → term ≡ negated (get_or (arguments_of term) 0 d)
+  negation_of d =
+      let same : arguments_of term ≡ clause_at t s.arguments = arguments_are t s term means in
+      let one : arguments_of term ≡ get_or (arguments_of term) 0 d ∷ [] = one_of_length (arguments_of term) d negation_count in
+      means ∙ ap (λ h. of (head_meant t.symbols h) (clause_at t s.arguments)) is_not ∙ ap (of Not) (sym same ∙ one)
+
+-- one literal more, in a table that may have grown
+module _ (now new : TableView) (wider : Widens now new) (ids all : List TermId) (n : TermId) (pushed : all ≡ ids ++ n ∷ []) (there : AreIn now ids) (here : IsIn new n) where
+  pub literal_there : AreIn new all
+  literal_there = subst (AreIn new) (sym pushed) (All-push (λ id. IsIn new id) ids n (AreIn-kept now new wider.terms ids there) here)
+
+  pub literal_more : (said : List Term) (u : Term) → clause_at now ids ≡ said → term_at new n ≡ u → clause_at new all ≡ said ++ u ∷ []
+  literal_more said u same means = ap (clause_at new) pushed ∙ map-append (term_at new) ids (n ∷ []) ∙ ap₂ (λ (xs : List Term) (x : Term). xs ++ x ∷ []) (clause_at-kept now new wider.terms ids there ∙ same) means
+
+-- a literal more behind a term
+pub literals_more : {X : Type 0} (f : X → Term) (front : Term) (xs : List X) (k : ℕ) (d : X) → k < length xs → (front ∷ map f (take k xs)) ++ f (get_or xs k d) ∷ [] ≡ front ∷ map f (take (k + 1) xs)
+literals_more f front xs k d lt = ap (λ (ts : List Term). front ∷ ts) (sym (map-append f (take k xs) (get_or xs k d ∷ [])) ∙ ap (map f) (sym (take_more xs k d lt)))

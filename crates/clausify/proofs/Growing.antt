@@ -1,0 +1,126 @@
+-- Tables and logs that grow, and what numbers of a log say then.
+use Rattle.std.proofs.Common.{◌≡◌, ℕ, zero, suc, ◌+◌, ◌<◌, List, [], ◌∷◌, ◌++◌, length, map, get_or, All, Contains, refl, sym, ap, ap₂, ◌∙◌, subst, arith, length-append, append_assoc}
+use Rattle.std.proofs.lemmas.List.{append-nil, map-append, length-map, get_or_append_left, get_or_push}
+use Rattle.std.proofs.lemmas.List.Elements.{All-nil, All-append, All-push, All-head, All-tail}
+use Rattle.spec_terms.specs.Literals.{Clause}
+use Rattle.spec_search.specs.Derivations.{Inference, Derivation, «assumption», by_rule, conclusion, no_inference}
+use Rattle.term_core.specs.declared.ids.TermId.{TermId}
+use Rattle.term_core.specs.Tables.{TableView, AreIn, clause_at, Extends}
+use Rattle.term_core.proofs.TermsExtend.{Extends-trans, term_at-kept, clause_at-kept}
+use Rattle.proof_log.specs.declared.premises.StepId.{StepId}
+use Rattle.proof_log.specs.Logs.{Logged, assumed, stepped, named, numbers_of, inference_of, derivation_in, IsLogOf}
+use Rattle.clausify.specs.Clausified.{stated, AssumesOneOf, Grows}
+use Rattle.clausify.specs.Stating.{Widens, Says, Tells}
+use Rattle.clausify.proofs.Arguments.{Widens-self}
+
+-- a wider table, over which the log is still right
+pub Grows-wider : (roots : List TermId) (t u : TableView) (log : List Logged) → Widens t u → IsLogOf u log → Grows roots t u log log
+Grows-wider roots t u log wider right = record {
+  table = wider.terms;
+  symbols = wider.symbols;
+  more = [];
+  log = sym (append-nil log);
+  right = right;
+  assumes = All-nil (AssumesOneOf roots);
+}
+
+pub Grows-self : (roots : List TermId) (t : TableView) (log : List Logged) → IsLogOf t log → Grows roots t t log log
+Grows-self roots t log right = Grows-wider roots t t log (Widens-self t) right
+
+pub Grows-trans : (roots : List TermId) (t u v : TableView) (a b c : List Logged) → Grows roots t u a b → Grows roots u v b c → Grows roots t v a c
+Grows-trans roots t u v a b c g h = record {
+  table = Extends-trans t u v g.table h.table;
+  symbols = h.symbols ∙ g.symbols;
+  more = g.more ++ h.more;
+  log = h.log ∙ ap (λ l. l ++ h.more) g.log ∙ append_assoc a g.more h.more;
+  right = h.right;
+  assumes = All-append (AssumesOneOf roots) g.more h.more g.assumes h.assumes;
+}
+
+-- a clause more
+pub Grows-push : (roots : List TermId) (t : TableView) (old new : List Logged) (l : Logged) → new ≡ old ++ l ∷ [] → AssumesOneOf roots l → IsLogOf t new → Grows roots t t old new
+Grows-push roots t old new l last assumes right = record {
+  table = (Widens-self t).terms;
+  symbols = refl;
+  more = l ∷ [];
+  log = last;
+  right = right;
+  assumes = All-push (AssumesOneOf roots) [] l (All-nil (AssumesOneOf roots)) assumes;
+}
+
+-- what assumes nothing assumes only roots
+pub Grows-weaker : (roots : List TermId) (t u : TableView) (old new : List Logged) → Grows [] t u old new → Grows roots t u old new
+Grows-weaker roots t u old new g = record {
+  table = g.table;
+  symbols = g.symbols;
+  more = g.more;
+  log = g.log;
+  right = g.right;
+  assumes = λ k d lt. weaker (get_or g.more k d) (g.assumes k d lt);
+}
+  where
+    weaker : (l : Logged) → AssumesOneOf [] l → AssumesOneOf roots l
+    weaker (assumed id) h = absurd (omega (arith, h.1))
+    weaker (stepped r ps c) h = h
+
+-- the clause that is stated
+pub conclusion_of : (t : TableView) (l : Logged) → conclusion (inference_of t l) ≡ clause_at t (named l)
+conclusion_of t (assumed id) = refl
+conclusion_of t (stepped r ps c) = refl
+
+module _ (t u : TableView) (grows : Extends t u) where
+  inference_of-kept : (l : Logged) → AreIn t (named l) → inference_of u l ≡ inference_of t l
+  inference_of-kept (assumed id) here = ap «assumption» (term_at-kept t u grows id (here 0 id (omega arith)))
+  inference_of-kept (stepped r ps c) here = ap (by_rule r (numbers_of ps)) (clause_at-kept t u grows c here)
+
+  derivation_in-kept : (log : List Logged) → All (λ l. AreIn t (named l)) log → derivation_in u log ≡ derivation_in t log
+  derivation_in-kept [] there = refl
+  derivation_in-kept (l ∷ ls) there = ap₂ (λ (x : Inference) (xs : Derivation). x ∷ xs) (inference_of-kept l (All-head (λ x. AreIn t (named x)) l ls there)) (derivation_in-kept ls (All-tail (λ x. AreIn t (named x)) l ls there))
+
+module _ (roots : List TermId) (t u : TableView) (old new : List Logged) (g : Grows roots t u old new) (right : IsLogOf t old) where
+  -- a number says what it said
+  pub stated-kept : (s : StepId) → s.0 < length old → stated u new s ≡ stated t old s
+  stated-kept s lt =
+      let split : derivation_in u new ≡ derivation_in t old ++ derivation_in u g.more = ap (derivation_in u) g.log ∙ map-append (inference_of u) old g.more ∙ ap (λ (d : Derivation). d ++ derivation_in u g.more) (derivation_in-kept t u g.table old right.there) in
+      ap (λ (d : Derivation). conclusion (get_or d s.0 no_inference)) split
+      ∙ ap conclusion (get_or_append_left (derivation_in t old) (derivation_in u g.more) no_inference s.0 (subst (λ n. s.0 < n) (sym (length-map old (inference_of t))) lt))
+
+  all-kept : (steps : List StepId) → All (λ s. s.0 < length old) steps → map (stated u new) steps ≡ map (stated t old) steps
+  all-kept [] there = refl
+  all-kept (s ∷ ss) there = ap₂ (λ (x : Clause) (xs : List Clause). x ∷ xs) (stated-kept s (All-head (λ (x : StepId). x.0 < length old) s ss there)) (all-kept ss (All-tail (λ (x : StepId). x.0 < length old) s ss there))
+
+  -- so do all of them
+  pub Says-kept : (steps : List StepId) (clauses : List Clause) → Says t old steps clauses → Says u new steps clauses
+  Says-kept steps clauses says = record {
+    there = λ k d lt. subst (λ n. (get_or steps k d).0 < n) (sym (ap length g.log)) (omega (arith, says.there k d lt, length-append old g.more));
+    same = all-kept steps says.there ∙ says.same;
+  }
+
+-- a clause more, and its number
+pub Says-push : (roots : List TermId) (t : TableView) (old new : List Logged) (l : Logged) (id : StepId) (steps all : List StepId) (said : List Clause) → Grows roots t t old new → IsLogOf t old → id.0 ≡ length old → new ≡ old ++ l ∷ [] → all ≡ steps ++ id ∷ [] → Says t old steps said → Says t new all (said ++ clause_at t (named l) ∷ [])
+Says-push roots t old new l id steps all said g right number last pushed says =
+    let kept = Says-kept roots t t old new g right steps said says in
+    let count : length new ≡ length old + 1 = ap length last ∙ length-append old (l ∷ []) in
+    let here : stated t new id ≡ clause_at t (named l) =
+        ap (λ (d : Derivation). conclusion (get_or d id.0 no_inference)) (ap (derivation_in t) last ∙ map-append (inference_of t) old (l ∷ []))
+        ∙ ap conclusion (get_or_push (derivation_in t old) (inference_of t l) no_inference id.0 (length-map old (inference_of t) ∙ sym number))
+        ∙ conclusion_of t l in
+    record {
+      there = subst (λ (ss : List StepId). All (λ s. s.0 < length new) ss) (sym pushed) (All-push (λ (s : StepId). s.0 < length new) steps id kept.there (omega (arith, count, number)));
+      same = ap (map (stated t new)) pushed ∙ map-append (stated t new) steps (id ∷ []) ∙ ap₂ (λ (xs : List Clause) (x : Clause). xs ++ x ∷ []) kept.same here;
+    }
+
+-- a table that got wider before the clauses came
+module _ (t u : TableView) (wider : Widens t u) (old new : List Logged) (right : IsLogOf t old) (still : IsLogOf u old) where
+  pub Grows-made : Grows [] u u old new → Grows [] t u old new
+  Grows-made g = Grows-trans [] t u u old old new (Grows-wider [] t u old wider still) g
+
+  pub Tells-made : (steps all : List StepId) (clauses : List Clause) → Tells u u old new steps all clauses → Tells t u old new steps all clauses
+  Tells-made steps all clauses tells said says = tells said (Says-kept [] t u old old (Grows-wider [] t u old wider still) right steps said says)
+
+-- no clause, then some, then others
+pub Tells-none : (t : TableView) (log : List Logged) (steps : List StepId) → Tells t t log log steps steps []
+Tells-none t log steps said says = subst (Says t log steps) (sym (append-nil said)) says
+
+pub Tells-trans : (t u v : TableView) (a b c : List Logged) (one two three : List StepId) (cs ds : List Clause) → Tells t u a b one two cs → Tells u v b c two three ds → Tells t v a c one three (cs ++ ds)
+Tells-trans t u v a b c one two three cs ds f g said says = subst (Says v c three) (append_assoc said cs ds) (g (said ++ cs) (f said says))

@@ -1,0 +1,7 @@
+-- The numbers so far are marked.
+use Rattle.std.proofs.Common.{take}
+use Rattle.clausify.specs.Marks.{Marks}
+use Rattle.clausify.proofs.marks.mark_each.Given as goal
+
+abbrev pub invariant-ids : goal.invariant-ids
+invariant-ids l = record { so_far : Marks l.fn.marks (take l.id-index l.ids) l.marks }
