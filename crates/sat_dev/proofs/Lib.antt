@@ -8,3 +8,5 @@ pub mod SearchResolved
 pub mod SearchNew
 pub mod SearchRounds
 pub mod SearchDerive
+pub mod SearchModels
+pub mod SearchModelsMade

@@ -1,12 +1,14 @@
--- The arguments of a table's terms are among them.
-use Rattle.std.proofs.Common.{◌≡◌, List, [], get_or, Contains, sym, ◌∙◌, subst}
+-- The arguments of a table's terms are among them, and their heads, which are declared, take them.
+use Rattle.std.proofs.Common.{◌≡◌, true, List, [], get_or, Contains, map, sym, ◌∙◌, subst}
 use Rattle.std.proofs.lemmas.List.{get_or_default}
-use Rattle.std.proofs.lemmas.List.Elements.{All-contains}
-use Rattle.spec_terms.specs.Terms.{Symbol, Term}
+use Rattle.std.proofs.lemmas.List.Elements.{All-contains, Contains-get_or}
+use Rattle.spec_terms.specs.Terms.{Symbol, Head, Apply, Term, Terms, app, list_of, sort_of, head_takes}
 use Rattle.spec_terms.specs.Subsets.{arguments_of, IsClosed}
 use Rattle.term_core.specs.declared.ids.TermId.{TermId}
+use Rattle.term_core.specs.declared.nodes.Head.{Head as NodeHead}
+use Rattle.term_core.specs.declared.nodes.Head.TheVariants as heads
 use Rattle.term_core.specs.declared.nodes.Node.{Node}
-use Rattle.term_core.specs.Tables.{TableView, no_term, term_at, IsIn, clause_at, Shape, shapes_of, no_shape, shape_term, grown, IsWhole}
+use Rattle.term_core.specs.Tables.{TableView, no_symbol, no_term, term_at, IsIn, HasHead, head_meant, clause_at, Shape, shapes_of, no_shape, shape_term, Fits, grown, IsWhole}
 use Rattle.term_core.proofs.Images.{to_image, from_image}
 use Rattle.term_core.proofs.ShapesGrown.{view, at-term, at-fits}
 use Rattle.term_core.proofs.TermsApart.{list_back, at}
@@ -23,12 +25,54 @@ argument_in t s id c = subst (λ ts. Contains ts (term_at t id)) (sym (list_back
 pub term_there : (t : TableView) (id : TermId) → IsIn t id → Contains t.terms (term_at t id)
 term_there t id lt = (id.0, lt, get_or_default t.terms id.0 (term_at t id) no_term lt)
 
+-- a term of the table is written at its number
+is_written : (symbols : List Symbol) (nodes : List Node) → IsWhole symbols nodes → (t : Term) → Contains (grown symbols [] (shapes_of nodes)) t
+    → (s : Shape) × Fits (view symbols (grown symbols [] (shapes_of nodes))) s × (t ≡ shape_term (view symbols (grown symbols [] (shapes_of nodes))) s)
+is_written symbols nodes whole t c =
+    let terms = grown symbols [] (shapes_of nodes) in
+    let s : Shape = get_or (shapes_of nodes) c.0 no_shape in
+    let here = at symbols nodes whole c.0 c.1 in
+    (s, at-fits symbols terms s c.0 here, sym c.2 ∙ get_or_default terms c.0 t no_term c.1 ∙ at-term symbols terms s c.0 here)
+
 pub closed_terms : (symbols : List Symbol) (nodes : List Node) → IsWhole symbols nodes → IsClosed (grown symbols [] (shapes_of nodes))
 closed_terms symbols nodes whole t c u a =
     let tv : TableView = view symbols (grown symbols [] (shapes_of nodes)) in
-    let s : Shape = get_or (shapes_of nodes) c.0 no_shape in
-    let here = at symbols nodes whole c.0 c.1 in
-    let is : t ≡ shape_term tv s = sym c.2 ∙ get_or_default tv.terms c.0 t no_term c.1 ∙ at-term symbols tv.terms s c.0 here in
-    let arg = argument_of tv s u (subst (λ x. Contains (arguments_of x) u) is a) in
-    let within : IsIn tv arg.0 = All-contains (λ id. IsIn tv id) s.arguments arg.0 (at-fits symbols tv.terms s c.0 here).arguments arg.1 in
+    let w = is_written symbols nodes whole t c in
+    let arg = argument_of tv w.0 u (subst (λ x. Contains (arguments_of x) u) w.2 a) in
+    let within : IsIn tv arg.0 = All-contains (λ id. IsIn tv id) w.0.arguments arg.0 w.1.arguments arg.1 in
     subst (Contains tv.terms) arg.2 (term_there tv arg.0 within)
+
+-- the head takes arguments of the sorts of the term's own
+abbrev TakesItsOwn : Term → Type 0
+TakesItsOwn (app h ts) = head_takes h (map sort_of (list_of ts)) ≡ true
+
+pub heads_take : (symbols : List Symbol) (nodes : List Node) → IsWhole symbols nodes → (h : Head) (ts : Terms) → Contains (grown symbols [] (shapes_of nodes)) (app h ts) → head_takes h (map sort_of (list_of ts)) ≡ true
+heads_take symbols nodes whole h ts c =
+    let tv : TableView = view symbols (grown symbols [] (shapes_of nodes)) in
+    let w = is_written symbols nodes whole (app h ts) c in
+    subst TakesItsOwn (sym w.2) (subst (λ us. head_takes (head_meant symbols w.0.head) (map sort_of us) ≡ true) (sym (list_back (clause_at tv w.0.arguments))) w.1.sorts)
+
+-- the symbol in front, if there is one, is among these
+abbrev IsDeclared : List Symbol → Head → Type 0
+IsDeclared symbols (Apply s) = Contains symbols s
+IsDeclared symbols h = Unit {0}
+
+abbrev HeadIsDeclared : List Symbol → Term → Type 0
+HeadIsDeclared symbols (app h ts) = IsDeclared symbols h
+
+meant_declared : (symbols : List Symbol) (h : NodeHead) → HasHead symbols h → IsDeclared symbols (head_meant symbols h)
+meant_declared symbols (heads.Apply s) there = Contains-get_or symbols s.0 no_symbol there
+meant_declared symbols heads.True there = tt
+meant_declared symbols heads.False there = tt
+meant_declared symbols heads.Not there = tt
+meant_declared symbols heads.And there = tt
+meant_declared symbols heads.Or there = tt
+meant_declared symbols heads.Xor there = tt
+meant_declared symbols heads.Implies there = tt
+meant_declared symbols heads.Equal there = tt
+meant_declared symbols heads.Ite there = tt
+
+pub heads_declared : (symbols : List Symbol) (nodes : List Node) → IsWhole symbols nodes → (s : Symbol) (ts : Terms) → Contains (grown symbols [] (shapes_of nodes)) (app (Apply s) ts) → Contains symbols s
+heads_declared symbols nodes whole s ts c =
+    let w = is_written symbols nodes whole (app (Apply s) ts) c in
+    subst (HeadIsDeclared symbols) (sym w.2) (meant_declared symbols w.0.head w.1.head)

@@ -1,7 +1,7 @@
 //! The table of terms: each term once, by its number.
 
-ghost use Rattle.std.specs.Prelude.{◌⊎◌, ◌≡◌, map, MatchBool, false, ◌<◌, ◌≤◌, [], ◌∷◌, ◌++◌, length, take, None, Some, All, IfOk, OnErr, OnOk, MatchOption, slice_get};
-ghost use Rattle.spec_terms.specs.Terms.{Truth, sort_of, head_takes, negated};
+ghost use Rattle.std.specs.Prelude.{◌⊎◌, ◌≡◌, map, MatchBool, true, false, Contains, ◌<◌, ◌≤◌, [], ◌∷◌, ◌++◌, length, take, None, Some, All, IfOk, OnErr, OnOk, MatchOption, slice_get};
+ghost use Rattle.spec_terms.specs.Terms.{Symbol, Head as TermHead, Apply, Terms, app, list_of, Truth, sort_of, head_takes, negated};
 ghost use Rattle.spec_terms.specs.Reading.{symbol_named};
 ghost use Rattle.spec_terms.specs.Subsets.{IsClosed};
 ghost use Rattle.spec_terms.specs.Literals.{literal_of};
@@ -186,6 +186,24 @@ impl TermTable {
     /// Source: own.
     pub fn terms_are_truths(&self)
         ensures { (id : Number) → IsIn self.now id → sort_of (term_at self.now id) ≡ Truth }
+    {
+        let _ = &self.symbols;
+    }
+
+    /// States that the head of each of the table's terms takes arguments of the sorts of its own.
+    ///
+    /// Source: SMT-LIB 2.6, section 3.6.
+    pub fn heads_take_their_arguments(&self)
+        ensures { (h : TermHead) (ts : Terms) → Contains self.now.terms (app h ts) → head_takes h (map sort_of (list_of ts)) ≡ true }
+    {
+        let _ = &self.symbols;
+    }
+
+    /// States that the symbol in front of each of the table's terms is declared.
+    ///
+    /// Source: SMT-LIB 2.6, section 3.6.
+    pub fn heads_are_declared(&self)
+        ensures { (s : Symbol) (ts : Terms) → Contains self.now.terms (app (Apply s) ts) → Contains self.now.symbols s }
     {
         let _ = &self.symbols;
     }
