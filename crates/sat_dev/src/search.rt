@@ -13,3 +13,11 @@ pub mod derive;
 pub mod rounds;
 pub mod probe;
 pub mod decide;
+#[cfg(test)]
+mod common_tests;
+#[cfg(test)]
+mod known_tests;
+#[cfg(test)]
+mod derivation_tests;
+#[cfg(test)]
+mod formula_tests;
