@@ -15,3 +15,10 @@ pub mod rounds;
 pub mod decide;
 #[cfg(test)]
 mod model_tests;
+mod common_tests;
+#[cfg(test)]
+mod known_tests;
+#[cfg(test)]
+mod derivation_tests;
+#[cfg(test)]
+mod formula_tests;
