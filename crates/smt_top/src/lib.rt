@@ -5,6 +5,7 @@ mod check_run;
 mod in_memory;
 mod output;
 mod read;
+mod search;
 mod status;
 #[cfg(test)]
 mod test_support;

@@ -1,4 +1,0 @@
-//! Dev.
-#![tactic(auto)]
-
-pub mod search;

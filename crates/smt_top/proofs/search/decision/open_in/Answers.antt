@@ -1,0 +1,15 @@
+-- That the literal is the first open one.
+use Rattle.std.proofs.Common.{subst, sym, take, List, ◌≡◌, ◌+◌, ◌++◌, ◌∷◌, []}
+use Rattle.std.proofs.lemmas.List.{take_all, take_more}
+use Rattle.term_core.specs.declared.ids.Lit.{Lit}
+use Rattle.smt_top.specs.Search.{Opens}
+use Rattle.smt_top.proofs.SearchDecisions.{opened}
+use Rattle.smt_top.proofs.search.decision.open_in.Goals as goal
+
+pub loop-m-preserved : goal.loop-m-preserved
+loop-m-preserved c =
+    let next = take_more c.args.clause.now c.loop-m.m-index _ c.loop-m-test.true in
+    rw next (c.first_open-first.ensures (take c.loop-m.m-index c.args.clause.now) c.loop-m.invariant)
+
+pub returns : goal.returns
+returns c = opened c.args.held.now c.args.clause.now c.loop-m.first (rw (take_all _ _ c.loop-m-test.false) at c.loop-m.invariant)

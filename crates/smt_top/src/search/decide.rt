@@ -1,0 +1,76 @@
+//! The answer of a check.
+
+ghost use Rattle.std.specs.Prelude.{◌≡◌, IfOk, OnErr};
+ghost use Rattle.term_core.specs.Tables.{AreIn, Extends, clause_at};
+ghost use Rattle.smt_top.specs.Decisions.{IsDecided};
+
+use crate::search::rounds::{Answer, search};
+use crate::search::store::store_of;
+use clausify::clauses_of_all;
+use proof_log::ProofLog;
+use proof_log::laws::empty_logs_are_right;
+use sat_budget::{Budget, Limits};
+use spec_search::laws::base_clauses_are_over_subterms;
+use std::alloc::Global;
+use term_core::{TermId, TermTable};
+use world_io::NoMemory;
+
+/// A check's answer, with the log in which its steps are and the budget that it has left.
+#[derive(Drop)]
+pub(crate) struct Decision {
+    /// The answer.
+    pub(crate) answer: Answer,
+    /// The clauses of the terms, what was learned, and how they are derived.
+    pub(crate) log: ProofLog,
+    /// The clauses that were learned, and how many might have been.
+    pub(crate) budget: Budget,
+}
+
+/// Decides whether some interpretation makes terms true.
+pub(crate) fn decide(
+    alloc: Global,
+    table: &mut TermTable,
+    roots: &[TermId],
+    limits: &Limits,
+) -> Result<Decision, NoMemory>
+    requires roots { AreIn table.old roots.now }
+    ensures grown { Extends table.old table.new }
+    ensures symbols { table.new.symbols ≡ table.old.symbols }
+    ensures decided { IfOk result (IsDecided table.new (clause_at table.old roots.now) limits.now.conflicts) }
+    ensures same { OnErr result (table.new ≡ table.old) }
+{
+    let len = table.len();
+    match decided(alloc, table, roots, limits) {
+        Ok(decision) => Ok(decision),
+        Err(NoMemory) => {
+            table.cut(len);
+            Err(NoMemory)
+        }
+    }
+}
+
+/// Decides it; where memory runs out, the terms that it has put stay.
+fn decided(
+    alloc: Global,
+    table: &mut TermTable,
+    roots: &[TermId],
+    limits: &Limits,
+) -> Result<Decision, NoMemory>
+    requires roots { AreIn table.old roots.now }
+    ensures grown { Extends table.old table.new }
+    ensures symbols { table.new.symbols ≡ table.old.symbols }
+    ensures decided { IfOk result (IsDecided table.new (clause_at table.old roots.now) limits.now.conflicts) }
+{
+    base_clauses_are_over_subterms();
+    empty_logs_are_right();
+    let mut log = ProofLog::new(alloc);
+    let list = clauses_of_all(alloc, table, &mut log, roots)?;
+    let mut store = store_of(alloc, table, &log, list.as_slice())?;
+    let mut budget = Budget::new(alloc, limits)?;
+    let answer = search(alloc, table, &mut log, &mut store, &mut budget)?;
+    Ok(Decision {
+        answer,
+        log,
+        budget,
+    })
+}
