@@ -1,13 +1,13 @@
 -- The clauses of terms, from those of the marked numbers.
 use Rattle.std.proofs.Common.{◌≡◌, ℕ, ◌+◌, ◌<◌, ◌≤◌, Bool, false, List, [], ◌∷◌, ◌++◌, length, map, get_or, take, Contains, if◌then◌else◌, inl, inr, sym, ap, ◌∙◌, subst, arith, add-one}
 use Rattle.std.specs.Prelude.{flat_map}
-use Rattle.std.proofs.lemmas.List.{append-nil, map-append, take_more}
+use Rattle.std.proofs.lemmas.List.{append-nil, length-append, length-map, map-append, take_more}
 use Rattle.std.proofs.lemmas.List.Elements.{Contains-append_left, Contains-append_right, Contains-append_cases}
 use Rattle.std.proofs.lemmas.Grind.{flat_map-append}
 use Rattle.spec_terms.specs.Terms.{Term}
 use Rattle.spec_terms.specs.Literals.{Clause}
 use Rattle.spec_terms.specs.Subterms.{subterms_of}
-use Rattle.spec_terms.specs.Subsets.{AreAmong}
+use Rattle.spec_terms.specs.Subsets.{AreAmong, AreOnce}
 use Rattle.spec_proofs.specs.Resolution.{IsWithin}
 use Rattle.spec_search.specs.Base.{clauses_of}
 use Rattle.spec_search.proofs.Meeting.{in_flat}
@@ -20,6 +20,7 @@ use Rattle.clausify.specs.Clausified.{stated, HasClauses}
 use Rattle.clausify.specs.Stating.{Says}
 use Rattle.clausify.specs.Marks.{IsMarked, marked, AreMarksOf}
 use Rattle.clausify.proofs.Marked.{marked_more}
+use Rattle.clausify.proofs.Counts.{counts_same}
 
 -- each term alone
 abbrev pub alone : List Term → List Clause
@@ -58,14 +59,18 @@ within_flat us vs units among c c_in = elim (Contains-append_cases units (flat_m
 ]
 
 -- the numbers are those of the base clauses
-pub has_clauses : (t u : TableView) (log : List Logged) (roots : List TermId) (marks : List Bool) (steps : List StepId) → AreMarksOf t roots marks → Says u log steps (alone (clause_at t roots) ++ marked_clauses marks t.terms) → HasClauses u log (clause_at t roots) steps
-has_clauses t u log roots marks steps m says =
+pub has_clauses : (t u : TableView) (log : List Logged) (roots : List TermId) (marks : List Bool) (steps : List StepId) → AreMarksOf t roots marks → AreOnce (subterms_of (clause_at t roots)) → Says u log steps (alone (clause_at t roots) ++ marked_clauses marks t.terms) → HasClauses u log (clause_at t roots) steps
+has_clauses t u log roots marks steps m once says =
     let units = alone (clause_at t roots) in
     let same : map (stated u log) steps ≡ units ++ marked_clauses marks t.terms = says.same in
     record {
       there = says.there;
       base = λ c c_in. subst (λ cs. Contains cs c) (sym same) (within_flat (subterms_of (clause_at t roots)) (marked marks t.terms) units m.each c c_in);
       only = λ c c_in. within_flat (marked marks t.terms) (subterms_of (clause_at t roots)) units m.only c (subst (λ cs. Contains cs c) same c_in);
+      count =
+          sym (length-map steps (stated u log)) ∙ ap length same ∙ length-append units (marked_clauses marks t.terms)
+          ∙ ap (λ n. length units + n) (counts_same clauses_of (marked marks t.terms) (subterms_of (clause_at t roots)) m.once once m.only m.each)
+          ∙ sym (length-append units (flat_map clauses_of (subterms_of (clause_at t roots))));
     }
 
 -- no number says nothing

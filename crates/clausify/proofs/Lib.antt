@@ -3,6 +3,7 @@ pub mod Arguments
 pub mod Growing
 pub mod Stated
 pub mod Formulas
+pub mod Counts
 pub mod Bases
 pub mod Marked
 pub mod Marking

@@ -1,9 +1,12 @@
 -- Lists of terms whose numbers are marked.
-use Rattle.std.proofs.Common.{◌≡◌, ℕ, zero, suc, ◌<◌, ◌≤◌, Bool, true, false, if◌then◌else◌, List, [], ◌∷◌, ◌++◌, length, get_or, take, Contains, inl, inr, refl, ap, arith}
+use Rattle.std.proofs.Common.{◌≡◌, ◌≢◌, ℕ, zero, suc, ◌<◌, ◌≤◌, Bool, true, false, if◌then◌else◌, List, [], ◌∷◌, ◌++◌, length, get_or, take, Contains, inl, inr, refl, sym, ap, ◌∙◌, arith}
 use Rattle.std.proofs.lemmas.Bool.{false≢true}
+use Rattle.std.proofs.lemmas.List.Kept.{AllPairs-cons}
+use Rattle.std.proofs.lemmas.List.Elements.{Contains-get_or}
 use Rattle.spec_terms.specs.Terms.{Term}
+use Rattle.spec_terms.specs.Subsets.{AreOnce}
 use Rattle.spec_terms.proofs.Members.{first, later, cases, none}
-use Rattle.term_core.specs.Tables.{no_term}
+use Rattle.term_core.specs.Tables.{no_term, AreDifferent}
 use Rattle.clausify.specs.Marks.{IsMarked, marked}
 
 -- no number is marked beyond the marks
@@ -35,6 +38,10 @@ from_marked (true ∷ ms) (t ∷ ts) u h = elim (cases t (marked ms ts) u h) [
 ]
 from_marked (false ∷ ms) (t ∷ ts) u h = let r = from_marked ms ts u h in (suc r.0, r.1, r.2)
 
+-- terms behind the first of different ones
+apart_behind : (t : Term) (ts : List Term) → AreDifferent (t ∷ ts) → AreDifferent ts
+apart_behind t ts apart i j lt_i lt_j e = let same : suc i ≡ suc j = apart (suc i) (suc j) (omega (arith, lt_i)) (omega (arith, lt_j)) e in omega (arith, same)
+
 -- one mark more
 pub marked_more : (marks : List Bool) (ts : List Term) (n : ℕ) → n < length marks → length marks ≤ length ts → marked (take (suc n) marks) ts ≡ marked (take n marks) ts ++ (if get_or marks n false then get_or ts n no_term ∷ [] else [])
 marked_more [] ts n lt le = absurd (omega (arith, lt))
@@ -45,3 +52,17 @@ marked_more (true ∷ m ∷ ms) (t ∷ ts) zero lt le = refl
 marked_more (false ∷ m ∷ ms) (t ∷ ts) zero lt le = refl
 marked_more (true ∷ ms) (t ∷ ts) (suc n) lt le = ap (λ us. t ∷ us) (marked_more ms ts n (omega (arith, lt)) (omega (arith, le)))
 marked_more (false ∷ ms) (t ∷ ts) (suc n) lt le = marked_more ms ts n (omega (arith, lt)) (omega (arith, le))
+
+-- different terms are marked once
+pub marked_once : (marks : List Bool) (ts : List Term) → length marks ≤ length ts → AreDifferent ts → AreOnce (marked marks ts)
+marked_once [] ts le apart = λ i j d lt within. absurd (omega (arith, within))
+marked_once (m ∷ ms) [] le apart = absurd (omega (arith, le))
+marked_once (false ∷ ms) (t ∷ ts) le apart = marked_once ms ts (omega (arith, le)) (apart_behind t ts apart)
+marked_once (true ∷ ms) (t ∷ ts) le apart = AllPairs-cons (λ x y. x ≢ y) t (marked ms ts) (λ k d lt. new k d lt) (marked_once ms ts (omega (arith, le)) (apart_behind t ts apart))
+  where
+    new : (k : ℕ) (d : Term) → k < length (marked ms ts) → t ≢ get_or (marked ms ts) k d
+    new k d lt e =
+        let h = from_marked ms ts (get_or (marked ms ts) k d) (Contains-get_or (marked ms ts) k d lt) in
+        let below = marked_below ms h.0 h.1 in
+        let same : zero ≡ suc h.0 = apart zero (suc h.0) (omega arith) (omega (arith, below, le)) (e ∙ sym h.2) in
+        omega (arith, same)

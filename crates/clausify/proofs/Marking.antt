@@ -6,11 +6,11 @@ use Rattle.spec_terms.specs.Terms.{Term}
 use Rattle.spec_terms.specs.Subterms.{subterms_of}
 use Rattle.spec_terms.specs.Subsets.{arguments_of, AreAmong, IsClosed}
 use Rattle.term_core.specs.declared.ids.TermId.{TermId}
-use Rattle.term_core.specs.Tables.{TableView, no_term, term_at, clause_at, Shape, shape_term}
+use Rattle.term_core.specs.Tables.{TableView, AreDifferent, no_term, term_at, clause_at, Shape, shape_term}
 use Rattle.term_core.proofs.Images.{to_image, from_image}
 use Rattle.term_core.proofs.TermsClosed.{argument_of, argument_in}
 use Rattle.clausify.specs.Marks.{IsMarked, Marks, marked, AreMarksOf}
-use Rattle.clausify.proofs.Marked.{marked_below, in_marked, HasMarked, from_marked}
+use Rattle.clausify.proofs.Marked.{marked_below, in_marked, HasMarked, from_marked, marked_once}
 
 -- The terms are marked, and with each marked number from `from` on the arguments of its term.
 pub record IsMarkedFrom (t : TableView) (roots : List TermId) (from : ℕ) (marks : List Bool) : Type 0 where
@@ -69,8 +69,8 @@ module _ (t : TableView) (roots : List TermId) (there : AreAmong (clause_at t ro
     ];
   }
 
-  pub marks_end : (marks : List Bool) → IsMarkedFrom t roots zero marks → ((us : List Term) → AreAmong (clause_at t roots) us → IsClosed us → AreAmong (subterms_of (clause_at t roots)) us) → AreMarksOf t roots marks
-  marks_end marks h least =
+  pub marks_end : (marks : List Bool) → IsMarkedFrom t roots zero marks → AreDifferent t.terms → ((us : List Term) → AreAmong (clause_at t roots) us → IsClosed us → AreAmong (subterms_of (clause_at t roots)) us) → AreMarksOf t roots marks
+  marks_end marks h apart least =
       let us = marked marks t.terms in
       let in_us : (u : Term) → HasMarked t.terms marks u → Contains us u = λ u x. subst (Contains us) x.2 (in_marked marks t.terms h.short x.0 x.1) in
       record {
@@ -79,4 +79,5 @@ module _ (t : TableView) (roots : List TermId) (there : AreAmong (clause_at t ro
             (λ u u_in. let x = from_image (term_at t) roots u u_in in in_us u (x.0.0, h.starts x.0 x.1, x.2))
             (λ u u_in w w_in. let x = from_marked marks t.terms u u_in in in_us w (h.closed x.0 (omega arith) x.1 w (subst (λ (y : Term). Contains (arguments_of y) w) (sym x.2) w_in)));
         only = λ u u_in. let x = from_marked marks t.terms u u_in in subst (Contains (subterms_of (clause_at t roots))) x.2 (h.sound x.0 x.1);
+        once = marked_once marks t.terms h.short apart;
       }

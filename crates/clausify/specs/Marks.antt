@@ -2,7 +2,7 @@
 use Rattle.std.specs.Prelude.{◌≡◌, ◌⊎◌, ℕ, ◌≤◌, Bool, true, false, List, [], ◌∷◌, length, Contains, slice_index_or}
 use Rattle.spec_terms.specs.Terms.{Term}
 use Rattle.spec_terms.specs.Subterms.{subterms_of}
-use Rattle.spec_terms.specs.Subsets.{AreAmong}
+use Rattle.spec_terms.specs.Subsets.{AreAmong, AreOnce}
 use Rattle.term_core.specs.declared.ids.TermId.{TermId}
 use Rattle.term_core.specs.Tables.{TableView, clause_at}
 
@@ -35,3 +35,5 @@ pub record AreMarksOf (t : TableView) (roots : List TermId) (marks : List Bool) 
   pub each : AreAmong (subterms_of (clause_at t roots)) (marked marks t.terms)
   -- and nothing else
   pub only : AreAmong (marked marks t.terms) (subterms_of (clause_at t roots))
+  -- each once
+  pub once : AreOnce (marked marks t.terms)

@@ -61,6 +61,7 @@ fn mark_subterms(table: &TermTable, roots: &[TermId], marks: &mut [bool])
     ensures { AreMarksOf table.now roots.now marks.new }
 {
     subterms_are_least();
+    table.numbers_tell_terms();
     mark_each(marks, roots);
     'terms: for number in (0..marks.len()).rev() {
         if marks[number] {

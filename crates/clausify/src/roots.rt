@@ -12,6 +12,7 @@ use crate::clause_list::ClauseList;
 use crate::marks::marks_of;
 use crate::statements::state_term;
 use proof_log::{ProofLog, StepId};
+use spec_terms::subterms::subterms_are_least;
 use std::alloc::Global;
 use std::slice;
 use term_core::{TermId, TermTable};
@@ -81,6 +82,7 @@ fn stated_of(
     ensures clauses { IfOk result (λ list. HasClauses table.new log.new (clause_at table.old roots.now) list) }
     ensures grows { Grows roots.now table.old table.new log.old log.new }
 {
+    subterms_are_least();
     let marks = marks_of(alloc, table, roots)?;
     let mut steps = Vec::new(alloc);
     assume_each(table, log, roots, &mut steps)?;

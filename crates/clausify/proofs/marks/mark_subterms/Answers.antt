@@ -44,4 +44,4 @@ returns c =
     let roots = c.args.roots.now in
     let least = c.subterms_are_least.ensures in
     let end : c.terms.number ≡ 0 = omega (arith, c.terms-test.false) in
-    marks_end t roots (least.there (clause_at t roots)) (least.closed (clause_at t roots)) c.terms.marks (subst (λ k. IsMarkedFrom t roots k c.terms.marks) end c.terms.invariant.so_far) (least.least (clause_at t roots))
+    marks_end t roots (least.there (clause_at t roots)) (least.closed (clause_at t roots)) c.terms.marks (subst (λ k. IsMarkedFrom t roots k c.terms.marks) end c.terms.invariant.so_far) c.numbers_tell_terms.ensures (least.least (clause_at t roots))

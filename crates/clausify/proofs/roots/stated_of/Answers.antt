@@ -36,4 +36,4 @@ returns-clause-clauses c =
     let none = Says-none t c.args.log.now c.new-steps.result.items c.new-steps.ensures.items in
     let assumed = c.in_ok-assume_each.ensures.tells [] none in
     let stated : Says u log c.state_marked.new.steps.items (units ++ marked_clauses marks t.terms) = subst (λ (ms : List Bool). Says u log c.state_marked.new.steps.items (units ++ marked_clauses ms t.terms)) c.deref.ensures.value (c.in_ok-state_marked.ensures.tells units assumed) in
-    subst (λ (ss : List StepId). HasClauses u log (clause_at t roots) ss) (sym c.from.ensures) (has_clauses t u log roots marks c.state_marked.new.steps.items c.in_ok-marks.ensures stated)
+    subst (λ (ss : List StepId). HasClauses u log (clause_at t roots) ss) (sym c.from.ensures) (has_clauses t u log roots marks c.state_marked.new.steps.items c.in_ok-marks.ensures (c.subterms_are_least.ensures.once (clause_at t roots)) stated)
