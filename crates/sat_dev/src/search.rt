@@ -11,10 +11,10 @@ pub mod decision;
 pub mod model;
 pub mod derive;
 pub mod rounds;
-
 pub mod decide;
 #[cfg(test)]
 mod model_tests;
+#[cfg(test)]
 mod common_tests;
 #[cfg(test)]
 mod known_tests;
