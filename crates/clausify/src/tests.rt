@@ -54,6 +54,15 @@ fn table_of(alloc: Global) -> Result<TermTable, NoMemory> {
     Ok(table)
 }
 
+/// Makes an empty log over a table.
+fn new_log(alloc: Global, table: &TermTable) -> ProofLog
+    ensures { IsLogOf table.now result }
+{
+    let _ = table;
+    empty_logs_are_right();
+    ProofLog::new(alloc)
+}
+
 /// Puts a term behind a text: a hyphen for each negation in front, and the letter of what is left.
 fn print_term(text: &mut Vec<u8>, table: &TermTable, id: TermId) -> Result<(), NoMemory> {
     let mut left = id;
@@ -137,8 +146,7 @@ const CLAUSES: &[(&str, &str)] = &[
 /// Prints the clauses of terms in a new table and a new log.
 fn clauses_printed(alloc: Global, letters: &str) -> Result<Vec<u8>, NoMemory> {
     let mut table = table_of(alloc)?;
-    let mut log = ProofLog::new(alloc);
-    empty_logs_are_right();
+    let mut log = new_log(alloc, &table);
     let roots = terms_of(alloc, &table, letters)?;
     let list = clauses_of_all(alloc, &mut table, &mut log, &roots)?;
     printed(alloc, &table, &log, &list)
@@ -170,18 +178,20 @@ fn counted(
     let terms = table.len();
     let clauses = log.len();
     let list = clauses_of(alloc, table, log, root)?;
-    if log.len() != clauses + list.len() as u64 || table.len() < terms {
+    if log.len().checked_sub(clauses) != Some(list.len() as u64) {
         return Ok(None);
     }
-    Ok(Some((list.len(), table.len() - terms)))
+    match table.len().checked_sub(terms) {
+        None => Ok(None),
+        Some(more) => Ok(Some((list.len(), more))),
+    }
 }
 
 #[test]
 fn clauses_come_behind_others(rt: HostRuntime) -> Result<(), Fail> {
     let alloc = rt.alloc();
     let mut table = table_of(alloc)?;
-    let mut log = ProofLog::new(alloc);
-    empty_logs_are_right();
+    let mut log = new_log(alloc, &table);
     let conjunction = TermId(6);
     assert!(rt; counted(alloc, &mut table, &mut log, conjunction)? == Some((4, 2)));
     assert!(rt; counted(alloc, &mut table, &mut log, conjunction)? == Some((4, 0)));
@@ -196,8 +206,7 @@ fn clauses_come_behind_others(rt: HostRuntime) -> Result<(), Fail> {
 fn one_term_has_the_clauses_of_a_list_of_it(rt: HostRuntime) -> Result<(), Fail> {
     let alloc = rt.alloc();
     let mut table = table_of(alloc)?;
-    let mut log = ProofLog::new(alloc);
-    empty_logs_are_right();
+    let mut log = new_log(alloc, &table);
     let choice = TermId(11);
     if choice.0 < table.len() {
         let list = clauses_of(alloc, &mut table, &mut log, choice)?;
@@ -225,9 +234,8 @@ fn nested(alloc: Global, table: &mut TermTable, depth: u64) -> Result<Option<Ter
 fn deep_terms_have_three_clauses_each_level(rt: HostRuntime) -> Result<(), Fail> {
     let alloc = rt.alloc();
     let mut table = table_of(alloc)?;
-    let mut log = ProofLog::new(alloc);
-    empty_logs_are_right();
     let root = nested(alloc, &mut table, 500)?;
+    let mut log = new_log(alloc, &table);
     assert!(rt; root == Some(TermId(515)));
     assert!(rt; counted(alloc, &mut table, &mut log, TermId(515))? == Some((1501, 501)));
     Ok(())

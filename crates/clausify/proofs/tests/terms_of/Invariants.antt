@@ -1,0 +1,6 @@
+-- The numbers so far are the table's.
+use Rattle.term_core.specs.Tables.{AreIn}
+use Rattle.clausify.proofs.tests.terms_of.Given as goal
+
+abbrev pub invariant-loop-b : goal.invariant-loop-b
+invariant-loop-b l = AreIn l.table l.terms.items
