@@ -67,7 +67,10 @@ fn formula_of(alloc: Global, table: &mut TermTable, number: u64) -> Result<Formu
     for radix in 3..7u64 {
         let (head, count) = CONNECTIVES[(left % 7) as usize];
         left /= 7;
-        let mut chosen = [Formula { term: TermId(0), values: 0 }; 3];
+        let mut chosen = [Formula {
+            term: TermId(0),
+            values: 0,
+        }; 3];
         for place in 0..3 {
             chosen[place] = *known.get((left % radix) as usize).ok_or("no such term")?;
             left /= radix;
@@ -101,9 +104,11 @@ fn is_right(alloc: Global, formula: Formula, decision: &Decision) -> Result<bool
         },
         Answer::Unsat(step) => {
             let marks = rested_on(alloc, &decision.log, *step)?;
-            Ok(formula.values == 0
-                && is_empty(&decision.log, *step)
-                && assumes_among(&decision.log, &marks, &[formula.term]))
+            Ok(
+                formula.values == 0
+                    && is_empty(&decision.log, *step)
+                    && assumes_among(&decision.log, &marks, &[formula.term]),
+            )
         }
         Answer::Unknown(_) => Ok(false),
     }
