@@ -166,9 +166,11 @@ pub(crate) fn is_right(
         Answer::Sat(interp) => Ok(satisfiable && are_true(alloc, table, interp, terms)?),
         Answer::Unsat(step) => {
             let marks = rested_on(alloc, &decision.log, *step)?;
-            Ok(!satisfiable
-                && is_empty(&decision.log, *step)
-                && assumes_among(&decision.log, &marks, terms))
+            Ok(
+                !satisfiable
+                    && is_empty(&decision.log, *step)
+                    && assumes_among(&decision.log, &marks, terms),
+            )
         }
         Answer::Unknown(_) => Ok(false),
     }

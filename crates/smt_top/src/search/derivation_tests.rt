@@ -54,7 +54,10 @@ fn each_seven_of_the_eight_clauses_are_satisfiable(rt: HostRuntime) -> Result<()
         roots.remove(left_out);
         assert!(rt; table.has_terms(&roots));
         let decision = decide(alloc, &mut table, &roots, &AMPLE)?;
-        assert!(rt; is_right(alloc, &table, &roots, true, &decision)?, "without {left_out}");
+        assert!(rt;
+            is_right(alloc, &table, &roots, true, &decision)?,
+            "without {left_out}"
+        );
     }
     Ok(())
 }
@@ -120,9 +123,11 @@ fn is_refuted_by_itself(
         return Ok(false);
     };
     let marks = rested_on(alloc, &decision.log, *step)?;
-    Ok(is_empty(&decision.log, *step)
-        && assumes_among(&decision.log, &marks, &core)
-        && !names_some(&decision.log, &table, &marks, from, to))
+    Ok(
+        is_empty(&decision.log, *step)
+            && assumes_among(&decision.log, &marks, &core)
+            && !names_some(&decision.log, &table, &marks, from, to),
+    )
 }
 
 #[test]
@@ -130,7 +135,10 @@ fn a_derivation_names_what_it_rests_on(rt: HostRuntime) -> Result<(), Fail> {
     let alloc = rt.alloc();
     for (count, is_last) in [(1000u64, false), (100, true)] {
         for core in [EIGHT, CHAIN] {
-            assert!(rt; is_refuted_by_itself(alloc, core, count, is_last)?, "{core} {count}");
+            assert!(rt;
+                is_refuted_by_itself(alloc, core, count, is_last)?,
+                "{core} {count}"
+            );
         }
     }
     Ok(())

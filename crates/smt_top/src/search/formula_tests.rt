@@ -67,7 +67,10 @@ fn formula_of(alloc: Global, table: &mut TermTable, number: u64) -> Result<Formu
     for radix in 3..7u64 {
         let (head, count) = CONNECTIVES[(left % 7) as usize];
         left /= 7;
-        let mut chosen = [Formula { term: TermId(0), values: 0 }; 3];
+        let mut chosen = [Formula {
+            term: TermId(0),
+            values: 0,
+        }; 3];
         for place in 0..3 {
             chosen[place] = *known.get((left % radix) as usize).ok_or("no such term")?;
             left /= radix;
@@ -80,13 +83,13 @@ fn formula_of(alloc: Global, table: &mut TermTable, number: u64) -> Result<Formu
     Ok(*known.last().ok_or("no term")?)
 }
 
-/// Says which of the eight assignments an interpretation is; `None` where it has no table for one of the constants.
+/// Says which of the eight assignments an interpretation is, by its bit in the values of a formula; `None` where it has no table for
+/// one of the constants.
 fn assignment_of(interp: &Interp) -> Option<u8> {
-    let mut assignment = 0;
-    for (place, bit) in [1u8, 2, 4].iter().enumerate() {
-        if interp.tables.get(place)?.default == Value::Bool(true) {
-            assignment |= *bit;
-        }
+    let mut assignment = 0xFF;
+    for (place, (_, values)) in CONSTANTS.iter().enumerate() {
+        let is_true = interp.tables.get(place)?.default == Value::Bool(true);
+        assignment &= if is_true { *values } else { !*values };
     }
     Some(assignment)
 }
@@ -96,14 +99,16 @@ fn assignment_of(interp: &Interp) -> Option<u8> {
 fn is_right(alloc: Global, formula: Formula, decision: &Decision) -> Result<bool, Fail> {
     match &decision.answer {
         Answer::Sat(interp) => match assignment_of(interp) {
-            Some(assignment) => Ok((formula.values >> assignment) & 1 == 1),
+            Some(assignment) => Ok(formula.values & assignment != 0),
             None => Ok(false),
         },
         Answer::Unsat(step) => {
             let marks = rested_on(alloc, &decision.log, *step)?;
-            Ok(formula.values == 0
-                && is_empty(&decision.log, *step)
-                && assumes_among(&decision.log, &marks, &[formula.term]))
+            Ok(
+                formula.values == 0
+                    && is_empty(&decision.log, *step)
+                    && assumes_among(&decision.log, &marks, &[formula.term]),
+            )
         }
         Answer::Unknown(_) => Ok(false),
     }

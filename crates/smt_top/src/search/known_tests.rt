@@ -20,7 +20,11 @@ const ROWS: &[(&str, &str, bool)] = &[
     ("de Morgan's law of `and`, negated", "ab&!a!b!|=!", false),
     ("de Morgan's law of `or`, negated", "ab|!a!b!&=!", false),
     ("contraposition, negated", "ab>b!a!>=!", false),
-    ("transitivity of implication, negated", "ab>bc>&ac>>!", false),
+    (
+        "transitivity of implication, negated",
+        "ab>bc>&ac>>!",
+        false,
+    ),
     ("the same in three formulas", "ab> bc> ac>!", false),
     ("its converse, negated", "ac>ab>bc>&>!", true),
     ("distributivity, negated", "abc|&ab&ac&|=!", false),
@@ -48,7 +52,11 @@ const ROWS: &[(&str, &str, bool)] = &[
     ),
     ("parity of 3, odd and even", "ab^c^ cb^a^!", false),
     ("parity of 4, odd and even", "ab^c^d^ dc^b^a^!", false),
-    ("parity of 6, odd and even", "ab^c^d^e^f^ fe^d^c^b^a^!", false),
+    (
+        "parity of 6, odd and even",
+        "ab^c^d^e^f^ fe^d^c^b^a^!",
+        false,
+    ),
     ("parity of 6, odd twice", "ab^c^d^e^f^ fe^d^c^b^a^", true),
     ("a ring of 3 in two colours", "ab^ bc^ ca^", false),
     ("a ring of 4 in two colours", "ab^ bc^ cd^ da^", true),
@@ -62,7 +70,10 @@ fn known_formulas_have_known_answers(rt: HostRuntime) -> Result<(), Fail> {
         let roots = read_all(alloc, &mut table, text)?;
         assert!(rt; table.has_terms(&roots), "{name}");
         let decision = decide(alloc, &mut table, &roots, &AMPLE)?;
-        assert!(rt; is_right(alloc, &table, &roots, *satisfiable, &decision)?, "{name}");
+        assert!(rt;
+            is_right(alloc, &table, &roots, *satisfiable, &decision)?,
+            "{name}"
+        );
     }
     Ok(())
 }
