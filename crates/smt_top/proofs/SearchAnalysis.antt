@@ -168,14 +168,14 @@ module _ (clauses : List (List Lit)) (held : List Lit) (reasons : List (Option �
     pub decision_passed : (next : ℕ) → get_or reasons at None ≡ None → (Contains marked l → ⊥) → Cuts clause at cut next → RestsAt clauses held reasons clash at marked premises clause next
     decision_passed next decided free cuts =
         let open_here : 2 ≤ length clause → HasTwo (take at held) clause = λ many. let w = r.two many in record {
-              one = w.0;
-              other = w.1;
-              has_one = w.2;
-              has_other = w.3;
-              differ = w.4;
-              one_open = behind w.0 w.2;
-              other_open = behind w.1 w.3;
-            } in
+          one = w.0;
+          other = w.1;
+          has_one = w.2;
+          has_other = w.3;
+          differ = w.4;
+          one_open = behind w.0 w.2;
+          other_open = behind w.1 w.3;
+        } in
         record {
           clash_taken = r.clash_taken;
           clash_marked = r.clash_marked;

@@ -65,7 +65,6 @@ module _ (t : TableView) (differ : AreDifferent t.terms) (terms : List Term) (cl
     (base : (c : Clause) → Contains (base_clauses terms) c → (d : List Lit) × Contains clauses d × (map (literal_at t) d ≡ literals_of c))
     (front : List Lit) (quiet : IsQuiet clauses front) (m : Lit) (m_in : IsIn t m.term) (positive : m.positive ≡ true) (not_held : Contains front m → ⊥) (not_false : Contains front (lit_complement m) → ⊥)
     (subterm : Contains (subterms_of terms) (term_at t m.term)) where
-
   settled_base : (c : Clause) → Contains (base_clauses terms) c → (y : Lit) → IsIn t y.term → literals_of c ≡ literal_at t y ∷ [] → Contains front y
   settled_base c i y y_in e =
       let h = base c i in

@@ -30,7 +30,6 @@ among_roots t roots (stepped r ps c) h = tt
 module _ (t u : TableView) (roots : List TermId) (roots_in : AreIn t roots) (log old : List Logged) (none : old ≡ []) (steps : List StepId) (g : Grows roots t u old log) (h : HasClauses u log (clause_at t roots) steps)
     (store : Store) (s : IsStoreOf u log steps store)
     (law : (terms : List Term) (c : Clause) (l : Literal) → Contains (base_clauses terms) c → Contains (literals_of c) l → Contains (subterms_of terms) l.atom) where
-
   terms : List Term
   terms = clause_at t roots
 

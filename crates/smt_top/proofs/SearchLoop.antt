@@ -120,7 +120,7 @@ module _ (t : TableView) (log : List Logged) (clauses : List (List Lit)) (steps 
   sat_shows differ closed sorts takes symbols declared law quiet settled interp model terms learned s = (
     omega (arith, model.tables),
     λ i stands.
-    let h = model_is_true t s.roots clauses held interp i differ closed sorts takes symbols declared s.roots_in held_of consistent (λ c j. touched c (quiet c j) (settled c j))
-    (λ c j. means terms learned s c (subst (λ (us : List Term). Contains (base_clauses us) c) s.meant j)) model stands law in
-    (h.0, subst (λ (us : List Term). All (λ u. value_at i u ≡ truth true) us) s.meant h.1),
+        let h = model_is_true t s.roots clauses held interp i differ closed sorts takes symbols declared s.roots_in held_of consistent (λ c j. touched c (quiet c j) (settled c j))
+        (λ c j. means terms learned s c (subst (λ (us : List Term). Contains (base_clauses us) c) s.meant j)) model stands law in
+        (h.0, subst (λ (us : List Term). All (λ u. value_at i u ≡ truth true) us) s.meant h.1),
   )

@@ -91,7 +91,6 @@ module _ (t : TableView) (differ : AreDifferent t.terms) (clauses : List (List L
     (clash : ℕ) (marked : List Lit) (premises : List ℕ) (clause : List Lit) (cut : ℕ) (r : RestsAt clauses held reasons clash 0 marked premises clause cut)
     (quiet_at : (p : ℕ) (l : Lit) → IsDecision held reasons p l → LitQuiet clauses (take p held))
     (base : List (List Literal)) (from : (c : List Literal) → Contains base c → (d : List Lit) × Contains clauses d × (map (literal_at t) d ≡ c)) where
-
   pub is_new : (m : Lit) (ms : List Lit) → clause ≡ m ∷ ms → IsNew base (map (literal_at t) clause)
   is_new m ms e =
       let d = r.newest m ms e in

@@ -98,6 +98,7 @@ module _ (clauses seen : List (List Lit)) (old mid : List Lit) (before between :
   pub to_false : (number : ℕ) (new : List Lit) (after : List (Option ℕ)) (b : Bool) → number < length clauses → SoFar clauses seen old mid before between b → new ≡ mid → after ≡ between
       → IsFalse mid (get_or clauses number []) → Advances clauses old new before after × IsClash clauses new number
   to_false number new after b lt m e f fails =
-      let one = so_far_advances b m in
-      (subst (λ (h : List Lit). Advances clauses old h before after) (sym e) (subst (λ (rs : List (Option ℕ)). Advances clauses old mid before rs) (sym f) one),
-      record { there = lt; fails = subst (λ (h : List Lit). IsFalse h (get_or clauses number [])) (sym e) fails })
+      let one = so_far_advances b m in (
+        subst (λ (h : List Lit). Advances clauses old h before after) (sym e) (subst (λ (rs : List (Option ℕ)). Advances clauses old mid before rs) (sym f) one),
+        record { there = lt; fails = subst (λ (h : List Lit). IsFalse h (get_or clauses number [])) (sym e) fails },
+      )

@@ -81,7 +81,6 @@ spent_shows t terms log clauses steps budget new n full carries same s = subst (
 module _ (t : TableView) (differ : AreDifferent t.terms) (sorts : (id : TermId) → IsIn t id → sort_of (term_at t id) ≡ Truth)
     (log : List Logged) (clauses : List (List Lit)) (steps : List StepId) (held : List Lit) (reasons : List (Option ℕ)) (ready : IsReady t log clauses steps held reasons)
     (clash : ℕ) (marked : List Lit) (premises : List ℕ) (clause : List Lit) (cut : ℕ) (r : RestsAt clauses held reasons clash 0 marked premises clause cut) where
-
   clauses_in : (d : List Lit) (l : Lit) → Contains clauses d → Contains d l → IsIn t l.term
   clauses_in d l i j = (store_bare t log clauses steps ready.derives d l i j).there
 
@@ -110,7 +109,7 @@ module _ (t : TableView) (differ : AreDifferent t.terms) (sorts : (id : TermId) 
         let was = ready.trail.was_open d.0 (lit_complement m) d.2.within d.2.there in
         let q = (decided_at t log clauses steps ready.derives held reasons ready.trail d.0 (lit_complement m) d.2).quiet in
         is_atom t differ terms clauses clauses_in s.base (take d.0 held) q m a.there a.positive
-            (λ j. was.not_false (subst (λ (x : Lit). Contains (take d.0 held) x) (sym (negation_twice m)) j)) was.not_held (subterm_of m i) (sorts m.term a.there)
+        (λ j. was.not_false (subst (λ (x : Lit). Contains (take d.0 held) x) (sym (negation_twice m)) j)) was.not_held (subterm_of m i) (sorts m.term a.there)
 
     from_clauses : (c : List Literal) → Contains (map literals_of (base_clauses terms) ++ images t learned) c → (d : List Lit) × Contains clauses d × (map (literal_at t) d ≡ c)
     from_clauses c i = elim (Contains-append_cases (map literals_of (base_clauses terms)) (images t learned) c i) [

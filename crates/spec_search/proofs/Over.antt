@@ -54,30 +54,73 @@ abbrev NamesPlaces : Scheme → Type 0
 NamesPlaces s = (g : Head) (ss : List Sort) → same_head s.head g ≡ true → head_takes g ss ≡ true → HasPlaces (length ss) s.rest
 
 names_places : AllByRecursion NamesPlaces schemes
-names_places =
-  (λ g ss e f. tt,
-  (λ g ss e f. tt,
-  (λ g ss e f. tt,
-  (λ g ss e f. tt,
-  (λ g ss e f. tt,
-  (λ g ss e f. tt,
-  (λ g ss e f. let n = implies_two g ss e f in (omega (arith, n), omega (arith, n)),
-  (λ g ss e f. let n = implies_two g ss e f in omega (arith, n),
-  (λ g ss e f. let n = implies_two g ss e f in omega (arith, n),
-  (λ g ss e f. let n = equal_two g ss e f in (omega (arith, n), omega (arith, n)),
-  (λ g ss e f. let n = equal_two g ss e f in (omega (arith, n), omega (arith, n)),
-  (λ g ss e f. let n = equal_two g ss e f in (omega (arith, n), omega (arith, n)),
-  (λ g ss e f. let n = equal_two g ss e f in (omega (arith, n), omega (arith, n)),
-  (λ g ss e f. let n = xor_two g ss e f in (omega (arith, n), omega (arith, n)),
-  (λ g ss e f. let n = xor_two g ss e f in (omega (arith, n), omega (arith, n)),
-  (λ g ss e f. let n = xor_two g ss e f in (omega (arith, n), omega (arith, n)),
-  (λ g ss e f. let n = xor_two g ss e f in (omega (arith, n), omega (arith, n)),
-  (λ g ss e f. let n = ite_three g ss e f in (omega (arith, n), omega (arith, n)),
-  (λ g ss e f. let n = ite_three g ss e f in (omega (arith, n), omega (arith, n)),
-  (λ g ss e f. let n = ite_three g ss e f in (omega (arith, n), omega (arith, n)),
-  (λ g ss e f. let n = ite_three g ss e f in (omega (arith, n), omega (arith, n)),
-  (λ g ss e f. tt,
-  tt))))))))))))))))))))))
+names_places = (
+  λ g ss e f. tt,
+  (
+    λ g ss e f. tt,
+    (
+      λ g ss e f. tt,
+      (
+        λ g ss e f. tt,
+        (
+          λ g ss e f. tt,
+          (
+            λ g ss e f. tt,
+            (
+              λ g ss e f. let n = implies_two g ss e f in (omega (arith, n), omega (arith, n)),
+              (
+                λ g ss e f. let n = implies_two g ss e f in omega (arith, n),
+                (
+                  λ g ss e f. let n = implies_two g ss e f in omega (arith, n),
+                  (
+                    λ g ss e f. let n = equal_two g ss e f in (omega (arith, n), omega (arith, n)),
+                    (
+                      λ g ss e f. let n = equal_two g ss e f in (omega (arith, n), omega (arith, n)),
+                      (
+                        λ g ss e f. let n = equal_two g ss e f in (omega (arith, n), omega (arith, n)),
+                        (
+                          λ g ss e f. let n = equal_two g ss e f in (omega (arith, n), omega (arith, n)),
+                          (
+                            λ g ss e f. let n = xor_two g ss e f in (omega (arith, n), omega (arith, n)),
+                            (
+                              λ g ss e f. let n = xor_two g ss e f in (omega (arith, n), omega (arith, n)),
+                              (
+                                λ g ss e f. let n = xor_two g ss e f in (omega (arith, n), omega (arith, n)),
+                                (
+                                  λ g ss e f. let n = xor_two g ss e f in (omega (arith, n), omega (arith, n)),
+                                  (
+                                    λ g ss e f. let n = ite_three g ss e f in (omega (arith, n), omega (arith, n)),
+                                    (
+                                      λ g ss e f. let n = ite_three g ss e f in (omega (arith, n), omega (arith, n)),
+                                      (
+                                        λ g ss e f. let n = ite_three g ss e f in (omega (arith, n), omega (arith, n)),
+                                        (
+                                          λ g ss e f. let n = ite_three g ss e f in (omega (arith, n), omega (arith, n)),
+                                          (
+                                            λ g ss e f. tt,
+                                            tt,
+                                          ),
+                                        ),
+                                      ),
+                                    ),
+                                  ),
+                                ),
+                              ),
+                            ),
+                          ),
+                        ),
+                      ),
+                    ),
+                  ),
+                ),
+              ),
+            ),
+          ),
+        ),
+      ),
+    ),
+  ),
+)
 
 -- a negation has the same atom
 signed_atom : (p : Bool) (t : Term) → (literal_of (signed p t)).atom ≡ (literal_of t).atom

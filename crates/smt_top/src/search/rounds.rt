@@ -93,7 +93,9 @@ pub(crate) fn search(
     'rounds: loop {
         match propagate(store, &mut trail)? {
             Propagation::Clash(number) => {
-                if let Some(answer) = resolve(alloc, table, log, store, budget, &mut trail, number)? {
+                if let Some(answer) = resolve(
+                    alloc, table, log, store, budget, &mut trail, number,
+                )? {
                     return Ok(answer);
                 }
             }
@@ -101,7 +103,13 @@ pub(crate) fn search(
                 let Some(l) = next_open(&store.clauses, &trail.held) else {
                     return Ok(Answer::Sat(model_of(alloc, table, &trail.held)?));
                 };
-                trail.push(Lit { term: l.term, positive: false }, None)?;
+                trail.push(
+                    Lit {
+                        term: l.term,
+                        positive: false,
+                    },
+                    None,
+                )?;
             }
         }
     }

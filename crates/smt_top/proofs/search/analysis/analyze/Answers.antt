@@ -15,7 +15,7 @@ places-init c =
     let there = rw length-map at c.requires.clash.there in
     let marks = rw c.deref.ensures.value at c.in_ok-mark_each.ensures in
     let all : MarksEach (get_or (lists vs) clash []) [] c.mark_each.new.marked = subst (λ (old : List Lit). MarksEach (get_or (lists vs) clash []) old c.mark_each.new.marked) c.new.ensures
-        (subst (λ (x : List Lit). MarksEach x c.new.result c.mark_each.new.marked) (sym (item vs clash c.index.result.now there c.index.ensures)) marks) in
+    (subst (λ (x : List Lit). MarksEach x c.new.result c.mark_each.new.marked) (sym (item vs clash c.index.result.now there c.index.ensures)) marks) in
     let h = begins (lists vs) c.args.trail.now.held c.args.trail.now.reasons.items c.requires.trail clash c.mark_each.new.marked c.requires.clash all in
     rw (c.in_ok-push.ensures.items, c.new-premises.ensures.items, c.new-2.ensures.items, c.len.ensures, c.len-at.ensures) h
 

@@ -15,7 +15,7 @@ returns-in-False c =
     let v = c.index-clauses-number.result in
     let found = rw (c.in-False.is, c.deref.ensures.value) at c.in_ok-take_up.ensures in
     to_false (lists vs) (take n (lists vs)) _ _ _ _ n _ _ c.loop-number.added (in_lists vs n v c.loop-number-test.true c.index-clauses-number.is) c.loop-number.invariant found.1 found.2
-        (subst (λ (x : List Lit). IsFalse c.loop-number.trail.held x) (sym (item vs n v c.loop-number-test.true c.index-clauses-number.is)) found.0)
+    (subst (λ (x : List Lit). IsFalse c.loop-number.trail.held x) (sym (item vs n v c.loop-number-test.true c.index-clauses-number.is)) found.0)
 
 pub loop-number-preserved : goal.loop-number-preserved
 loop-number-preserved c = elim c.match-branch-2.branch [
@@ -25,7 +25,7 @@ loop-number-preserved c = elim c.match-branch-2.branch [
       let v = c.index-clauses-number.result in
       let found = rw (w.in-Unit.is, c.deref.ensures.value) at c.in_ok-take_up.ensures in
       let a = to_unit (lists vs) (take n (lists vs)) _ _ _ _ n _ _ _ c.loop-number.added (in_lists vs n v c.loop-number-test.true c.index-clauses-number.is) c.loop-number.invariant
-          (subst (λ (x : List Lit). IsUnit c.loop-number.trail.held x w.in-Unit.field-0) (sym (item vs n v c.loop-number-test.true c.index-clauses-number.is)) found.0) found.1 found.2 in
+      (subst (λ (x : List Lit). IsUnit c.loop-number.trail.held x w.in-Unit.field-0) (sym (item vs n v c.loop-number-test.true c.index-clauses-number.is)) found.0) found.1 found.2 in
       rw w.added-is a
   | in-Open w ↦
       let vs = c.args.clauses.now in

@@ -36,5 +36,5 @@ returns-clause-comes c =
     let l = rw c.deref-4.ensures.value at c.in_ok-step-2.ensures in
     let learns = rw c.deref-2.ensures.value at c.in-Ok.ensures in
     let h = goes_on c.args.table.now c.numbers_tell_terms.ensures c.terms_are_truths.ensures c.args.log.now (lists c.args.store.now.clauses.items) c.args.store.now.steps.items c.args.trail.now.held c.args.trail.now.reasons.items c.requires.ready
-        c.args.clash _ _ _ _ c.in_ok-found.ensures c.derive-2.new.log c.in_ok-step-2.step l (some_of _ c.in_ok-found.found.clause.items (ap length (sym c.deref-4.ensures.value) ∙ c.deref-4.ensures.len) (sym c.if-is_empty.ensures)) c.args.budget.now c.learnt.new.self learns.0 learns.1 in
+    c.args.clash _ _ _ _ c.in_ok-found.ensures c.derive-2.new.log c.in_ok-step-2.step l (some_of _ c.in_ok-found.found.clause.items (ap length (sym c.deref-4.ensures.value) ∙ c.deref-4.ensures.len) (sym c.if-is_empty.ensures)) c.args.budget.now c.learnt.new.self learns.0 learns.1 in
     rw (ap lists c.in_ok-add.ensures.clauses ∙ lists_more c.args.store.now.clauses.items c.in_ok-found.found.clause, c.in_ok-add.ensures.steps, c.truncate.ensures.held, c.truncate.ensures.reasons) h

@@ -29,7 +29,7 @@ rounds-smaller-in_default c =
     let room = g.room in
     let limit = c.rounds.invariant.limit in
     fewer_left c.args.budget.now.limit (length atoms) (length c.rounds.budget.learned) (length c.resolve.new.budget.learned) (open_count atoms c.rounds.trail.held) (open_count atoms c.resolve.new.trail.held)
-        (omega (arith, room, limit)) g.learned (open_bounded atoms c.resolve.new.trail.held)
+    (omega (arith, room, limit)) g.learned (open_bounded atoms c.resolve.new.trail.held)
 
 pub rounds-preserved-in_default : goal.rounds-preserved-in_default
 rounds-preserved-in_default c =
@@ -58,7 +58,7 @@ returns-in_default-next_open-clause-evidence c = λ terms s.
     let settled = rw c.deref.ensures.value at c.in_default-next_open.ensures in
     let declared = subst AreDeclared c.symbols.ensures c.are_declared.ensures in
     sat_shows t c.rounds.log clauses c.rounds.store.steps.items _ _ (ready_on t c.rounds.log clauses c.rounds.store.steps.items _ _ _ _ c.rounds.invariant.ready h.0) c.numbers_tell_terms.ensures c.terms_are_closed.ensures c.terms_are_truths.ensures
-        c.heads_take_their_arguments.ensures c.heads_are_declared.ensures declared c.base_clauses_define_their_terms.ensures.model h.1 settled c.in_ok-model_of-in-Quiet.field-0 c.in_ok-model_of-in-Quiet.ensures terms c.rounds.budget.learned (c.rounds.invariant.search terms s)
+    c.heads_take_their_arguments.ensures c.heads_are_declared.ensures declared c.base_clauses_define_their_terms.ensures.model h.1 settled c.in_ok-model_of-in-Quiet.field-0 c.in_ok-model_of-in-Quiet.ensures terms c.rounds.budget.learned (c.rounds.invariant.search terms s)
 
 pub push-requires : goal.push-requires
 push-requires c =
