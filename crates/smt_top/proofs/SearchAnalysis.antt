@@ -1,5 +1,5 @@
 -- How a conflict is followed back, place by place.
-use Rattle.std.proofs.Common.{◌≡◌, ◌≢◌, ℕ, ◌+◌, ◌<◌, ◌≤◌, Bool, List, [], ◌∷◌, ◌++◌, length, get_or, take, All, Contains, ◌⊎◌, inl, inr, refl, sym, ap, ◌∙◌, subst, arith, zero, suc}
+use Rattle.std.proofs.Common.{◌≡◌, ◌≢◌, ℕ, ◌+◌, ◌<◌, ◌≤◌, List, [], ◌∷◌, ◌++◌, length, get_or, take, Contains, ◌⊎◌, inl, inr, refl, sym, ap, ◌∙◌, subst, arith, zero, suc}
 use Rattle.std.specs.Prelude.{Option, Some, None, Vec, Result, Ok, Err, OnOk}
 use Rattle.std.specs.declared.alloc.Global.{Global}
 use Rattle.std.specs.declared.alloc.AllocError.{AllocError}
@@ -9,7 +9,7 @@ use Rattle.term_core.specs.declared.ids.Lit.{Lit}
 use Rattle.rule_bool.specs.Literals.{lit_complement, lists}
 use Rattle.rule_bool.proofs.Literals.{negation_twice}
 use Rattle.smt_top.specs.Search.{IsTrail, IsAdded, IsForced, IsClash}
-use Rattle.smt_top.specs.Analyses.{Marks, MarksEach, MarksOthers, IsExplained, IsDecision, HasTwo, RestsAt, Cuts, Notes, Follows}
+use Rattle.smt_top.specs.Analyses.{MarksEach, MarksOthers, IsExplained, IsDecision, HasTwo, RestsAt, Cuts, Notes, Follows}
 use Rattle.smt_top.specs.declared.search.analysis.Analysis.{Analysis}
 use Rattle.smt_top.proofs.SearchPasses.{item}
 

@@ -1,7 +1,7 @@
 -- What a search begins with.
-use Rattle.std.proofs.Common.{◌≡◌, ℕ, ◌+◌, ◌<◌, List, [], ◌∷◌, ◌++◌, length, get_or, take, map, All, Contains, refl, sym, ap, ◌∙◌, subst, arith}
+use Rattle.std.proofs.Common.{◌≡◌, ℕ, ◌<◌, List, [], ◌∷◌, ◌++◌, length, get_or, take, map, All, Contains, refl, sym, ap, ◌∙◌, subst, arith}
 use Rattle.std.proofs.lemmas.List.{get_or_default, append-nil}
-use Rattle.std.proofs.lemmas.List.Elements.{All-contains, All-nil}
+use Rattle.std.proofs.lemmas.List.Elements.{All-nil}
 use Rattle.spec_terms.specs.Terms.{Term}
 use Rattle.spec_terms.specs.Literals.{Clause, Literal, literals_of}
 use Rattle.spec_terms.specs.Subterms.{subterms_of}
@@ -16,10 +16,10 @@ use Rattle.rule_bool.specs.Literals.{lists}
 use Rattle.rule_bool.specs.Resolvents.{Means}
 use Rattle.rule_bool.proofs.Transport.{to_image, from_image}
 use Rattle.proof_log.specs.declared.premises.StepId.{StepId}
-use Rattle.proof_log.specs.Logs.{Logged, assumed, stepped, inference_of, derivation_in, IsLogOf}
+use Rattle.proof_log.specs.Logs.{Logged, assumed, stepped, inference_of, derivation_in}
 use Rattle.clausify.specs.Clausified.{stated, HasClauses, AssumesOneOf, Grows}
 use Rattle.smt_top.specs.declared.search.store.Store.{Store}
-use Rattle.smt_top.specs.Stores.{no_step, Derives, IsStoreOf}
+use Rattle.smt_top.specs.Stores.{no_step, IsStoreOf}
 use Rattle.smt_top.specs.Rounds.{IsSearch}
 
 -- what is assumed is one of the terms

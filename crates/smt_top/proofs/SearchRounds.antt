@@ -1,6 +1,6 @@
 -- What a conflict leaves of a search.
-use Rattle.std.proofs.Common.{◌≡◌, ◌≢◌, ℕ, ◌+◌, ◌<◌, ◌≤◌, Bool, true, false, not, List, [], ◌∷◌, ◌++◌, length, get_or, take, map, All, Contains, ◌⊎◌, inl, inr, refl, sym, ap, ◌∙◌, subst, arith, zero, suc}
-use Rattle.std.specs.Prelude.{Option, Some, None, ◌==◌}
+use Rattle.std.proofs.Common.{◌≡◌, ℕ, ◌<◌, true, false, List, [], ◌∷◌, ◌++◌, length, get_or, take, map, All, Contains, inl, inr, refl, sym, ap, ◌∙◌, subst, arith}
+use Rattle.std.specs.Prelude.{Option, ◌==◌}
 use Rattle.std.proofs.lemmas.Bool.{false≢true, eqb-true, eq-eqb}
 use Rattle.std.proofs.lemmas.List.{length-append, length-map, map-append}
 use Rattle.std.proofs.lemmas.List.Elements.{All-push, All-map, Contains-get_or, Contains-push_cases, Contains-push, Contains-append_left, Contains-append_cases}
@@ -9,7 +9,7 @@ use Rattle.spec_terms.specs.Literals.{Clause, Literal, literals_of}
 use Rattle.spec_terms.specs.Subterms.{subterms_of}
 use Rattle.spec_proofs.specs.declared.Rule.TheVariants.{Resolution}
 use Rattle.spec_proofs.specs.Resolution.{IsWithin}
-use Rattle.spec_search.specs.Derivations.{Inference, AssumesAmong, IsDerivedFrom}
+use Rattle.spec_search.specs.Derivations.{AssumesAmong, IsDerivedFrom}
 use Rattle.spec_search.specs.Base.{base_clauses}
 use Rattle.spec_search.specs.Learned.{AreNew}
 use Rattle.spec_search.specs.Spent.{IsLearnedFrom, IsAtomOf, IsConflictBudgetSpent}
@@ -23,10 +23,10 @@ use Rattle.proof_log.specs.declared.premises.StepId.{StepId}
 use Rattle.proof_log.specs.Logs.{Logged, stepped, inference_of, derivation_in}
 use Rattle.clausify.specs.Clausified.{stated}
 use Rattle.sat_budget.specs.Budgets.{BudgetView}
-use Rattle.smt_top.specs.Search.{AreOver, IsTrail, IsMentioned}
-use Rattle.smt_top.specs.Analyses.{IsDecision, RestsAt}
+use Rattle.smt_top.specs.Search.{AreOver, IsMentioned}
+use Rattle.smt_top.specs.Analyses.{RestsAt}
 use Rattle.smt_top.specs.Stores.{Derives}
-use Rattle.smt_top.specs.Rounds.{IsAtom, IsResolved, Logs, IsSearch, IsReady, GoesOn}
+use Rattle.smt_top.specs.Rounds.{Logs, IsSearch, IsReady, GoesOn}
 use Rattle.smt_top.proofs.SearchStores.{derives_more}
 use Rattle.smt_top.proofs.SearchResolved.{store_bare, trail_bare, decided_at, clause_atoms}
 use Rattle.smt_top.proofs.SearchNew.{new_more, is_new}

@@ -1,5 +1,5 @@
 -- What the rounds of a search keep, and what its answers show. Source: own.
-use Rattle.std.specs.Prelude.{◌≡◌, ◌+◌, ◌<◌, ◌≤◌, ℕ, Bool, true, List, [], ◌∷◌, ◌++◌, length, map, get_or, All, Contains, Option, Some, None, Result, Ok, Err}
+use Rattle.std.specs.Prelude.{◌≡◌, ◌+◌, ◌<◌, ℕ, true, List, [], ◌∷◌, ◌++◌, length, map, get_or, All, Contains, Option, Result, Ok, Err}
 use Rattle.spec_terms.specs.Terms.{Term}
 use Rattle.spec_terms.specs.Values.{Interpretation, Interprets, truth}
 use Rattle.spec_terms.specs.Agreement.{value_at}

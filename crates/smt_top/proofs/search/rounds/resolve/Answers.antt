@@ -1,8 +1,6 @@
 -- That a conflict ends the search with evidence, or leaves it going on.
-use Rattle.std.proofs.Common.{◌≡◌, ◌∙◌, subst, sym, ap, List, [], ◌∷◌, ◌++◌, refl, length}
-use Rattle.term_core.specs.declared.ids.Lit.{Lit}
+use Rattle.std.proofs.Common.{◌∙◌, sym, ap, refl, length}
 use Rattle.rule_bool.specs.Literals.{lists}
-use Rattle.smt_top.specs.Rounds.{Logs, GoesOn}
 use Rattle.smt_top.proofs.SearchStores.{lists_more}
 use Rattle.smt_top.proofs.SearchResolved.{is_resolved}
 use Rattle.smt_top.proofs.SearchRounds.{goes_on, unsat_shows, spent_shows, empty_of, some_of}
