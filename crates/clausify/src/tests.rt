@@ -99,7 +99,11 @@ fn printed(
         for id in log.clause(*step) {
             print_term(&mut text, table, *id)?;
         }
-        let end = if log.step(*step).is_none() { b':' } else { b';' };
+        let end = if log.step(*step).is_none() {
+            b':'
+        } else {
+            b';'
+        };
         text.push(end)?;
     }
     Ok(text)
