@@ -16,6 +16,7 @@ use Rattle.spec_proofs.specs.Rules.{IsBy, IsRight}
 use Rattle.spec_proofs.specs.Schemes.{Scheme, states, kind_of, signed, rests_of, is_formula_of, clauses_by}
 use Rattle.spec_proofs.proofs.Chains.{mapped}
 use Rattle.spec_search.specs.Base.{clauses_of}
+use Rattle.spec_search.specs.Models.{is_formula as is_formula_alone}
 use Rattle.spec_search.proofs.Obeying.{not_takes, xor_takes, implies_takes, equal_takes, ite_takes}
 use Rattle.term_core.specs.declared.ids.TermId.{TermId}
 use Rattle.term_core.specs.declared.nodes.Head.{Head as NodeHead}
@@ -56,6 +57,12 @@ pub is_formula : (t : TableView) (s : Shape) (term : Term) → term ≡ shape_te
 is_formula t s term means fits truths =
     let same : is_formula_of (head_meant t.symbols s.head) (shape_term t s) ≡ same_head (head_meant t.symbols s.head) (head_meant t.symbols s.head) && head_takes (head_meant t.symbols s.head) (map sort_of (clause_at t s.arguments)) && all_same Truth (map sort_of (clause_at t s.arguments)) = ap (λ (ts : List Term). same_head (head_meant t.symbols s.head) (head_meant t.symbols s.head) && head_takes (head_meant t.symbols s.head) (map sort_of ts) && all_same Truth (map sort_of ts)) (list_back (clause_at t s.arguments)) in
     ap (λ (u : Term). is_formula_of (head_of u) u) means ∙ same ∙ (λ i. same_itself (shape_term t s) i && fits.sorts i && all_truths t s.arguments truths fits.arguments i)
+
+-- whatever head it is asked about
+pub head_formula : (t : TableView) (s : Shape) (term : Term) → term ≡ shape_term t s → Fits t s → ((id : TermId) → IsIn t id → sort_of (term_at t id) ≡ Truth) → is_formula_alone term ≡ true
+head_formula t s term means fits truths =
+    let takes : List Term → Bool = λ ts. head_takes (head_meant t.symbols s.head) (map sort_of ts) && all_same Truth (map sort_of ts) in
+    ap is_formula_alone means ∙ ap takes (list_back (clause_at t s.arguments)) ∙ (λ i. fits.sorts i && all_truths t s.arguments truths fits.arguments i)
 
 module _ (s : Scheme) (term front : Term) (formula : is_formula_of s.head term ≡ true) (in_front : signed s.positive term ≡ front) where
   -- the clauses that it gives by a scheme

@@ -1,10 +1,11 @@
 -- Marking the subterms of terms, from the greatest number down.
-use Rattle.std.proofs.Common.{◌≡◌, ℕ, zero, suc, ◌<◌, ◌≤◌, inl, inr, Bool, List, length, get_or, All, Contains, sym, ap, ◌∙◌, subst, arith}
+use Rattle.std.proofs.Common.{◌≡◌, ℕ, zero, suc, ◌<◌, ◌≤◌, inl, inr, Bool, true, List, length, get_or, All, Contains, sym, ap, ◌∙◌, subst, arith}
 use Rattle.std.proofs.lemmas.Bool.{cases_eq}
-use Rattle.std.proofs.lemmas.List.Elements.{All-contains}
+use Rattle.std.proofs.lemmas.List.Elements.{All-contains, Contains-get_or}
 use Rattle.spec_terms.specs.Terms.{Term}
 use Rattle.spec_terms.specs.Subterms.{subterms_of}
 use Rattle.spec_terms.specs.Subsets.{arguments_of, AreAmong, IsClosed}
+use Rattle.spec_search.specs.Models.{is_formula}
 use Rattle.term_core.specs.declared.ids.TermId.{TermId}
 use Rattle.term_core.specs.Tables.{TableView, AreDifferent, no_term, term_at, clause_at, Shape, shape_term}
 use Rattle.term_core.proofs.Images.{to_image, from_image}
@@ -18,6 +19,7 @@ pub record IsMarkedFrom (t : TableView) (roots : List TermId) (from : ℕ) (mark
   pub starts : (id : TermId) → Contains roots id → IsMarked marks id.0
   pub sound : (k : ℕ) → IsMarked marks k → Contains (subterms_of (clause_at t roots)) (get_or t.terms k no_term)
   pub closed : (k : ℕ) → from ≤ k → IsMarked marks k → (u : Term) → Contains (arguments_of (get_or t.terms k no_term)) u → HasMarked t.terms marks u
+  pub formulas : (k : ℕ) → from ≤ k → IsMarked marks k → is_formula (get_or t.terms k no_term) ≡ true
 
 -- with more marks it is still marked
 keeps : (ts : List Term) (old new : List Bool) (u : Term) → ((k : ℕ) → IsMarked old k → IsMarked new k) → HasMarked ts old u → HasMarked ts new u
@@ -33,11 +35,12 @@ module _ (t : TableView) (roots : List TermId) (there : AreAmong (clause_at t ro
       | inr h ↦ there (get_or t.terms k no_term) (subst (λ j. Contains (clause_at t roots) (get_or t.terms j no_term)) h.2 (to_image (term_at t) roots h.0 h.1))
     ];
     closed = λ k le e. let lt = marked_below new k e in absurd (omega arith);
+    formulas = λ k le e. let lt = marked_below new k e in absurd (omega arith);
   }
 
   -- the arguments of one marked term more
-  pub marks_more : (n : ℕ) (old new : List Bool) (s : Shape) → IsMarkedFrom t roots (suc n) old → IsMarked old n → get_or t.terms n no_term ≡ shape_term t s → All (λ (id : TermId). id.0 < n) s.arguments → Marks old s.arguments new → IsMarkedFrom t roots n new
-  marks_more n old new s h here means below m = record {
+  pub marks_more : (n : ℕ) (old new : List Bool) (s : Shape) → IsMarkedFrom t roots (suc n) old → IsMarked old n → get_or t.terms n no_term ≡ shape_term t s → is_formula (get_or t.terms n no_term) ≡ true → All (λ (id : TermId). id.0 < n) s.arguments → Marks old s.arguments new → IsMarkedFrom t roots n new
+  marks_more n old new s h here means formula below m = record {
     short = omega (arith, m.length, h.short);
     starts = λ id id_in. m.kept id.0 (h.starts id id_in);
     sound = λ k e. elim (m.no_others k e) [
@@ -55,6 +58,13 @@ module _ (t : TableView) (roots : List TermId) (there : AreAmong (clause_at t ro
             (x.0.0, m.there x.0 x.1, x.2)
       ]
     ];
+    formulas = λ k le e. elim (m.no_others k e) [
+      | inr x ↦ let lt : x.0.0 < n = All-contains (λ (id : TermId). id.0 < n) s.arguments x.0 below x.1 in absurd (omega (arith, x.2))
+      | inl e ↦ elim (cases_eq k n) [
+        | inr differ ↦ h.formulas k (grind (arith, le, differ)) e
+        | inl same ↦ ap (λ j. is_formula (get_or t.terms j no_term)) same ∙ formula
+      ]
+    ];
   }
 
   -- a number that is not marked
@@ -67,17 +77,26 @@ module _ (t : TableView) (roots : List TermId) (there : AreAmong (clause_at t ro
       | inl same ↦ absurd (free (subst (IsMarked marks) same e))
       | inr differ ↦ h.closed k (grind (arith, le, differ)) e
     ];
+    formulas = λ k le e. elim (cases_eq k n) [
+      | inl same ↦ absurd (free (subst (IsMarked marks) same e))
+      | inr differ ↦ h.formulas k (grind (arith, le, differ)) e
+    ];
   }
 
   pub marks_end : (marks : List Bool) → IsMarkedFrom t roots zero marks → AreDifferent t.terms → ((us : List Term) → AreAmong (clause_at t roots) us → IsClosed us → AreAmong (subterms_of (clause_at t roots)) us) → AreMarksOf t roots marks
   marks_end marks h apart least =
       let us = marked marks t.terms in
       let in_us : (u : Term) → HasMarked t.terms marks u → Contains us u = λ u x. subst (Contains us) x.2 (in_marked marks t.terms h.short x.0 x.1) in
+      let each : AreAmong (subterms_of (clause_at t roots)) us = least us
+      (λ u u_in. let x = from_image (term_at t) roots u u_in in in_us u (x.0.0, h.starts x.0 x.1, x.2))
+      (λ u u_in w w_in. let x = from_marked marks t.terms u u_in in in_us w (h.closed x.0 (omega arith) x.1 w (subst (λ (y : Term). Contains (arguments_of y) w) (sym x.2) w_in))) in
       record {
         short = h.short;
-        each = least us
-            (λ u u_in. let x = from_image (term_at t) roots u u_in in in_us u (x.0.0, h.starts x.0 x.1, x.2))
-            (λ u u_in w w_in. let x = from_marked marks t.terms u u_in in in_us w (h.closed x.0 (omega arith) x.1 w (subst (λ (y : Term). Contains (arguments_of y) w) (sym x.2) w_in)));
+        each = each;
         only = λ u u_in. let x = from_marked marks t.terms u u_in in subst (Contains (subterms_of (clause_at t roots))) x.2 (h.sound x.0 x.1);
         once = marked_once marks t.terms h.short apart;
+        formulas = λ k d lt.
+            let u = get_or (subterms_of (clause_at t roots)) k d in
+            let x = from_marked marks t.terms u (each u (Contains-get_or (subterms_of (clause_at t roots)) k d lt)) in
+            subst (λ (w : Term). is_formula w ≡ true) x.2 (h.formulas x.0 (omega arith) x.1);
       }

@@ -62,6 +62,7 @@ fn mark_subterms(table: &TermTable, roots: &[TermId], marks: &mut [bool])
 {
     subterms_are_least();
     table.numbers_tell_terms();
+    table.terms_are_truths();
     mark_each(marks, roots);
     'terms: for number in (0..marks.len()).rev() {
         if marks[number] {

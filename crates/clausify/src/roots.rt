@@ -1,7 +1,9 @@
 //! The clauses of terms and of all their subterms.
 
 ghost use Rattle.std.specs.Prelude.{◌≡◌, ◌≤◌, [], ◌∷◌, length, map, flat_map, IfOk, OnOk, OnErr};
+ghost use Rattle.spec_terms.specs.Subterms.{subterms_of};
 ghost use Rattle.spec_search.specs.Base.{clauses_of};
+ghost use Rattle.spec_search.specs.Models.{AreFormulas};
 ghost use Rattle.term_core.specs.Tables.{IsIn, AreIn, clause_at};
 ghost use Rattle.proof_log.specs.Logs.{IsLogOf};
 ghost use Rattle.clausify.specs.Clausified.{HasClauses, Grows};
@@ -31,6 +33,7 @@ pub fn clauses_of(
     requires root { IsIn table.old root }
     requires log { IsLogOf table.old log.old }
     ensures clauses { IfOk result (λ list. HasClauses table.new log.new (clause_at table.old (root ∷ [])) list) }
+    ensures formulas { OnOk result (AreFormulas (subterms_of (clause_at table.old (root ∷ [])))) }
     ensures grown { OnOk result (Grows (root ∷ []) table.old table.new log.old log.new) }
     ensures same { OnErr result ((table.new ≡ table.old) × (log.new ≡ log.old)) }
 {
@@ -40,9 +43,11 @@ pub fn clauses_of(
 /// Makes the clauses of terms, which say together that each of them is true: each term is assumed, and each of their subterms gets
 /// the clauses that its rules without premises state, a shared one once. Gives the numbers of these clauses in the log.
 ///
-/// Negations that the clauses need come into the table. Time and memory go in proportion to the greatest number of these terms and
-/// to the lengths of the clauses; but the rules `and_pos` and `or_neg` look for the argument that a clause has, so a term of n
-/// arguments costs in the order of n^2 comparisons of numbers.
+/// The log must be one over the table. Negations that the clauses need come into the table. Each subterm has a head that takes its
+/// arguments, all of sort Bool, so truths that meet the clauses give each its value.
+///
+/// Time and memory go in proportion to the greatest number of these terms and to the lengths of the clauses; but the rules `and_pos`
+/// and `or_neg` look for the argument that a clause has, so a term of n arguments costs in the order of n^2 comparisons of numbers.
 ///
 /// `NoMemory` comes where a clause or a term of it finds no memory; then table and log are as they were.
 /// Source: own; Tseitin 1968; Alethe specification, the rules without premises.
@@ -55,6 +60,7 @@ pub fn clauses_of_all(
     requires roots { AreIn table.old roots.now }
     requires log { IsLogOf table.old log.old }
     ensures clauses { IfOk result (λ list. HasClauses table.new log.new (clause_at table.old roots.now) list) }
+    ensures formulas { OnOk result (AreFormulas (subterms_of (clause_at table.old roots.now))) }
     ensures grown { OnOk result (Grows roots.now table.old table.new log.old log.new) }
     ensures same { OnErr result ((table.new ≡ table.old) × (log.new ≡ log.old)) }
 {
@@ -80,6 +86,7 @@ fn stated_of(
     requires roots { AreIn table.old roots.now }
     requires log { IsLogOf table.old log.old }
     ensures clauses { IfOk result (λ list. HasClauses table.new log.new (clause_at table.old roots.now) list) }
+    ensures formulas { OnOk result (AreFormulas (subterms_of (clause_at table.old roots.now))) }
     ensures grows { Grows roots.now table.old table.new log.old log.new }
 {
     subterms_are_least();
