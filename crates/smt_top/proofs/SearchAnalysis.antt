@@ -1,5 +1,5 @@
 -- How a conflict is followed back, place by place.
-use Rattle.std.proofs.Common.{◌≡◌, ◌≢◌, ℕ, ◌+◌, ◌<◌, ◌≤◌, Bool, List, [], ◌∷◌, ◌++◌, length, get_or, take, All, Contains, ◌⊎◌, inl, inr, refl, sym, ap, ◌∙◌, subst, arith, zero, suc}
+use Rattle.std.proofs.Common.{◌≡◌, ◌≢◌, ℕ, ◌+◌, ◌<◌, ◌≤◌, List, [], ◌∷◌, ◌++◌, length, get_or, take, Contains, ◌⊎◌, inl, inr, refl, sym, ap, ◌∙◌, subst, arith, zero, suc}
 use Rattle.std.specs.Prelude.{Option, Some, None, Vec, Result, Ok, Err, OnOk}
 use Rattle.std.specs.declared.alloc.Global.{Global}
 use Rattle.std.specs.declared.alloc.AllocError.{AllocError}
@@ -9,7 +9,7 @@ use Rattle.term_core.specs.declared.ids.Lit.{Lit}
 use Rattle.rule_bool.specs.Literals.{lit_complement, lists}
 use Rattle.rule_bool.proofs.Literals.{negation_twice}
 use Rattle.smt_top.specs.Search.{IsTrail, IsAdded, IsForced, IsClash}
-use Rattle.smt_top.specs.Analyses.{Marks, MarksEach, MarksOthers, IsExplained, IsDecision, HasTwo, RestsAt, Cuts, Notes, Follows}
+use Rattle.smt_top.specs.Analyses.{MarksEach, MarksOthers, IsExplained, IsDecision, HasTwo, RestsAt, Cuts, Notes, Follows, IsNeeded, by_clash, by_reason}
 use Rattle.smt_top.specs.declared.search.analysis.Analysis.{Analysis}
 use Rattle.smt_top.proofs.SearchPasses.{item}
 
@@ -92,6 +92,8 @@ module _ (clauses : List (List Lit)) (held : List Lit) (reasons : List (Option �
       clash_marked = r.clash_marked;
       are_clauses = r.are_clauses;
       holds = r.holds;
+      needed = r.needed;
+      no_others = r.no_others;
       explained = λ p m le within e i. elim (later_or_here at p le) [
         | inl later ↦ r.explained p m later within e i
         | inr is ↦ absurd (free (subst (λ (x : Lit). Contains marked x) (same_place held at m l lt (subst (λ (k : ℕ). get_or held k m ≡ m) is e) here) i))
@@ -124,6 +126,8 @@ module _ (clauses : List (List Lit)) (held : List Lit) (reasons : List (Option �
         clash_marked = λ m i. h.kept (lit_complement m) (r.clash_marked m i);
         are_clauses = All-push (λ (k : ℕ). k < length clauses) premises n r.are_clauses forced.there;
         holds = λ k i. elim (is_early k i) [ inl was ↦ r.holds k was | inr early ↦ front_all held at k early ];
+        needed = λ k i. elim (h.only k i) [ inl was ↦ r.needed k was | inr a ↦ subst (λ (x : Lit). IsNeeded clauses held reasons clash x) (sym a.2) (by_reason at l n a.0 lt here reason (r.needed l is_marked) a.1.0 a.1.1) ];
+        no_others = λ k i. elim (Contains-push_cases premises n k i) [ inl was ↦ r.no_others k was | inr e ↦ inr (at, l, lt, here, reason ∙ ap Some e, r.needed l is_marked) ];
         explained = λ p m le within e i. elim (later_or_here at p le) [
           | inl later ↦ elim (is_early m i) [
             | inl was ↦ explained_more clauses marked marks premises (premises ++ n ∷ []) clause clause m (get_or reasons p None) h.kept more_premises (λ k j. j) (r.explained p m later within e was)
@@ -181,6 +185,8 @@ module _ (clauses : List (List Lit)) (held : List Lit) (reasons : List (Option �
           clash_marked = r.clash_marked;
           are_clauses = r.are_clauses;
           holds = r.holds;
+          needed = r.needed;
+          no_others = r.no_others;
           explained = λ p m le within e i. elim (later_or_here at p le) [
             | inl later ↦ r.explained p m later within e i
             | inr is ↦ absurd (free (subst (λ (x : Lit). Contains marked x) (same_place held at m l lt (subst (λ (k : ℕ). get_or held k m ≡ m) is e) here) i))
@@ -265,6 +271,8 @@ module _ (clauses : List (List Lit)) (held : List Lit) (reasons : List (Option �
         clash_marked = r.clash_marked;
         are_clauses = r.are_clauses;
         holds = r.holds;
+        needed = r.needed;
+        no_others = r.no_others;
         explained = λ p m le within e i. elim (later_or_here at p le) [
           | inl later ↦ explained_more clauses marked marked premises premises clause (clause ++ x ∷ []) m (get_or reasons p None) (λ k j. j) (λ k j. j) more (r.explained p m later within e i)
           | inr is ↦
@@ -290,6 +298,8 @@ module _ (clauses : List (List Lit)) (held : List Lit) (reasons : List (Option �
     clash_marked = h.added;
     are_clauses = λ k d w. go k d w;
     holds = λ k i. elim (h.only k i) [ inl none ↦ absurd (omega (arith, none.1)) | inr a ↦ subst (λ (x : Lit). Contains held x) (sym a.2) (c.fails a.0 a.1) ];
+    needed = λ k i. elim (h.only k i) [ inl none ↦ absurd (omega (arith, none.1)) | inr a ↦ subst (λ (x : Lit). IsNeeded clauses held reasons clash x) (sym a.2) (by_clash a.0 a.1) ];
+    no_others = λ k i. elim (Contains-push_cases [] clash k i) [ inl none ↦ absurd (omega (arith, none.1)) | inr e ↦ inl (sym e) ];
     explained = λ p m le within e i. absurd (omega (arith, le, within));
     decisions = λ m i. absurd (omega (arith, i.1));
     newest = λ m ms e. absurd (let no : [] ≡ m ∷ ms = e in cc);

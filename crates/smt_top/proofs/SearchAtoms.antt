@@ -1,22 +1,20 @@
 -- That a learned clause is over atoms of the terms.
-use Rattle.std.proofs.Common.{◌≡◌, ◌≢◌, ℕ, ◌+◌, ◌<◌, Bool, true, false, not, List, [], ◌∷◌, ◌++◌, length, get_or, take, map, All, Contains, ◌⊎◌, inl, inr, refl, sym, ap, ◌∙◌, subst, arith, zero, suc}
-use Rattle.std.specs.Prelude.{Option, flat_map}
+use Rattle.std.proofs.Common.{◌≡◌, ◌≢◌, true, false, not, List, [], ◌∷◌, map, Contains, inl, inr, refl, sym, ◌∙◌, subst, arith}
+use Rattle.std.specs.Prelude.{flat_map}
 use Rattle.std.proofs.lemmas.List.Elements.{Contains-append_left, Contains-append_right}
 use Rattle.spec_terms.specs.Terms.{True, False, Truth, Term, of, negated, sort_of}
-use Rattle.spec_terms.specs.Literals.{Clause, Literal, complement, literal_of, literals_of}
+use Rattle.spec_terms.specs.Literals.{Clause, Literal, literal_of, literals_of}
 use Rattle.spec_terms.specs.Subterms.{subterms_of}
 use Rattle.spec_search.specs.Base.{clauses_of, base_clauses}
 use Rattle.spec_search.specs.Spent.{IsAtomOf}
-use Rattle.term_core.specs.declared.ids.TermId.{TermId}
 use Rattle.term_core.specs.declared.ids.Lit.{Lit}
 use Rattle.term_core.specs.Tables.{TableView, IsIn, AreDifferent, term_at, literal_at}
 use Rattle.rule_bool.specs.Literals.{lit_complement}
 use Rattle.rule_bool.specs.Findings.{IsSettled}
-use Rattle.rule_bool.proofs.Literals.{negation_twice}
 use Rattle.rule_bool.proofs.Counting.{Contains-cons_cases}
 use Rattle.rule_bool.proofs.Transport.{to_image}
 use Rattle.rule_bool.proofs.Resolvents.{literals_apart}
-use Rattle.smt_top.specs.Search.{IsQuiet, IsOpen}
+use Rattle.smt_top.specs.Search.{IsQuiet}
 
 -- what one item gives, the list gives
 pub in_flat_map : {A B : Type 0} (f : A → List B) (xs : List A) (x : A) (y : B) → Contains xs x → Contains (f x) y → Contains (flat_map f xs) y

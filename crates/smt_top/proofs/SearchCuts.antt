@@ -1,12 +1,12 @@
 -- What a trail is where a clause was learned and the trail cut.
-use Rattle.std.proofs.Common.{◌≡◌, ◌≢◌, ℕ, ◌+◌, ◌<◌, ◌≤◌, Bool, List, [], ◌∷◌, ◌++◌, length, get_or, take, Contains, ◌⊎◌, inl, inr, refl, sym, ap, ◌∙◌, subst, arith, zero, suc}
+use Rattle.std.proofs.Common.{◌≡◌, ℕ, ◌<◌, ◌≤◌, List, [], ◌∷◌, ◌++◌, length, get_or, take, Contains, inl, inr, refl, sym, ap, ◌∙◌, subst, arith, zero, suc}
 use Rattle.std.specs.Prelude.{Option, Some, None}
 use Rattle.std.proofs.lemmas.List.{length-append, get_or-take, length-take-le}
 use Rattle.std.proofs.lemmas.List.Elements.{Contains-push_cases, Contains-append_left}
 use Rattle.term_core.specs.declared.ids.Lit.{Lit}
 use Rattle.rule_bool.specs.Findings.{IsSettled}
-use Rattle.smt_top.specs.Search.{IsTrail, IsAdded, IsForced, IsDecided, IsOpen, IsQuiet}
-use Rattle.smt_top.specs.Analyses.{IsDecision, HasTwo, RestsAt}
+use Rattle.smt_top.specs.Search.{IsTrail, IsAdded, IsForced, IsDecided, IsOpen}
+use Rattle.smt_top.specs.Analyses.{HasTwo, RestsAt}
 use Rattle.smt_top.proofs.SearchTrails.{get_early}
 
 -- the front of a front

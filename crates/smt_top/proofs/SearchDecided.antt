@@ -1,7 +1,7 @@
 -- What a search begins with.
-use Rattle.std.proofs.Common.{◌≡◌, ℕ, ◌+◌, ◌<◌, List, [], ◌∷◌, ◌++◌, length, get_or, take, map, All, Contains, refl, sym, ap, ◌∙◌, subst, arith}
+use Rattle.std.proofs.Common.{◌≡◌, ℕ, ◌<◌, List, [], ◌∷◌, ◌++◌, length, get_or, take, map, All, Contains, refl, sym, ap, ◌∙◌, subst, arith}
 use Rattle.std.proofs.lemmas.List.{get_or_default, append-nil}
-use Rattle.std.proofs.lemmas.List.Elements.{All-contains, All-nil}
+use Rattle.std.proofs.lemmas.List.Elements.{All-nil, Contains-append_left}
 use Rattle.spec_terms.specs.Terms.{Term}
 use Rattle.spec_terms.specs.Literals.{Clause, Literal, literals_of}
 use Rattle.spec_terms.specs.Subterms.{subterms_of}
@@ -16,10 +16,10 @@ use Rattle.rule_bool.specs.Literals.{lists}
 use Rattle.rule_bool.specs.Resolvents.{Means}
 use Rattle.rule_bool.proofs.Transport.{to_image, from_image}
 use Rattle.proof_log.specs.declared.premises.StepId.{StepId}
-use Rattle.proof_log.specs.Logs.{Logged, assumed, stepped, inference_of, derivation_in, IsLogOf}
+use Rattle.proof_log.specs.Logs.{Logged, assumed, stepped, inference_of, derivation_in}
 use Rattle.clausify.specs.Clausified.{stated, HasClauses, AssumesOneOf, Grows}
 use Rattle.smt_top.specs.declared.search.store.Store.{Store}
-use Rattle.smt_top.specs.Stores.{no_step, Derives, IsStoreOf}
+use Rattle.smt_top.specs.Stores.{no_step, IsStoreOf}
 use Rattle.smt_top.specs.Rounds.{IsSearch}
 
 -- what is assumed is one of the terms
@@ -79,6 +79,13 @@ module _ (t u : TableView) (roots : List TermId) (roots_in : AreIn t roots) (log
       let image = subst (λ (xs : List Literal). Contains xs (literal_at u l)) m.same (to_image (literal_at u) (get_or (lists store.clauses.items) k []) l (subst (λ (x : List Lit). Contains x l) (sym same) j)) in
       law (clause_at t roots) (stated u log (get_or store.steps.items k no_step)) (literal_at u l) (is_base k lt) image
 
+  only : (d : List Lit) → Contains (lists store.clauses.items) d → Contains (map literals_of (base_clauses (clause_at t roots)) ++ []) (map (literal_at u) d)
+  only d (k, lt, e) =
+      let same : get_or (lists store.clauses.items) k [] ≡ d = get_or_default (lists store.clauses.items) k [] d lt ∙ e in
+      let here : map (literal_at u) d ≡ literals_of (stated u log (get_or store.steps.items k no_step)) = ap (map (literal_at u)) (sym same) ∙ (means k lt).same in
+      Contains-append_left (map literals_of (base_clauses (clause_at t roots))) [] (map (literal_at u) d)
+      (subst (λ (x : List Literal). Contains (map literals_of (base_clauses (clause_at t roots))) x) (sym here) (to_image literals_of (base_clauses (clause_at t roots)) (stated u log (get_or store.steps.items k no_step)) (is_base k lt)))
+
   -- so the search begins
   pub search_begins : (learned : List (List Lit)) → learned ≡ [] → IsSearch u (clause_at t roots) log (lists store.clauses.items) store.steps.items learned
   search_begins learned e = subst (λ (ls : List (List Lit)). IsSearch u (clause_at t roots) log (lists store.clauses.items) store.steps.items ls) (sym e) (record {
@@ -87,6 +94,7 @@ module _ (t u : TableView) (roots : List TermId) (roots_in : AreIn t roots) (log
     meant = meant;
     assumes = assumes;
     base = base;
+    only = only;
     subterms = subterms;
     kept = λ c i. absurd (omega (arith, i.1));
     derived = All-nil (IsLearnedFrom (clause_at t roots) (derivation_in u log));

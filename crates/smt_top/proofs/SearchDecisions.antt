@@ -1,14 +1,13 @@
 -- Which literal is open.
-use Rattle.std.proofs.Common.{◌≡◌, ℕ, ◌+◌, ◌<◌, List, [], ◌∷◌, ◌++◌, length, get_or, take, Contains, ◌⊎◌, inl, inr, refl, sym, ap, ◌∙◌, subst, arith}
-use Rattle.std.specs.Prelude.{Bool, true, false, Option, Some, None, MatchOption}
+use Rattle.std.proofs.Common.{◌≡◌, ℕ, ◌+◌, List, [], ◌∷◌, ◌++◌, take, Contains, ◌⊎◌, inl, inr, refl, sym, subst}
+use Rattle.std.specs.Prelude.{false, Option, Some, None, MatchOption}
 use Rattle.std.specs.Option.{is_some}
 use Rattle.std.proofs.lemmas.Bool.{false≢true}
-use Rattle.std.proofs.lemmas.List.{take_more}
 use Rattle.std.proofs.lemmas.List.Elements.{Contains-push, Contains-push_cases, Contains-append_left}
 use Rattle.term_core.specs.declared.ids.Lit.{Lit}
 use Rattle.rule_bool.specs.Literals.{lit_complement}
 use Rattle.rule_bool.specs.Findings.{IsFalse, IsTouched}
-use Rattle.smt_top.specs.Search.{IsOpen, Opens, IsOpenOf, IsOpenIn, AreSettled}
+use Rattle.smt_top.specs.Search.{Opens, IsOpenOf, AreSettled}
 
 module _ (held front : List Lit) (m : Lit) where
   -- what is so of a literal of the front or of this one

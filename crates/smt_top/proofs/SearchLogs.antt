@@ -1,8 +1,8 @@
 -- What a log says with one step more.
-use Rattle.std.proofs.Common.{◌≡◌, ℕ, ◌+◌, ◌<◌, ◌≤◌, List, [], ◌∷◌, ◌++◌, length, get_or, take, drop, map, All, Contains, refl, sym, ap, ◌∙◌, subst, arith, zero, suc}
+use Rattle.std.proofs.Common.{◌≡◌, ℕ, ◌<◌, List, [], ◌∷◌, ◌++◌, length, get_or, take, drop, All, Contains, sym, ap, ◌∙◌, subst, arith, suc}
 use Rattle.std.proofs.Math.Seq.{drop-cons}
 use Rattle.std.proofs.lemmas.List.{length-append, length-map, map-append, take-append-drop, length-take-le}
-use Rattle.std.proofs.lemmas.List.Elements.{All-contains, All-push}
+use Rattle.std.proofs.lemmas.List.Elements.{All-contains}
 use Rattle.spec_terms.specs.Terms.{Term}
 use Rattle.spec_terms.specs.Literals.{Clause, Literal, literals_of}
 use Rattle.spec_search.specs.Derivations.{Inference, «assumption», by_rule, Derivation, premises_of, no_inference, inference_at, conclusion, conclusion_at, FollowsFrom, IsDerivation, RestsOn, itself, by_premise, AssumesAmong, IsDerivedFrom}

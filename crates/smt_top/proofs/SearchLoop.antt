@@ -1,6 +1,6 @@
 -- One round of a search after another: what is decided, and that the rounds end.
-use Rattle.std.proofs.Common.{◌≡◌, ◌≢◌, ℕ, ◌+◌, ◌-◌, ◌*◌, ◌<◌, ◌≤◌, Bool, true, false, not, List, [], ◌∷◌, ◌++◌, length, get_or, take, map, All, Contains, ◌⊎◌, inl, inr, refl, sym, ap, ◌∙◌, subst, arith, zero, suc, cond}
-use Rattle.std.specs.Prelude.{Option, Some, None}
+use Rattle.std.proofs.Common.{◌≡◌, ℕ, ◌+◌, ◌-◌, ◌*◌, ◌<◌, ◌≤◌, Bool, true, false, List, [], ◌∷◌, ◌++◌, length, get_or, map, All, Contains, ◌⊎◌, inl, inr, refl, sym, ap, ◌∙◌, subst, arith, suc, cond}
+use Rattle.std.specs.Prelude.{Option, None}
 use Rattle.std.proofs.lemmas.List.{length-append, get_or_default}
 use Rattle.std.proofs.lemmas.List.Elements.{Contains-get_or}
 use Rattle.spec_terms.specs.Terms.{Symbol, Head, Apply, Truth, Term, Terms, app, list_of, sort_of, head_takes}
@@ -8,14 +8,14 @@ use Rattle.spec_terms.specs.Values.{Interpretation, Interprets, truth}
 use Rattle.spec_terms.specs.Agreement.{value_at}
 use Rattle.spec_terms.specs.Subterms.{subterms_of}
 use Rattle.spec_terms.specs.Subsets.{IsClosed}
-use Rattle.spec_terms.specs.Literals.{Clause, literals_of}
+use Rattle.spec_terms.specs.Literals.{Clause}
 use Rattle.spec_proofs.specs.Truths.{Truths}
 use Rattle.spec_search.specs.Base.{base_clauses}
 use Rattle.spec_search.specs.Models.{Meets, AreFormulas, Realizes}
 use Rattle.term_core.specs.declared.ids.TermId.{TermId}
 use Rattle.term_core.specs.declared.ids.Lit.{Lit}
 use Rattle.term_core.specs.declared.values.Interp.{Interp}
-use Rattle.term_core.specs.Tables.{TableView, IsIn, AreDifferent, AreDeclared, term_at, literal_at, clause_at}
+use Rattle.term_core.specs.Tables.{TableView, IsIn, AreDifferent, AreDeclared, term_at}
 use Rattle.term_core.specs.Valuations.{Stands, HasTables}
 use Rattle.rule_bool.specs.Literals.{lit_complement}
 use Rattle.rule_bool.specs.Findings.{IsFalse, IsTouched, IsSettled}
@@ -23,7 +23,6 @@ use Rattle.rule_bool.specs.Propagation.{failing}
 use Rattle.rule_bool.specs.Resolvents.{Means, AreOf}
 use Rattle.proof_log.specs.declared.premises.StepId.{StepId}
 use Rattle.proof_log.specs.Logs.{Logged}
-use Rattle.sat_budget.specs.Budgets.{BudgetView}
 use Rattle.smt_top.specs.Search.{AreOver, IsTrail, IsQuiet, IsOpen, IsOpenIn, AreSettled, Advances, open_count}
 use Rattle.smt_top.specs.SearchModels.{IsModelOf}
 use Rattle.smt_top.specs.Rounds.{IsSearch, IsReady}

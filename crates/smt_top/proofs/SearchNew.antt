@@ -1,21 +1,31 @@
 -- That a learned clause is new.
-use Rattle.std.proofs.Common.{◌≡◌, ◌≢◌, ℕ, ◌+◌, ◌<◌, ◌≤◌, Bool, true, false, not, List, [], ◌∷◌, ◌++◌, length, get_or, take, map, All, Contains, ◌⊎◌, inl, inr, refl, sym, ap, ◌∙◌, subst, arith, zero, suc}
-use Rattle.std.specs.Prelude.{Option, Some, None}
-use Rattle.std.proofs.lemmas.List.{append_assoc, map-append}
-use Rattle.std.proofs.lemmas.List.Elements.{All-contains, Contains-append_cases, Contains-push_cases}
+use Rattle.std.proofs.Common.{◌≡◌, ℕ, ◌<◌, Bool, true, false, not, List, [], ◌∷◌, ◌++◌, length, get_or, take, map, Contains, ◌⊎◌, inl, inr, refl, sym, ap, ◌∙◌, subst, arith, zero, suc}
+use Rattle.std.specs.Prelude.{Option}
+use Rattle.std.proofs.lemmas.List.{append_assoc}
 use Rattle.spec_terms.specs.Literals.{Literal, complement}
-use Rattle.spec_search.specs.Learned.{IsOpenIn, IsNew, AreNew, IsSettled, IsQuiet, IsConsistent, OthersFail}
+use Rattle.spec_proofs.specs.Resolution.{Derives, given, unit, Conflicts, false_clause, both_ways}
+use Rattle.spec_search.specs.Learned.{IsNew, AreNew, IsSettled, IsQuiet, IsConsistent}
 use Rattle.spec_search.proofs.Learned.{quiet_is_new}
 use Rattle.term_core.specs.declared.ids.Lit.{Lit}
 use Rattle.term_core.specs.Tables.{TableView, IsIn, AreDifferent, literal_at}
 use Rattle.rule_bool.specs.Literals.{lit_complement}
 use Rattle.rule_bool.specs.Findings.{IsSettled as LitSettled}
-use Rattle.rule_bool.proofs.Literals.{negation_twice, decide}
+use Rattle.rule_bool.proofs.Literals.{negation_twice}
 use Rattle.rule_bool.proofs.Transport.{to_image, from_image}
 use Rattle.rule_bool.proofs.Resolvents.{literals_apart}
-use Rattle.smt_top.specs.Search.{IsTrail, IsOpen, IsQuiet as LitQuiet}
+use Rattle.smt_top.specs.Search.{IsTrail, IsQuiet as LitQuiet}
 use Rattle.smt_top.specs.Analyses.{IsDecision, RestsAt}
-use Rattle.smt_top.proofs.SearchAnalysis.{from_front, front_all, in_front, same_place}
+use Rattle.smt_top.proofs.SearchAnalysis.{front_all, in_front, same_place}
+
+-- what follows from some clauses follows from more
+module _ {L : Type 0} (negation : L → L) (ps qs : List (List L)) (within : (c : List L) → Contains ps c → Contains qs c) (start : List L) where
+  derives_more : (l : L) → Derives negation ps start l → Derives negation qs start l
+  derives_more _ (given l i) = given l i
+  derives_more _ (unit c l c_in l_in others) = unit c l (within c c_in) l_in (λ m i d. derives_more (negation m) (others m i d))
+
+  pub conflicts_more : Conflicts negation ps start → Conflicts negation qs start
+  conflicts_more (both_ways l d e) = both_ways l (derives_more l d) (derives_more (negation l) e)
+  conflicts_more (false_clause c c_in all) = false_clause c (within c c_in) (λ m i. derives_more (negation m) (all m i))
 
 -- each of these is new, and one more after them
 pub new_more : (premises cs : List (List Literal)) (c : List Literal) → AreNew premises cs → IsNew (premises ++ cs) c → AreNew premises (cs ++ c ∷ [])

@@ -1,6 +1,6 @@
 -- What propagation adds, clause by clause.
-use Rattle.std.proofs.Common.{◌≡◌, ◌≢◌, ℕ, ◌+◌, ◌<◌, ◌≤◌, Bool, true, false, List, [], ◌∷◌, ◌++◌, length, get_or, take, Contains, ◌⊎◌, inl, inr, refl, sym, ap, ◌∙◌, subst, arith, zero, suc}
-use Rattle.std.specs.Prelude.{Option, Some, None, Vec}
+use Rattle.std.proofs.Common.{◌≡◌, ℕ, ◌+◌, ◌<◌, Bool, true, false, List, [], ◌∷◌, ◌++◌, length, get_or, take, Contains, ◌⊎◌, inl, inr, refl, sym, ap, ◌∙◌, subst, arith, zero, suc}
+use Rattle.std.specs.Prelude.{Option, Some, Vec}
 use Rattle.std.specs.declared.alloc.Global.{Global}
 use Rattle.std.proofs.lemmas.List.{length-append, append-nil, append_assoc, take_more, length-map, get_or-map}
 use Rattle.std.proofs.lemmas.List.Elements.{Contains-push_cases}
@@ -9,7 +9,7 @@ use Rattle.rule_bool.specs.Literals.{lists}
 use Rattle.rule_bool.specs.Findings.{IsFalse, IsUnit, IsSettled}
 use Rattle.rule_bool.specs.declared.look.Finding.{Finding}
 use Rattle.rule_bool.specs.declared.look.Finding.TheVariants as findings
-use Rattle.smt_top.specs.Search.{AreOver, IsQuiet, IsOpen, IsForced, IsTrail, open_count, Advances, TakesUp, IsClash}
+use Rattle.smt_top.specs.Search.{IsQuiet, IsOpen, Advances, TakesUp, IsClash}
 use Rattle.smt_top.proofs.SearchTrails.{trail_more, open_fewer}
 
 abbrev to_items : Vec Lit Global → List Lit

@@ -1,14 +1,14 @@
 -- That a learned clause follows by resolution from what the conflict rests on.
-use Rattle.std.proofs.Common.{◌≡◌, ◌≢◌, ℕ, ◌+◌, ◌<◌, ◌≤◌, Bool, true, false, not, List, [], ◌∷◌, length, get_or, take, map, All, Contains, refl, sym, ap, ◌∙◌, subst, arith, zero, suc}
+use Rattle.std.proofs.Common.{◌≡◌, ℕ, ◌<◌, Bool, true, false, not, List, [], ◌∷◌, length, get_or, take, map, Contains, refl, sym, ap, ◌∙◌, subst, arith, zero, suc}
 use Rattle.std.specs.Prelude.{Option, Some, None}
 use Rattle.std.proofs.lemmas.List.Elements.{All-contains, Contains-get_or}
 use Rattle.spec_terms.specs.Terms.{Not, Term, app, nil, cons}
-use Rattle.spec_terms.specs.Literals.{Clause, Literal, complement, literal_of, literals_of}
-use Rattle.spec_proofs.specs.Resolution.{Derives, given, unit, Conflicts, false_clause, Resolves}
+use Rattle.spec_terms.specs.Literals.{Clause, Literal, literal_of}
+use Rattle.spec_proofs.specs.Resolution.{Derives, given, unit, false_clause, Resolves}
 use Rattle.term_core.specs.declared.ids.Lit.{Lit}
 use Rattle.term_core.specs.Tables.{TableView, IsIn, term_at, literal_at, positive_literal}
 use Rattle.rule_bool.specs.Literals.{lit_complement}
-use Rattle.rule_bool.specs.Resolvents.{Means, AreOf}
+use Rattle.rule_bool.specs.Resolvents.{Means}
 use Rattle.rule_bool.proofs.Literals.{negation_twice}
 use Rattle.rule_bool.proofs.Transport.{to_image, from_image}
 use Rattle.proof_log.specs.declared.premises.StepId.{StepId}

@@ -1,35 +1,35 @@
 -- What a conflict leaves of a search.
-use Rattle.std.proofs.Common.{◌≡◌, ◌≢◌, ℕ, ◌+◌, ◌<◌, ◌≤◌, Bool, true, false, not, List, [], ◌∷◌, ◌++◌, length, get_or, take, map, All, Contains, ◌⊎◌, inl, inr, refl, sym, ap, ◌∙◌, subst, arith, zero, suc}
-use Rattle.std.specs.Prelude.{Option, Some, None, ◌==◌}
+use Rattle.std.proofs.Common.{◌≡◌, ℕ, ◌<◌, true, false, List, [], ◌∷◌, ◌++◌, length, get_or, take, map, All, Contains, inl, inr, refl, sym, ap, ◌∙◌, subst, arith}
+use Rattle.std.specs.Prelude.{Option, ◌==◌}
 use Rattle.std.proofs.lemmas.Bool.{false≢true, eqb-true, eq-eqb}
-use Rattle.std.proofs.lemmas.List.{length-append, length-map, map-append}
-use Rattle.std.proofs.lemmas.List.Elements.{All-push, All-map, Contains-get_or, Contains-push_cases, Contains-push, Contains-append_left, Contains-append_cases}
+use Rattle.std.proofs.lemmas.List.{length-append, length-map, map-append, get_or_default}
+use Rattle.std.proofs.lemmas.List.Elements.{All-push, All-map, All-contains, Contains-get_or, Contains-push_cases, Contains-push, Contains-append_left, Contains-append_right, Contains-append_cases}
 use Rattle.spec_terms.specs.Terms.{Truth, Term, sort_of}
-use Rattle.spec_terms.specs.Literals.{Clause, Literal, literals_of}
+use Rattle.spec_terms.specs.Literals.{Clause, Literal, complement, literals_of}
 use Rattle.spec_terms.specs.Subterms.{subterms_of}
 use Rattle.spec_proofs.specs.declared.Rule.TheVariants.{Resolution}
-use Rattle.spec_proofs.specs.Resolution.{IsWithin}
-use Rattle.spec_search.specs.Derivations.{Inference, AssumesAmong, IsDerivedFrom}
+use Rattle.spec_proofs.specs.Resolution.{IsWithin, Resolves}
+use Rattle.spec_search.specs.Derivations.{AssumesAmong, IsDerivedFrom}
 use Rattle.spec_search.specs.Base.{base_clauses}
-use Rattle.spec_search.specs.Learned.{AreNew}
+use Rattle.spec_search.specs.Learned.{IsNew, AreNew}
 use Rattle.spec_search.specs.Spent.{IsLearnedFrom, IsAtomOf, IsConflictBudgetSpent}
 use Rattle.term_core.specs.declared.ids.TermId.{TermId}
 use Rattle.term_core.specs.declared.ids.Lit.{Lit}
 use Rattle.term_core.specs.Tables.{TableView, IsIn, AreDifferent, term_at, literal_at}
 use Rattle.rule_bool.specs.Literals.{lit_complement}
 use Rattle.rule_bool.proofs.Literals.{negation_twice}
-use Rattle.rule_bool.proofs.Transport.{from_image}
+use Rattle.rule_bool.proofs.Transport.{from_image, resolves_there}
 use Rattle.proof_log.specs.declared.premises.StepId.{StepId}
 use Rattle.proof_log.specs.Logs.{Logged, stepped, inference_of, derivation_in}
 use Rattle.clausify.specs.Clausified.{stated}
 use Rattle.sat_budget.specs.Budgets.{BudgetView}
-use Rattle.smt_top.specs.Search.{AreOver, IsTrail, IsMentioned}
-use Rattle.smt_top.specs.Analyses.{IsDecision, RestsAt}
+use Rattle.smt_top.specs.Search.{AreOver, IsMentioned}
+use Rattle.smt_top.specs.Analyses.{RestsAt}
 use Rattle.smt_top.specs.Stores.{Derives}
-use Rattle.smt_top.specs.Rounds.{IsAtom, IsResolved, Logs, IsSearch, IsReady, GoesOn}
+use Rattle.smt_top.specs.Rounds.{numbered, Logs, IsSearch, IsReady, IsConflict, GoesOn}
 use Rattle.smt_top.proofs.SearchStores.{derives_more}
-use Rattle.smt_top.proofs.SearchResolved.{store_bare, trail_bare, decided_at, clause_atoms}
-use Rattle.smt_top.proofs.SearchNew.{new_more, is_new}
+use Rattle.smt_top.proofs.SearchResolved.{store_bare, trail_bare, decided_at, clause_atoms, clause_follows}
+use Rattle.smt_top.proofs.SearchNew.{new_more, is_new, conflicts_more}
 use Rattle.smt_top.proofs.SearchLogs.{derived_from, learned_kept, derivation_more, derives_kept}
 use Rattle.smt_top.proofs.SearchAtoms.{is_atom}
 use Rattle.smt_top.proofs.SearchCuts.{trail_cut}
@@ -68,15 +68,18 @@ module _ (t : TableView) (log new : List Logged) (clause : List Lit) (id : StepI
 
 -- where the budget is spent, the answer shows it
 pub spent_shows : (t : TableView) (terms : List Term) (log : List Logged) (clauses : List (List Lit)) (steps : List StepId) (budget new : BudgetView) (n : ℕ)
-    → length budget.learned ≡ budget.limit → n ≡ budget.limit → new ≡ budget → IsSearch t terms log clauses steps budget.learned
-    → IsConflictBudgetSpent terms (derivation_in t log) new.limit n (images t new.learned)
-spent_shows t terms log clauses steps budget new n full carries same s = subst (λ (b : BudgetView). IsConflictBudgetSpent terms (derivation_in t log) b.limit n (images t b.learned)) (sym same) (record {
-  full = rw length-map full;
-  carries = carries;
-  derived = s.derived;
-  atoms = s.atoms;
-  new = s.new;
-})
+    → length budget.learned ≡ budget.limit → n ≡ budget.limit → new ≡ budget → IsSearch t terms log clauses steps budget.learned → IsConflict terms (images t budget.learned)
+    → IsConflictBudgetSpent terms (derivation_in t log) new.limit n (images t new.learned) × IsConflict terms (images t new.learned)
+spent_shows t terms log clauses steps budget new n full carries same s conflict = subst (λ (b : BudgetView). IsConflictBudgetSpent terms (derivation_in t log) b.limit n (images t b.learned) × IsConflict terms (images t b.learned)) (sym same) (
+  record {
+    full = rw length-map full;
+    carries = carries;
+    derived = s.derived;
+    atoms = s.atoms;
+    new = s.new;
+  },
+  conflict,
+)
 
 module _ (t : TableView) (differ : AreDifferent t.terms) (sorts : (id : TermId) → IsIn t id → sort_of (term_at t id) ≡ Truth)
     (log : List Logged) (clauses : List (List Lit)) (steps : List StepId) (held : List Lit) (reasons : List (Option ℕ)) (ready : IsReady t log clauses steps held reasons)
@@ -117,6 +120,28 @@ module _ (t : TableView) (differ : AreDifferent t.terms) (sorts : (id : TermId) 
       | inr l ↦ let h = from_image (map (literal_at t)) learned c l in (h.0, s.kept h.0 h.1, h.2)
     ]
 
+    -- the clause follows from the base clauses and what was learned
+    premises_before : (x : List Literal) → Contains (map (map (literal_at t)) (numbered clauses premises)) x → Contains (map literals_of (base_clauses terms) ++ images t learned) x
+    premises_before x i =
+        let d = from_image (map (literal_at t)) (numbered clauses premises) x i in
+        let n = from_image (λ (k : ℕ). get_or clauses k []) premises d.0 d.1 in
+        let lt = All-contains (λ (k : ℕ). k < length clauses) premises n.0 r.are_clauses n.1 in
+        let there : Contains clauses d.0 = (n.0, lt, get_or_default clauses n.0 d.0 [] lt ∙ n.2) in
+        subst (λ (y : List Literal). Contains (map literals_of (base_clauses terms) ++ images t learned) y) d.2 (s.only d.0 there)
+
+    follows_before : Resolves complement (map literals_of (base_clauses terms) ++ images t learned) (map (literal_at t) clause)
+    follows_before = conflicts_more complement (map (map (literal_at t)) (numbered clauses premises)) (map literals_of (base_clauses terms) ++ images t learned) premises_before (map complement (map (literal_at t) clause))
+        (resolves_there lit_complement complement (literal_at t) (λ l. refl) (numbered clauses premises) clause (clause_follows clauses held reasons ready.trail clash marked premises clause cut r))
+
+    new_before : (m : Lit) → (ms : List Lit) → clause ≡ m ∷ ms → IsNew (map literals_of (base_clauses terms) ++ images t learned) (map (literal_at t) clause)
+    new_before = is_new t differ clauses held reasons ready.trail clauses_in held_in clash marked premises clause cut r
+        (λ p x d. (decided_at t log clauses steps ready.derives held reasons ready.trail p x d).quiet)
+        (map literals_of (base_clauses terms) ++ images t learned) from_clauses
+
+    -- so it is a conflict above level 0
+    pub is_conflict : (m : Lit) × (ms : List Lit) × (clause ≡ m ∷ ms) → IsConflict terms (images t learned)
+    is_conflict some = record { clause = map (literal_at t) clause; follows = follows_before; new = new_before some.0 some.1 some.2 }
+
     module _ (new : List Logged) (id : StepId) (l : Logs t log clause id new) (some : (m : Lit) × (ms : List Lit) × (clause ≡ m ∷ ms)) where
       learned_more : images t (learned ++ clause ∷ []) ≡ images t learned ++ map (literal_at t) clause ∷ []
       learned_more = map-append (map (literal_at t)) learned (clause ∷ [])
@@ -136,6 +161,17 @@ module _ (t : TableView) (differ : AreDifferent t.terms) (sorts : (id : TermId) 
         | inr is ↦ subst (λ (x : List Lit). Contains (clauses ++ clause ∷ []) x) is (Contains-push clauses clause)
       ]
 
+      more_before : (x : List Literal) → Contains (map literals_of (base_clauses terms) ++ images t learned) x → Contains (map literals_of (base_clauses terms) ++ images t (learned ++ clause ∷ [])) x
+      more_before x i = elim (Contains-append_cases (map literals_of (base_clauses terms)) (images t learned) x i) [
+        | inl b ↦ Contains-append_left (map literals_of (base_clauses terms)) (images t (learned ++ clause ∷ [])) x b
+        | inr l ↦ Contains-append_right (map literals_of (base_clauses terms)) (images t (learned ++ clause ∷ [])) x
+            (subst (λ (cs : List (List Literal)). Contains cs x) (sym learned_more) (Contains-append_left (images t learned) (map (literal_at t) clause ∷ []) x l))
+      ]
+
+      last_before : Contains (map literals_of (base_clauses terms) ++ images t (learned ++ clause ∷ [])) (map (literal_at t) clause)
+      last_before = Contains-append_right (map literals_of (base_clauses terms)) (images t (learned ++ clause ∷ [])) (map (literal_at t) clause)
+          (subst (λ (cs : List (List Literal)). Contains cs (map (literal_at t) clause)) (sym learned_more) (Contains-push (images t learned) (map (literal_at t) clause)))
+
       pub search_on : IsSearch t terms new (clauses ++ clause ∷ []) (steps ++ id ∷ []) (learned ++ clause ∷ [])
       search_on = record {
         roots = s.roots;
@@ -143,6 +179,10 @@ module _ (t : TableView) (differ : AreDifferent t.terms) (sorts : (id : TermId) 
         meant = s.meant;
         assumes = assumes_more t log new clause id l terms s.assumes;
         base = λ c i. let h = s.base c i in (h.0, Contains-append_left clauses (clause ∷ []) h.0 h.1, h.2);
+        only = λ d i. elim (Contains-push_cases clauses clause d i) [
+          | inl was ↦ more_before (map (literal_at t) d) (s.only d was)
+          | inr is ↦ subst (λ (x : List Lit). Contains (map literals_of (base_clauses terms) ++ images t (learned ++ clause ∷ [])) (map (literal_at t) x)) is last_before
+        ];
         subterms = λ d m i j. elim (Contains-push_cases clauses clause d i) [ inl was ↦ s.subterms d m was j | inr is ↦ subterm_of m (subst (λ (x : List Lit). Contains x m) (sym is) j) ];
         kept = within_more;
         derived = subst (λ (cs : List (List Literal)). All (IsLearnedFrom terms (derivation_in t new)) cs) (sym learned_more)
@@ -151,10 +191,7 @@ module _ (t : TableView) (differ : AreDifferent t.terms) (sorts : (id : TermId) 
             (All-push (λ c. All (λ (x : Literal). IsAtomOf terms x.atom) c) (images t learned) (map (literal_at t) clause) s.atoms
             (All-map (λ (x : Literal). IsAtomOf terms x.atom) (literal_at t) clause (λ k d lt. atom_of (get_or clause k d) (Contains-get_or clause k d lt))));
         new = subst (λ (cs : List (List Literal)). AreNew (map literals_of (base_clauses terms)) cs) (sym learned_more)
-            (new_more (map literals_of (base_clauses terms)) (images t learned) (map (literal_at t) clause) s.new
-            (is_new t differ clauses held reasons ready.trail clauses_in held_in clash marked premises clause cut r
-            (λ p x d. (decided_at t log clauses steps ready.derives held reasons ready.trail p x d).quiet)
-            (map literals_of (base_clauses terms) ++ images t learned) from_clauses some.0 some.1 some.2));
+            (new_more (map literals_of (base_clauses terms)) (images t learned) (map (literal_at t) clause) s.new (new_before some.0 some.1 some.2));
       }
 
   -- and so the search goes on

@@ -1,17 +1,15 @@
 -- Stores: a clause more, and what a step of the log states.
-use Rattle.std.proofs.Common.{◌≡◌, ℕ, ◌+◌, ◌<◌, ◌≤◌, List, [], ◌∷◌, ◌++◌, length, get_or, take, map, All, Contains, ◌⊎◌, inl, inr, refl, sym, ap, ◌∙◌, subst, arith}
-use Rattle.std.specs.Prelude.{Vec, slice_index_or}
+use Rattle.std.proofs.Common.{◌≡◌, ℕ, ◌<◌, List, [], ◌∷◌, ◌++◌, length, get_or, inl, inr, refl, sym, ap, ◌∙◌, subst, arith}
+use Rattle.std.specs.Prelude.{Vec}
 use Rattle.std.specs.declared.alloc.Global.{Global}
-use Rattle.std.proofs.lemmas.List.{length-append, length-map, get_or-map, map-append}
-use Rattle.spec_terms.specs.Literals.{Clause}
-use Rattle.spec_search.specs.Derivations.{Inference, conclusion, no_inference}
-use Rattle.term_core.specs.declared.ids.TermId.{TermId}
+use Rattle.std.proofs.lemmas.List.{length-append, get_or-map, map-append}
+use Rattle.spec_search.specs.Derivations.{conclusion, no_inference}
 use Rattle.term_core.specs.declared.ids.Lit.{Lit}
 use Rattle.term_core.specs.Tables.{TableView, AreIn, clause_at}
 use Rattle.rule_bool.specs.Literals.{lists}
 use Rattle.rule_bool.specs.Resolvents.{Means}
 use Rattle.proof_log.specs.declared.premises.StepId.{StepId}
-use Rattle.proof_log.specs.Logs.{Logged, assumed, stepped, named, logged_at, no_logged, inference_of, derivation_in, IsLogOf}
+use Rattle.proof_log.specs.Logs.{Logged, assumed, stepped, named, logged_at, no_logged, inference_of, IsLogOf}
 use Rattle.clausify.specs.Clausified.{stated}
 use Rattle.smt_top.specs.Stores.{no_step, Derives, IsStoreOf}
 use Rattle.smt_top.specs.declared.search.store.Store.{Store}

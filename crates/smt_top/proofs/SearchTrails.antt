@@ -1,18 +1,17 @@
 -- Trails: one more literal, and fewer of them.
-use Rattle.std.proofs.Common.{◌≡◌, ◌≢◌, ℕ, ◌+◌, ◌<◌, ◌≤◌, Bool, true, false, ◌||◌, List, [], ◌∷◌, ◌++◌, length, get_or, take, map, Contains, ◌⊎◌, inl, inr, refl, sym, ap, ◌∙◌, subst, arith, zero, suc}
-use Rattle.std.specs.Prelude.{Option, Some, None}
+use Rattle.std.proofs.Common.{◌≡◌, ℕ, ◌+◌, ◌<◌, ◌≤◌, Bool, true, false, ◌||◌, List, [], ◌∷◌, ◌++◌, length, get_or, take, map, Contains, ◌⊎◌, inl, inr, refl, sym, ap, ◌∙◌, subst, arith, zero, suc}
+use Rattle.std.specs.Prelude.{Option, None}
 use Rattle.std.proofs.lemmas.Bool.{false≢true}
-use Rattle.std.proofs.lemmas.List.{length-append, append-nil, append_assoc}
-use Rattle.std.proofs.lemmas.List.Elements.{Contains-push, Contains-push_cases, Contains-append_left, Contains-append_right}
+use Rattle.std.proofs.lemmas.List.{length-append}
+use Rattle.std.proofs.lemmas.List.Elements.{Contains-push, Contains-append_left, Contains-append_right}
 use Rattle.rule_bool.proofs.Counting.{Contains-cons_cases}
 use Rattle.rule_bool.proofs.Transport.{to_image}
 use Rattle.term_core.specs.declared.ids.TermId.{TermId}
 use Rattle.term_core.specs.declared.ids.Lit.{Lit}
-use Rattle.rule_bool.specs.Literals.{lit_complement, has, IsConsistent}
-use Rattle.rule_bool.specs.Findings.{IsUnit}
-use Rattle.rule_bool.proofs.Literals.{Contains-from_has, has-from_Contains, negation_twice, decide}
-use Rattle.rule_bool.proofs.Advancing.{fail_less, fail_fewer}
-use Rattle.smt_top.specs.Search.{AreOver, IsQuiet, IsOpen, IsForced, IsAdded, IsTrail, atoms_in, is_assigned, open_count, Advances}
+use Rattle.rule_bool.specs.Literals.{lit_complement, has}
+use Rattle.rule_bool.proofs.Literals.{Contains-from_has, has-from_Contains}
+use Rattle.rule_bool.proofs.Advancing.{fail_fewer}
+use Rattle.smt_top.specs.Search.{AreOver, IsOpen, IsAdded, IsTrail, atoms_in, is_assigned, open_count}
 
 -- the places of a list with one more
 module _ {A : Type 0} (xs : List A) (x : A) where

@@ -39,6 +39,15 @@ pub record HasTwo (held clause : List Lit) : Type 0 where
   pub one_open : Contains held (lit_complement one) → ⊥
   pub other_open : Contains held (lit_complement other) → ⊥
 
+-- The conflict of a false clause rests on a literal: its complement is one of that clause's, or one of the others in the reason of a literal that the conflict rests on.
+pub data IsNeeded (clauses : List (List Lit)) (held : List Lit) (reasons : List (Option ℕ)) (clash : ℕ) : Lit → Type 0 where
+  by_clash : (m : Lit) → Contains (get_or clauses clash []) m → IsNeeded clauses held reasons clash (lit_complement m)
+  by_reason : (p : ℕ) (l : Lit) (n : ℕ) (m : Lit) → p < length held → get_or held p l ≡ l → get_or reasons p None ≡ Some n → IsNeeded clauses held reasons clash l → Contains (get_or clauses n []) m → m ≢ l → IsNeeded clauses held reasons clash (lit_complement m)
+
+-- the number is that of the false clause, or of the reason of a literal that the conflict rests on
+abbrev pub IsPremise : List (List Lit) → List Lit → List (Option ℕ) → ℕ → ℕ → Type 0
+IsPremise clauses held reasons clash n = (n ≡ clash) ⊎ ((p : ℕ) × (l : Lit) × (p < length held) × (get_or held p l ≡ l) × (get_or reasons p None ≡ Some n) × IsNeeded clauses held reasons clash l)
+
 -- What a conflict rests on, where it was followed back to a place.
 pub record RestsAt (clauses : List (List Lit)) (held : List Lit) (reasons : List (Option ℕ)) (clash k : ℕ) (marked : List Lit) (premises : List ℕ) (clause : List Lit) (cut : ℕ) : Type 0 where
   -- the clause that is false is one of the premises
@@ -49,6 +58,10 @@ pub record RestsAt (clauses : List (List Lit)) (held : List Lit) (reasons : List
   pub are_clauses : All (λ n. n < length clauses) premises
   -- what is marked holds
   pub holds : (l : Lit) → Contains marked l → Contains held l
+  -- the conflict rests on all that is marked
+  pub needed : (l : Lit) → Contains marked l → IsNeeded clauses held reasons clash l
+  -- and there are no other premises than it has
+  pub no_others : (n : ℕ) → Contains premises n → IsPremise clauses held reasons clash n
   -- what is marked from that place on is explained
   pub explained : (p : ℕ) (l : Lit) → k ≤ p → p < length held → get_or held p l ≡ l → Contains marked l → IsExplained clauses marked premises clause l (get_or reasons p None)
   -- the clause has complements of decisions from that place on

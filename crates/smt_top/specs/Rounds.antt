@@ -1,15 +1,15 @@
 -- What the rounds of a search keep, and what its answers show. Source: own.
-use Rattle.std.specs.Prelude.{◌≡◌, ◌+◌, ◌<◌, ◌≤◌, ℕ, Bool, true, List, [], ◌∷◌, ◌++◌, length, map, get_or, All, Contains, Option, Some, None, Result, Ok, Err}
+use Rattle.std.specs.Prelude.{◌≡◌, ◌+◌, ◌<◌, ℕ, true, List, [], ◌∷◌, ◌++◌, length, map, get_or, All, Contains, Option, Result, Ok, Err}
 use Rattle.spec_terms.specs.Terms.{Term}
 use Rattle.spec_terms.specs.Values.{Interpretation, Interprets, truth}
 use Rattle.spec_terms.specs.Agreement.{value_at}
-use Rattle.spec_terms.specs.Literals.{Clause, literal_of, literals_of}
+use Rattle.spec_terms.specs.Literals.{Clause, Literal, complement, literal_of, literals_of}
 use Rattle.spec_terms.specs.Subterms.{subterms_of}
 use Rattle.spec_proofs.specs.Resolution.{Resolves, IsWithin}
 use Rattle.spec_proofs.specs.declared.Rule.TheVariants.{Resolution}
 use Rattle.spec_search.specs.Derivations.{AssumesAmong, IsDerivedFrom}
 use Rattle.spec_search.specs.Base.{base_clauses}
-use Rattle.spec_search.specs.Learned.{AreNew}
+use Rattle.spec_search.specs.Learned.{IsNew, AreNew}
 use Rattle.spec_search.specs.Spent.{IsLearnedFrom, IsAtomOf, IsConflictBudgetSpent}
 use Rattle.world_io.specs.declared.bytes.NoMemory.{NoMemory}
 use Rattle.term_core.specs.declared.ids.TermId.{TermId}
@@ -83,6 +83,8 @@ pub record IsSearch (t : TableView) (terms : List Term) (log : List Logged) (cla
   pub assumes : All (λ l. AssumesAmong terms (inference_of t l)) log
   -- each base clause is one of the clauses
   pub base : (c : Clause) → Contains (base_clauses terms) c → (d : List Lit) × Contains clauses d × (map (literal_at t) d ≡ literals_of c)
+  -- each clause is a base clause or was learned
+  pub only : (d : List Lit) → Contains clauses d → Contains (map literals_of (base_clauses terms) ++ map (map (literal_at t)) learned) (map (literal_at t) d)
   -- the clauses are over subterms
   pub subterms : (d : List Lit) (l : Lit) → Contains clauses d → Contains d l → Contains (subterms_of terms) (term_at t l.term)
   -- what was learned is among the clauses
@@ -94,11 +96,20 @@ pub record IsSearch (t : TableView) (terms : List Term) (log : List Logged) (cla
   -- and was new
   pub new : AreNew (map literals_of (base_clauses terms)) (map (map (literal_at t)) learned)
 
--- what an answer shows of terms: tables under which they are true; a clause without literals that is derived from them; or that the budget is spent
+-- A conflict above level 0: a clause follows by unit propagation from the base clauses and those that were learned, and has a literal that was not given.
+pub record IsConflict (terms : List Term) (learned : List (List Literal)) : Type 0 where
+  -- what would be learned from it
+  pub clause : List Literal
+  -- it follows
+  pub follows : Resolves complement (map literals_of (base_clauses terms) ++ learned) clause
+  -- and is new
+  pub new : IsNew (map literals_of (base_clauses terms) ++ learned) clause
+
+-- what an answer shows of terms: tables under which they are true; a clause without literals that is derived from them; or that the budget is spent at a further conflict
 abbrev pub HasEvidence : TableView → List Term → List Logged → BudgetView → Answer → Type 0
 HasEvidence t terms log budget (Sat interp) = HasTables t.symbols interp × ((i : Interpretation) → Stands t.symbols interp i → Interprets i t.symbols × All (λ u. value_at i u ≡ truth true) terms)
 HasEvidence t terms log budget (Unsat step) = (stated t log step ≡ []) × IsDerivedFrom terms (derivation_in t log) step.0
-HasEvidence t terms log budget (Unknown (Conflicts n)) = IsConflictBudgetSpent terms (derivation_in t log) budget.limit n (map (map (literal_at t)) budget.learned)
+HasEvidence t terms log budget (Unknown (Conflicts n)) = IsConflictBudgetSpent terms (derivation_in t log) budget.limit n (map (map (literal_at t)) budget.learned) × IsConflict terms (map (map (literal_at t)) budget.learned)
 
 -- What a search has fits together, whatever the terms are.
 pub record IsReady (t : TableView) (log : List Logged) (clauses : List (List Lit)) (steps : List StepId) (held : List Lit) (reasons : List (Option ℕ)) : Type 0 where

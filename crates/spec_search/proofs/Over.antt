@@ -1,16 +1,16 @@
 -- That base clauses are over subterms.
-use Rattle.std.proofs.Common.{◌≡◌, ℕ, ◌<◌, Bool, true, false, ◌&&◌, cond, List, [], ◌∷◌, ◌++◌, length, get_or, map, Contains, ◌⊎◌, inl, inr, refl, sym, ap, ◌∙◌, subst, arith, zero, suc}
+use Rattle.std.proofs.Common.{◌≡◌, ℕ, ◌<◌, Bool, true, false, ◌&&◌, cond, List, [], ◌∷◌, length, get_or, map, Contains, inl, inr, refl, sym, subst, arith}
 use Rattle.std.specs.Prelude.{slice_index_or}
 use Rattle.std.specs.List.{AllByRecursion}
 use Rattle.std.proofs.lemmas.Bool.{false≢true}
 use Rattle.std.proofs.lemmas.List.{length-map}
 use Rattle.std.proofs.lemmas.List.Elements.{All-contains, All-from_recursion, Contains-append_cases, Contains-get_or}
-use Rattle.spec_terms.specs.Terms.{Head, True, False, Not, And, Or, Xor, Implies, Equal, Ite, Apply, Sort, Truth, Term, Terms, app, nil, cons, list_of, negated, sort_of, all_same, same_head, head_takes}
+use Rattle.spec_terms.specs.Terms.{Head, Not, Xor, Implies, Equal, Ite, Sort, Truth, Term, app, nil, cons, list_of, sort_of, all_same, same_head, head_takes}
 use Rattle.spec_terms.specs.Theory.{no_term}
 use Rattle.spec_terms.specs.Subterms.{subterms_of}
-use Rattle.spec_terms.specs.Subsets.{AreAmong, IsClosed, arguments_of}
-use Rattle.spec_terms.specs.Literals.{Clause, Literal, complement, literal_of, literals_of}
-use Rattle.spec_terms.proofs.Members.{first, later, cases, none}
+use Rattle.spec_terms.specs.Subsets.{AreAmong, IsClosed}
+use Rattle.spec_terms.specs.Literals.{Clause, Literal, literal_of, literals_of}
+use Rattle.spec_terms.proofs.Members.{first, cases, none}
 use Rattle.spec_proofs.specs.declared.Side.{Side}
 use Rattle.spec_proofs.specs.declared.Rest.{Rest}
 use Rattle.spec_proofs.specs.declared.Rest.TheVariants.{Nothing, One, Two, AnyOne, Each, Innermost}

@@ -1,14 +1,8 @@
 -- That a conflict is followed back over one place.
-use Rattle.std.proofs.Common.{◌≡◌, ◌<◌, ◌∙◌, subst, sym, ap, get_or, length, List, [], ℕ, arith, rules}
-use Rattle.std.specs.Prelude.{None, Some, Option, Vec}
-use Rattle.std.specs.declared.alloc.Global.{Global}
-use Rattle.std.proofs.lemmas.List.{get_or_default, length-map}
-use Rattle.term_core.specs.declared.ids.Lit.{Lit}
+use Rattle.std.proofs.Common.{◌≡◌, ◌<◌, ◌∙◌, sym, ap, get_or, length, arith}
+use Rattle.std.specs.Prelude.{None, Some}
 use Rattle.rule_bool.specs.Literals.{lists}
-use Rattle.smt_top.specs.Search.{IsTrail, IsAdded, IsForced}
-use Rattle.smt_top.specs.Analyses.{MarksOthers, HasFound, Notes, Follows}
-use Rattle.smt_top.proofs.SearchPasses.{item}
-use Rattle.smt_top.proofs.SearchAnalysis.{passed, followed, decision_passed, decision_taken, reason_of, forced_by, marked_from, noted, taken}
+use Rattle.smt_top.proofs.SearchAnalysis.{passed, followed, reason_of, forced_by, marked_from, noted, taken}
 use Rattle.smt_top.proofs.search.analysis.follow.Goals as goal
 
 pub returns-in_ok-mark_others-in-Some-true : goal.returns-in_ok-mark_others-in-Some-true

@@ -1,5 +1,4 @@
 -- That each other literal's complement is marked.
-use Rattle.std.proofs.Common.{◌≡◌, ◌≢◌, subst, sym}
 use Rattle.std.proofs.lemmas.List.{take_all, get_or_default}
 use Rattle.smt_top.proofs.SearchMarks.{others_more, others_skip}
 use Rattle.smt_top.proofs.search.analysis.mark_others.Goals as goal

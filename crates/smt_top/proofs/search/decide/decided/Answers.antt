@@ -1,7 +1,6 @@
 -- That the search begins with the clauses of the terms, and so its answer shows what it should.
-use Rattle.std.proofs.Common.{◌≡◌, ◌∙◌, subst, sym, ap, List}
+use Rattle.std.proofs.Common.{◌∙◌, subst, ap, List}
 use Rattle.proof_log.specs.declared.premises.StepId.{StepId}
-use Rattle.rule_bool.specs.Literals.{lists}
 use Rattle.smt_top.specs.Stores.{IsStoreOf}
 use Rattle.smt_top.proofs.SearchDecided.{extends_same, search_begins}
 use Rattle.smt_top.proofs.search.decide.decided.Goals as goal

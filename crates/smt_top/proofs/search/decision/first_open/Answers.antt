@@ -1,5 +1,5 @@
 -- That the first open literal stays, or this one is it.
-use Rattle.std.proofs.Common.{subst, sym}
+use Rattle.std.proofs.Common.{sym}
 use Rattle.smt_top.proofs.SearchDecisions.{false_next, open_next, none_of}
 use Rattle.smt_top.proofs.search.decision.first_open.Goals as goal
 

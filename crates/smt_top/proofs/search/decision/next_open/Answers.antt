@@ -1,7 +1,5 @@
 -- That the literal is open in one of the clauses.
-use Rattle.std.proofs.Common.{subst, sym, take, List, [], ◌≡◌, ◌+◌, ◌++◌, ◌∷◌}
 use Rattle.std.proofs.lemmas.List.{take_all, length-map}
-use Rattle.term_core.specs.declared.ids.Lit.{Lit}
 use Rattle.rule_bool.specs.Literals.{lists}
 use Rattle.smt_top.proofs.SearchPasses.{in_all, taken_next}
 use Rattle.smt_top.proofs.SearchDecisions.{settled_next}

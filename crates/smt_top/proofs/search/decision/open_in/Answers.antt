@@ -1,8 +1,6 @@
 -- That the literal is the first open one.
-use Rattle.std.proofs.Common.{subst, sym, take, List, ◌≡◌, ◌+◌, ◌++◌, ◌∷◌, []}
+use Rattle.std.proofs.Common.{take}
 use Rattle.std.proofs.lemmas.List.{take_all, take_more}
-use Rattle.term_core.specs.declared.ids.Lit.{Lit}
-use Rattle.smt_top.specs.Search.{Opens}
 use Rattle.smt_top.proofs.SearchDecisions.{opened}
 use Rattle.smt_top.proofs.search.decision.open_in.Goals as goal
 

@@ -1,10 +1,10 @@
 -- That a pass goes over all clauses.
-use Rattle.std.proofs.Common.{subst, sym, List, take, get_or, [], ◌≡◌}
+use Rattle.std.proofs.Common.{subst, sym, List, take}
 use Rattle.std.proofs.lemmas.List.{take_all, length-map}
 use Rattle.term_core.specs.declared.ids.Lit.{Lit}
 use Rattle.rule_bool.specs.Literals.{lists}
 use Rattle.rule_bool.specs.Findings.{IsFalse, IsUnit}
-use Rattle.smt_top.proofs.SearchPasses.{SoFar, item, in_lists, taken_next, settles, to_unit, to_settled, to_false}
+use Rattle.smt_top.proofs.SearchPasses.{item, in_lists, taken_next, settles, to_unit, to_settled, to_false}
 use Rattle.smt_top.proofs.search.propagate.pass_over.Goals as goal
 use Rattle.smt_top.proofs.search.propagate.pass_over.Goals.{in-Unit, in-Open}
 

@@ -1,9 +1,6 @@
 -- That the passes end where nothing more follows.
-use Rattle.std.proofs.Common.{arith, subst, sym, List, ℕ}
-use Rattle.std.specs.Prelude.{Option}
-use Rattle.term_core.specs.declared.ids.Lit.{Lit}
+use Rattle.std.proofs.Common.{arith}
 use Rattle.rule_bool.specs.Literals.{lists}
-use Rattle.smt_top.specs.Search.{Advances, Passes, Propagates}
 use Rattle.smt_top.proofs.SearchPasses.{advances_on}
 use Rattle.smt_top.proofs.SearchTrails.{over_own}
 use Rattle.smt_top.proofs.search.propagate.propagate.Goals as goal

@@ -1,11 +1,9 @@
 -- That a conflict ends the search with evidence, or leaves it going on.
-use Rattle.std.proofs.Common.{◌≡◌, ◌∙◌, subst, sym, ap, List, [], ◌∷◌, ◌++◌, refl, length}
-use Rattle.term_core.specs.declared.ids.Lit.{Lit}
+use Rattle.std.proofs.Common.{◌∙◌, sym, ap, refl, length}
 use Rattle.rule_bool.specs.Literals.{lists}
-use Rattle.smt_top.specs.Rounds.{Logs, GoesOn}
 use Rattle.smt_top.proofs.SearchStores.{lists_more}
 use Rattle.smt_top.proofs.SearchResolved.{is_resolved}
-use Rattle.smt_top.proofs.SearchRounds.{goes_on, unsat_shows, spent_shows, empty_of, some_of}
+use Rattle.smt_top.proofs.SearchRounds.{goes_on, unsat_shows, spent_shows, is_conflict, empty_of, some_of}
 use Rattle.smt_top.proofs.search.rounds.resolve.Goals as goal
 
 pub derive-requires-clause-resolved : goal.derive-requires-clause-resolved
@@ -23,7 +21,10 @@ pub returns-in-Err-Spent-clause-comes : goal.returns-in-Err-Spent-clause-comes
 returns-in-Err-Spent-clause-comes c =
     let h = rw c.in-Err-Spent.field-0-is at c.in-Err-Spent.ensures in (
       ap (λ b. b.limit) h.2,
-      λ terms s. rw c.in-Err-Spent.n-is (spent_shows c.args.table.now terms c.args.log.now (lists c.args.store.now.clauses.items) c.args.store.now.steps.items c.args.budget.now c.learnt.new.self _ h.0 h.1 h.2 s),
+      λ terms s.
+          let conflict = is_conflict c.args.table.now c.numbers_tell_terms.ensures c.terms_are_truths.ensures c.args.log.now (lists c.args.store.now.clauses.items) c.args.store.now.steps.items c.args.trail.now.held c.args.trail.now.reasons.items c.requires.ready
+          c.args.clash _ _ _ _ c.in_ok-found.ensures terms c.args.budget.now.learned s (some_of _ c.in_ok-found.found.clause.items (ap length (sym c.deref-2.ensures.value) ∙ c.deref-2.ensures.len) (sym c.if-is_empty.ensures)) in
+          rw c.in-Err-Spent.n-is (spent_shows c.args.table.now terms c.args.log.now (lists c.args.store.now.clauses.items) c.args.store.now.steps.items c.args.budget.now c.learnt.new.self _ h.0 h.1 h.2 s conflict),
     )
 
 pub derive-requires-2-clause-resolved : goal.derive-requires-2-clause-resolved

@@ -1,11 +1,8 @@
 -- That the rounds end in an answer with its evidence.
-use Rattle.std.proofs.Common.{◌≡◌, ◌∙◌, ◌+◌, ◌-◌, ◌++◌, ◌∷◌, subst, sym, ap, List, [], refl, arith, length}
-use Rattle.std.specs.Prelude.{None}
-use Rattle.term_core.specs.declared.ids.Lit.{Lit}
+use Rattle.std.proofs.Common.{◌∙◌, ◌-◌, subst, refl, arith, length}
 use Rattle.term_core.specs.Tables.{AreDeclared}
 use Rattle.rule_bool.specs.Literals.{lists}
-use Rattle.smt_top.specs.Search.{atoms_in, open_count, IsTrail}
-use Rattle.smt_top.specs.Rounds.{IsReady, GoesOn}
+use Rattle.smt_top.specs.Search.{atoms_in, open_count}
 use Rattle.smt_top.proofs.SearchTrails.{over_own}
 use Rattle.smt_top.proofs.SearchLoop.{empty_trail, fewer_left, less_left, open_bounded, not_yet, trail_decided, open_less, no_more_open, ready_on, held_of, sat_shows}
 use Rattle.smt_top.proofs.search.rounds.search.Goals as goal

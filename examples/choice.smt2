@@ -1,0 +1,7 @@
+(declare-const p Bool)
+(declare-const q Bool)
+(declare-const r Bool)
+(assert (ite p q r))
+(assert p)
+(assert (not q))
+(check-sat)

@@ -1,0 +1,6 @@
+(declare-const p Bool)
+(declare-const q Bool)
+(assert (not (and p q)))
+(assert p)
+(assert q)
+(check-sat)

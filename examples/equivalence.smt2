@@ -1,0 +1,6 @@
+(declare-const p Bool)
+(declare-const q Bool)
+(assert (= p q))
+(assert (not p))
+(assert q)
+(check-sat)

@@ -1,0 +1,6 @@
+(declare-const p Bool)
+(declare-const q Bool)
+(assert (xor p q))
+(assert p)
+(assert q)
+(check-sat)
