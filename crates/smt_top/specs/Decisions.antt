@@ -7,7 +7,7 @@ use Rattle.smt_top.specs.declared.search.decide.Decision.{Decision}
 use Rattle.smt_top.specs.Rounds.{HasEvidence}
 
 -- The answer has its evidence, in a log that is right and within a budget of that limit.
-pub record IsDecided (t : TableView) (terms : List Term) (limit : ℕ) (d : Decision) : Type 0 where
+pub record IsJustified (t : TableView) (terms : List Term) (limit : ℕ) (d : Decision) : Type 0 where
   -- each step of the log is right
   pub log_right : IsLogOf t d.log
   -- the budget has the limit

@@ -1,4 +1,5 @@
-//! One run: it reads a script and a proof by their names, judges them, and writes the verdict.
+//! One run: it reads a script and a proof by their names, judges them, and writes the verdict. Beside it, a search that decides whether
+//! terms can be true, which no command uses so far.
 #![tactic(auto)]
 
 mod check_run;

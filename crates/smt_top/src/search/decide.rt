@@ -2,7 +2,7 @@
 
 ghost use Rattle.std.specs.Prelude.{◌≡◌, IfOk, OnErr};
 ghost use Rattle.term_core.specs.Tables.{AreIn, Extends, clause_at};
-ghost use Rattle.smt_top.specs.Decisions.{IsDecided};
+ghost use Rattle.smt_top.specs.Decisions.{IsJustified};
 
 use crate::search::rounds::{Answer, search};
 use crate::search::store::store_of;
@@ -36,7 +36,7 @@ pub(crate) fn decide(
     requires roots { AreIn table.old roots.now }
     ensures grown { Extends table.old table.new }
     ensures symbols { table.new.symbols ≡ table.old.symbols }
-    ensures decided { IfOk result (IsDecided table.new (clause_at table.old roots.now) limits.now.conflicts) }
+    ensures decided { IfOk result (IsJustified table.new (clause_at table.old roots.now) limits.now.conflicts) }
     ensures same { OnErr result (table.new ≡ table.old) }
 {
     let len = table.len();
@@ -59,7 +59,7 @@ fn decided(
     requires roots { AreIn table.old roots.now }
     ensures grown { Extends table.old table.new }
     ensures symbols { table.new.symbols ≡ table.old.symbols }
-    ensures decided { IfOk result (IsDecided table.new (clause_at table.old roots.now) limits.now.conflicts) }
+    ensures decided { IfOk result (IsJustified table.new (clause_at table.old roots.now) limits.now.conflicts) }
 {
     base_clauses_are_over_subterms();
     empty_logs_are_right();
