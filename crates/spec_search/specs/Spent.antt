@@ -1,11 +1,12 @@
 -- When a budget of conflicts is spent: as many clauses were learned as it allows, and each of them was worth it. Source: own.
-use Rattle.std.specs.Prelude.{◌≡◌, ◌≢◌, ℕ, List, [], length, map, All, Contains}
+use Rattle.std.specs.Prelude.{◌≡◌, ◌≢◌, ◌++◌, ℕ, List, [], length, map, All, Contains}
 use Rattle.spec_terms.specs.Terms.{True, False, Truth, Term, of, sort_of}
 use Rattle.spec_terms.specs.Subterms.{subterms_of}
-use Rattle.spec_terms.specs.Literals.{Literal, literals_of}
-use Rattle.spec_search.specs.Derivations.{Derivation, conclusion_at, IsDerivedFrom}
+use Rattle.spec_terms.specs.Literals.{Literal, complement, literals_of}
+use Rattle.spec_proofs.specs.Resolution.{Resolves}
+use Rattle.spec_search.specs.Derivations.{Derivation, conclusion_at, IsDerivation, IsDerivedFrom}
 use Rattle.spec_search.specs.Base.{base_clauses}
-use Rattle.spec_search.specs.Learned.{AreNew}
+use Rattle.spec_search.specs.Learned.{IsNew, AreNew}
 
 -- The literals are those of a clause that is derived from the terms.
 pub record IsLearnedFrom (terms : List Term) (d : Derivation) (clause : List Literal) : Type 0 where
@@ -27,15 +28,31 @@ pub record IsAtomOf (terms : List Term) (t : Term) : Type 0 where
   -- it is not false
   pub not_false : t ≢ of False []
 
--- The budget is spent on a check of these terms: the list of learned clauses has its length, which the reason carries.
-pub record IsConflictBudgetSpent (terms : List Term) (d : Derivation) (limit carried : ℕ) (learned : List (List Literal)) : Type 0 where
-  -- the list has so many clauses as the budget allows
-  pub full : length learned ≡ limit
-  -- the reason says so
-  pub carries : carried ≡ limit
+-- Clauses that a check of these terms may learn, oldest first, in a derivation.
+pub record AreLearned (terms : List Term) (d : Derivation) (learned : List (List Literal)) : Type 0 where
+  -- each step of the derivation is right
+  pub right : IsDerivation d
   -- each clause is derived from the terms
   pub derived : All (IsLearnedFrom terms d) learned
   -- its literals are over the terms' atoms
   pub atoms : All (λ c. All (λ (l : Literal). IsAtomOf terms l.atom) c) learned
   -- it has a literal that was not given by the base clauses and the clauses learned before it
   pub new : AreNew (map literals_of (base_clauses terms)) learned
+
+-- The budget is spent on a check of these terms: the list of learned clauses has its length, which the reason carries.
+pub record IsConflictBudgetSpent (terms : List Term) (d : Derivation) (limit carried : ℕ) (learned : List (List Literal)) : Type 0 where
+  -- the list has so many clauses as the budget allows
+  pub full : length learned ≡ limit
+  -- the reason says so
+  pub carries : carried ≡ limit
+  -- they were learned
+  pub learns : AreLearned terms d learned
+
+-- A conflict above level 0: a clause follows by unit propagation from the base clauses and those that were learned, and has a literal that was not given.
+pub record IsConflict (terms : List Term) (learned : List (List Literal)) : Type 0 where
+  -- what would be learned from it
+  pub clause : List Literal
+  -- it follows
+  pub follows : Resolves complement (map literals_of (base_clauses terms) ++ learned) clause
+  -- and is new
+  pub new : IsNew (map literals_of (base_clauses terms) ++ learned) clause
