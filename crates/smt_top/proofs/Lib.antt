@@ -18,5 +18,6 @@ pub mod SearchDerive
 pub mod SearchModels
 pub mod SearchModelsMade
 pub mod SearchRounds
+pub mod SearchInterprets
 pub mod SearchLoop
 pub mod SearchDecided

@@ -1,5 +1,5 @@
 -- A learned clause follows by resolution from the clauses of its numbers, and the step of it states it.
-use Rattle.std.proofs.Common.{◌≡◌, ℕ, suc, ◌<◌, List, [], ◌∷◌, length, map, get_or, All, Bool, refl, sym, ap, ◌∙◌, subst, arith, length-append}
+use Rattle.std.proofs.Common.{◌≡◌, ℕ, suc, ◌<◌, List, [], ◌∷◌, length, ◌++◌, map, get_or, All, Bool, refl, sym, ap, ◌∙◌, subst, arith, length-append}
 use Rattle.std.proofs.lemmas.List.Elements.{All-map}
 use Rattle.spec_terms.specs.Literals.{Literal, complement, literals_of}
 use Rattle.spec_proofs.specs.Resolution.{Resolves}
@@ -66,12 +66,10 @@ module _ (t : TableView) where
             (subst (λ (ids : List TermId). FollowsFrom (derivation_in t log) (inference_of t (stepped Resolution (steps_at steps ns) ids))) (sym terms_are) follows)
 
         -- and once it is added, it states the clause
-        pub step_logs : (id : StepId) (new : List Logged) → IsAdded t log (stepped Resolution premises terms) id new → Logs t log clause id new
+        pub step_logs : (id : StepId) (new : List Logged) → IsAdded t log (stepped Resolution premises terms) id new → Logs t log (steps_at steps ns) clause id new
         step_logs id new added = record {
           number = added.number;
-          premises = premises;
-          terms = terms;
-          last = added.last;
+          last = added.last ∙ (λ i. log ++ stepped Resolution (premises_are i) (terms_are i) ∷ []);
           right = added.right;
           means = record {
             same = atoms_are clause resolved.atoms ∙ ap (λ (ids : List TermId). literals_of (clause_at t ids)) (sym terms_are) ∙ ap literals_of (sym states);

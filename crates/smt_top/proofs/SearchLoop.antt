@@ -16,7 +16,7 @@ use Rattle.term_core.specs.declared.ids.TermId.{TermId}
 use Rattle.term_core.specs.declared.ids.Lit.{Lit}
 use Rattle.term_core.specs.declared.values.Interp.{Interp}
 use Rattle.term_core.specs.Tables.{TableView, IsIn, AreDifferent, AreDeclared, term_at}
-use Rattle.term_core.specs.Valuations.{Stands, HasTables}
+use Rattle.term_core.specs.Valuations.{Stands}
 use Rattle.rule_bool.specs.Literals.{lit_complement}
 use Rattle.rule_bool.specs.Findings.{IsFalse, IsTouched, IsSettled}
 use Rattle.rule_bool.specs.Propagation.{failing}
@@ -30,6 +30,7 @@ use Rattle.smt_top.proofs.SearchTrails.{trail_more, open_fewer, one_of_two}
 use Rattle.smt_top.proofs.SearchResolved.{store_bare, trail_bare}
 use Rattle.smt_top.proofs.SearchNew.{trail_consistent}
 use Rattle.smt_top.proofs.SearchModels.{model_is_true}
+use Rattle.smt_top.proofs.SearchInterprets.{interpretation}
 
 -- no literals are a trail
 pub empty_trail : (clauses : List (List Lit)) (held : List Lit) (reasons : List (Option ℕ)) → held ≡ [] → reasons ≡ [] → IsTrail clauses held reasons
@@ -115,9 +116,10 @@ module _ (t : TableView) (log : List Logged) (clauses : List (List Lit)) (steps 
       → ((s : Symbol) (ts : Terms) → Contains t.terms (app (Apply s) ts) → Contains t.symbols s) → AreDeclared t.symbols
       → ((terms : List Term) (v : Truths) (j : Interpretation) → AreFormulas (subterms_of terms) → Realizes j v terms → Meets v (base_clauses terms) → All (λ u. value_at j u ≡ truth true) terms)
       → IsQuiet clauses held → AreSettled clauses held → (interp : Interp) → IsModelOf t held interp → (terms : List Term) (learned : List (List Lit)) → IsSearch t terms log clauses steps learned
-      → HasTables t.symbols interp × ((i : Interpretation) → Stands t.symbols interp i → Interprets i t.symbols × All (λ u. value_at i u ≡ truth true) terms)
+      → (length interp.tables.items ≡ length t.symbols) × ((i : Interpretation) × Stands t.symbols interp i) × ((i : Interpretation) → Stands t.symbols interp i → Interprets i t.symbols × All (λ u. value_at i u ≡ truth true) terms)
   sat_shows differ closed sorts takes symbols declared law quiet settled interp model terms learned s = (
-    omega (arith, model.tables),
+    model.tables,
+    interpretation t.symbols interp declared.names_apart,
     λ i stands.
         let h = model_is_true t s.roots clauses held interp i differ closed sorts takes symbols declared s.roots_in held_of consistent (λ c j. touched c (quiet c j) (settled c j))
         (λ c j. means terms learned s c (subst (λ (us : List Term). Contains (base_clauses us) c) s.meant j)) model stands law in

@@ -12,7 +12,7 @@ use Rattle.spec_proofs.specs.Resolution.{IsWithin, Resolves}
 use Rattle.spec_search.specs.Derivations.{AssumesAmong, IsDerivedFrom}
 use Rattle.spec_search.specs.Base.{base_clauses}
 use Rattle.spec_search.specs.Learned.{IsNew, AreNew}
-use Rattle.spec_search.specs.Spent.{IsLearnedFrom, IsAtomOf, IsConflictBudgetSpent}
+use Rattle.spec_search.specs.Spent.{IsLearnedFrom, IsAtomOf, IsConflictBudgetSpent, IsConflict}
 use Rattle.term_core.specs.declared.ids.TermId.{TermId}
 use Rattle.term_core.specs.declared.ids.Lit.{Lit}
 use Rattle.term_core.specs.Tables.{TableView, IsIn, AreDifferent, term_at, literal_at}
@@ -20,13 +20,13 @@ use Rattle.rule_bool.specs.Literals.{lit_complement}
 use Rattle.rule_bool.proofs.Literals.{negation_twice}
 use Rattle.rule_bool.proofs.Transport.{from_image, resolves_there}
 use Rattle.proof_log.specs.declared.premises.StepId.{StepId}
-use Rattle.proof_log.specs.Logs.{Logged, stepped, inference_of, derivation_in}
+use Rattle.proof_log.specs.Logs.{Logged, stepped, inference_of, derivation_in, IsLogOf}
 use Rattle.clausify.specs.Clausified.{stated}
 use Rattle.sat_budget.specs.Budgets.{BudgetView}
 use Rattle.smt_top.specs.Search.{AreOver, IsMentioned}
 use Rattle.smt_top.specs.Analyses.{RestsAt}
 use Rattle.smt_top.specs.Stores.{Derives}
-use Rattle.smt_top.specs.Rounds.{numbered, Logs, IsSearch, IsReady, IsConflict, GoesOn}
+use Rattle.smt_top.specs.Rounds.{numbered, Logs, IsSearch, IsReady, IsLearning, GoesOn}
 use Rattle.smt_top.proofs.SearchStores.{derives_more}
 use Rattle.smt_top.proofs.SearchResolved.{store_bare, trail_bare, decided_at, clause_atoms, clause_follows}
 use Rattle.smt_top.proofs.SearchNew.{new_more, is_new, conflicts_more}
@@ -48,16 +48,16 @@ among : (t : TableView) (terms : List Term) (log : List Logged) → All (λ l. A
 among t terms log h = All-map (AssumesAmong terms) (inference_of t) log h
 
 -- the step that is logged
-abbrev step_of : (t : TableView) (log new : List Logged) (clause : List Lit) (id : StepId) → Logs t log clause id new → Logged
-step_of t log new clause id l = stepped Resolution l.premises l.terms
+abbrev step_of : List StepId → List Lit → Logged
+step_of ps clause = stepped Resolution ps (map (λ (l : Lit). l.term) clause)
 
 -- with a step that is logged
-module _ (t : TableView) (log new : List Logged) (clause : List Lit) (id : StepId) (l : Logs t log clause id new) (terms : List Term) (assumes : All (λ x. AssumesAmong terms (inference_of t x)) log) where
+module _ (t : TableView) (log new : List Logged) (ps : List StepId) (clause : List Lit) (id : StepId) (l : Logs t log ps clause id new) (terms : List Term) (assumes : All (λ x. AssumesAmong terms (inference_of t x)) log) where
   assumes_more : All (λ x. AssumesAmong terms (inference_of t x)) new
-  assumes_more = subst (λ (xs : List Logged). All (λ x. AssumesAmong terms (inference_of t x)) xs) (sym l.last) (All-push (λ x. AssumesAmong terms (inference_of t x)) log (step_of t log new clause id l) assumes tt)
+  assumes_more = subst (λ (xs : List Logged). All (λ x. AssumesAmong terms (inference_of t x)) xs) (sym l.last) (All-push (λ x. AssumesAmong terms (inference_of t x)) log (step_of ps clause) assumes tt)
 
   within_new : id.0 < length (derivation_in t new)
-  within_new = rw length-map (omega (arith, l.number, ap length l.last, length-append log (step_of t log new clause id l ∷ [])))
+  within_new = rw length-map (omega (arith, l.number, ap length l.last, length-append log (step_of ps clause ∷ [])))
 
   pub is_derived : IsDerivedFrom terms (derivation_in t new) id.0
   is_derived = derived_from terms (derivation_in t new) l.right.right (among t terms new assumes_more) id.0 within_new
@@ -66,20 +66,31 @@ module _ (t : TableView) (log new : List Logged) (clause : List Lit) (id : StepI
   pub unsat_shows : clause ≡ [] → (stated t new id ≡ []) × IsDerivedFrom terms (derivation_in t new) id.0
   unsat_shows e = (none_of (stated t new id) (sym (ap (map (literal_at t)) e) ∙ l.means.same), is_derived)
 
+  -- what was learned before may be learned still
+  pub learning_more : (clauses : List (List Lit)) (steps : List StepId) (learned : List (List Lit)) → IsSearch t terms log clauses steps learned → IsLearning t terms new learned
+  learning_more clauses steps learned s = record {
+    assumes = assumes_more;
+    learns = record {
+      right = l.right.right;
+      derived = λ k d lt. learned_kept terms (derivation_in t new) l.right.right (among t terms new assumes_more) (derivation_in t log) (inference_of t (step_of ps clause))
+          (ap (derivation_in t) l.last ∙ derivation_more t log (step_of ps clause)) (get_or (images t learned) k d) (s.derived k d lt);
+      atoms = s.atoms;
+      new = s.new;
+    };
+  }
+
+-- what a search has learned may be learned
+pub learning_shows : (t : TableView) (terms : List Term) (log : List Logged) (clauses : List (List Lit)) (steps : List StepId) (learned : List (List Lit)) → IsLogOf t log → IsSearch t terms log clauses steps learned → IsLearning t terms log learned
+learning_shows t terms log clauses steps learned right s = record { assumes = s.assumes; learns = record { right = right.right; derived = s.derived; atoms = s.atoms; new = s.new } }
+
 -- where the budget is spent, the answer shows it
 pub spent_shows : (t : TableView) (terms : List Term) (log : List Logged) (clauses : List (List Lit)) (steps : List StepId) (budget new : BudgetView) (n : ℕ)
-    → length budget.learned ≡ budget.limit → n ≡ budget.limit → new ≡ budget → IsSearch t terms log clauses steps budget.learned → IsConflict terms (images t budget.learned)
-    → IsConflictBudgetSpent terms (derivation_in t log) new.limit n (images t new.learned) × IsConflict terms (images t new.learned)
-spent_shows t terms log clauses steps budget new n full carries same s conflict = subst (λ (b : BudgetView). IsConflictBudgetSpent terms (derivation_in t log) b.limit n (images t b.learned) × IsConflict terms (images t b.learned)) (sym same) (
-  record {
-    full = rw length-map full;
-    carries = carries;
-    derived = s.derived;
-    atoms = s.atoms;
-    new = s.new;
-  },
-  conflict,
-)
+    → length budget.learned ≡ budget.limit → n ≡ budget.limit → new ≡ budget → IsLogOf t log → IsSearch t terms log clauses steps budget.learned → IsConflict terms (images t budget.learned)
+    → (IsConflictBudgetSpent terms (derivation_in t log) new.limit n (images t new.learned) × IsConflict terms (images t new.learned)) × IsLearning t terms log new.learned
+spent_shows t terms log clauses steps budget new n full carries same right s conflict =
+    let learning = learning_shows t terms log clauses steps budget.learned right s in
+    subst (λ (b : BudgetView). (IsConflictBudgetSpent terms (derivation_in t log) b.limit n (images t b.learned) × IsConflict terms (images t b.learned)) × IsLearning t terms log b.learned) (sym same)
+    ((record { full = rw length-map full; carries = carries; learns = learning.learns }, conflict), learning)
 
 module _ (t : TableView) (differ : AreDifferent t.terms) (sorts : (id : TermId) → IsIn t id → sort_of (term_at t id) ≡ Truth)
     (log : List Logged) (clauses : List (List Lit)) (steps : List StepId) (held : List Lit) (reasons : List (Option ℕ)) (ready : IsReady t log clauses steps held reasons)
@@ -142,18 +153,18 @@ module _ (t : TableView) (differ : AreDifferent t.terms) (sorts : (id : TermId) 
     pub is_conflict : (m : Lit) × (ms : List Lit) × (clause ≡ m ∷ ms) → IsConflict terms (images t learned)
     is_conflict some = record { clause = map (literal_at t) clause; follows = follows_before; new = new_before some.0 some.1 some.2 }
 
-    module _ (new : List Logged) (id : StepId) (l : Logs t log clause id new) (some : (m : Lit) × (ms : List Lit) × (clause ≡ m ∷ ms)) where
+    module _ (new : List Logged) (ps : List StepId) (id : StepId) (l : Logs t log ps clause id new) (some : (m : Lit) × (ms : List Lit) × (clause ≡ m ∷ ms)) where
       learned_more : images t (learned ++ clause ∷ []) ≡ images t learned ++ map (literal_at t) clause ∷ []
       learned_more = map-append (map (literal_at t)) learned (clause ∷ [])
 
       one_derived : IsLearnedFrom terms (derivation_in t new) (map (literal_at t) clause)
-      one_derived = record { number = id.0; derived = is_derived t log new clause id l terms s.assumes; same = sym l.means.same }
+      one_derived = record { number = id.0; derived = is_derived t log new ps clause id l terms s.assumes; same = sym l.means.same }
 
-      derivation_is : derivation_in t new ≡ derivation_in t log ++ inference_of t (step_of t log new clause id l) ∷ []
-      derivation_is = ap (derivation_in t) l.last ∙ derivation_more t log (step_of t log new clause id l)
+      derivation_is : derivation_in t new ≡ derivation_in t log ++ inference_of t (step_of ps clause) ∷ []
+      derivation_is = ap (derivation_in t) l.last ∙ derivation_more t log (step_of ps clause)
 
       old_derived : (c : List Literal) → IsLearnedFrom terms (derivation_in t log) c → IsLearnedFrom terms (derivation_in t new) c
-      old_derived c h = learned_kept terms (derivation_in t new) l.right.right (among t terms new (assumes_more t log new clause id l terms s.assumes)) (derivation_in t log) (inference_of t (step_of t log new clause id l)) derivation_is c h
+      old_derived c h = learned_kept terms (derivation_in t new) l.right.right (among t terms new (assumes_more t log new ps clause id l terms s.assumes)) (derivation_in t log) (inference_of t (step_of ps clause)) derivation_is c h
 
       within_more : IsWithin (learned ++ clause ∷ []) (clauses ++ clause ∷ [])
       within_more c i = elim (Contains-push_cases learned clause c i) [
@@ -177,7 +188,7 @@ module _ (t : TableView) (differ : AreDifferent t.terms) (sorts : (id : TermId) 
         roots = s.roots;
         roots_in = s.roots_in;
         meant = s.meant;
-        assumes = assumes_more t log new clause id l terms s.assumes;
+        assumes = assumes_more t log new ps clause id l terms s.assumes;
         base = λ c i. let h = s.base c i in (h.0, Contains-append_left clauses (clause ∷ []) h.0 h.1, h.2);
         only = λ d i. elim (Contains-push_cases clauses clause d i) [
           | inl was ↦ more_before (map (literal_at t) d) (s.only d was)
@@ -195,19 +206,19 @@ module _ (t : TableView) (differ : AreDifferent t.terms) (sorts : (id : TermId) 
       }
 
   -- and so the search goes on
-  module _ (new : List Logged) (id : StepId) (l : Logs t log clause id new) (some : (m : Lit) × (ms : List Lit) × (clause ≡ m ∷ ms)) (budget later : BudgetView) (room : length budget.learned < budget.limit) (is : later ≡ record budget { learned = budget.learned ++ clause ∷ [] }) where
+  module _ (new : List Logged) (ps : List StepId) (id : StepId) (l : Logs t log ps clause id new) (some : (m : Lit) × (ms : List Lit) × (clause ≡ m ∷ ms)) (budget later : BudgetView) (room : length budget.learned < budget.limit) (is : later ≡ record budget { learned = budget.learned ++ clause ∷ [] }) where
     pub goes_on : GoesOn t log new clauses (clauses ++ clause ∷ []) steps (steps ++ id ∷ []) (take cut held) (take cut reasons) budget later
     goes_on = record {
       ready = record {
         log_right = l.right;
-        derives = derives_more t new clauses steps (subst (λ (xs : List Logged). Derives t xs clauses steps) (sym l.last) (derives_kept t log (step_of t log new clause id l) clauses steps ready.derives)) clause id (omega (arith, l.number, ap length l.last, length-append log (step_of t log new clause id l ∷ []))) l.means;
+        derives = derives_more t new clauses steps (subst (λ (xs : List Logged). Derives t xs clauses steps) (sym l.last) (derives_kept t log (step_of ps clause) clauses steps ready.derives)) clause id (omega (arith, l.number, ap length l.last, length-append log (step_of ps clause ∷ []))) l.means;
         trail = trail_cut clauses held reasons ready.trail clash marked premises clause cut r;
       };
       room = room;
       limit = ap (λ (b : BudgetView). b.limit) is;
       learned = ap (λ (b : BudgetView). length b.learned) is ∙ length-append budget.learned (clause ∷ []);
       over = over_more;
-      search = λ terms s. subst (λ (b : BudgetView). IsSearch t terms new (clauses ++ clause ∷ []) (steps ++ id ∷ []) b.learned) (sym is) (search_on terms budget.learned s new id l some);
+      search = λ terms s. subst (λ (b : BudgetView). IsSearch t terms new (clauses ++ clause ∷ []) (steps ++ id ∷ []) b.learned) (sym is) (search_on terms budget.learned s new ps id l some);
     }
 
 -- a list of length 0 is empty

@@ -6,8 +6,11 @@ use Rattle.smt_top.specs.declared.search.analysis.Analysis.{Analysis}
 
 -- What is marked grows by the complements of literals of which this holds.
 pub record Marks (P : Lit → Type 0) (old new : List Lit) : Type 0 where
+  -- what was marked stays so
   pub kept : (k : Lit) → Contains old k → Contains new k
+  -- the complements are marked
   pub added : (m : Lit) → P m → Contains new (lit_complement m)
+  -- and nothing else is
   pub only : (k : Lit) → Contains new k → Contains old k ⊎ ((m : Lit) × P m × (k ≡ lit_complement m))
 
 -- the complement of each literal of the clause is marked
@@ -25,17 +28,24 @@ IsExplained clauses marked premises clause l (Some n) = Contains premises n × (
 
 -- the literal at that place was decided
 pub record IsDecision (held : List Lit) (reasons : List (Option ℕ)) (p : ℕ) (l : Lit) : Type 0 where
+  -- the place is one of the literals'
   pub within : p < length held
+  -- the literal stands there
   pub there : get_or held p l ≡ l
+  -- it has no reason
   pub decided : get_or reasons p None ≡ None
 
 -- two different literals of the clause are open
 pub record HasTwo (held clause : List Lit) : Type 0 where
+  -- the two
   pub one : Lit
   pub other : Lit
+  -- the clause has both
   pub has_one : Contains clause one
   pub has_other : Contains clause other
+  -- they differ
   pub differ : one ≢ other
+  -- neither is false
   pub one_open : Contains held (lit_complement one) → ⊥
   pub other_open : Contains held (lit_complement other) → ⊥
 
@@ -89,7 +99,11 @@ Cuts clause at old new = (length clause < 2 → new ≡ at) × (2 ≤ length cla
 
 -- Decisions are noted: one that is marked, or only its place.
 pub record Notes (old new : Analysis) (more : List Lit) (at : ℕ) : Type 0 where
+  -- what is marked is as it was
   pub marked : new.marked ≡ old.marked
+  -- so are the premises
   pub premises : new.premises.items ≡ old.premises.items
+  -- the clause grows by the literals of those that are marked
   pub clause : new.clause.items ≡ old.clause.items ++ more
+  -- the cut is as it should be
   pub cut : Cuts new.clause.items at old.cut new.cut

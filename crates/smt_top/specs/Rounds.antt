@@ -1,21 +1,21 @@
 -- What the rounds of a search keep, and what its answers show. Source: own.
-use Rattle.std.specs.Prelude.{◌≡◌, ◌+◌, ◌<◌, ℕ, true, List, [], ◌∷◌, ◌++◌, length, map, get_or, All, Contains, Option, Result, Ok, Err}
+use Rattle.std.specs.Prelude.{◌≡◌, ◌⊎◌, ◌+◌, ◌<◌, ℕ, true, List, [], ◌∷◌, ◌++◌, length, map, get_or, All, Contains, Option, Result, Ok, Err}
 use Rattle.spec_terms.specs.Terms.{Term}
 use Rattle.spec_terms.specs.Values.{Interpretation, Interprets, truth}
 use Rattle.spec_terms.specs.Agreement.{value_at}
-use Rattle.spec_terms.specs.Literals.{Clause, Literal, complement, literal_of, literals_of}
+use Rattle.spec_terms.specs.Literals.{Clause, literal_of, literals_of}
 use Rattle.spec_terms.specs.Subterms.{subterms_of}
 use Rattle.spec_proofs.specs.Resolution.{Resolves, IsWithin}
 use Rattle.spec_proofs.specs.declared.Rule.TheVariants.{Resolution}
 use Rattle.spec_search.specs.Derivations.{AssumesAmong, IsDerivedFrom}
 use Rattle.spec_search.specs.Base.{base_clauses}
-use Rattle.spec_search.specs.Learned.{IsNew, AreNew}
-use Rattle.spec_search.specs.Spent.{IsLearnedFrom, IsAtomOf, IsConflictBudgetSpent}
+use Rattle.spec_search.specs.Learned.{AreNew}
+use Rattle.spec_search.specs.Spent.{IsLearnedFrom, IsAtomOf, AreLearned, IsConflictBudgetSpent, IsConflict}
 use Rattle.world_io.specs.declared.bytes.NoMemory.{NoMemory}
 use Rattle.term_core.specs.declared.ids.TermId.{TermId}
 use Rattle.term_core.specs.declared.ids.Lit.{Lit}
 use Rattle.term_core.specs.Tables.{TableView, term_at, clause_at, literal_at, IsIn, AreIn, positive_literal}
-use Rattle.term_core.specs.Valuations.{Stands, HasTables}
+use Rattle.term_core.specs.Valuations.{Stands}
 use Rattle.rule_bool.specs.Literals.{lit_complement}
 use Rattle.rule_bool.specs.Resolvents.{Means}
 use Rattle.proof_log.specs.declared.premises.StepId.{StepId}
@@ -26,6 +26,7 @@ use Rattle.sat_budget.specs.declared.limits.Reason.TheVariants.{Conflicts}
 use Rattle.smt_top.specs.declared.search.rounds.Answer.{Answer}
 use Rattle.smt_top.specs.declared.search.rounds.Answer.TheVariants.{Sat, Unsat, Unknown}
 use Rattle.smt_top.specs.Search.{AreOver, IsTrail}
+use Rattle.smt_top.specs.Analyses.{IsPremise}
 use Rattle.smt_top.specs.Stores.{no_step, Derives}
 
 -- the clauses of numbers
@@ -54,24 +55,25 @@ pub record IsResolved (t : TableView) (clauses : List (List Lit)) (premises : Li
   -- unit propagation reaches a conflict
   pub right : Resolves lit_complement (numbered clauses premises) clause
 
--- A step that states the clause is the log's last.
-pub record Logs (t : TableView) (old : List Logged) (clause : List Lit) (id : StepId) (new : List Logged) : Type 0 where
+-- A step that states the clause, from these steps, is the log's last.
+pub record Logs (t : TableView) (old : List Logged) (premises : List StepId) (clause : List Lit) (id : StepId) (new : List Logged) : Type 0 where
   -- its number is the next
   pub number : id.0 ≡ length old
-  -- the premises and the terms
-  pub premises : List StepId
-  pub terms : List TermId
   -- it stands last
-  pub last : new ≡ old ++ stepped Resolution premises terms ∷ []
+  pub last : new ≡ old ++ stepped Resolution premises (map (λ l. l.term) clause) ∷ []
   -- with it the log is right
   pub right : IsLogOf t new
   -- it states the clause
   pub means : Means t clause (stated t new id)
 
--- the clause is logged, or nothing is changed
-abbrev pub LogsClause : TableView → List Logged → List Lit → Result StepId NoMemory → List Logged → Type 0
-LogsClause t old clause (Ok id) new = Logs t old clause id new
-LogsClause t old clause (Err _) new = new ≡ old
+-- the clause is logged, from these steps, or nothing is changed
+abbrev pub LogsClause : TableView → List Logged → List StepId → List Lit → Result StepId NoMemory → List Logged → Type 0
+LogsClause t old premises clause (Ok id) new = Logs t old premises clause id new
+LogsClause t old premises clause (Err _) new = new ≡ old
+
+-- nothing is logged, or one step whose premises are those of the false clause and of the reasons that the conflict rests on, and no others
+abbrev pub LogsConflict : List (List Lit) → List StepId → List Lit → List (Option ℕ) → ℕ → List Logged → List Logged → Type 0
+LogsConflict clauses steps held reasons clash old new = (new ≡ old) ⊎ ((ns : List ℕ) × (terms : List TermId) × ((n : ℕ) → Contains ns n → IsPremise clauses held reasons clash n) × (new ≡ old ++ stepped Resolution (steps_at steps ns) terms ∷ []))
 
 -- What a search for terms has: a log, the clauses with their steps, and what was learned.
 pub record IsSearch (t : TableView) (terms : List Term) (log : List Logged) (clauses : List (List Lit)) (steps : List StepId) (learned : List (List Lit)) : Type 0 where
@@ -96,18 +98,9 @@ pub record IsSearch (t : TableView) (terms : List Term) (log : List Logged) (cla
   -- and was new
   pub new : AreNew (map literals_of (base_clauses terms)) (map (map (literal_at t)) learned)
 
--- A conflict above level 0: a clause follows by unit propagation from the base clauses and those that were learned, and has a literal that was not given.
-pub record IsConflict (terms : List Term) (learned : List (List Literal)) : Type 0 where
-  -- what would be learned from it
-  pub clause : List Literal
-  -- it follows
-  pub follows : Resolves complement (map literals_of (base_clauses terms) ++ learned) clause
-  -- and is new
-  pub new : IsNew (map literals_of (base_clauses terms) ++ learned) clause
-
 -- what an answer shows of terms: tables under which they are true; a clause without literals that is derived from them; or that the budget is spent at a further conflict
 abbrev pub HasEvidence : TableView → List Term → List Logged → BudgetView → Answer → Type 0
-HasEvidence t terms log budget (Sat interp) = HasTables t.symbols interp × ((i : Interpretation) → Stands t.symbols interp i → Interprets i t.symbols × All (λ u. value_at i u ≡ truth true) terms)
+HasEvidence t terms log budget (Sat interp) = (length interp.tables.items ≡ length t.symbols) × ((i : Interpretation) × Stands t.symbols interp i) × ((i : Interpretation) → Stands t.symbols interp i → Interprets i t.symbols × All (λ u. value_at i u ≡ truth true) terms)
 HasEvidence t terms log budget (Unsat step) = (stated t log step ≡ []) × IsDerivedFrom terms (derivation_in t log) step.0
 HasEvidence t terms log budget (Unknown (Conflicts n)) = IsConflictBudgetSpent terms (derivation_in t log) budget.limit n (map (map (literal_at t)) budget.learned) × IsConflict terms (map (map (literal_at t)) budget.learned)
 
@@ -135,6 +128,13 @@ pub record GoesOn (t : TableView) (log new_log : List Logged) (clauses new_claus
   -- for the terms of the search
   pub search : (terms : List Term) → IsSearch t terms log clauses steps budget.learned → IsSearch t terms new_log new_clauses new_steps new_budget.learned
 
+-- What stands beside each answer: the log assumes the terms alone, and what was learned may be.
+pub record IsLearning (t : TableView) (terms : List Term) (log : List Logged) (learned : List (List Lit)) : Type 0 where
+  -- the log assumes the terms alone
+  pub assumes : All (λ l. AssumesAmong terms (inference_of t l)) log
+  -- the clauses may be learned
+  pub learns : AreLearned terms (derivation_in t log) (map (map (literal_at t)) learned)
+
 -- the answer shows what it should of the terms of the search
 abbrev pub Shows : TableView → List Logged → List (List Lit) → List StepId → BudgetView → List Logged → BudgetView → Answer → Type 0
-Shows t log clauses steps budget new_log new_budget a = (terms : List Term) → IsSearch t terms log clauses steps budget.learned → HasEvidence t terms new_log new_budget a
+Shows t log clauses steps budget new_log new_budget a = (terms : List Term) → IsSearch t terms log clauses steps budget.learned → HasEvidence t terms new_log new_budget a × IsLearning t terms new_log new_budget.learned

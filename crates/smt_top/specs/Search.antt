@@ -26,13 +26,18 @@ IsQuiet clauses held = (c : List Lit) → Contains clauses c → IsSettled held 
 
 -- neither the literal holds nor its complement
 pub record IsOpen (held : List Lit) (l : Lit) : Type 0 where
+  -- it does not hold
   pub not_held : Contains held l → ⊥
+  -- and is not false
   pub not_false : Contains held (lit_complement l) → ⊥
 
 -- the clause of a number has the literal, and its others are false
 pub record IsForced (clauses : List (List Lit)) (held : List Lit) (number : ℕ) (l : Lit) : Type 0 where
+  -- the number is a clause's
   pub there : number < length clauses
+  -- the clause has the literal
   pub has_it : Contains (get_or clauses number []) l
+  -- and its others are false
   pub others : (m : Lit) → Contains (get_or clauses number []) m → m ≢ l → Contains held (lit_complement m)
 
 -- a literal of the clauses has the term
@@ -41,8 +46,11 @@ IsMentioned clauses t = (c : List Lit) × (l : Lit) × Contains clauses c × Con
 
 -- What is decided: a negative literal of a term that the clauses mention, where nothing follows from them.
 pub record IsDecided (clauses : List (List Lit)) (held : List Lit) (l : Lit) : Type 0 where
+  -- the literal is negative
   pub negative : l.positive ≡ false
+  -- the clauses mention its term
   pub mentioned : IsMentioned clauses l.term
+  -- nothing follows from them
   pub quiet : IsQuiet clauses held
 
 -- the literal was forced by the clause of its reason, or decided
@@ -52,8 +60,11 @@ IsAdded clauses held l (Some number) = IsForced clauses held number l
 
 -- Each literal was open when it was added, and forced or decided.
 pub record IsTrail (clauses : List (List Lit)) (held : List Lit) (reasons : List (Option ℕ)) : Type 0 where
+  -- there are as many reasons as literals
   pub paired : length reasons ≡ length held
+  -- each was open when it was added
   pub was_open : (k : ℕ) (l : Lit) → k < length held → get_or held k l ≡ l → IsOpen (take k held) l
+  -- and it was forced or decided
   pub added : (k : ℕ) (l : Lit) → k < length held → get_or held k l ≡ l → IsAdded clauses (take k held) l (get_or reasons k None)
 
 -- whether a term's truth is known
@@ -84,7 +95,9 @@ TakesUp clause number old new before after findings.True = IsSettled old clause 
 
 -- the clause of a number is false
 pub record IsClash (clauses : List (List Lit)) (held : List Lit) (number : ℕ) : Type 0 where
+  -- the number is a clause's
   pub there : number < length clauses
+  -- all of its literals are false
   pub fails : IsFalse held (get_or clauses number [])
 
 -- what a pass over the clauses seen comes to
@@ -100,14 +113,20 @@ Propagates clauses old new before after ends.Quiet = Advances clauses old new be
 
 -- Of a clause this literal is open.
 pub record IsOpenOf (held clause : List Lit) (l : Lit) : Type 0 where
+  -- the clause has it
   pub there : Contains clause l
+  -- neither it holds nor its complement
   pub is_open : IsOpen held l
 
 -- Of one of the clauses this literal is open.
 pub record IsOpenIn (clauses : List (List Lit)) (held : List Lit) (l : Lit) : Type 0 where
+  -- the clause
   pub clause : List Lit
+  -- it is one of them
   pub has_clause : Contains clauses clause
+  -- it has the literal
   pub there : Contains clause l
+  -- neither that holds nor its complement
   pub is_open : IsOpen held l
 
 -- of each clause a literal holds, or all of its literals are false

@@ -1,6 +1,6 @@
 //! What the tests of the search share: terms from short texts, and what is looked at in answers.
 
-use crate::search::decide::Decision;
+use crate::search::decide::Outcome;
 use crate::search::rounds::Answer;
 use proof_log::{ProofLog, StepId};
 use sat_budget::Limits;
@@ -160,7 +160,7 @@ pub(crate) fn is_right(
     table: &TermTable,
     terms: &[TermId],
     satisfiable: bool,
-    decision: &Decision,
+    decision: &Outcome,
 ) -> Result<bool, Fail> {
     match &decision.answer {
         Answer::Sat(interp) => Ok(satisfiable && are_true(alloc, table, interp, terms)?),

@@ -15,9 +15,9 @@ use std::alloc::Global;
 use term_core::{TermId, TermTable};
 use world_io::NoMemory;
 
-/// A check's answer, with the log in which its steps are and the budget that it has left.
+/// A check's answer, with the log of its steps, and the budget: its limits and what was learned.
 #[derive(Drop)]
-pub(crate) struct Decision {
+pub(crate) struct Outcome {
     /// The answer.
     pub(crate) answer: Answer,
     /// The clauses of the terms, what was learned, and how they are derived.
@@ -26,13 +26,15 @@ pub(crate) struct Decision {
     pub(crate) budget: Budget,
 }
 
-/// Decides whether some interpretation makes terms true.
+/// Decides whether some interpretation makes all of the terms true, or says why it was not found out.
+///
+/// The table grows by the terms of the clauses that define them, and stays as it was where memory runs out, the one failure. Source: own.
 pub(crate) fn decide(
     alloc: Global,
     table: &mut TermTable,
     roots: &[TermId],
     limits: &Limits,
-) -> Result<Decision, NoMemory>
+) -> Result<Outcome, NoMemory>
     requires roots { AreIn table.old roots.now }
     ensures grown { Extends table.old table.new }
     ensures symbols { table.new.symbols ≡ table.old.symbols }
@@ -55,7 +57,7 @@ fn decided(
     table: &mut TermTable,
     roots: &[TermId],
     limits: &Limits,
-) -> Result<Decision, NoMemory>
+) -> Result<Outcome, NoMemory>
     requires roots { AreIn table.old roots.now }
     ensures grown { Extends table.old table.new }
     ensures symbols { table.new.symbols ≡ table.old.symbols }
@@ -68,7 +70,7 @@ fn decided(
     let mut store = store_of(alloc, table, &log, list.as_slice())?;
     let mut budget = Budget::new(alloc, limits)?;
     let answer = search(alloc, table, &mut log, &mut store, &mut budget)?;
-    Ok(Decision {
+    Ok(Outcome {
         answer,
         log,
         budget,

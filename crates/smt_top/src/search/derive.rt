@@ -47,7 +47,7 @@ pub(crate) fn derive(
     requires log { IsLogOf table.now log.old }
     requires store { Derives table.now log.old (lists store.now.clauses.items) store.now.steps.items }
     requires resolved { IsResolved table.now (lists store.now.clauses.items) premises.now clause.now }
-    ensures { LogsClause table.now log.old clause.now result log.new }
+    ensures { LogsClause table.now log.old (steps_at store.now.steps.items premises.now) clause.now result log.new }
 {
     let premises = steps_of(alloc, store, premises)?;
     let clause = terms_of(alloc, clause)?;

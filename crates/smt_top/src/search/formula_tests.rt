@@ -1,7 +1,7 @@
 //! Formulas over three constants, whose answers are compared with their truth tables.
 
 use crate::search::common_tests::{AMPLE, assumes_among, constant, is_empty, put, rested_on};
-use crate::search::decide::{Decision, decide};
+use crate::search::decide::{Outcome, decide};
 use crate::search::rounds::Answer;
 use std::alloc::Global;
 use std::test::Fail;
@@ -96,7 +96,7 @@ fn assignment_of(interp: &Interp) -> Option<u8> {
 
 /// Tells whether the answer is right: an assignment that makes the formula true, or a step with the empty clause that rests on none
 /// but the formula, which no assignment makes true.
-fn is_right(alloc: Global, formula: Formula, decision: &Decision) -> Result<bool, Fail> {
+fn is_right(alloc: Global, formula: Formula, decision: &Outcome) -> Result<bool, Fail> {
     match &decision.answer {
         Answer::Sat(interp) => match assignment_of(interp) {
             Some(assignment) => Ok(formula.values & assignment != 0),

@@ -5,7 +5,7 @@ ghost use Rattle.rule_bool.specs.Literals.{lists};
 ghost use Rattle.proof_log.specs.Logs.{IsLogOf};
 ghost use Rattle.smt_top.specs.Search.{IsClash};
 ghost use Rattle.smt_top.specs.Stores.{Derives};
-ghost use Rattle.smt_top.specs.Rounds.{IsReady, GoesOn, Shows};
+ghost use Rattle.smt_top.specs.Rounds.{LogsConflict, IsReady, GoesOn, Shows};
 
 use crate::search::analysis::analyze;
 use crate::search::decision::next_open;
@@ -33,7 +33,7 @@ pub(crate) enum Answer {
 }
 
 /// Ends the search at a conflict, or learns from it and goes back.
-fn resolve(
+fn handle_conflict(
     alloc: Global,
     table: &TermTable,
     log: &mut ProofLog,
@@ -45,6 +45,7 @@ fn resolve(
     requires ready { IsReady table.now log.old (lists store.old.clauses.items) store.old.steps.items trail.old.held trail.old.reasons.items }
     requires clash { IsClash (lists store.old.clauses.items) trail.old.held clash }
     ensures right { IfOk result (λ _. IsLogOf table.now log.new) }
+    ensures step { IfOk result (λ _. LogsConflict (lists store.old.clauses.items) store.old.steps.items trail.old.held trail.old.reasons.items clash log.old log.new) }
     ensures comes { IfOk result (λ o. MatchOption o
         (GoesOn table.now log.old log.new (lists store.old.clauses.items) (lists store.new.clauses.items) store.old.steps.items store.new.steps.items trail.new.held trail.new.reasons.items budget.old budget.new)
         (λ a. (budget.new.limit ≡ budget.old.limit) × Shows table.now log.old (lists store.old.clauses.items) store.old.steps.items budget.old log.new budget.new a)) }
@@ -93,7 +94,7 @@ pub(crate) fn search(
     'rounds: loop {
         match propagate(store, &mut trail)? {
             Propagation::Clash(number) => {
-                if let Some(answer) = resolve(
+                if let Some(answer) = handle_conflict(
                     alloc, table, log, store, budget, &mut trail, number,
                 )? {
                     return Ok(answer);

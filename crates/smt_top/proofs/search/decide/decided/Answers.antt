@@ -19,5 +19,6 @@ returns-clause-decided c =
     record {
       log_right = c.in_ok-answer.ensures.right;
       limit_is = c.in_ok-answer.ensures.limit ∙ ap (λ b. b.limit) c.in_ok-budget.ensures;
-      evidence = c.in_ok-answer.ensures.evidence _ begins;
+      evidence = (c.in_ok-answer.ensures.evidence _ begins).0;
+      learning = (c.in_ok-answer.ensures.evidence _ begins).1;
     }

@@ -4,6 +4,7 @@ use Rattle.term_core.specs.Tables.{AreDeclared}
 use Rattle.rule_bool.specs.Literals.{lists}
 use Rattle.smt_top.specs.Search.{atoms_in, open_count}
 use Rattle.smt_top.proofs.SearchTrails.{over_own}
+use Rattle.smt_top.proofs.SearchRounds.{learning_shows}
 use Rattle.smt_top.proofs.SearchLoop.{empty_trail, fewer_left, less_left, open_bounded, not_yet, trail_decided, open_less, no_more_open, ready_on, held_of, sat_shows}
 use Rattle.smt_top.proofs.search.rounds.search.Goals as goal
 
@@ -25,8 +26,8 @@ rounds-smaller-in_default c =
     let atoms = atoms_in (lists c.args.store.now.clauses.items) in
     let room = g.room in
     let limit = c.rounds.invariant.limit in
-    fewer_left c.args.budget.now.limit (length atoms) (length c.rounds.budget.learned) (length c.resolve.new.budget.learned) (open_count atoms c.rounds.trail.held) (open_count atoms c.resolve.new.trail.held)
-    (omega (arith, room, limit)) g.learned (open_bounded atoms c.resolve.new.trail.held)
+    fewer_left c.args.budget.now.limit (length atoms) (length c.rounds.budget.learned) (length c.handle_conflict.new.budget.learned) (open_count atoms c.rounds.trail.held) (open_count atoms c.handle_conflict.new.trail.held)
+    (omega (arith, room, limit)) g.learned (open_bounded atoms c.handle_conflict.new.trail.held)
 
 pub rounds-preserved-in_default : goal.rounds-preserved-in_default
 rounds-preserved-in_default c =
@@ -54,8 +55,11 @@ returns-in_default-next_open-clause-evidence c = λ terms s.
     let h = rw c.in-Quiet.is at c.in_ok-number.ensures in
     let settled = rw c.deref.ensures.value at c.in_default-next_open.ensures in
     let declared = subst AreDeclared c.symbols.ensures c.are_declared.ensures in
-    sat_shows t c.rounds.log clauses c.rounds.store.steps.items _ _ (ready_on t c.rounds.log clauses c.rounds.store.steps.items _ _ _ _ c.rounds.invariant.ready h.0) c.numbers_tell_terms.ensures c.terms_are_closed.ensures c.terms_are_truths.ensures
-    c.heads_take_their_arguments.ensures c.heads_are_declared.ensures declared c.base_clauses_define_their_terms.ensures.model h.1 settled c.in_ok-model_of-in-Quiet.field-0 c.in_ok-model_of-in-Quiet.ensures terms c.rounds.budget.learned (c.rounds.invariant.search terms s)
+    let ready = ready_on t c.rounds.log clauses c.rounds.store.steps.items _ _ _ _ c.rounds.invariant.ready h.0 in
+    let search = c.rounds.invariant.search terms s in
+    let shows = sat_shows t c.rounds.log clauses c.rounds.store.steps.items _ _ (ready_on t c.rounds.log clauses c.rounds.store.steps.items _ _ _ _ c.rounds.invariant.ready h.0) c.numbers_tell_terms.ensures c.terms_are_closed.ensures c.terms_are_truths.ensures
+    c.heads_take_their_arguments.ensures c.heads_are_declared.ensures declared c.base_clauses_define_their_terms.ensures.model h.1 settled c.in_ok-model_of-in-Quiet.field-0 c.in_ok-model_of-in-Quiet.ensures terms c.rounds.budget.learned (c.rounds.invariant.search terms s) in
+    (shows, learning_shows t terms c.rounds.log clauses c.rounds.store.steps.items c.rounds.budget.learned c.rounds.invariant.ready.log_right search)
 
 pub push-requires : goal.push-requires
 push-requires c =
