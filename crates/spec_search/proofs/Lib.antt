@@ -1,5 +1,6 @@
 -- The lemmas of this crate.
 pub mod Learned
+pub mod Saying
 pub mod Eight
 pub mod Derived
 pub mod Meeting
