@@ -3,6 +3,7 @@ pub mod Learned
 pub mod Saying
 pub mod Eight
 pub mod Derived
+pub mod Spending
 pub mod Meeting
 pub mod Obeying
 pub mod Modelling

@@ -13,8 +13,8 @@ ghost use Rattle.spec_search.specs.Derivations.{Derivation, «assumption», conc
 ghost use Rattle.spec_search.specs.Base.{base_clauses};
 ghost use Rattle.spec_search.specs.Models.{Meets, AreFormulas, Obeys, Realizes};
 ghost use Rattle.spec_search.specs.Learned.{IsOpenIn, IsNew, IsSettled, IsQuiet, IsConsistent, OthersFail};
-ghost use Rattle.spec_search.specs.Spent.{AreLearned};
-ghost use Rattle.spec_search.specs.Examples.{eight, not_both};
+ghost use Rattle.spec_search.specs.Spent.{AreLearned, IsConflictBudgetSpent};
+ghost use Rattle.spec_search.specs.Examples.{eight, not_both, not_both_derived};
 
 /// States that where propagation is quiet and consistent, a clause whose literals but one are false, and whose one literal
 /// does not hold, is new. Source: own.
@@ -51,6 +51,21 @@ pub fn quiet_over_fewer()
 pub fn first_of_eight_is_new()
     ensures { IsNew (map literals_of (base_clauses eight)) (literals_of not_both) }
 {}
+
+/// States that a spent budget is no empty word, and not every claim of one: of the eight disjunctions of three constants or
+/// their negations a search learns `(cl (not a) (not b))`, which spends a budget of one. It spends none of two or of nothing,
+/// the reason carries no other number than one, and in its place no tautology spends the budget. Source: own.
+pub fn eight_clauses_spend_a_budget_of_one()
+    ensures spent { IsConflictBudgetSpent eight not_both_derived 1 1 (literals_of not_both ∷ []) }
+    ensures no_other_limit { (limit carried : ℕ) → limit ≢ 1
+        → IsConflictBudgetSpent eight not_both_derived limit carried (literals_of not_both ∷ []) → ⊥ }
+    ensures no_other_number { (carried : ℕ) → carried ≢ 1
+        → IsConflictBudgetSpent eight not_both_derived 1 carried (literals_of not_both ∷ []) → ⊥ }
+    ensures no_tautology { (l : Literal) → IsConflictBudgetSpent eight not_both_derived 1 1 ((l ∷ complement l ∷ []) ∷ []) → ⊥ }
+    ensures not_twice { IsConflictBudgetSpent eight not_both_derived 2 2 (literals_of not_both ∷ literals_of not_both ∷ []) → ⊥ }
+{
+    learned_clauses_say_something();
+}
 
 /// States that learned clauses say something: none has a literal with its complement, none has a literal of `true` or `false`,
 /// none is empty, and none has all literals of a base clause, or of a clause that was learned before it. Source: own.
