@@ -1,16 +1,16 @@
 -- That the eight disjunctions spend a budget of one.
-use Rattle.std.proofs.Common.{◌≡◌, ◌≢◌, ℕ, ◌<◌, true, false, List, [], ◌∷◌, ◌++◌, length, take, drop, map, All, Contains, refl, sym, ap, subst, suc, arith}
+use Rattle.std.proofs.Common.{◌≡◌, ◌≢◌, ℕ, ◌<◌, true, List, [], ◌∷◌, ◌++◌, length, take, drop, All, Contains, refl, sym, subst, suc, arith}
 use Rattle.std.specs.List.{AllByRecursion}
 use Rattle.std.proofs.lemmas.List.{append-nil, append_assoc, length-take-le}
 use Rattle.std.proofs.lemmas.List.Elements.{All-contains, All-from_recursion}
-use Rattle.spec_terms.specs.Terms.{True, False, Truth, Term, of, same_term, sort_of}
+use Rattle.spec_terms.specs.Terms.{Truth, Term, same_term, sort_of}
 use Rattle.spec_terms.specs.Subterms.{has_term, subterms_of, with_subterms, with_all_subterms}
 use Rattle.spec_terms.specs.Literals.{Literal, complement, literal_of, literals_of}
 use Rattle.spec_terms.proofs.Members.{none, has_term-Decides}
 use Rattle.spec_proofs.specs.Resolution.{Derives, given, unit, Conflicts, false_clause}
 use Rattle.spec_search.specs.Derivations.{Inference, assumption, by_rule, Derivation, premises_of, no_inference, inference_at, FollowsFrom, IsDerivation, RestsOn, itself, by_premise, AssumesAmong}
-use Rattle.spec_search.specs.Spent.{IsAtomOf, IsLearnedFrom, AreLearned, IsConflictBudgetSpent}
-use Rattle.spec_search.specs.Examples.{a, b, c, one_of, eight, not_both, not_both_derived}
+use Rattle.spec_search.specs.Spent.{IsAtomOf, IsLearnedFrom, IsConflictBudgetSpent}
+use Rattle.spec_search.specs.Examples.{a, b, c, eight, not_both, not_both_derived}
 use Rattle.spec_search.proofs.Derived.{split_at}
 use Rattle.spec_search.proofs.Eight.{not_both_is_new}
 

@@ -1,5 +1,5 @@
 -- The budget of one, and what is none.
-use Rattle.std.proofs.Common.{[], ◌∷◌, refl, sym, ◌∙◌}
+use Rattle.std.proofs.Common.{[], ◌∷◌, refl, sym}
 use Rattle.spec_terms.specs.Literals.{complement, literals_of}
 use Rattle.spec_terms.proofs.Members.{first, later}
 use Rattle.spec_search.specs.Examples.{eight, not_both, not_both_derived}
