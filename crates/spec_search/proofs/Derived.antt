@@ -12,7 +12,7 @@ use Rattle.spec_proofs.specs.Clauses.{term_true, clause_true, HasTruth}
 use Rattle.spec_search.specs.Derivations.{Inference, assumption, by_rule, Derivation, conclusion, premises_of, no_inference, inference_at, conclusion_at, FollowsFrom, IsDerivation, RestsOn, itself, by_premise}
 
 -- a derivation at one of its numbers
-split_at : (d : Derivation) (n : ℕ) → n < length d → d ≡ take n d ++ inference_at d n ∷ drop (suc n) d
+pub split_at : (d : Derivation) (n : ℕ) → n < length d → d ≡ take n d ++ inference_at d n ∷ drop (suc n) d
 split_at d n lt = sym (take-append-drop n d) ∙ ap (λ rest. take n d ++ rest) (drop-cons d n no_inference lt)
 
 -- what the numbers before it mean

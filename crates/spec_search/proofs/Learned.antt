@@ -69,7 +69,7 @@ others_all P (m ∷ ms) l h = go (same_literal m l) (literals_decide m l) (other
     go false d rest = (h m (first m ms) (λ e. absurd (false≢true (d.1 e))), rest)
 
 -- each other literal's complement is among them
-others_there : (clause : List Literal) (l m : Literal) → Contains clause m → m ≢ l → Contains (others clause l) (complement m)
+pub others_there : (clause : List Literal) (l m : Literal) → Contains clause m → m ≢ l → Contains (others clause l) (complement m)
 others_there [] l m h d = absurd (none m h)
 others_there (x ∷ xs) l m (k, lt, e) d = at k lt e (λ i. others_there xs l m i d)
   where

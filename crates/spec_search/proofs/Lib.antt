@@ -1,7 +1,9 @@
 -- The lemmas of this crate.
 pub mod Learned
+pub mod Saying
 pub mod Eight
 pub mod Derived
+pub mod Spending
 pub mod Meeting
 pub mod Obeying
 pub mod Modelling

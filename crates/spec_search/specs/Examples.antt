@@ -2,7 +2,9 @@
 use Rattle.std.specs.Prelude.{Bool, true, false, List, [], ◌∷◌, codes}
 use Rattle.spec_terms.specs.Terms.{Or, Ite, Truth, Term, of, negated, constant, constant_term}
 use Rattle.spec_terms.specs.Literals.{Clause}
+use Rattle.spec_proofs.specs.declared.Rule.TheVariants as rules
 use Rattle.spec_proofs.specs.Schemes.{signed}
+use Rattle.spec_search.specs.Derivations.{Derivation, assumption, by_rule}
 
 -- the constants
 abbrev pub a : Term
@@ -25,6 +27,15 @@ eight = one_of true true true ∷ one_of true true false ∷ one_of true false t
 -- a and b decided: not both
 abbrev pub not_both : Clause
 not_both = signed false a ∷ signed false b ∷ []
+
+-- a derivation of it: two of the eight, the clauses of their arguments, and what these resolve to
+abbrev pub not_both_derived : Derivation
+not_both_derived =
+    assumption (one_of false false true) ∷
+    assumption (one_of false false false) ∷
+    by_rule rules.Or (0 ∷ []) (signed false a ∷ signed false b ∷ signed true c ∷ []) ∷
+    by_rule rules.Or (1 ∷ []) (signed false a ∷ signed false b ∷ signed false c ∷ []) ∷
+    by_rule rules.Resolution (2 ∷ 3 ∷ []) not_both ∷ []
 
 -- a disjunction of which one argument is a negation
 abbrev pub a_or_not_b : Term

@@ -1,18 +1,20 @@
 //! What the definitions imply. Each law is a function whose contract is the law; it computes nothing.
 
-ghost use Rattle.std.specs.Prelude.{◌≡◌, ◌<◌, ℕ, true, List, [], ◌∷◌, ◌++◌, length, map, All, Contains};
-ghost use Rattle.spec_terms.specs.Terms.{Term};
+ghost use Rattle.std.specs.Prelude.{◌≡◌, ◌≢◌, ◌<◌, ℕ, true, List, [], ◌∷◌, ◌++◌, length, map, All, Contains};
+ghost use Rattle.spec_terms.specs.Terms.{True, False, Term, of};
 ghost use Rattle.spec_terms.specs.Values.{Interpretation, truth};
 ghost use Rattle.spec_terms.specs.Agreement.{value_at};
 ghost use Rattle.spec_terms.specs.Subterms.{subterms_of};
 ghost use Rattle.spec_terms.specs.Literals.{Clause, Literal, complement, literals_of};
 ghost use Rattle.spec_proofs.specs.Clauses.{term_true, clause_true, HasTruth};
+ghost use Rattle.spec_proofs.specs.Resolution.{IsWithin};
 ghost use Rattle.spec_proofs.specs.Truths.{Truths};
 ghost use Rattle.spec_search.specs.Derivations.{Derivation, «assumption», conclusion, inference_at, conclusion_at, IsDerivation, RestsOn};
 ghost use Rattle.spec_search.specs.Base.{base_clauses};
 ghost use Rattle.spec_search.specs.Models.{Meets, AreFormulas, Obeys, Realizes};
 ghost use Rattle.spec_search.specs.Learned.{IsOpenIn, IsNew, IsSettled, IsQuiet, IsConsistent, OthersFail};
-ghost use Rattle.spec_search.specs.Examples.{eight, not_both};
+ghost use Rattle.spec_search.specs.Spent.{AreLearned, IsConflictBudgetSpent};
+ghost use Rattle.spec_search.specs.Examples.{eight, not_both, not_both_derived};
 
 /// States that where propagation is quiet and consistent, a clause whose literals but one are false, and whose one literal
 /// does not hold, is new. Source: own.
@@ -48,6 +50,38 @@ pub fn quiet_over_fewer()
 /// it is new over all their base clauses. Source: own.
 pub fn first_of_eight_is_new()
     ensures { IsNew (map literals_of (base_clauses eight)) (literals_of not_both) }
+{}
+
+/// States that a spent budget is no empty word, and not every claim of one: of the eight disjunctions of three constants or
+/// their negations a search learns `(cl (not a) (not b))`, which spends a budget of one. It spends none of two or of nothing,
+/// the reason carries no other number than one, and in its place no tautology spends the budget. Source: own.
+pub fn eight_clauses_spend_a_budget_of_one()
+    ensures spent { IsConflictBudgetSpent eight not_both_derived 1 1 (literals_of not_both ∷ []) }
+    ensures no_other_limit { (limit carried : ℕ) → limit ≢ 1
+        → IsConflictBudgetSpent eight not_both_derived limit carried (literals_of not_both ∷ []) → ⊥ }
+    ensures no_other_number { (carried : ℕ) → carried ≢ 1
+        → IsConflictBudgetSpent eight not_both_derived 1 carried (literals_of not_both ∷ []) → ⊥ }
+    ensures no_tautology { (l : Literal) → IsConflictBudgetSpent eight not_both_derived 1 1 ((l ∷ complement l ∷ []) ∷ []) → ⊥ }
+    ensures not_twice { IsConflictBudgetSpent eight not_both_derived 2 2 (literals_of not_both ∷ literals_of not_both ∷ []) → ⊥ }
+{
+    learned_clauses_say_something();
+}
+
+/// States that learned clauses say something: none has a literal with its complement, none has a literal of `true` or `false`,
+/// none is empty, and none has all literals of a base clause, or of a clause that was learned before it. Source: own.
+pub fn learned_clauses_say_something()
+    ensures no_tautology { (terms : List Term) (d : Derivation) (learned : List (List Literal)) → AreLearned terms d learned
+        → (c : List Literal) (l : Literal) → Contains learned c → Contains c l → Contains c (complement l) → ⊥ }
+    ensures no_truth_value { (terms : List Term) (d : Derivation) (learned : List (List Literal)) → AreLearned terms d learned
+        → (c : List Literal) (l : Literal) → Contains learned c → Contains c l → (l.atom ≢ of True []) × (l.atom ≢ of False []) }
+    ensures not_empty { (terms : List Term) (d : Derivation) (learned : List (List Literal)) → AreLearned terms d learned
+        → (c : List Literal) → Contains learned c → c ≢ [] }
+    ensures no_base_clause { (terms : List Term) (d : Derivation) (learned : List (List Literal)) → AreLearned terms d learned
+        → (c : List Literal) (b : Clause) → Contains learned c → Contains (base_clauses terms) b
+        → IsWithin (literals_of b) c → ⊥ }
+    ensures no_earlier_clause { (terms : List Term) (d : Derivation) (learned : List (List Literal)) → AreLearned terms d learned
+        → (before after : List (List Literal)) (c e : List Literal) → learned ≡ before ++ c ∷ after → Contains before e
+        → IsWithin e c → ⊥ }
 {}
 
 /// States that in a derivation a clause is true under an interpretation where the assumptions that it rests on are, if the

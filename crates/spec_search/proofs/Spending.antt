@@ -1,0 +1,142 @@
+-- That the eight disjunctions spend a budget of one.
+use Rattle.std.proofs.Common.{◌≡◌, ◌≢◌, ℕ, ◌<◌, true, List, [], ◌∷◌, ◌++◌, length, take, drop, All, Contains, refl, sym, subst, suc, arith}
+use Rattle.std.specs.List.{AllByRecursion}
+use Rattle.std.proofs.lemmas.List.{append-nil, append_assoc, length-take-le}
+use Rattle.std.proofs.lemmas.List.Elements.{All-contains, All-from_recursion}
+use Rattle.spec_terms.specs.Terms.{Truth, Term, same_term, sort_of}
+use Rattle.spec_terms.specs.Subterms.{has_term, subterms_of, with_subterms, with_all_subterms}
+use Rattle.spec_terms.specs.Literals.{Literal, complement, literal_of, literals_of}
+use Rattle.spec_terms.proofs.Members.{none, has_term-Decides}
+use Rattle.spec_proofs.specs.Resolution.{Derives, given, unit, Conflicts, false_clause}
+use Rattle.spec_search.specs.Derivations.{Inference, assumption, by_rule, Derivation, premises_of, no_inference, inference_at, FollowsFrom, IsDerivation, RestsOn, itself, by_premise, AssumesAmong}
+use Rattle.spec_search.specs.Spent.{IsAtomOf, IsLearnedFrom, IsConflictBudgetSpent}
+use Rattle.spec_search.specs.Examples.{a, b, c, eight, not_both, not_both_derived}
+use Rattle.spec_search.proofs.Derived.{split_at}
+use Rattle.spec_search.proofs.Eight.{not_both_is_new}
+
+-- each follows from those before it, by recursion
+abbrev Follow : Derivation → Derivation → Type 0
+Follow earlier [] = Unit {0}
+Follow earlier (x ∷ xs) = FollowsFrom earlier x × Follow (earlier ++ x ∷ []) xs
+
+-- by the splits of the list
+followed : (earlier xs before : Derivation) (x : Inference) (after : Derivation) → Follow earlier xs → xs ≡ before ++ x ∷ after → FollowsFrom (earlier ++ before) x
+followed earlier [] [] x after f e = cc
+followed earlier [] (z ∷ before) x after f e = cc
+followed earlier (y ∷ ys) [] x after f e =
+    let same : y ≡ x = cc in
+    subst (λ ds. FollowsFrom ds x) (sym (append-nil earlier)) (subst (FollowsFrom earlier) same f.0)
+followed earlier (y ∷ ys) (z ∷ before) x after f e =
+    let same : y ≡ z = cc in
+    let rest : ys ≡ before ++ x ∷ after = cc in
+    subst (λ w. FollowsFrom (earlier ++ w ∷ before) x) same (subst (λ ds. FollowsFrom ds x) (append_assoc earlier (y ∷ []) before) (followed (earlier ++ y ∷ []) ys before x after f.1 rest))
+
+-- the premises of what follows are among those before it
+premises_before : (earlier : Derivation) (x : Inference) (k : ℕ) → FollowsFrom earlier x → Contains (premises_of x) k → k < length earlier
+premises_before earlier (assumption t) k f k_in = absurd (none k k_in)
+premises_before earlier (by_rule r ps clause) k f k_in = All-contains (λ n. n < length earlier) ps k f.0 k_in
+
+-- what a clause of a derivation rests on is one of it
+rests_there : (d : Derivation) → IsDerivation d → (n m : ℕ) → n < length d → RestsOn d n m → m < length d
+rests_there d right _ _ lt (itself n) = lt
+rests_there d right _ _ lt (by_premise n k m k_in rests) =
+    let less = premises_before (take n d) (inference_at d n) k (right (take n d) (inference_at d n) (drop (suc n) d) (split_at d n lt)) k_in in
+    rests_there d right k m (omega (arith, less, length-take-le n d (omega arith), lt)) rests
+
+-- the literals of the constants
+abbrev is : Term → Literal
+is t = record { atom = t; positive = true }
+
+-- what the two resolve to
+abbrev with_c : List Literal
+with_c = complement (is a) ∷ complement (is b) ∷ is c ∷ []
+
+abbrev without_c : List Literal
+without_c = complement (is a) ∷ complement (is b) ∷ complement (is c) ∷ []
+
+abbrev both : List Literal
+both = is a ∷ is b ∷ []
+
+abbrev Given : Literal → Type 0
+Given l = Derives complement (with_c ∷ without_c ∷ []) both l
+
+given_a : Given (is a)
+given_a = given (is a) (0, omega arith, refl)
+
+given_b : Given (is b)
+given_b = given (is b) (1, omega arith, refl)
+
+given_c : Given (is c)
+given_c = unit with_c (is c) (0, omega arith, refl) (2, omega arith, refl) (λ m m_in. All-contains (λ n. n ≢ is c → Given (complement n)) with_c m (All-from_recursion (λ n. n ≢ is c → Given (complement n)) with_c (λ d. given_a, (λ d. given_b, (λ d. absurd (d refl), tt)))) m_in)
+
+conflict : Conflicts complement (with_c ∷ without_c ∷ []) both
+conflict = false_clause without_c (1, omega arith, refl) (λ m m_in. All-contains (λ n. Given (complement n)) without_c m (All-from_recursion (λ n. Given (complement n)) without_c (given_a, (given_b, (given_c, tt)))) m_in)
+
+-- the premises of its steps stand before them
+opened : All (λ n. n < 2) (0 ∷ [])
+opened = All-from_recursion (λ n. n < 2) (0 ∷ []) (omega arith, tt)
+
+other_opened : All (λ n. n < 3) (1 ∷ [])
+other_opened = All-from_recursion (λ n. n < 3) (1 ∷ []) (omega arith, tt)
+
+resolved : All (λ n. n < 4) (2 ∷ 3 ∷ [])
+resolved = All-from_recursion (λ n. n < 4) (2 ∷ 3 ∷ []) (omega arith, (omega arith, tt))
+
+follow : Follow [] not_both_derived
+unfolding literal_of
+follow = (tt, (tt, ((opened, λ t t_in. t_in), ((other_opened, λ t t_in. t_in), ((resolved, conflict), tt)))))
+
+right : IsDerivation not_both_derived
+right before x after e = followed [] not_both_derived before x after follow e
+
+assumed : AllByRecursion (AssumesAmong eight) not_both_derived
+assumed = ((6, omega arith, refl), ((7, omega arith, refl), (tt, (tt, (tt, tt)))))
+
+learned_from : IsLearnedFrom eight not_both_derived (literals_of not_both)
+learned_from = record {
+  number = 4;
+  derived = record {
+    there = omega arith;
+    assumptions = λ m rests. All-from_recursion (AssumesAmong eight) not_both_derived assumed m no_inference (rests_there not_both_derived right 4 m (omega arith) rests);
+  };
+  same = refl;
+}
+
+-- the constants are atoms
+a_there : has_term (subterms_of eight) a ≡ true
+unfolding same_term with_subterms with_all_subterms
+a_there = refl
+
+b_there : has_term (subterms_of eight) b ≡ true
+unfolding same_term with_subterms with_all_subterms
+b_there = refl
+
+a_sort : sort_of a ≡ Truth
+unfolding sort_of
+a_sort = refl
+
+b_sort : sort_of b ≡ Truth
+unfolding sort_of
+b_sort = refl
+
+a_is_atom : IsAtomOf eight a
+a_is_atom = record { subterm = (has_term-Decides (subterms_of eight) a).0 a_there; sort = a_sort; not_true = λ e. cc; not_false = λ e. cc }
+
+b_is_atom : IsAtomOf eight b
+b_is_atom = record { subterm = (has_term-Decides (subterms_of eight) b).0 b_there; sort = b_sort; not_true = λ e. cc; not_false = λ e. cc }
+
+are_atoms : All (λ (l : Literal). IsAtomOf eight l.atom) (literals_of not_both)
+unfolding literal_of
+are_atoms = All-from_recursion (λ (l : Literal). IsAtomOf eight l.atom) (literals_of not_both) (a_is_atom, (b_is_atom, tt))
+
+pub spent : IsConflictBudgetSpent eight not_both_derived 1 1 (literals_of not_both ∷ [])
+spent = record {
+  full = refl;
+  carries = refl;
+  learns = record {
+    right = right;
+    derived = All-from_recursion (IsLearnedFrom eight not_both_derived) (literals_of not_both ∷ []) (learned_from, tt);
+    atoms = All-from_recursion (λ clause. All (λ (l : Literal). IsAtomOf eight l.atom) clause) (literals_of not_both ∷ []) (are_atoms, tt);
+    new = (not_both_is_new, tt);
+  };
+}
