@@ -123,8 +123,8 @@ fn judge_alone(
 ///
 /// The two rules of resolution take memory from `alloc`; no other does.
 ///
-/// `Fails` comes exactly where the step is not right; `Memory` where resolution runs out of memory, which tells nothing of the step.
-/// Nothing is changed. Source: Alethe specification, the list of rules.
+/// `Fails` comes exactly where the step is not right; `Memory` where one of these two runs out of memory, which tells nothing of the
+/// step, and with no other rule. Nothing is changed. Source: Alethe specification, the list of rules.
 pub fn judge(
     alloc: Global,
     table: &TermTable,
