@@ -6,7 +6,7 @@ ghost use Rattle.spec_search.specs.Base.{clauses_of};
 ghost use Rattle.spec_search.specs.Models.{AreFormulas};
 ghost use Rattle.term_core.specs.Tables.{IsIn, AreIn, clause_at};
 ghost use Rattle.proof_log.specs.Logs.{IsLogOf};
-ghost use Rattle.clausify.specs.Clausified.{HasClauses, Grows};
+ghost use Rattle.clausify.specs.Clausified.{HasClauses, Grows, AreAllMade};
 ghost use Rattle.clausify.specs.Stating.{Tells};
 ghost use Rattle.clausify.specs.Marks.{marked};
 
@@ -33,6 +33,7 @@ pub fn clauses_of(
     requires root { IsIn table.old root }
     requires log { IsLogOf table.old log.old }
     ensures clauses { IfOk result (λ list. HasClauses table.new log.new (clause_at table.old (root ∷ [])) list) }
+    ensures made { IfOk result (AreAllMade log.old log.new) }
     ensures formulas { OnOk result (AreFormulas (subterms_of (clause_at table.old (root ∷ [])))) }
     ensures grown { OnOk result (Grows (root ∷ []) table.old table.new log.old log.new) }
     ensures same { OnErr result ((table.new ≡ table.old) × (log.new ≡ log.old)) }
@@ -60,6 +61,7 @@ pub fn clauses_of_all(
     requires roots { AreIn table.old roots.now }
     requires log { IsLogOf table.old log.old }
     ensures clauses { IfOk result (λ list. HasClauses table.new log.new (clause_at table.old roots.now) list) }
+    ensures made { IfOk result (AreAllMade log.old log.new) }
     ensures formulas { OnOk result (AreFormulas (subterms_of (clause_at table.old roots.now))) }
     ensures grown { OnOk result (Grows roots.now table.old table.new log.old log.new) }
     ensures same { OnErr result ((table.new ≡ table.old) × (log.new ≡ log.old)) }
@@ -86,6 +88,7 @@ fn stated_of(
     requires roots { AreIn table.old roots.now }
     requires log { IsLogOf table.old log.old }
     ensures clauses { IfOk result (λ list. HasClauses table.new log.new (clause_at table.old roots.now) list) }
+    ensures made { IfOk result (AreAllMade log.old log.new) }
     ensures formulas { OnOk result (AreFormulas (subterms_of (clause_at table.old roots.now))) }
     ensures grows { Grows roots.now table.old table.new log.old log.new }
 {
