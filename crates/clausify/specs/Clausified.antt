@@ -15,8 +15,8 @@ use Rattle.proof_log.specs.Logs.{Logged, assumed, stepped, derivation_in, IsLogO
 abbrev pub stated : TableView → List Logged → StepId → Clause
 stated t log s = conclusion_at (derivation_in t log) s.0
 
--- The numbers are those of the base clauses of terms and of no others, and as many. Where several base clauses are one and the same
--- clause, how often it has a number is left open.
+-- The numbers are those of the base clauses of terms and of no others, and are as many. Where base clauses repeat, which of them have
+-- how many numbers is left open.
 pub record HasClauses (t : TableView) (log : List Logged) (terms : List Term) (steps : List StepId) : Type 0 where
   -- each is a number of the log
   pub there : All (λ s. s.0 < length log) steps
@@ -24,7 +24,7 @@ pub record HasClauses (t : TableView) (log : List Logged) (terms : List Term) (s
   pub base : IsWithin (base_clauses terms) (map (stated t log) steps)
   -- each number has a base clause
   pub only : IsWithin (map (stated t log) steps) (base_clauses terms)
-  -- there are as many numbers as base clauses, each counted as often as it is one
+  -- there are as many numbers as base clauses, equal ones counted each
   pub count : length steps ≡ length (base_clauses terms)
 
 -- what it assumes, if it does, is one of these

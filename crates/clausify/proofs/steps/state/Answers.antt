@@ -1,5 +1,5 @@
 -- The step is right, so it stands last, or there is no memory.
-use Rattle.std.proofs.Common.{◌≡◌, [], ◌∷◌, ◌++◌, List, sym, subst}
+use Rattle.std.proofs.Common.{◌≡◌, [], ◌∷◌, List, sym, subst}
 use Rattle.term_core.specs.declared.ids.TermId.{TermId}
 use Rattle.term_core.specs.Tables.{clause_at}
 use Rattle.proof_log.specs.Logs.{Logged, stepped}
