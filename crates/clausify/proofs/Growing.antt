@@ -13,6 +13,7 @@ use Rattle.proof_log.proofs.Tables.{grown_same}
 use Rattle.clausify.specs.Clausified.{stated, AssumesOneOf, Grows}
 use Rattle.clausify.specs.Stating.{Widens, Says, Tells}
 use Rattle.clausify.proofs.Arguments.{Widens-self}
+use Rattle.clausify.proofs.Making.{Makes-none, Makes-push, Makes-trans}
 
 -- a wider table, over which the log is still right
 pub Grows-wider : (roots : List TermId) (t u : TableView) (log : List Logged) → Widens t u → IsLogOf u log → Grows roots t u log log
@@ -89,7 +90,7 @@ module _ (roots : List TermId) (t u : TableView) (old new : List Logged) (g : Gr
   }
 
 -- a clause more, and its number
-pub Says-push : (roots : List TermId) (t : TableView) (old new : List Logged) (l : Logged) (id : StepId) (steps all : List StepId) (said : List Clause) → Grows roots t t old new → IsLogOf t old → id.0 ≡ length old → new ≡ old ++ l ∷ [] → all ≡ steps ++ id ∷ [] → Says t old steps said → Says t new all (said ++ clause_at t (named l) ∷ [])
+Says-push : (roots : List TermId) (t : TableView) (old new : List Logged) (l : Logged) (id : StepId) (steps all : List StepId) (said : List Clause) → Grows roots t t old new → IsLogOf t old → id.0 ≡ length old → new ≡ old ++ l ∷ [] → all ≡ steps ++ id ∷ [] → Says t old steps said → Says t new all (said ++ clause_at t (named l) ∷ [])
 Says-push roots t old new l id steps all said g right number last pushed says =
     let kept = Says-kept roots t t old new g right steps said says in
     let count : length new ≡ length old + 1 = ap length last ∙ length-append old (l ∷ []) in
@@ -102,21 +103,36 @@ Says-push roots t old new l id steps all said g right number last pushed says =
       same = ap (map (stated t new)) pushed ∙ map-append (stated t new) steps (id ∷ []) ∙ ap₂ (λ (xs : List Clause) (x : Clause). xs ++ x ∷ []) kept.same here;
     }
 
+pub Tells-push : (roots : List TermId) (t : TableView) (old new : List Logged) (l : Logged) (id : StepId) (steps all : List StepId) → Grows roots t t old new → IsLogOf t old → id.0 ≡ length old → new ≡ old ++ l ∷ [] → all ≡ steps ++ id ∷ [] → Tells t t old new steps all (clause_at t (named l) ∷ [])
+Tells-push roots t old new l id steps all g right number last pushed = record {
+  says = λ said says. Says-push roots t old new l id steps all said g right number last pushed says;
+  made = Makes-push old new l id steps all number last pushed;
+}
+
 -- a table that got wider before the clauses came
 module _ (t u v : TableView) (wider : Widens t u) (old new : List Logged) (right : IsLogOf t old) (still : IsLogOf u old) where
   pub Grows-made : Grows [] u v old new → Grows [] t v old new
   Grows-made g = Grows-trans [] t u v old old new (Grows-wider [] t u old wider still) g
 
   pub Tells-made : (steps all : List StepId) (clauses : List Clause) → Tells u v old new steps all clauses → Tells t v old new steps all clauses
-  Tells-made steps all clauses tells said says = tells said (Says-kept [] t u old old (Grows-wider [] t u old wider still) right steps said says)
+  Tells-made steps all clauses tells = record {
+    says = λ said says. tells.says said (Says-kept [] t u old old (Grows-wider [] t u old wider still) right steps said says);
+    made = tells.made;
+  }
 
 -- no clause, then some, then others
 pub Tells-none : (t : TableView) (log : List Logged) (steps : List StepId) → Tells t t log log steps steps []
-Tells-none t log steps said says = subst (Says t log steps) (sym (append-nil said)) says
+Tells-none t log steps = record {
+  says = λ said says. subst (Says t log steps) (sym (append-nil said)) says;
+  made = Makes-none log steps;
+}
 
 pub Tells-trans : (t u v : TableView) (a b c : List Logged) (one two three : List StepId) (cs ds : List Clause) → Tells t u a b one two cs → Tells u v b c two three ds → Tells t v a c one three (cs ++ ds)
-Tells-trans t u v a b c one two three cs ds f g said says = subst (Says v c three) (append_assoc said cs ds) (g (said ++ cs) (f said says))
+Tells-trans t u v a b c one two three cs ds f g = record {
+  says = λ said says. subst (Says v c three) (append_assoc said cs ds) (g.says (said ++ cs) (f.says said says));
+  made = Makes-trans a b c one two three f.made g.made;
+}
 
 -- clauses told where they are the same
 pub Tells-same : (t u : TableView) (old new : List Logged) (steps all : List StepId) (cs ds : List Clause) → cs ≡ ds → Tells t u old new steps all cs → Tells t u old new steps all ds
-Tells-same t u old new steps all cs ds e tells said says = subst (λ (xs : List Clause). Says u new all (said ++ xs)) e (tells said says)
+Tells-same t u old new steps all cs ds e tells = subst (Tells t u old new steps all) e tells

@@ -1,5 +1,6 @@
 -- The lemmas of this crate.
 pub mod Arguments
+pub mod Making
 pub mod Growing
 pub mod Stated
 pub mod Formulas

@@ -1,5 +1,6 @@
 -- The clauses of terms in a log, and what making them leaves. Source: own; Tseitin 1968.
-use Rattle.std.specs.Prelude.{◌≡◌, ◌<◌, List, ◌++◌, length, map, All, Contains}
+use Rattle.std.specs.Prelude.{◌≡◌, ◌+◌, ◌<◌, List, ◌++◌, length, map, All, Contains}
+use Rattle.std.specs.List.{range_with_len}
 use Rattle.spec_terms.specs.Terms.{Term}
 use Rattle.spec_terms.specs.Literals.{Clause}
 use Rattle.spec_proofs.specs.Resolution.{IsWithin}
@@ -14,7 +15,8 @@ use Rattle.proof_log.specs.Logs.{Logged, assumed, stepped, derivation_in, IsLogO
 abbrev pub stated : TableView → List Logged → StepId → Clause
 stated t log s = conclusion_at (derivation_in t log) s.0
 
--- The numbers are those of the base clauses of terms, each of which was made once, and of no others.
+-- The numbers are those of the base clauses of terms and of no others, and are as many. Where base clauses repeat, which of them have
+-- how many numbers is left open.
 pub record HasClauses (t : TableView) (log : List Logged) (terms : List Term) (steps : List StepId) : Type 0 where
   -- each is a number of the log
   pub there : All (λ s. s.0 < length log) steps
@@ -22,7 +24,7 @@ pub record HasClauses (t : TableView) (log : List Logged) (terms : List Term) (s
   pub base : IsWithin (base_clauses terms) (map (stated t log) steps)
   -- each number has a base clause
   pub only : IsWithin (map (stated t log) steps) (base_clauses terms)
-  -- there are as many numbers as base clauses
+  -- there are as many numbers as base clauses, equal ones counted each
   pub count : length steps ≡ length (base_clauses terms)
 
 -- what it assumes, if it does, is one of these
@@ -44,3 +46,10 @@ pub record Grows (roots : List TermId) (t u : TableView) (old new : List Logged)
   pub right : IsLogOf u new
   -- what came and is assumed is a root
   pub assumes : All (AssumesOneOf roots) more
+
+-- The numbers are those of all that came into the log, in order and each once.
+pub record AreAllMade (old new : List Logged) (steps : List StepId) : Type 0 where
+  -- what came is as much as the numbers
+  pub count : length new ≡ length old + length steps
+  -- the numbers follow one another, behind those that were there
+  pub order : map (λ s. s.0) steps ≡ range_with_len (length old) (length steps)

@@ -15,7 +15,7 @@ use Rattle.proof_log.specs.declared.premises.StepId.{StepId}
 use Rattle.proof_log.specs.Logs.{Logged}
 use Rattle.clausify.specs.declared.schemes.Stating.{Stating}
 use Rattle.clausify.specs.declared.schemes.Stating.TheVariants.{Plain, Refuted}
-use Rattle.clausify.specs.Clausified.{stated}
+use Rattle.clausify.specs.Clausified.{stated, AreAllMade}
 
 -- The table has more terms, and the same symbols.
 pub record Widens (old new : TableView) : Type 0 where
@@ -31,9 +31,21 @@ pub record Says (t : TableView) (log : List Logged) (steps : List StepId) (claus
   -- the clauses
   pub same : map (stated t log) steps ≡ clauses
 
--- numbers of these clauses came behind those that were there
-abbrev pub Tells : TableView → TableView → List Logged → List Logged → List StepId → List StepId → List Clause → Type 0
-Tells t u old new before after clauses = (said : List Clause) → Says t old before said → Says u new after (said ++ clauses)
+-- Behind the numbers that were there stand those of all that came into the log, in order and each once.
+pub record Makes (old new : List Logged) (before after : List StepId) : Type 0 where
+  -- the numbers that came
+  pub more : List StepId
+  -- they stand behind those that were there
+  pub steps : after ≡ before ++ more
+  -- nothing else came into the log
+  pub all : AreAllMade old new more
+
+-- These clauses came into the log, and their numbers stand behind those that were there.
+pub record Tells (t u : TableView) (old new : List Logged) (before after : List StepId) (clauses : List Clause) : Type 0 where
+  -- what the numbers say
+  pub says : (said : List Clause) → Says t old before said → Says u new after (said ++ clauses)
+  -- nothing came that has no number among them
+  pub made : Makes old new before after
 
 -- what stands before the arguments of a term
 abbrev pub head_of : Term → Head

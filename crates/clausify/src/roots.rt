@@ -6,7 +6,7 @@ ghost use Rattle.spec_search.specs.Base.{clauses_of};
 ghost use Rattle.spec_search.specs.Models.{AreFormulas};
 ghost use Rattle.term_core.specs.Tables.{IsIn, AreIn, clause_at};
 ghost use Rattle.proof_log.specs.Logs.{IsLogOf};
-ghost use Rattle.clausify.specs.Clausified.{HasClauses, Grows};
+ghost use Rattle.clausify.specs.Clausified.{HasClauses, Grows, AreAllMade};
 ghost use Rattle.clausify.specs.Stating.{Tells};
 ghost use Rattle.clausify.specs.Marks.{marked};
 
@@ -20,7 +20,16 @@ use std::slice;
 use term_core::{TermId, TermTable};
 use world_io::NoMemory;
 
-/// Makes the clauses of a term: `clauses_of_all` for one term.
+/// Makes the clauses of a term, which say together that it is true: `clauses_of_all` for one term.
+///
+/// The term is assumed, and it and each of its subterms get the clauses that their rules without premises state, a shared one once.
+/// Gives the numbers of these clauses, and so of all that came into the log, in order.
+///
+/// The log must be one over the table. Negations that the clauses need come into the table. Each subterm has a head that takes its
+/// arguments, all of sort Bool, so truths that meet the clauses give each its value.
+///
+/// Where it is called for one term after the other, a subterm that they share gets its clauses again for each, and each call takes time
+/// and memory in proportion to the number of its term, however few subterms that has. So several terms want `clauses_of_all`.
 ///
 /// `NoMemory` comes where a clause or a term of it finds no memory; then table and log are as they were.
 /// Source: own; Tseitin 1968; Alethe specification, the rules without premises.
@@ -33,6 +42,7 @@ pub fn clauses_of(
     requires root { IsIn table.old root }
     requires log { IsLogOf table.old log.old }
     ensures clauses { IfOk result (λ list. HasClauses table.new log.new (clause_at table.old (root ∷ [])) list) }
+    ensures made { IfOk result (AreAllMade log.old log.new) }
     ensures formulas { OnOk result (AreFormulas (subterms_of (clause_at table.old (root ∷ [])))) }
     ensures grown { OnOk result (Grows (root ∷ []) table.old table.new log.old log.new) }
     ensures same { OnErr result ((table.new ≡ table.old) × (log.new ≡ log.old)) }
@@ -41,7 +51,8 @@ pub fn clauses_of(
 }
 
 /// Makes the clauses of terms, which say together that each of them is true: each term is assumed, and each of their subterms gets
-/// the clauses that its rules without premises state, a shared one once. Gives the numbers of these clauses in the log.
+/// the clauses that its rules without premises state, a shared one once. Gives the numbers of these clauses, and so of all that came
+/// into the log, in order.
 ///
 /// The log must be one over the table. Negations that the clauses need come into the table. Each subterm has a head that takes its
 /// arguments, all of sort Bool, so truths that meet the clauses give each its value.
@@ -60,6 +71,7 @@ pub fn clauses_of_all(
     requires roots { AreIn table.old roots.now }
     requires log { IsLogOf table.old log.old }
     ensures clauses { IfOk result (λ list. HasClauses table.new log.new (clause_at table.old roots.now) list) }
+    ensures made { IfOk result (AreAllMade log.old log.new) }
     ensures formulas { OnOk result (AreFormulas (subterms_of (clause_at table.old roots.now))) }
     ensures grown { OnOk result (Grows roots.now table.old table.new log.old log.new) }
     ensures same { OnErr result ((table.new ≡ table.old) × (log.new ≡ log.old)) }
@@ -86,6 +98,7 @@ fn stated_of(
     requires roots { AreIn table.old roots.now }
     requires log { IsLogOf table.old log.old }
     ensures clauses { IfOk result (λ list. HasClauses table.new log.new (clause_at table.old roots.now) list) }
+    ensures made { IfOk result (AreAllMade log.old log.new) }
     ensures formulas { OnOk result (AreFormulas (subterms_of (clause_at table.old roots.now))) }
     ensures grows { Grows roots.now table.old table.new log.old log.new }
 {

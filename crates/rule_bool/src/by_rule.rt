@@ -1,9 +1,10 @@
 //! Judges a step by the rule that it names.
 
-ghost use Rattle.std.specs.Prelude.{◌≢◌, map, All, MatchResult};
+ghost use Rattle.std.specs.Prelude.{◌≢◌, map, All, Err, MatchResult};
 ghost use Rattle.spec_proofs.specs.declared.Rule.TheVariants as rules;
 ghost use Rattle.spec_proofs.specs.Rules.{IsRight};
 ghost use Rattle.term_core.specs.Tables.{AreIn, clause_at};
+ghost use Rattle.rule_bool.specs.declared.rule_stop.RuleStop.TheVariants as stops;
 ghost use Rattle.rule_bool.specs.Resolvents.{Stops};
 ghost use Rattle.rule_bool.specs.Schemes.{IsTurn};
 
@@ -122,8 +123,8 @@ fn judge_alone(
 ///
 /// The two rules of resolution take memory from `alloc`; no other does.
 ///
-/// `Fails` comes exactly where the step is not right; `Memory` where resolution runs out of memory, which tells nothing of the step.
-/// Nothing is changed. Source: Alethe specification, the list of rules.
+/// `Fails` comes exactly where the step is not right; `Memory` where one of these two runs out of memory, which tells nothing of the
+/// step, and with no other rule. Nothing is changed. Source: Alethe specification, the list of rules.
 pub fn judge(
     alloc: Global,
     table: &TermTable,
@@ -133,8 +134,9 @@ pub fn judge(
 ) -> Result<(), RuleStop>
     requires premises { All (AreIn table.now) premises.now }
     requires clause { AreIn table.now clause.now }
-    ensures { MatchResult result (λ _. IsRight rule (map (clause_at table.now) premises.now) (clause_at table.now clause.now))
+    ensures exact { MatchResult result (λ _. IsRight rule (map (clause_at table.now) premises.now) (clause_at table.now clause.now))
         (λ stop. Stops stop (IsRight rule (map (clause_at table.now) premises.now) (clause_at table.now clause.now))) }
+    ensures alone { rule ≢ rules.Resolution → rule ≢ rules.ThResolution → result ≢ Err stops.Memory }
 {
     match rule {
         Rule::Resolution => resolution(alloc, table, premises, clause),

@@ -2,8 +2,8 @@
 //!
 //! There is a call for each rule, and `judge` calls the one of a rule that is named. The rules on one connective are judged by the
 //! table of schemes of `spec_proofs`: `stated` and `turned` of `schemes.rt`. A rule on one premise, or on none, looks for terms by
-//! their numbers and takes no memory. `resolution` takes literals, over which `resolves` propagates units in time in proportion to
-//! them; a plain slow body beside it is what tests compare it with.
+//! their numbers and takes no memory. `resolution` takes terms by their numbers too, and makes literals of them, over which
+//! `resolves` propagates units in time in proportion to them; a plain slow body beside it is what tests compare it with.
 #![tactic(auto)]
 
 mod by_rule;

@@ -36,7 +36,8 @@ pub(crate) fn without_sign(table: &TermTable, positive: bool, id: TermId) -> Opt
 /// Takes a leading `not` off a term, or else puts one on, and gives what is left of that without the sign.
 ///
 /// A negation that is put on need not be the table's, and is not made. Where `positive` is false, the term itself is left of it; where
-/// `positive` is true, there is nothing, though that negation, as it stands, would be left.
+/// `positive` is true, there is nothing, though that negation, as it stands, would be left. It would be a term of the head `Not`, and no
+/// caller has that head: `turned` takes the others alone (`IsTurning`).
 pub(crate) fn turned_without_sign(table: &TermTable, positive: bool, id: TermId) -> Option<TermId>
     requires { IsIn table.now id }
     ensures { MatchOption result (HasNoTurn positive (term_at table.now id)) (IsSigned table.now positive (flipped (term_at table.now id))) }

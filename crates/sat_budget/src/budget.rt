@@ -1,6 +1,6 @@
 //! The budget of conflicts of one check.
 
-ghost use Rattle.std.specs.Prelude.{◌≡◌, ◌<◌, ◌≤◌, [], length, slice_index_or, IfOk};
+ghost use Rattle.std.specs.Prelude.{◌≡◌, ◌<◌, ◌≤◌, [], length, slice_index_or, IfOk, MatchResult};
 ghost use Rattle.sat_budget.specs.Budgets.{Learns};
 
 use crate::limits::{BudgetStop, Limits};
@@ -33,9 +33,9 @@ impl Model for Budget {
 impl Budget {
     /// Makes the budget of a new check, which has learned nothing.
     ///
-    /// `NoMemory` would come where the list of clauses found no memory; an empty one takes none. Source: own.
+    /// `NoMemory` never comes, as an empty list of clauses takes no memory. Source: own.
     pub fn new(alloc: Global, limits: &Limits) -> Result<Budget, NoMemory>
-        ensures { IfOk result (λ b. b ≡ record { limit = limits.now.conflicts; learned = [] }) }
+        ensures { MatchResult result (λ b. b ≡ record { limit = limits.now.conflicts; learned = [] }) (λ _. ⊥) }
     {
         Ok(Budget {
             alloc,
@@ -78,7 +78,7 @@ impl Budget {
         self.learned[n as usize].as_slice()
     }
 
-    /// Makes a copy, which is spent as far and keeps the same allocator.
+    /// Makes a copy, which is spent as far.
     ///
     /// `NoMemory` comes where a clause or its place find no memory. Source: own.
     pub fn copy(&self) -> Result<Budget, NoMemory>

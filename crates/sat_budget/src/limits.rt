@@ -5,16 +5,19 @@ ghost use Rattle.std.specs.Prelude.{◌≡◌};
 use std::alloc::{AllocError, AllocFailed};
 use thiserror::Error;
 
-/// Limits what a check may spend. A limit that is reached ends the check with the answer `unknown`.
+/// Limits what a check may spend, and how much a script may ask to be held.
 ///
-/// Source: own; SMT-LIB 2.6, section 4.1.7, for the option of such a limit.
+/// Each check may spend `conflicts` and `pivots` anew; one that would pass either ends with the answer `unknown`. `terms` is not spent:
+/// a command that would pass it is refused with the fault `Full`, and no check ends by it. Nothing takes `pivots` and `terms` yet.
+/// Source: own; SMT-LIB 2.6, section 4.1.7, for the option of a limit on what is spent.
 #[derive(Clone, Copy, Debug, PartialEq, Eq)]
 pub struct Limits {
     /// How many conflicts may be learned from, each as a clause, from 0.
     pub conflicts: u64,
     /// How many pivots arithmetic may make, from 0.
     pub pivots: u64,
-    /// How many terms there may be at once, from 0.
+    /// How many different subterms the terms of one command may have, all together; and how many names of a script may be live at once.
+    /// Each from 0.
     pub terms: u64,
 }
 

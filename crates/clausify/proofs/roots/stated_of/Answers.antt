@@ -2,10 +2,11 @@
 use Rattle.std.proofs.Common.{◌++◌, List, [], Bool, sym, subst}
 use Rattle.term_core.specs.Tables.{clause_at}
 use Rattle.proof_log.specs.declared.premises.StepId.{StepId}
-use Rattle.clausify.specs.Clausified.{HasClauses, Grows}
+use Rattle.clausify.specs.Clausified.{HasClauses, Grows, AreAllMade}
 use Rattle.clausify.specs.Stating.{Says}
 use Rattle.clausify.proofs.Growing.{Grows-self, Grows-trans, Grows-weaker}
 use Rattle.clausify.proofs.Bases.{alone, marked_clauses, has_clauses, Says-none}
+use Rattle.clausify.proofs.Making.{Makes-trans, all_made}
 use Rattle.clausify.proofs.roots.stated_of.Goals as goal
 use Rattle.clausify.proofs.roots.stated_of.Goals.{After-state_marked}
 
@@ -34,6 +35,16 @@ returns-clause-clauses c =
     let marks = c.in_ok-marks.marks.items in
     let units = alone (clause_at t roots) in
     let none = Says-none t c.args.log.now c.new-steps.result.items c.new-steps.ensures.items in
-    let assumed = c.in_ok-assume_each.ensures.tells [] none in
-    let stated : Says u log c.state_marked.new.steps.items (units ++ marked_clauses marks t.terms) = subst (λ (ms : List Bool). Says u log c.state_marked.new.steps.items (units ++ marked_clauses ms t.terms)) c.deref.ensures.value (c.in_ok-state_marked.ensures.tells units assumed) in
+    let assumed = c.in_ok-assume_each.ensures.tells.says [] none in
+    let stated : Says u log c.state_marked.new.steps.items (units ++ marked_clauses marks t.terms) = subst (λ (ms : List Bool). Says u log c.state_marked.new.steps.items (units ++ marked_clauses ms t.terms)) c.deref.ensures.value (c.in_ok-state_marked.ensures.tells.says units assumed) in
     subst (λ (ss : List StepId). HasClauses u log (clause_at t roots) ss) (sym c.from.ensures) (has_clauses t u log roots marks c.state_marked.new.steps.items c.in_ok-marks.ensures (c.subterms_are_least.ensures.once (clause_at t roots)) stated)
+
+pub returns-clause-made : goal.returns-clause-made
+returns-clause-made c =
+    let old = c.args.log.now in
+    let log = c.state_marked.new.log in
+    let none = c.new-steps.result.items in
+    let some = c.assume_each.new.steps.items in
+    let steps = c.state_marked.new.steps.items in
+    let made = Makes-trans old c.assume_each.new.log log none some steps c.in_ok-assume_each.ensures.tells.made c.in_ok-state_marked.ensures.tells.made in
+    subst (λ (ss : List StepId). AreAllMade old log ss) (sym c.from.ensures) (all_made old log none steps c.new-steps.ensures.items made)

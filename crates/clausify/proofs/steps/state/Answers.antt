@@ -1,11 +1,11 @@
 -- The step is right, so it stands last, or there is no memory.
-use Rattle.std.proofs.Common.{◌≡◌, [], ◌∷◌, ◌++◌, List, sym, subst}
+use Rattle.std.proofs.Common.{◌≡◌, [], ◌∷◌, List, sym, subst}
 use Rattle.term_core.specs.declared.ids.TermId.{TermId}
 use Rattle.term_core.specs.Tables.{clause_at}
 use Rattle.proof_log.specs.Logs.{Logged, stepped}
 use Rattle.clausify.specs.Clausified.{Grows}
-use Rattle.clausify.specs.Stating.{Says}
-use Rattle.clausify.proofs.Growing.{Grows-self, Grows-push, Says-push}
+use Rattle.clausify.specs.Stating.{Tells}
+use Rattle.clausify.proofs.Growing.{Grows-self, Grows-push, Tells-push}
 use Rattle.clausify.proofs.steps.state.Goals as goal
 use Rattle.clausify.proofs.steps.state.Goals.{In-Ok}
 
@@ -20,13 +20,13 @@ pub returns-in_ok-push-in-Ok-clause-grows : goal.returns-in_ok-push-in-Ok-clause
 returns-in_ok-push-in-Ok-clause-grows c = grows (goal.at.returns-in_ok-push-in-Ok-clause-grows c).In-Ok
 
 pub returns-in_ok-push-in-Ok-clause-tells : goal.returns-in_ok-push-in-Ok-clause-tells
-returns-in_ok-push-in-Ok-clause-tells c said says =
+returns-in_ok-push-in-Ok-clause-tells c =
     let t = c.args.table.now in
     let h = c.in-Ok.ensures in
     let l = stepped c.args.rule c.from.result c.from-2.result in
-    subst (λ (ids : List TermId). Says t c.add.new.self c.push.new.self.items (said ++ clause_at t ids ∷ [])) c.from-2.ensures
-    (Says-push [] t c.args.log.now c.add.new.self l c.in-Ok.number c.args.steps.now.items c.push.new.self.items said
-    (grows (goal.at.returns-in_ok-push-in-Ok-clause-tells c).In-Ok) c.requires.log h.number h.last c.in_ok-push-in-Ok.ensures.items says)
+    subst (λ (ids : List TermId). Tells t t c.args.log.now c.add.new.self c.args.steps.now.items c.push.new.self.items (clause_at t ids ∷ [])) c.from-2.ensures
+    (Tells-push [] t c.args.log.now c.add.new.self l c.in-Ok.number c.args.steps.now.items c.push.new.self.items
+    (grows (goal.at.returns-in_ok-push-in-Ok-clause-tells c).In-Ok) c.requires.log h.number h.last c.in_ok-push-in-Ok.ensures.items)
 
 pub returns-in-Err-Memory-clause-grows : goal.returns-in-Err-Memory-clause-grows
 returns-in-Err-Memory-clause-grows c =

@@ -36,7 +36,7 @@ returns-in_err-judge c =
     let stop = c.in_err-judge.field-0.0 in
     let there : AreOf log s.premises = subst (λ ss. AreOf log ss) c.as_slice.ensures c.in_ok-premises.ensures.0 in
     let copied : c.deref.result.now ≡ clauses_in log s.premises = c.deref.ensures.value ∙ c.in_ok-premises.ensures.1 ∙ ap (clauses_in log) c.as_slice.ensures in
-    let verdict : Stops stop (IsRight s.rule (map (clause_at t) (clauses_in log s.premises)) (clause_at t s.clause)) = rw (copied, c.as_slice-2.ensures) at c.in_err-judge.ensures in
+    let verdict : Stops stop (IsRight s.rule (map (clause_at t) (clauses_in log s.premises)) (clause_at t s.clause)) = rw (copied, c.as_slice-2.ensures) at c.in_err-judge.ensures.exact in
     judged t log (stepped s.rule s.premises s.clause) c.from_residual-in_err-judge.result (fault_of stop) c.from_residual-in_err-judge.ensures.1
     (refused t log s.rule s.premises s.clause stop there verdict)
 
@@ -47,5 +47,5 @@ returns c =
     let s = c.args.step.now in
     let there : AreOf log s.premises = subst (λ ss. AreOf log ss) c.as_slice.ensures c.in_ok-premises.ensures.0 in
     let copied : c.deref.result.now ≡ clauses_in log s.premises = c.deref.ensures.value ∙ c.in_ok-premises.ensures.1 ∙ ap (clauses_in log) c.as_slice.ensures in
-    let right : IsRight s.rule (map (clause_at t) (clauses_in log s.premises)) (clause_at t s.clause) = rw (copied, c.as_slice-2.ensures) at c.in_ok-judge.ensures in
+    let right : IsRight s.rule (map (clause_at t) (clauses_in log s.premises)) (clause_at t s.clause) = rw (copied, c.as_slice-2.ensures) at c.in_ok-judge.ensures.exact in
     follows_there t log s.rule s.premises s.clause there right
