@@ -95,6 +95,17 @@ pub fn derivations_are_sound()
     spec_proofs::laws::rules_are_sound();
 }
 
+/// States that learned clauses follow from their terms: each has the literals of a clause that is true under an interpretation
+/// which makes the terms true, if it gives each term of the derivation's clauses a truth value. Source: own.
+pub fn learned_clauses_are_true()
+    ensures { (terms : List Term) (d : Derivation) (learned : List (List Literal)) (i : Interpretation) → AreLearned terms d learned
+        → All (λ x. All (HasTruth i) (conclusion x)) d → All (λ t. term_true i t ≡ true) terms
+        → (c : List Literal) → Contains learned c
+        → (clause : Clause) × (literals_of clause ≡ c) × (clause_true i clause ≡ true) }
+{
+    derivations_are_sound();
+}
+
 /// States that truths which meet the base clauses of terms give each subterm the value of its head at its arguments'
 /// values; and that the terms are true under each interpretation that gives the subterms with a declared symbol in front
 /// the truths that these have. Source: own; Tseitin 1968.
