@@ -32,7 +32,7 @@ for name in $("$executable" --list | sed -n 's/: test$//p'); do
         output=$(REFUSE=$n LD_PRELOAD=$library timeout 60 "$executable" "$name" 2>&1) || status=$?
         if [ "$status" -eq 0 ]; then
             unchanged=$((unchanged + 1))
-        elif grep -qE '^(error|memory): .*(Memory|AllocError)|left: .*Memory' <<<"$output"; then
+        elif grep -qE '^(error|memory): .*(Memory|AllocError|AllocFailed)|left: .*Memory' <<<"$output"; then
             out_of_memory=$((out_of_memory + 1))
         elif grep -qE 'assertion.* failed|^test stopped at ' <<<"$output"; then
             refused=$((refused + 1))
