@@ -1,19 +1,21 @@
 -- From what was read to the verdict.
 use Rattle.std.proofs.Common.{◌≡◌, ◌≤◌, ℕ, inl, inr, List, [], length, map, Option, Some, None, refl, sym, ap, ◌∙◌, subst, arith}
 use Rattle.std.specs.Prelude.{Result, Ok, Err, OnOk}
+use Rattle.spec_terms.specs.Reading.{scope_of}
 use Rattle.spec_scripts.specs.Stack.{Stack, IsCurrent, HasNoCheck}
 use Rattle.spec_proofs.specs.declared.ProofKind.TheVariants.{NoSuchCheck}
 use Rattle.spec_proofs.specs.Commands.{Known, known_at}
 use Rattle.spec_proofs.specs.Faults.{Fault}
 use Rattle.spec_proofs.specs.Accepted.{IsVerdict}
 use Rattle.term_core.specs.Tables.{term_at, AreIn}
+use Rattle.sort_check.specs.Definitions.{no_definitions, scope_at}
 use Rattle.alethe_check.specs.declared.ProofStop.{ProofStop}
 use Rattle.alethe_check.specs.declared.ProofStop.TheVariants as stops
 use Rattle.alethe_check.specs.declared.held.Held.{Held}
-use Rattle.alethe_check.specs.declared.script.Script.{Script}
+use Rattle.assertion_stack.specs.declared.script.Script.{Script}
 use Rattle.alethe_check.specs.declared.stop.Found.{Found}
 use Rattle.alethe_check.specs.Views.{found_view}
-use Rattle.alethe_check.specs.Scripts.{IsStack}
+use Rattle.assertion_stack.specs.Scripts.{IsStack}
 use Rattle.alethe_check.specs.Holding.{known_view, entries_of, IsSound}
 use Rattle.alethe_check.specs.Judging.{IsJudgedFrom}
 use Rattle.alethe_check.specs.Verdicts.{Answers, Refuses, fault_view}
@@ -34,14 +36,14 @@ module _ (script : List ℕ) (k : ℕ) (proof : List ℕ) where
   pub no_check : (r : ProofStop) → HasNoCheck script k → Refuses proof 0 NoSuchCheck r → Answers script k proof (Err r)
   no_check r h s = answered record { offset = 0; kind = NoSuchCheck } r (inr (h, refl)) s
 
-  module _ (x : Script) (s : Stack) (current : IsCurrent script k s) (stated : IsStack x s) (h : Held) (table : h.table ≡ x.table) (asserted : h.asserted ≡ x.asserted) (names : h.names ≡ []) (clauses : h.clauses.items ≡ []) where
+  module _ (x : Script) (s : Stack) (current : IsCurrent script k s) (stated : IsStack x s) (h : Held) (table : h.table ≡ x.table) (definitions : h.definitions ≡ no_definitions) (asserted : h.asserted ≡ x.asserted) (names : h.names ≡ []) (clauses : h.clauses.items ≡ []) where
     -- what is known at the check
     known : known_view h ≡ known_at s
     known =
-        let syms = ap (λ t. t.symbols) table ∙ sym stated.symbols in
+        let scope : scope_at h.table h.definitions ≡ scope_of s.symbols = (λ i. scope_at (table i) (definitions i)) ∙ ap scope_of (sym stated.symbols) in
         let terms : map (term_at h.table) h.asserted ≡ map (term_at x.table) x.asserted = λ i. map (term_at (table i)) (asserted i) in
         let entries : entries_of h.table h.names h.clauses.items ≡ [] = λ i. entries_of h.table (names i) (clauses i) in
-        λ i. record { symbols = syms i; asserted = (terms ∙ sym stated.terms) i; entries = entries i }
+        λ i. record { scope = scope i; asserted = (terms ∙ sym stated.terms) i; entries = entries i }
 
     verdict : (found : Option Fault) → IsJudgedFrom (known_view h) proof found → IsVerdict script k proof found
     verdict found j =
@@ -57,9 +59,10 @@ module _ (script : List ℕ) (k : ℕ) (proof : List ℕ) where
     pub fault_told : (f : Found) (r : ProofStop) → IsJudgedFrom (known_view h) proof (Some (found_view f)) → Refuses proof f.offset f.kind r → Answers script k proof (Err r)
     fault_told f r j s = answered (found_view f) r (verdict (Some (found_view f)) j) s
 
-pub nothing_sound : (h : Held) (x : Script) → h.table ≡ x.table → h.asserted ≡ x.asserted → h.names ≡ [] → h.clauses.items ≡ [] → AreIn x.table x.asserted → IsSound h
-nothing_sound h x table asserted names clauses within = record {
+pub nothing_sound : (h : Held) (x : Script) → h.table ≡ x.table → h.definitions ≡ no_definitions → h.asserted ≡ x.asserted → h.names ≡ [] → h.clauses.items ≡ [] → AreIn x.table x.asserted → IsSound h
+nothing_sound h x table definitions asserted names clauses within = record {
   paired = (λ i. length (names i)) ∙ sym (λ i. length (clauses i));
+  definitions = rw definitions (λ k d l. absurd (omega arith));
   asserted = subst (λ t. AreIn t h.asserted) (sym table) (subst (λ ids. AreIn x.table ids) (sym asserted) within);
   clauses = rw clauses (λ k d l. absurd (omega arith));
 }

@@ -6,12 +6,14 @@ use Rattle.spec_text.specs.Bytes.{Name, among}
 use Rattle.spec_terms.specs.Terms.{Term}
 use Rattle.spec_proofs.specs.Commands.{Entry, Known}
 use Rattle.spec_proofs.specs.Known.{clause_of, entry_names}
-use Rattle.spec_proofs.specs.Judging.{with_entry}
+use Rattle.spec_proofs.specs.Judging.{with_entry, with_name}
 use Rattle.term_core.specs.declared.ids.TermId.{TermId}
 use Rattle.term_core.specs.NameLists.{HaveNoTwice}
 use Rattle.term_core.specs.Tables.{TableView, term_at, clause_at, AreIn, Extends}
 use Rattle.term_core.proofs.NamesApart.{bytes_same, same_bytes, not_there}
 use Rattle.term_core.proofs.TermsExtend.{clause_at-kept}
+use Rattle.sort_check.specs.Definitions.{DefinitionsView, defined_by, scope_at}
+use Rattle.sort_check.proofs.Defined.{defined_push, scope_kept}
 use Rattle.alethe_check.specs.Holding.{entries_of}
 
 module _ (t : TableView) where
@@ -53,12 +55,33 @@ module _ (t : TableView) where
   entries_push (m ∷ ns) (d ∷ cs) n c l = ap (λ es. (let e : Entry = record { name = m; clause = clause_at t d } in e) ∷ es) (entries_push ns cs n c (omega arith))
 
   -- what is known, with one name more
-  pub known_more : (asserted : List Term) (ns next : List Name) (cs more : List (List TermId)) (n : Name) (c : List TermId) → length ns ≡ length cs → next ≡ ns ++ n ∷ [] → more ≡ cs ++ c ∷ []
-      → (let k : Known = record { symbols = t.symbols; asserted = asserted; entries = entries_of t next more } in k) ≡ with_entry (record { symbols = t.symbols; asserted = asserted; entries = entries_of t ns cs }) n (clause_at t c)
-  known_more asserted ns next cs more n c l a b =
+  pub known_more : (d : DefinitionsView) (asserted : List Term) (ns next : List Name) (cs more : List (List TermId)) (n : Name) (c : List TermId) → length ns ≡ length cs → next ≡ ns ++ n ∷ [] → more ≡ cs ++ c ∷ []
+      → (let k : Known = record { scope = scope_at t d; asserted = asserted; entries = entries_of t next more } in k) ≡ with_entry (record { scope = scope_at t d; asserted = asserted; entries = entries_of t ns cs }) n (clause_at t c)
+  known_more d asserted ns next cs more n c l a b =
       let e : entries_of t next more ≡ entries_of t ns cs ++ (record { name = n; clause = clause_at t c }) ∷ [] =
       (λ i. entries_of t (a i) (b i)) ∙ entries_push ns cs n c l in
-      λ i. record { symbols = t.symbols; asserted = asserted; entries = e i }
+      λ i. record { scope = scope_at t d; asserted = asserted; entries = e i }
+
+-- what is known, with one definition more
+pub known_defined : (t : TableView) (d next : DefinitionsView) (asserted : List Term) (entries : List Entry) (n : Name) (id : TermId) → length d.names ≡ length d.terms → next ≡ record { names = d.names ++ n ∷ []; terms = d.terms ++ id ∷ [] }
+    → (let k : Known = record { scope = scope_at t next; asserted = asserted; entries = entries } in k) ≡ with_name (record { scope = scope_at t d; asserted = asserted; entries = entries }) n (term_at t id)
+known_defined t d next asserted entries n id l e =
+    let ds : defined_by t next.names next.terms ≡ defined_by t d.names d.terms ++ (n, term_at t id) ∷ [] = (λ i. defined_by t (e i).names (e i).terms) ∙ defined_push t d.names d.terms n id l in
+    λ i. record { scope = record { symbols = t.symbols; defined = ds i }; asserted = asserted; entries = entries }
+
+-- the names that are defined
+pub names_defined : (t : TableView) (ns : List Name) (ids : List TermId) → length ns ≡ length ids → map (λ (x : Name × Term). x.0) (defined_by t ns ids) ≡ ns
+names_defined t [] [] l = refl
+names_defined t [] (id ∷ ids) l = absurd (omega arith)
+names_defined t (n ∷ ns) [] l = absurd (omega arith)
+names_defined t (n ∷ ns) (id ∷ ids) l = ap (λ ms. n ∷ ms) (names_defined t ns ids (omega arith))
+
+-- as many of them
+pub count_defined : (t : TableView) (ns : List Name) (ids : List TermId) → length ns ≡ length ids → length (defined_by t ns ids) ≡ length ns
+count_defined t [] [] l = refl
+count_defined t [] (id ∷ ids) l = absurd (omega arith)
+count_defined t (n ∷ ns) [] l = absurd (omega arith)
+count_defined t (n ∷ ns) (id ∷ ids) l = omega (arith, count_defined t ns ids (omega arith))
 
 module _ (old new : TableView) (grows : Extends old new) where
   entries_kept : (ns : List Name) (cs : List (List TermId)) → All (λ c. AreIn old c) cs → entries_of new ns cs ≡ entries_of old ns cs
@@ -70,12 +93,13 @@ module _ (old new : TableView) (grows : Extends old new) where
       λ i. (record { name = n; clause = one i }) ∷ rest i
 
   -- what is known is the same in a table that grew
-  pub known_kept : (ids : List TermId) (ns : List Name) (cs : List (List TermId)) → new.symbols ≡ old.symbols → AreIn old ids → All (λ c. AreIn old c) cs
-      → (let k : Known = record { symbols = new.symbols; asserted = map (term_at new) ids; entries = entries_of new ns cs } in k) ≡ record { symbols = old.symbols; asserted = map (term_at old) ids; entries = entries_of old ns cs }
-  known_kept ids ns cs s asserted clauses =
+  pub known_kept : (d : DefinitionsView) (ids : List TermId) (ns : List Name) (cs : List (List TermId)) → new.symbols ≡ old.symbols → AreIn old d.terms → AreIn old ids → All (λ c. AreIn old c) cs
+      → (let k : Known = record { scope = scope_at new d; asserted = map (term_at new) ids; entries = entries_of new ns cs } in k) ≡ record { scope = scope_at old d; asserted = map (term_at old) ids; entries = entries_of old ns cs }
+  known_kept d ids ns cs s there asserted clauses =
       let a : map (term_at new) ids ≡ map (term_at old) ids = clause_at-kept old new grows ids asserted in
       let c = entries_kept ns cs clauses in
-      λ i. record { symbols = s i; asserted = a i; entries = c i }
+      let sc = scope_kept old new d (record { extends = grows; symbols = s }) there in
+      λ i. record { scope = sc i; asserted = a i; entries = c i }
 
 pub is_among : (ns : List Name) (n : Name) (k : ℕ) → k < length ns → get_or ns k [] ≡ n → among ns n ≡ true
 is_among ns n k l e = go (among ns n) refl

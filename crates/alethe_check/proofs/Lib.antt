@@ -1,9 +1,6 @@
 -- The lemmas of this crate.
-pub mod CommandTrees
-pub mod Stacks
 pub mod Splitting
 pub mod Keywords
-pub mod Members
 pub mod Entries
 pub mod Faults
 pub mod PremiseLists
@@ -18,3 +15,4 @@ pub mod AllCommands
 pub mod Empties
 pub mod Loading
 pub mod Answering
+pub mod Defining

@@ -13,10 +13,10 @@ use Rattle.smt_lexer.specs.declared.Refused.TheVariants as refusals
 use Rattle.smt_sexpr.specs.declared.sexpr.Sexpr.{Sexpr}
 use Rattle.smt_sexpr.specs.Items.{tree_of}
 use Rattle.smt_sexpr.specs.Reads.{Reads, Breaks}
-use Rattle.alethe_check.specs.declared.script.Script.{Script}
-use Rattle.alethe_check.specs.declared.script.Took.{Took}
-use Rattle.alethe_check.specs.declared.script.Took.TheVariants as took
-use Rattle.alethe_check.specs.Scripts.{IsStack, Steps, effect_meant}
+use Rattle.assertion_stack.specs.declared.script.Script.{Script}
+use Rattle.assertion_stack.specs.declared.script.Took.{Took}
+use Rattle.assertion_stack.specs.declared.script.Took.TheVariants as took
+use Rattle.assertion_stack.specs.Scripts.{IsStack, Steps, effect_meant}
 use Rattle.alethe_check.specs.Loads.{Loads}
 use Rattle.alethe_check.proofs.Rows.{nothing_first, read_first}
 

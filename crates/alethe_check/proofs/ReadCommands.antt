@@ -6,14 +6,15 @@ use Rattle.spec_text.specs.Bytes.{Name}
 use Rattle.spec_text.specs.Trees.{Tree, Trees, none, more, list, offset_of}
 use Rattle.spec_text.specs.Shapes.{Word}
 use Rattle.spec_text.specs.Answers.{◌>>=◌}
-use Rattle.spec_terms.specs.Terms.{Term}
+use Rattle.spec_terms.specs.Terms.{Truth, Term}
+use Rattle.spec_scripts.specs.Stack.{sort_in}
 use Rattle.spec_terms.specs.Literals.{Clause}
 use Rattle.spec_proofs.specs.declared.Rule.{Rule}
 use Rattle.spec_proofs.specs.declared.ProofKind.{ProofKind}
 use Rattle.spec_proofs.specs.declared.ProofKind.TheVariants.{BadShape}
 use Rattle.spec_proofs.specs.Faults.{Fault, Read, wrong}
-use Rattle.spec_proofs.specs.Commands.{Known, Command, Assume, Step, Shape, assumes, steps, shape_of}
-use Rattle.spec_proofs.specs.Known.{fresh_name, clause_in, known_rule, premises_of, term_alone, read_shape, shaped, command_of}
+use Rattle.spec_proofs.specs.Commands.{Known, Command, Assume, Step, Define, Shape, assumes, steps, defines, shape_of}
+use Rattle.spec_proofs.specs.Known.{fresh_name, new_term_name, in_proof, clause_in, name_room, known_rule, premises_of, term_alone, read_shape, shaped, command_of}
 use Rattle.alethe_check.specs.declared.stop.Stop.{Stop}
 use Rattle.alethe_check.specs.declared.stop.Stop.TheVariants as stops
 use Rattle.alethe_check.specs.Views.{found_view, Reads}
@@ -78,6 +79,16 @@ module _ (k : Known) (at : ℕ) (i r : Word) (ls ps : Trees) where
         pub step_is : (qs : List Clause) → premises_of k ps ≡ Ok qs → read_shape k at (steps i ls r ps) ≡ Ok (Step at n c rule qs)
         step_is qs e = step_ruled ∙ goes_on _ qs (λ ds. Ok (Step at n c rule ds)) e
 
+one_term : (at : ℕ) (u : Term) → term_alone at (u ∷ []) ≡ Ok u
+unfolding term_alone
+one_term at u = refl
+
+not_one_term : (at : ℕ) (us : List Term) → length us ≢ 1 → term_alone at us ≡ wrong at BadShape
+unfolding term_alone
+not_one_term at [] differs = refl
+not_one_term at (u ∷ []) differs = absurd (differs refl)
+not_one_term at (u ∷ v ∷ us) differs = refl
+
 module _ (k : Known) (at : ℕ) (h : Word) (t : Tree) where
   abbrev with_term : Name → Term → Read Command
   with_term n u = Ok (Assume (offset_of t) n u)
@@ -92,16 +103,6 @@ module _ (k : Known) (at : ℕ) (h : Word) (t : Tree) where
   unfolding read_shape
   assume_read = refl
 
-  one_term : (u : Term) → term_alone at (u ∷ []) ≡ Ok u
-  unfolding term_alone
-  one_term u = refl
-
-  not_one_term : (us : List Term) → length us ≢ 1 → term_alone at us ≡ wrong at BadShape
-  unfolding term_alone
-  not_one_term [] differs = refl
-  not_one_term (u ∷ []) differs = absurd (differs refl)
-  not_one_term (u ∷ v ∷ us) differs = refl
-
   pub assume_no_name : (f : Fault) → fresh_name k h ≡ Err f → read_shape k at (assumes h t) ≡ Err f
   assume_no_name f e = assume_read ∙ ends _ f after_name e
 
@@ -113,10 +114,57 @@ module _ (k : Known) (at : ℕ) (h : Word) (t : Tree) where
     assume_no_term f e = assume_named ∙ ends _ f (with_terms n) e
 
     pub assume_not_one : (us : List Term) → clause_in k at (more t none) ≡ Ok us → length us ≢ 1 → read_shape k at (assumes h t) ≡ wrong at BadShape
-    assume_not_one us read differs = assume_named ∙ goes_on _ us (with_terms n) read ∙ ends _ _ (with_term n) (not_one_term us differs)
+    assume_not_one us read differs = assume_named ∙ goes_on _ us (with_terms n) read ∙ ends _ _ (with_term n) (not_one_term at us differs)
 
     pub assume_is : (u : Term) → clause_in k at (more t none) ≡ Ok (u ∷ []) → read_shape k at (assumes h t) ≡ Ok (Assume (offset_of t) n u)
-    assume_is u read = assume_named ∙ goes_on _ (u ∷ []) (with_terms n) read ∙ goes_on _ u (with_term n) (one_term u)
+    assume_is u read = assume_named ∙ goes_on _ (u ∷ []) (with_terms n) read ∙ goes_on _ u (with_term n) (one_term at u)
+
+module _ (k : Known) (at : ℕ) (w : Word) (s t : Tree) where
+  abbrev with_room : Name → Term → Read Command
+  with_room n u = name_room k at >>= λ room. Ok (Define at n u)
+
+  abbrev with_body : Name → List Term → Read Command
+  with_body n us = term_alone at us >>= λ u. with_room n u
+
+  abbrev with_sort : Name → Read Command
+  with_sort n = clause_in k at (more t none) >>= λ us. with_body n us
+
+  abbrev after_new_name : Name → Read Command
+  after_new_name n = in_proof (sort_in s) >>= λ sort. with_sort n
+
+  definition_read : read_shape k at (defines w s t) ≡ (new_term_name k w >>= λ n. after_new_name n)
+  unfolding read_shape
+  definition_read = refl
+
+  pub definition_no_name : (f : Fault) → new_term_name k w ≡ Err f → read_shape k at (defines w s t) ≡ Err f
+  definition_no_name f e = definition_read ∙ ends _ f after_new_name e
+
+  module _ (n : Name) (named : new_term_name k w ≡ Ok n) where
+    definition_named : read_shape k at (defines w s t) ≡ after_new_name n
+    definition_named = definition_read ∙ goes_on _ n after_new_name named
+
+    pub definition_no_sort : (f : Fault) → in_proof (sort_in s) ≡ Err f → read_shape k at (defines w s t) ≡ Err f
+    definition_no_sort f e = definition_named ∙ ends _ f (λ sort. with_sort n) e
+
+    module _ (sorted : in_proof (sort_in s) ≡ Ok Truth) where
+      definition_sorted : read_shape k at (defines w s t) ≡ with_sort n
+      definition_sorted = definition_named ∙ goes_on _ Truth (λ sort. with_sort n) sorted
+
+      pub definition_no_term : (f : Fault) → clause_in k at (more t none) ≡ Err f → read_shape k at (defines w s t) ≡ Err f
+      definition_no_term f e = definition_sorted ∙ ends _ f (with_body n) e
+
+      pub definition_not_one : (us : List Term) → clause_in k at (more t none) ≡ Ok us → length us ≢ 1 → read_shape k at (defines w s t) ≡ wrong at BadShape
+      definition_not_one us read differs = definition_sorted ∙ goes_on _ us (with_body n) read ∙ ends _ _ (with_room n) (not_one_term at us differs)
+
+      module _ (u : Term) (read : clause_in k at (more t none) ≡ Ok (u ∷ [])) where
+        definition_term : read_shape k at (defines w s t) ≡ with_room n u
+        definition_term = definition_sorted ∙ goes_on _ (u ∷ []) (with_body n) read ∙ goes_on _ u (with_room n) (one_term at u)
+
+        pub definition_no_room : (f : Fault) → name_room k at ≡ Err f → read_shape k at (defines w s t) ≡ Err f
+        definition_no_room f e = definition_term ∙ ends _ f (λ room. Ok (Define at n u)) e
+
+        pub definition_is : (room : Unit {0}) → name_room k at ≡ Ok room → read_shape k at (defines w s t) ≡ Ok (Define at n u)
+        definition_is room e = definition_term ∙ goes_on _ room (λ r. Ok (Define at n u)) e
 
 module _ (k : Known) (t : Tree) (at end : ℕ) (ts : Trees) (is : list at ts end ≡ t) where
   list_read : command_of k (list at ts end) ≡ (shaped at (shape_of ts) >>= λ s. read_shape k at s)

@@ -5,6 +5,7 @@ use Rattle.spec_terms.specs.Literals.{Clause}
 use Rattle.spec_proofs.specs.Commands.{Entry, Known}
 use Rattle.term_core.specs.declared.ids.TermId.{TermId}
 use Rattle.term_core.specs.Tables.{TableView, term_at, clause_at, AreIn}
+use Rattle.sort_check.specs.Definitions.{scope_at}
 use Rattle.alethe_check.specs.declared.held.Held.{Held}
 
 -- names with their clauses, in order
@@ -14,12 +15,14 @@ entries_of t _ _ = []
 
 -- what is known, in the words of the definitions
 abbrev pub known_view : Held → Known
-known_view h = record { symbols = h.table.symbols; asserted = map (term_at h.table) h.asserted; entries = entries_of h.table h.names h.clauses.items }
+known_view h = record { scope = scope_at h.table h.definitions; asserted = map (term_at h.table) h.asserted; entries = entries_of h.table h.names h.clauses.items }
 
 -- each name has its clause, and all terms are there
 pub record IsSound (h : Held) : Type 0 where
   -- as many names as clauses
   pub paired : length h.names ≡ length h.clauses.items
+  -- the terms that names stand for are in the table
+  pub definitions : AreIn h.table h.definitions.terms
   -- the assertions are in the table
   pub asserted : AreIn h.table h.asserted
   -- the terms of the clauses are in the table

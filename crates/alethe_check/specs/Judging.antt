@@ -10,7 +10,7 @@ use Rattle.spec_text.specs.Trees.{Tree, Trees}
 use Rattle.spec_proofs.specs.declared.Rule.{Rule}
 use Rattle.spec_proofs.specs.Schemes.{Kind, resolves, kind_of}
 use Rattle.spec_proofs.specs.Faults.{Fault, Read}
-use Rattle.spec_proofs.specs.Commands.{Known, Command, Assume, Step, Shape, assumes}
+use Rattle.spec_proofs.specs.Commands.{Known, Command, Assume, Step, Define, Shape, assumes}
 use Rattle.spec_proofs.specs.Texts.{Ending, complete, broken, left_over, EndsBehind, AreCommands, IsProofText, ending_fault}
 use Rattle.spec_proofs.specs.Judging.{IsRightAfter, with_command, fault_of, EndsBy, FirstFault}
 use Rattle.smt_lexer.specs.declared.Refusal.{Refusal}
@@ -44,11 +44,13 @@ assume_view w t = assumes w t
 abbrev pub command_view : Held → ReadCommand → Command
 command_view h (code.Assume at name id) = Assume at name.now (term_at h.table id)
 command_view h (code.Step at name clause rule premises) = Step at name.now (clause_at h.table clause.items) rule (clauses_numbered h premises.items)
+command_view h (code.Define at name id) = Define at name.now (term_at h.table id)
 
 -- the name is new, and the terms and the premises are there
 abbrev pub IsReady : Held → ReadCommand → Type 0
 IsReady h (code.Assume at name id) = (among h.names name.now ≡ false) × IsIn h.table id
 IsReady h (code.Step at name clause rule premises) = (among h.names name.now ≡ false) × AreIn h.table clause.items × AreNumbers h premises.items
+IsReady h (code.Define at name id) = (among h.definitions.names name.now ≡ false) × IsIn h.table id
 
 -- a command is right, and is known now; or it is not read, or not right
 abbrev pub JudgesOne : Known → Read Command → Result (Unit {0}) Stop → Held → Type 0

@@ -1,7 +1,5 @@
 -- The definitions that contracts cite.
 pub mod Views
-pub mod Members
-pub mod Scripts
 pub mod Loads
 pub mod Shapes
 pub mod Holding

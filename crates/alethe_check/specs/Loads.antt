@@ -2,8 +2,8 @@
 use Rattle.std.specs.Prelude.{ℕ, List, Option, Some, None, Result, Ok, Err}
 use Rattle.world_io.specs.declared.bytes.NoMemory.{NoMemory}
 use Rattle.spec_scripts.specs.Stack.{Stack, IsCurrent, HasNoCheck}
-use Rattle.alethe_check.specs.declared.script.Script.{Script}
-use Rattle.alethe_check.specs.Scripts.{IsStack}
+use Rattle.assertion_stack.specs.declared.script.Script.{Script}
+use Rattle.assertion_stack.specs.Scripts.{IsStack}
 
 -- what is current at the k-th check; or there is no such check
 abbrev pub Loads : List ℕ → ℕ → Result (Option Script) NoMemory → Type 0

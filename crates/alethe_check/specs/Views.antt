@@ -2,36 +2,19 @@
 use Rattle.std.specs.Prelude.{◌≡◌, ℕ, List, map, Result, Ok, Err}
 use Rattle.std.specs.Borrow.{Bor}
 use Rattle.spec_text.specs.Bytes.{Name}
-use Rattle.spec_text.specs.Faults.{Located}
-use Rattle.spec_text.specs.Answers.{Answer}
 use Rattle.spec_proofs.specs.declared.Rule.{Rule}
 use Rattle.spec_proofs.specs.Faults.{Fault, Read, fault_at, term_kind}
-use Rattle.sort_check.specs.declared.TermFault.{TermFault}
 use Rattle.sort_check.specs.declared.TermStop.{TermStop}
 use Rattle.sort_check.specs.declared.TermStop.TheVariants as term_stops
 use Rattle.alethe_check.specs.declared.stop.Found.{Found}
 use Rattle.alethe_check.specs.declared.stop.Stop.{Stop}
 use Rattle.alethe_check.specs.declared.stop.Stop.TheVariants as stops
 
--- a fault of reading, by its offset
-abbrev pub located : TermFault → Located
-located f = record { offset = f.offset; fault = f.fault }
-
 -- a fault of a proof, by its offset
 abbrev pub found_view : Found → Fault
 found_view f = fault_at f.offset f.kind
 
--- the fault is the same; of memory that ran out nothing is said
-abbrev pub Fails : {Y : Type 0} → TermStop → Answer Y → Type 0
-Fails (term_stops.Fault f) read = read ≡ Err (located f)
-Fails term_stops.Memory read = Unit {0}
-
--- what a function returned, seen by a view, is what is read, or the fault is the same, unless memory ran out
-abbrev pub Gives : {X Y : Type 0} → (X → Y) → Result X TermStop → Answer Y → Type 0
-Gives view (Ok x) read = read ≡ Ok (view x)
-Gives view (Err stop) read = Fails stop read
-
--- the same of what is read in a proof
+-- what a function returned, seen by a view, is what is read in a proof, or the fault is the same, unless memory ran out
 abbrev pub Reads : {X Y : Type 0} → (X → Y) → Result X Stop → Read Y → Type 0
 Reads view (Ok x) read = read ≡ Ok (view x)
 Reads view (Err (stops.Fault f)) read = read ≡ Err (found_view f)

@@ -8,15 +8,14 @@ ghost use Rattle.smt_sexpr.specs.Items.{trees_in, tree_in};
 ghost use Rattle.smt_sexpr.specs.Views.{word_view};
 ghost use Rattle.term_core.specs.Tables.{term_at, clause_at, IsIn, AreIn};
 ghost use Rattle.spec_proofs.specs.Faults.{term_kind};
+ghost use Rattle.sort_check.specs.Definitions.{no_definitions};
 ghost use Rattle.alethe_check.specs.Views.{Reads, stop_meant};
 ghost use Rattle.alethe_check.specs.Holding.{known_view, IsSound, clause_numbered, clauses_numbered, AreNumbers};
 
-use crate::asserted::Asserted;
-use crate::load::TERM_LIMIT;
-use crate::script::Script;
 use crate::stop::{Found, Stop, fault};
+use assertion_stack::{Asserted, Script, TERM_LIMIT};
 use smt_sexpr::{Item, View, Word, look, split};
-use sort_check::{TermFault, TermStop, terms};
+use sort_check::{Definitions, TermFault, TermStop, terms_under};
 use spec_proofs::ProofKind;
 use spec_text::Fault;
 use std::alloc::Global;
@@ -27,9 +26,11 @@ use term_core::{Clause, Names, TermId, TermTable};
 pub struct Held {
     /// The terms so far.
     pub table: TermTable,
+    /// The names that are defined so far, with their terms.
+    pub definitions: Definitions,
     /// The current assertions.
     pub asserted: Asserted,
-    /// The names of the commands so far.
+    /// The names of the assumes and steps so far.
     pub names: Names,
     /// Their clauses.
     pub clauses: Vec<Clause>,
@@ -38,12 +39,14 @@ pub struct Held {
 /// Says what is known at a script's check, before the first command of a proof.
 pub fn at_check(alloc: Global, script: Script) -> Held
     ensures table { result.table ≡ script.table }
+    ensures definitions { result.definitions ≡ no_definitions }
     ensures asserted { result.asserted ≡ script.asserted }
     ensures names { result.names ≡ [] }
     ensures clauses { result.clauses.items ≡ [] }
 {
     Held {
         table: script.table,
+        definitions: Definitions::new(alloc),
         asserted: script.asserted,
         names: Names::new(alloc),
         clauses: Vec::new(alloc),
@@ -150,7 +153,7 @@ fn term_kind(fault: Fault) -> ProofKind
 }
 
 /// The stop that a stop of reading terms is in a proof.
-fn in_proof(stop: TermStop) -> Stop
+pub fn in_proof(stop: TermStop) -> Stop
     ensures { result ≡ stop_meant stop }
 {
     match stop {
@@ -172,9 +175,18 @@ pub fn clause(
     ensures there { IfOk result (λ v. AreIn held.new.table v.items) }
     ensures same { known_view held.new ≡ known_view held.old }
     ensures names { held.new.names ≡ held.old.names }
+    ensures definitions { held.new.definitions ≡ held.old.definitions }
     ensures sound { IsSound held.new }
 {
-    match terms(alloc, &mut held.table, text, items, at, TERM_LIMIT) {
+    match terms_under(
+        alloc,
+        &mut held.table,
+        &held.definitions,
+        text,
+        items,
+        at,
+        TERM_LIMIT,
+    ) {
         Ok(read) => Ok(read),
         Err(stop) => Err(in_proof(stop)),
     }

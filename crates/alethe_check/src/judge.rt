@@ -14,6 +14,7 @@ ghost use Rattle.alethe_check.specs.Views.{found_view};
 ghost use Rattle.alethe_check.specs.Holding.{known_view, IsSound, some_empty};
 ghost use Rattle.alethe_check.specs.Judging.{begins_parenthesis, Leaves, command_view, IsReady, JudgesOne, JudgesRow, JudgesCommands, JudgesAll, Finishes, end_meant};
 
+use crate::define::define;
 use crate::held::{Held, add, is_asserted};
 use crate::load::{is_long, kept};
 use crate::proof::{ReadCommand, proof_command};
@@ -60,10 +61,11 @@ fn is_right(alloc: Global, held: &Held, command: &ReadCommand<'_>) -> Result<boo
         ReadCommand::Step(_, _, clause, rule, premises) => {
             follows(alloc, held, *rule, premises, clause)
         }
+        ReadCommand::Define(_, _, _) => Ok(true),
     }
 }
 
-/// The fault of a command that is not right.
+/// The fault of a command that is not right; a definition always is.
 fn wrong(command: &ReadCommand<'_>) -> Found
     ensures { (h : Held) → found_view result ≡ fault_of (command_view h command.now) }
 {
@@ -75,6 +77,10 @@ fn wrong(command: &ReadCommand<'_>) -> Found
         ReadCommand::Step(at, _, _, _, _) => Found {
             offset: *at,
             kind: ProofKind::RuleFails,
+        },
+        ReadCommand::Define(at, _, _) => Found {
+            offset: *at,
+            kind: ProofKind::BadShape,
         },
     }
 }
@@ -102,6 +108,7 @@ fn learn(alloc: Global, held: &mut Held, command: ReadCommand<'_>) -> Result<(),
             add(held, name, clause)
         }
         ReadCommand::Step(_, name, clause, _, _) => add(held, name, Clause::from(clause)),
+        ReadCommand::Define(_, name, id) => define(held, name, id),
     }
 }
 

@@ -6,14 +6,12 @@ ghost use Rattle.spec_scripts.specs.Stack.{HasNoModel};
 ghost use Rattle.spec_proofs.specs.Accepted.{IsAccepted};
 ghost use Rattle.alethe_check.specs.Verdicts.{Answers, Refuses};
 
-mod asserted;
 #[cfg(test)]
 mod check_tests;
-mod commands;
+mod define;
 mod held;
 mod judge;
 mod load;
-mod names;
 mod premises;
 mod proof;
 #[cfg(test)]
@@ -22,9 +20,6 @@ mod rule_names;
 #[cfg(test)]
 mod rule_tests;
 mod rules;
-pub mod script;
-#[cfg(test)]
-mod script_tests;
 mod shapes;
 mod stop;
 
@@ -71,8 +66,8 @@ pub enum ProofStop {
 ///
 /// - `Fault` has the first fault of the proof, with its place there. First of all `NoSuchCheck`, at line 1, column 1, where
 ///   the script ends before that check, by its end, by `exit`, or by a fault behind which it cannot be read on. Then, command
-///   by command: `Lexical` where the text cannot be read on; for a command its shape, its name, its terms, its rule, its
-///   premises, and whether it is right. Behind all commands `BadShape` where something follows a list of them, and
+///   by command: `Lexical` where the text cannot be read on; for a command its shape, its name, its sort, its terms, its
+///   rule, its premises, and whether it is right. Behind all commands `BadShape` where something follows a list of them, and
 ///   `NoEmptyClause` at the end of the text.
 /// - `Memory` may come at any allocation, and says nothing of the proof.
 ///

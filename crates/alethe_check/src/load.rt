@@ -4,10 +4,10 @@ ghost use Rattle.std.specs.Prelude.{◌≡◌, ℕ, ◌≤◌, List, length, tak
 ghost use Rattle.spec_text.specs.Readings.{text_limit, kept, is_long};
 ghost use Rattle.spec_text.specs.Places.{IsPlaceOf};
 ghost use Rattle.spec_scripts.specs.Stack.{Stack, term_limit};
-ghost use Rattle.alethe_check.specs.Scripts.{IsStack, Steps};
+ghost use Rattle.assertion_stack.specs.Scripts.{IsStack, Steps};
 ghost use Rattle.alethe_check.specs.Loads.{Loads};
 
-use crate::script::{Script, Took};
+use assertion_stack::{Script, TERM_LIMIT, Took};
 use smt_lexer::{Refused, start};
 use smt_sexpr::read_one;
 use std::alloc::Global;
@@ -15,9 +15,6 @@ use world_io::NoMemory;
 
 /// How many bytes of a text are read.
 const TEXT_LIMIT: usize = 1 << 26;
-
-/// The most constants that may be declared, and the most different subterms of one command's terms.
-pub const TERM_LIMIT: u64 = 1 << 24;
 
 /// The bytes of a text that are read: its first 2^26.
 pub fn kept(text: &[u8]) -> &[u8]

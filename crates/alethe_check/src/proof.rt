@@ -6,13 +6,14 @@ ghost use Rattle.spec_text.specs.Trees.{none, more};
 ghost use Rattle.smt_sexpr.specs.Items.{trees_in, tree_in};
 ghost use Rattle.smt_sexpr.specs.Views.{word_view};
 ghost use Rattle.alethe_check.specs.Views.{Reads, rule_meant};
-ghost use Rattle.alethe_check.specs.Shapes.{shape_view, step_view, IsAlone};
+ghost use Rattle.alethe_check.specs.Shapes.{shape_view, step_view, define_view, IsAlone, HasOneTerm};
 ghost use Rattle.alethe_check.specs.Holding.{known_view, IsSound};
 ghost use Rattle.alethe_check.specs.Judging.{command_view, IsReady, assume_view};
 
+use crate::define::{name_room, new_term_name, sort};
 use crate::held::{Held, clause, fresh_name, read_premises};
 use crate::rule_names::rule_named;
-use crate::shapes::{Shape, StepParts, shape_of};
+use crate::shapes::{DefineParts, Shape, StepParts, shape_of};
 use crate::stop::{Stop, fault};
 use smt_sexpr::{Item, View, Word, look, offset};
 use spec_proofs::{ProofKind, Rule};
@@ -26,6 +27,8 @@ pub enum ReadCommand<'a> {
     Assume(u64, &'a [u8], TermId),
     /// The offset of the step, its name, its clause, its rule, and the numbers of its premises' clauses.
     Step(u64, &'a [u8], Vec<TermId>, Rule, Vec<u64>),
+    /// The offset of the definition, the name, and the term that it stands for.
+    Define(u64, &'a [u8], TermId),
 }
 
 /// The rule of a word, where it is one.
@@ -94,6 +97,31 @@ fn assume<'a>(
     }
 }
 
+/// A definition by its parts, at an offset.
+fn definition<'a>(
+    alloc: Global,
+    held: &mut Held,
+    text: &[u8],
+    at: u64,
+    parts: DefineParts<'a>,
+) -> Result<ReadCommand<'a>, Stop>
+    requires sound { IsSound held.old }
+    requires alone { HasOneTerm text.now parts }
+    ensures gives { Reads (command_view held.new) result (read_shape (known_view held.old) at (define_view text.now parts.entry)) }
+    ensures same { known_view held.new ≡ known_view held.old }
+    ensures sound { IsSound held.new }
+    ensures ready { IfOk result (λ c. IsReady held.new c) }
+{
+    let name = new_term_name(held, parts.name)?;
+    sort(text, parts.sort)?;
+    let read = clause(alloc, held, text, parts.term, at)?;
+    let Some(id) = term_alone(&read) else {
+        return Err(fault(at, ProofKind::BadShape));
+    };
+    name_room(held, at)?;
+    Ok(ReadCommand::Define(at, name, id))
+}
+
 /// A command by its shape, at an offset.
 fn by_shape<'a>(
     alloc: Global,
@@ -112,6 +140,7 @@ fn by_shape<'a>(
     match shape {
         Shape::Assume(word, items) => assume(alloc, held, text, at, word, items),
         Shape::Step(parts) => step(alloc, held, text, at, parts),
+        Shape::Define(parts) => definition(alloc, held, text, at, parts),
     }
 }
 

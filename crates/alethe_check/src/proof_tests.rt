@@ -121,9 +121,7 @@ const PROOFS: &[(&str, &str, u64, u64)] = &[
     ("(assume h1 p p)", "BadShape", 1, 1),
     ("(assume 5 p)", "BadShape", 1, 1),
     ("(assume let p)", "BadShape", 1, 1),
-    ("(define-fun f () Bool p)", "BadShape", 1, 1),
     ("(anchor :step t1)", "BadShape", 1, 1),
-    ("(|define-fun| f () Bool p)", "BadShape", 1, 1),
     ("(step t1)", "BadShape", 1, 1),
     ("(step t1 (cl))", "BadShape", 1, 1),
     ("(step t1 () :rule or)", "BadShape", 1, 1),
@@ -289,6 +287,100 @@ const PROOFS: &[(&str, &str, u64, u64)] = &[
     ("(assume h1 (and p p)) )", "NotAsserted", 1, 12),
     ("((step t1 (cl) :rule resolution) (", "RuleFails", 1, 2),
 ];
+
+/// Proofs with definitions, and what is answered to them.
+const DEFINITIONS: &[(&str, &str, u64, u64)] = &[
+    (
+        "(define-fun @p1 () Bool (not p))\n(define-fun @p2 () Bool (not @p1))\n(assume h1 p)\n(step t1 (cl @p2) :rule resolution :premises (h1))\n(assume h2 @p1)\n(step t2 (cl) :rule resolution :premises (t1 h2))",
+        "valid",
+        0,
+        0,
+    ),
+    (
+        "((define-fun @p1 () |Bool| (and p |p|))(define-fun .q () Bool (not @p1))(define-fun |let| () Bool (or .q @p1 .q))(assume h1 p)(assume h2 (not p))(step t1 (cl (or (not (and p p)) (and p p) .q) (not .q)) :rule or_neg)(step t2 (cl) :rule resolution :premises (h1 h2))(step t3 (cl (not |let|) .q @p1 .q) :rule or_pos))",
+        "valid",
+        0,
+        0,
+    ),
+    (
+        "(assume h1 p)(define-fun h1 () Bool (not p))(define-fun t1 () Bool h1)(assume h2 t1)(step t1 (cl) :rule resolution :premises (h1 h2))",
+        "valid",
+        0,
+        0,
+    ),
+    ("(define-fun f () Bool p)", "NoEmptyClause", 1, 25),
+    (
+        "(define-fun f () Bool p)(assume h1 (and f p))",
+        "NotAsserted",
+        1,
+        36,
+    ),
+    (
+        "(assume h1 p)\n(define-fun f ((x Bool)) Bool x)",
+        "BadShape",
+        2,
+        1,
+    ),
+    ("(define-fun f () p)", "BadShape", 1, 1),
+    ("(define-fun f () Bool p p)", "BadShape", 1, 1),
+    ("(define-fun 5 () Bool p)", "BadShape", 1, 1),
+    ("(define-fun (f) () Bool p)", "BadShape", 1, 1),
+    ("(|define-fun| f () Bool p)", "BadShape", 1, 1),
+    ("(define-fun let (x) Bool p)", "BadShape", 1, 1),
+    ("(define-fun let () U p)", "Reserved", 1, 13),
+    ("(define-fun true () Bool p)", "TwiceName", 1, 13),
+    ("(define-fun |and| () U zz)", "TwiceName", 1, 13),
+    ("(define-fun + () Bool p)", "TwiceName", 1, 13),
+    ("(define-fun p () U zz)", "TwiceName", 1, 13),
+    (
+        "(define-fun @a () Bool p)\n(define-fun |@a| () Bool p)",
+        "TwiceName",
+        2,
+        13,
+    ),
+    ("(define-fun f () U zz)", "UnknownSort", 1, 18),
+    ("(define-fun f () (Bool) zz)", "UnknownSort", 1, 18),
+    ("(define-fun f () let zz)", "Reserved", 1, 18),
+    ("(define-fun f () 5 zz)", "BadShape", 1, 18),
+    ("(define-fun f () Bool zz)", "UnknownSymbol", 1, 23),
+    ("(define-fun f () Bool (p))", "BadShape", 1, 23),
+    ("(define-fun f () Bool (not p p))", "WrongCount", 1, 23),
+    ("(define-fun f () Bool (not f))", "UnknownSymbol", 1, 28),
+    (
+        "(assume h1 f)\n(define-fun f () Bool p)",
+        "UnknownSymbol",
+        1,
+        12,
+    ),
+    (
+        "(define-fun f () Bool p)\n(assume h1 (f p))",
+        "WrongCount",
+        2,
+        12,
+    ),
+    (
+        "(define-fun f () Bool p)\n(step t1 (cl (not f) p) :rule f)",
+        "UnknownRule",
+        2,
+        31,
+    ),
+];
+
+#[test]
+fn definitions_are_read_as_their_terms(rt: HostRuntime) -> Result<(), Fail> {
+    for (proof, name, line, col) in DEFINITIONS.iter() {
+        let got = answer(rt.alloc(), SCRIPT.as_bytes(), 1, proof.as_bytes())?;
+        assert!(rt;
+            got == (*name, *line, *col),
+            "{} {} {}:{}",
+            proof,
+            got.0,
+            got.1,
+            got.2
+        );
+    }
+    Ok(())
+}
 
 #[test]
 fn proofs_have_their_first_faults(rt: HostRuntime) -> Result<(), Fail> {

@@ -1,23 +1,26 @@
 //! The commands of a proof, read from items by their shape.
 
 ghost use Rattle.std.specs.Prelude.{◌≡◌, ℕ, List, option_map, codes, IfSome};
-ghost use Rattle.spec_proofs.specs.Commands.{no_parts, symbol_in, list_in, all_symbols, symbols_in, with_rule, with_premises, with_args, with_discharge, with_part, parts_of, or_none, assume_shape, step_shape, shape_by, shape_of};
+ghost use Rattle.spec_proofs.specs.Commands.{no_parts, symbol_in, list_in, all_symbols, symbols_in, with_rule, with_premises, with_args, with_discharge, with_part, parts_of, or_none, assume_shape, step_shape, first_tree, define_shape, is_definition, shape_by, shape_of};
 ghost use Rattle.smt_sexpr.specs.Items.{trees_in, tree_in};
 ghost use Rattle.smt_sexpr.specs.Views.{word_view};
-ghost use Rattle.alethe_check.specs.Shapes.{trees_view, parts_view, shape_view, keyword_in, IsAlone};
+ghost use Rattle.alethe_check.specs.Shapes.{trees_view, tree_rest, parts_view, shape_view, keyword_in, IsAlone};
 
+use assertion_stack::is_name;
 use smt_sexpr::{
-    Item, View, Word, is_keyword, is_symbol, is_word, list_first, look, passes, same_bytes, split,
-    tree_alone, want, word_first,
+    Item, View, Word, is_keyword, is_reserved, is_symbol, is_word, list_first, look, passes,
+    same_bytes, split, tree_alone, want, want_end, word_first,
 };
 
-/// A command by its shape: an assume by its name and the items of its term, or a step.
+/// A command by its shape: an assume by its name and the items of its term, a step, or a definition.
 #[derive(Clone, Copy)]
 pub enum Shape<'a> {
     /// The name, and the items of the term, which are of one tree.
     Assume(Word<'a>, &'a [Item]),
     /// The parts.
     Step(StepParts<'a>),
+    /// The parts.
+    Define(DefineParts<'a>),
 }
 
 /// A step by its shape.
@@ -31,6 +34,17 @@ pub struct StepParts<'a> {
     pub rule: Word<'a>,
     /// The items of the premises' names.
     pub premises: &'a [Item],
+}
+
+/// A definition by its shape.
+#[derive(Clone, Copy)]
+pub struct DefineParts<'a> {
+    /// The name, which may be a reserved word.
+    pub name: Word<'a>,
+    /// The items of the sort.
+    pub sort: &'a [Item],
+    /// The items of the term, which are of one tree.
+    pub term: &'a [Item],
 }
 
 /// What the keywords of a step say.
@@ -268,6 +282,39 @@ fn step_shape<'a>(text: &'a [u8], items: &'a [Item]) -> Option<Shape<'a>>
     }))
 }
 
+/// The first tree's items, and those behind it.
+fn tree_first<'a>(items: &'a [Item]) -> Option<(&'a [Item], &'a [Item])>
+    ensures { (text : List ℕ) → option_map (tree_rest text) result ≡ first_tree (trees_in text items.now) }
+{
+    split(items)
+}
+
+/// A definition, behind its word. It has no parameters so far.
+#[tactic(auto, unfolding(spec_proofs::specs::Commands::define_shape))]
+fn define_shape<'a>(text: &'a [u8], items: &'a [Item]) -> Option<Shape<'a>>
+    ensures gives { option_map (shape_view text.now) result ≡ define_shape (trees_in text.now items.now) }
+    ensures alone { IfSome result (IsAlone text.now) }
+{
+    let (name, rest) = word_first(text, items)?;
+    passes(is_name(name.kind))?;
+    let (parameters, rest) = list_first(text, rest)?;
+    want_end(parameters)?;
+    let (sort, rest) = tree_first(rest)?;
+    tree_alone(rest)?;
+    Some(Shape::Define(DefineParts {
+        name,
+        sort,
+        term: rest,
+    }))
+}
+
+/// Tells whether a word is `define-fun`, which is reserved.
+fn is_definition(word: Word<'_>) -> bool
+    ensures { result ≡ is_definition (word_view word.entry) }
+{
+    is_reserved(word.kind) && same_bytes(word.bytes, b"define-fun")
+}
+
 /// A command by its word.
 fn shape_by<'a>(text: &'a [u8], word: Word<'a>, items: &'a [Item]) -> Option<Shape<'a>>
     ensures gives { option_map (shape_view text.now) result ≡ shape_by (word_view word.entry, trees_in text.now items.now) }
@@ -278,6 +325,9 @@ fn shape_by<'a>(text: &'a [u8], word: Word<'a>, items: &'a [Item]) -> Option<Sha
     }
     if is_word(b"step", word) {
         return step_shape(text, items);
+    }
+    if is_definition(word) {
+        return define_shape(text, items);
     }
     None
 }

@@ -17,7 +17,7 @@ use world_io::NoMemory;
 const LETTERS: &[u8] = b"abctf-&|x>=ieosn";
 
 /// The nodes of the table: three constants, the truth values, `(not a)`, and `(and a b)`, `(or a b)`, `(xor a b)`, `(=> a b)`,
-/// `(= a b)`, `(ite a b c)`, `(and)`, `(or)`, then `(and | |)` of the disjunction, and `(not (not a))`.
+/// `(= a b)`, `(ite a b c)`, `(and a)`, `(or b)`, then `(and | |)` of the disjunction, and `(not (not a))`.
 const NODES: &[(Head, &[TermId])] = &[
     (Head::Apply(SymbolId(0)), &[]),
     (Head::Apply(SymbolId(1)), &[]),
@@ -31,8 +31,8 @@ const NODES: &[(Head, &[TermId])] = &[
     (Head::Implies, &[TermId(0), TermId(1)]),
     (Head::Equal, &[TermId(0), TermId(1)]),
     (Head::Ite, &[TermId(0), TermId(1), TermId(2)]),
-    (Head::And, &[]),
-    (Head::Or, &[]),
+    (Head::And, &[TermId(0)]),
+    (Head::Or, &[TermId(1)]),
     (Head::And, &[TermId(7), TermId(7)]),
     (Head::Not, &[TermId(5)]),
 ];
@@ -138,8 +138,8 @@ const CLAUSES: &[(&str, &str)] = &[
     ("i", "i:-iac;-i-ab;ia-c;i-a-b;"),
     ("-", "-a:"),
     ("n", "--a:---aa;"),
-    ("e", "e:e;"),
-    ("o", "o:-o;"),
+    ("e", "e:-ea;e-a;"),
+    ("o", "o:-ob;o-b;"),
     ("s", "s:-|ab;|-a;|-b;-s|;-s|;s-|-|;"),
     ("ab", "a:b:"),
     ("|&", "|:&:-&a;-&b;&-a-b;-|ab;|-a;|-b;"),

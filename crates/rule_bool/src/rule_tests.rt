@@ -14,8 +14,8 @@ use world_io::NoMemory;
 ///
 /// `a` to `d` are constants, `A` to `D` their negations. `1` negates `A`, `2` negates `B`, `3` negates `1`, `4` negates `3`. `t` is true,
 /// `0` is false, `f` negates `0`. Then come terms over `a` and `b`, each with its negation: `&` is `(and a b)`, negated `N`, of which `@`
-/// is the negation; `u` is `(and)`, negated `U`; `|` is `(or a b)`, negated `n`; `o` is `(or a)`, negated `O`; `w` is `(or a b a)`,
-/// negated `W`; `e` is `(or)`, negated `E`; `>` is `(=> a b)`, negated `i`; `=` is `(= a b)`, negated `q`; `x` is `(xor a b)`, negated
+/// is the negation; `u` is `(and a)`, negated `U`; `|` is `(or a b)`, negated `n`; `o` is `(or a)`, negated `O`; `w` is `(or a b a)`,
+/// negated `W`; `e` is `(or b)`, negated `E`; `>` is `(=> a b)`, negated `i`; `=` is `(= a b)`, negated `q`; `x` is `(xor a b)`, negated
 /// `X`; `?` is `(ite c a b)`, negated `I`.
 const LETTERS: &[u8] = b"abcdABCD1234t0f&N@uU|noOwWeE>i=qxX?I";
 
@@ -35,7 +35,7 @@ const TERMS: &[(Head, &[TermId])] = &[
     (Head::And, &[TermId(0), TermId(1)]),
     (Head::Not, &[TermId(15)]),
     (Head::Not, &[TermId(16)]),
-    (Head::And, &[]),
+    (Head::And, &[TermId(0)]),
     (Head::Not, &[TermId(18)]),
     (Head::Or, &[TermId(0), TermId(1)]),
     (Head::Not, &[TermId(20)]),
@@ -43,7 +43,7 @@ const TERMS: &[(Head, &[TermId])] = &[
     (Head::Not, &[TermId(22)]),
     (Head::Or, &[TermId(0), TermId(1), TermId(0)]),
     (Head::Not, &[TermId(24)]),
-    (Head::Or, &[]),
+    (Head::Or, &[TermId(1)]),
     (Head::Not, &[TermId(26)]),
     (Head::Implies, &[TermId(0), TermId(1)]),
     (Head::Not, &[TermId(28)]),
@@ -157,7 +157,8 @@ const STEPS: &[Row] = &[
     (Rule::Or, "w;", "aba", true),
     (Rule::Or, "w;", "ab", true),
     (Rule::Or, "w;", "a", false),
-    (Rule::Or, "e;", "", true),
+    (Rule::Or, "e;", "b", true),
+    (Rule::Or, "e;", "", false),
     (Rule::Or, "|c;", "abc", false),
     (Rule::Or, "|o;", "ab", false),
     (Rule::Or, "||;", "ab", false),

@@ -29,7 +29,7 @@ fn disjunction<'a>(table: &'a TermTable, premises: &[Clause]) -> Option<&'a Node
 
 /// Judges a step of the rule `or`, which opens a disjunction into its arguments.
 ///
-/// One premise, whose one literal is a term `(or t1 .. tn)` as it stands, with any number of arguments; the conclusion has each of
+/// One premise, whose one literal is a term `(or t1 .. tn)` as it stands, with one argument or more; the conclusion has each of
 /// them, in any order, maybe more than once, and maybe others. It is sound, since where the disjunction is true, one of its arguments
 /// is, and with it the conclusion. Premises and clause give their terms by their numbers in the table.
 ///

@@ -22,7 +22,7 @@ mod words;
 use pieces::{What, piece_at};
 pub use places::{place_after, place_at, start};
 pub use spec_text::{Fault, Kind, Place};
-pub use words::{is_bare, is_one_of};
+pub use words::{bars_of, is_bare, is_one_of};
 
 /// A fault with its place. Source: own.
 #[derive(Clone, Copy, Debug, PartialEq, Eq)]

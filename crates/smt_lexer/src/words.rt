@@ -1,8 +1,8 @@
 //! Reserved words.
 
-ghost use Rattle.std.specs.Prelude.{◌≡◌};
+ghost use Rattle.std.specs.Prelude.{◌≡◌, ◌++◌};
 ghost use Rattle.spec_text.specs.Bytes.{among, reserved_words};
-ghost use Rattle.spec_text.specs.Printed.{is_bare};
+ghost use Rattle.spec_text.specs.Printed.{is_bare, printed_symbol};
 ghost use Rattle.smt_lexer.specs.Classes.{texts_of};
 
 use crate::bytes::{Class, front_len};
@@ -88,4 +88,15 @@ pub fn is_bare(name: &[u8]) -> bool
         return false;
     }
     !is_reserved(name)
+}
+
+/// Lends what stands before a symbol's name and behind it where it is written: a bar each, or nothing where the name may
+/// stand without. Source: SMT-LIB 2.6, section 3.1.
+pub fn bars_of<'a>(name: &'a [u8]) -> (&'a [u8], &'a [u8])
+    ensures { result.0.now ++ (name.now ++ result.1.now) ≡ printed_symbol name.now }
+{
+    if is_bare(name) {
+        return (b"", b"");
+    }
+    (b"|", b"|")
 }

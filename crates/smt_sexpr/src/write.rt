@@ -4,25 +4,15 @@ ghost use Rattle.std.specs.Prelude.{◌≡◌, ℕ, ◌-◌, ◌<◌, ◌≤◌,
 ghost use Rattle.std.specs.Io.KnownBytes.{Appends};
 ghost use Rattle.spec_text.specs.Places.{IsPlaceOf};
 ghost use Rattle.spec_text.specs.Trees.{Tree};
-ghost use Rattle.spec_text.specs.Printed.{printed_symbol, printed_word, printed};
+ghost use Rattle.spec_text.specs.Printed.{printed_word, printed};
 ghost use Rattle.world_io.specs.Outside.{Rose, AppendsFront};
 ghost use Rattle.smt_sexpr.specs.Items.{tree_in, text_of, items_of};
 ghost use Rattle.smt_sexpr.specs.Printing.{gap, token_bytes, wants_space, ends_of, IsTokenAt, IsTreeFrom};
 
 use crate::items::Item;
 use crate::sexpr::Sexpr;
-use smt_lexer::{Kind, Place, TokenKind, is_bare, next};
+use smt_lexer::{Kind, Place, TokenKind, bars_of, next};
 use world_io::{Failed, Sink, write_all, write_pieces};
-
-/// What stands before a symbol that was written in bars and behind it: bars, where its name wants them.
-fn bars_of<'a>(name: &'a [u8]) -> (&'a [u8], &'a [u8])
-    ensures { result.0.now ++ (name.now ++ result.1.now) ≡ printed_symbol name.now }
-{
-    if is_bare(name) {
-        return (b"", b"");
-    }
-    (b"|", b"|")
-}
 
 /// What stands before a word and behind it: quotes, bars where the name wants them, or a colon.
 fn marks_of<'a>(kind: Kind, bytes: &'a [u8]) -> (&'a [u8], &'a [u8])

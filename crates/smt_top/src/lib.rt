@@ -6,7 +6,6 @@ mod check_run;
 mod in_memory;
 mod output;
 mod read;
-mod search;
 mod status;
 #[cfg(test)]
 mod test_support;

@@ -45,6 +45,25 @@ pub implies_takes : (ids : List TermId) → TakesThem core.Implies ids → 0 < l
 unfolding rule_of
 implies_takes ids h = grind (arith, nat_tests, h)
 
-pub equal_takes : (ids : List TermId) → TakesThem core.Equal ids → 0 < length ids
+pub equal_takes : (ids : List TermId) → TakesThem core.Equal ids → 1 < length ids
 unfolding rule_of
 equal_takes ids h = grind (arith, nat_tests, h)
+
+pub distinct_takes : (ids : List TermId) → TakesThem core.Distinct ids → 1 < length ids
+unfolding rule_of
+distinct_takes ids h = grind (arith, nat_tests, h)
+
+pub and_takes : (ids : List TermId) → TakesThem core.And ids → takes_so_many heads.And ids ≡ true
+unfolding rule_of
+and_takes [] h = absurd (grind (arith, nat_tests, h))
+and_takes (a ∷ ids) h = refl
+
+pub or_takes : (ids : List TermId) → TakesThem core.Or ids → takes_so_many heads.Or ids ≡ true
+unfolding rule_of
+or_takes [] h = absurd (grind (arith, nat_tests, h))
+or_takes (a ∷ ids) h = refl
+
+-- a conjunction takes what is there
+pub some_taken : (ids : List TermId) → 0 < length ids → takes_so_many heads.And ids ≡ true
+some_taken [] h = absurd (omega (arith, h))
+some_taken (a ∷ ids) h = refl

@@ -6,8 +6,8 @@ use Rattle.spec_text.specs.declared.Fault.TheVariants.{Full}
 use Rattle.spec_text.specs.Trees.{Trees}
 use Rattle.spec_text.specs.Faults.{Located}
 use Rattle.spec_text.specs.Answers.{◌>>=◌, refused, require}
-use Rattle.spec_terms.specs.Terms.{Symbol, Term}
-use Rattle.spec_terms.specs.Reading.{terms_in}
+use Rattle.spec_terms.specs.Terms.{Term}
+use Rattle.spec_terms.specs.Reading.{Scope, terms_in}
 use Rattle.spec_terms.specs.Subterms.{subterms_of, fit_in, roomy_terms}
 use Rattle.spec_terms.specs.Subsets.{AreOnce, AreAmong}
 use Rattle.spec_terms.proofs.LeastSubterms.{no_room}
@@ -42,22 +42,22 @@ crowded_out before room table ts some apart within many =
     no_room room ts (late before table) (late_once before table apart) (late_subterms before table ts within) (omega (arith, many, length-drop before table.terms))
 
 -- the terms that were read, by whether there is room for them
-pub with_room : (symbols : List Symbol) (room at : ℕ) (all : Trees) (ts : List Term) → terms_in symbols all ≡ Ok ts → fit_in room ts ≡ true → roomy_terms symbols room at all ≡ Ok ts
+pub with_room : (scope : Scope) (room at : ℕ) (all : Trees) (ts : List Term) → terms_in scope all ≡ Ok ts → fit_in room ts ≡ true → roomy_terms scope room at all ≡ Ok ts
 unfolding roomy_terms ◌>>=◌ require
-with_room symbols room at all ts read fits = ap (λ a. a >>= λ us. require (fit_in room us) at Full >>= λ u. Ok us) read ∙ ap (λ b. require b at Full >>= λ u. Ok ts) fits
+with_room scope room at all ts read fits = ap (λ a. a >>= λ us. require (fit_in room us) at Full >>= λ u. Ok us) read ∙ ap (λ b. require b at Full >>= λ u. Ok ts) fits
 
-pub without_room : (symbols : List Symbol) (room at : ℕ) (all : Trees) (ts : List Term) → terms_in symbols all ≡ Ok ts → fit_in room ts ≡ false → roomy_terms symbols room at all ≡ refused at Full
+pub without_room : (scope : Scope) (room at : ℕ) (all : Trees) (ts : List Term) → terms_in scope all ≡ Ok ts → fit_in room ts ≡ false → roomy_terms scope room at all ≡ refused at Full
 unfolding roomy_terms ◌>>=◌ require
-without_room symbols room at all ts read crowded = ap (λ a. a >>= λ us. require (fit_in room us) at Full >>= λ u. Ok us) read ∙ ap (λ b. require b at Full >>= λ u. Ok ts) crowded
+without_room scope room at all ts read crowded = ap (λ a. a >>= λ us. require (fit_in room us) at Full >>= λ u. Ok us) read ∙ ap (λ b. require b at Full >>= λ u. Ok ts) crowded
 
-pub fault_first : (symbols : List Symbol) (room at : ℕ) (all : Trees) (e : Located) → terms_in symbols all ≡ Err e → roomy_terms symbols room at all ≡ Err e
+pub fault_first : (scope : Scope) (room at : ℕ) (all : Trees) (e : Located) → terms_in scope all ≡ Err e → roomy_terms scope room at all ≡ Err e
 unfolding roomy_terms ◌>>=◌ require
-fault_first symbols room at all e wrong = ap (λ a. a >>= λ us. require (fit_in room us) at Full >>= λ u. Ok us) wrong
+fault_first scope room at all e wrong = ap (λ a. a >>= λ us. require (fit_in room us) at Full >>= λ u. Ok us) wrong
 
 -- what stopped the reading is the answer
-pub stopped : (most room at : ℕ) (all : Trees) (old new : TableView) (e : TermStop) → EndsReading most all old new (Err e) → AnswersTerms (roomy_terms old.symbols room at all) old new (Err e)
-stopped most room at all old new (Fault f) h = fault_first old.symbols room at all (located_of f) h
-stopped most room at all old new Memory h = tt
+pub stopped : (scope : Scope) (most room at : ℕ) (all : Trees) (old new : TableView) (e : TermStop) → EndsReading most scope all old new (Err e) → AnswersTerms (roomy_terms scope room at all) old new (Err e)
+stopped scope most room at all old new (Fault f) h = fault_first scope room at all (located_of f) h
+stopped scope most room at all old new Memory h = tt
 
 -- no more terms than there is room for are no more than the limit, which has 64 bits
 pub room_below : (before room most : ℕ) (table : TableView) → most ≡ min (before + room) (2 ^ 64 - 1) → HasRoom before room table → length table.terms ≤ most

@@ -3,11 +3,12 @@ use Rattle.std.proofs.Common.{◌≡◌, ◌<◌, Bool, true, false, Option, Som
 use Rattle.std.specs.Str.{bytes_eq}
 use Rattle.std.proofs.lemmas.Bool.Decides.{nat_tests}
 use Rattle.spec_text.specs.Bytes.{Name}
-use Rattle.spec_terms.specs.Terms.{Symbol, Head, True, False, Not, And, Or, Xor, Implies, Equal, Ite, Term, of, list_of, terms_of}
+use Rattle.spec_terms.specs.Terms.{Head, True, False, Not, And, Or, Xor, Implies, Equal, Ite, Term, of, list_of, terms_of}
 use Rattle.spec_terms.specs.Lists.{left, right, neighbours, all_pairs}
 use Rattle.spec_terms.specs.Theory.{Rule, takes, look_up, theory, pair, unequal, conjunction, no_term}
+use Rattle.term_core.specs.Tables.{TableView, term_at}
 use Rattle.sort_check.specs.declared.functions.Function.{Function}
-use Rattle.sort_check.specs.declared.functions.Function.TheVariants.{Core, Declared}
+use Rattle.sort_check.specs.declared.functions.Function.TheVariants.{Core, Declared, Defined}
 use Rattle.sort_check.specs.Heads.{rule_there, name_of, rule_of}
 use Rattle.sort_check.specs.Functions.{function_term, Takes}
 use Rattle.spec_terms.proofs.Members.{first, later, none}
@@ -126,10 +127,12 @@ rule_keeps (Some r) h ts few = h ts few
 rule_keeps None h [] few = nothing_kept (no_term ∷ [])
 rule_keeps None h (t ∷ ts) few = absurd (grind (arith, nat_tests, few))
 
-pub function_keeps : (symbols : List Symbol) (f : Function) (ts : List Term) → Takes symbols f (length ts) → AreSubterms ts (function_term symbols f ts ∷ [])
+pub function_keeps : (table : TableView) (f : Function) (ts : List Term) → Takes table f (length ts) → AreSubterms ts (function_term table f ts ∷ [])
 unfolding rule_of
-function_keeps symbols (Core h) ts few = rule_keeps (look_up theory (name_of h)) (keeps_at theory (name_of h) theory_keeps) ts few
-function_keeps symbols (Declared s) ts few = of_keeps _ ts
+function_keeps table (Core h) ts few = rule_keeps (look_up theory (name_of h)) (keeps_at theory (name_of h) theory_keeps) ts few
+function_keeps table (Declared s) ts few = of_keeps _ ts
+function_keeps table (Defined id) [] few = nothing_kept (term_at table id ∷ [])
+function_keeps table (Defined id) (t ∷ ts) few = absurd (omega (arith, few.1))
 
 pub conjunction_one : (ts : List Term) (d : Term) → length ts ≡ 1 → conjunction ts ≡ get_or ts 0 d
 conjunction_one [] d e = absurd (omega (arith, e))

@@ -13,3 +13,4 @@ pub mod Stacking
 pub mod Counts
 pub mod Putting
 pub mod Folding
+pub mod Defined

@@ -1,10 +1,10 @@
 -- Terms that are put one after the other, and their numbers.
 use Rattle.std.proofs.Common.{◌≡◌, ℕ, ◌<◌, List, [], ◌∷◌, ◌++◌, ◌-◌, length, take, drop, get_or, map, Contains, refl, sym, ap, ◌∙◌, subst, append_assoc, append-nil, arith}
 use Rattle.std.specs.Prelude.{Result, Ok, Err}
-use Rattle.std.proofs.lemmas.List.{map-append, take_rest}
+use Rattle.std.proofs.lemmas.List.{map-append, take_rest, length-map}
 use Rattle.std.proofs.lemmas.List.Elements.{All-head, All-tail, All-push, Contains-append_left, Contains-append_right}
 use Rattle.spec_terms.specs.Terms.{Term}
-use Rattle.spec_terms.specs.Lists.{all_pairs}
+use Rattle.spec_terms.specs.Lists.{all_pairs, neighbours}
 use Rattle.spec_terms.specs.Theory.{conjunction}
 use Rattle.term_core.specs.declared.ids.TermId.{TermId}
 use Rattle.term_core.specs.Tables.{TableView, term_at, IsIn, AreIn, clause_at, Extends}
@@ -121,3 +121,19 @@ not_conjoined most a b ts parts Memory h = record { grows = grows_by a b ts (con
 pub first_and_others : (ids : List TermId) (d : TermId) → 0 < length ids → get_or ids 0 d ∷ take (length ids - 1) (drop 1 ids) ≡ ids
 first_and_others [] d some = absurd (omega (arith, some))
 first_and_others (id ∷ ids) d some = ap (λ rest. id ∷ rest) (take_rest (id ∷ ids) 1)
+
+-- where terms were put, there are numbers
+pub some_put : (most : ℕ) (a b : TableView) (ts : List Term) (parts : List TermId) → PutsAll most a b [] parts ts (Ok tt) → 0 < length ts → 0 < length parts
+some_put most a b ts parts h some = omega (arith, some, length-map parts (term_at b), ap length h.ends.terms)
+
+-- two terms have a neighbour
+pub neighbours_there : (f : Term → Term → Term) (t : TableView) (ids : List TermId) → 1 < length ids → 0 < length (map (λ p. f p.0 p.1) (neighbours (clause_at t ids)))
+neighbours_there f t [] two = absurd (omega (arith, two))
+neighbours_there f t (a ∷ []) two = absurd (omega (arith, two))
+neighbours_there f t (a ∷ b ∷ ids) two = omega arith
+
+-- and are a pair
+pub pairs_there : (f : Term → Term → Term) (t : TableView) (ids : List TermId) → 1 < length ids → 0 < length (map (λ p. f p.0 p.1) (all_pairs (clause_at t ids)))
+pairs_there f t [] two = absurd (omega (arith, two))
+pairs_there f t (a ∷ []) two = absurd (omega (arith, two))
+pairs_there f t (a ∷ b ∷ ids) two = omega arith

@@ -6,15 +6,17 @@ use Rattle.std.proofs.lemmas.List.Elements.{All-nil, Contains-append_left, Conta
 use Rattle.spec_text.specs.declared.Kind.{Kind}
 use Rattle.spec_text.specs.Bytes.{Name}
 use Rattle.spec_text.specs.Trees.{Tree, Trees, atom, list, none, more}
-use Rattle.spec_terms.specs.Terms.{Symbol, Term}
-use Rattle.spec_terms.specs.Reading.{applied, atom_term, term_in, terms_in}
+use Rattle.spec_terms.specs.Terms.{Term}
+use Rattle.spec_terms.specs.Reading.{Scope, applied, atom_term, term_in, terms_in}
 use Rattle.term_core.specs.declared.ids.TermId.{TermId}
-use Rattle.term_core.specs.Tables.{TableView, IsIn}
+use Rattle.term_core.specs.Tables.{TableView, IsIn, AreIn}
 use Rattle.smt_sexpr.specs.declared.items.Item.{Item}
 use Rattle.smt_sexpr.specs.Items.{trees_in, split_first}
 use Rattle.sort_check.specs.declared.faults.TermFault.{TermFault}
 use Rattle.sort_check.specs.declared.frames.Frame.{Frame}
 use Rattle.sort_check.specs.declared.functions.Function.{Function}
+use Rattle.sort_check.specs.Definitions.{DefinitionsView, scope_at}
+use Rattle.sort_check.proofs.Defined.{scope_kept}
 use Rattle.sort_check.specs.Functions.{function_term, Takes, IsFunction, located_of}
 use Rattle.sort_check.specs.Building.{Grows, AllMean}
 use Rattle.sort_check.specs.Resuming.{Open, followed, resumed}
@@ -44,23 +46,23 @@ rises_closed low [] o n h = (h.0, h.1)
 rises_closed low (p ∷ os) o n h = let r = rises_closed p.from os o n h.1 in ((h.0, r.0), r.1)
 
 -- What was read, and what is left.
-pub record Reading (most : ℕ) (all : Trees) (old now : TableView) (crowded : Bool) (os : List Open) (ids : List TermId) (rest : Trees) : Type 0 where
+pub record Reading (most : ℕ) (scope : Scope) (all : Trees) (old now : TableView) (crowded : Bool) (os : List Open) (ids : List TermId) (rest : Trees) : Type 0 where
   -- the terms that were read
   pub terms : List Term
   -- the values stand for them
   pub stack : Stack crowded most now terms ids
   -- with what is left they come to all
-  pub same : terms_in old.symbols all ≡ resumed old.symbols os terms rest
+  pub same : terms_in scope all ≡ resumed scope os terms rest
   -- their subterms alone came
   pub grows : Grows terms old now
   -- the open lists begin one behind the other
   pub rises : Rises 0 os (length terms)
 
-pub reading_begins : (most : ℕ) (all : Trees) (old : TableView) → Reading most all old old false [] [] all
-reading_begins most all old = record {
+pub reading_begins : (most : ℕ) (scope : Scope) (all : Trees) (old : TableView) → Reading most scope all old old false [] [] all
+reading_begins most scope all old = record {
   terms = [];
   stack = record { count = refl; stand = record { there = All-nil (λ i. IsIn old i); terms = refl } };
-  same = resumed_start old.symbols all;
+  same = resumed_start scope all;
   grows = grows_same [] old;
   rises = omega arith;
 }
@@ -72,10 +74,10 @@ replaced_subterms ts n t h u part = elim (Contains-append_cases (take n ts) (dro
   | inr back ↦ subterms_along (drop n ts) (t ∷ []) (take n ts ++ t ∷ []) h (member_subterms (t ∷ []) (take n ts ++ t ∷ []) (λ v one. Contains-append_right (take n ts) (t ∷ []) v one)) u back
 ]
 
-module _ (most : ℕ) (all : Trees) (old now : TableView) (crowded : Bool) (os : List Open) (ids : List TermId) (rest : Trees) (h : Reading most all old now crowded os ids rest) where
+module _ (most : ℕ) (scope : Scope) (all : Trees) (old now : TableView) (crowded : Bool) (os : List Open) (ids : List TermId) (rest : Trees) (h : Reading most scope all old now crowded os ids rest) where
   -- a term in the place of its arguments
   replaced : (new : TableView) (next : Bool) (n : ℕ) (t : Term) (values : List TermId) (ps : List Open) (left : Trees) → Replaces most now new h.terms n t values (Ok next) → AreSubterms (drop n h.terms) (t ∷ [])
-      → resumed old.symbols os h.terms rest ≡ resumed old.symbols ps (take n h.terms ++ t ∷ []) left → Rises 0 ps (length (take n h.terms ++ t ∷ [])) → Reading most all old new next ps values left
+      → resumed scope os h.terms rest ≡ resumed scope ps (take n h.terms ++ t ∷ []) left → Rises 0 ps (length (take n h.terms ++ t ∷ [])) → Reading most scope all old new next ps values left
   replaced new next n t values ps left r kept same rises = record {
     terms = take n h.terms ++ t ∷ [];
     stack = r.ends;
@@ -85,81 +87,77 @@ module _ (most : ℕ) (all : Trees) (old now : TableView) (crowded : Bool) (os :
   }
 
   -- a fault of the next tree
-  next_fault : (t : Tree) (ts : Trees) (e : TermFault) → rest ≡ more t ts → term_in old.symbols t ≡ Err (located_of e) → terms_in old.symbols all ≡ Err (located_of e)
-  next_fault t ts e is wrong = h.same ∙ resumed_fault old.symbols os h.terms rest (located_of e) (ap (followed old.symbols h.terms) is ∙ followed_fault old.symbols h.terms t ts (located_of e) wrong)
+  next_fault : (t : Tree) (ts : Trees) (e : TermFault) → rest ≡ more t ts → term_in scope t ≡ Err (located_of e) → terms_in scope all ≡ Err (located_of e)
+  next_fault t ts e is wrong = h.same ∙ resumed_fault scope os h.terms rest (located_of e) (ap (followed scope h.terms) is ∙ followed_fault scope h.terms t ts (located_of e) wrong)
 
-  module _ (symbols : List Symbol) (same : symbols ≡ now.symbols) where
-    here_symbols : symbols ≡ old.symbols
-    here_symbols = same ∙ h.grows.keeps.symbols
+  module _ (d : DefinitionsView) (begun : scope ≡ scope_at old d) (there : AreIn old d.terms) where
+    here_scope : scope_at now d ≡ scope
+    here_scope = scope_kept old now d h.grows.keeps there ∙ sym begun
 
     pub atom_read : (at : ℕ) (k : Kind) (n : Name) (ts : Trees) (f : Function) (new : TableView) (next : Bool) (from : ℕ) (values : List TermId) → rest ≡ more (atom at k n) ts
-        → IsFunction symbols 0 (λ _. atom_term symbols at k n) (Ok f) → from ≡ length ids → Replaces most now new h.terms from (function_term now.symbols f (drop from h.terms)) values (Ok next) → Reading most all old new next os values ts
+        → IsFunction now 0 (λ _. atom_term (scope_at now d) at k n) (Ok f) → from ≡ length ids → Replaces most now new h.terms from (function_term now f (drop from h.terms)) values (Ok next) → Reading most scope all old new next os values ts
     unfolding term_in
     atom_read at k n ts f new next from values is fun whole r =
         let args : List Term = drop from h.terms in
-        let t : Term = function_term now.symbols f args in
+        let t : Term = function_term now f args in
         let none_left : length args ≡ 0 = omega (arith, length-drop from h.terms, h.stack.count, whole) in
         let front : take from h.terms ≡ h.terms = take_all from h.terms (omega (arith, h.stack.count, whole)) in
-        let read : term_in old.symbols (atom at k n) ≡ Ok t = ap (λ s. atom_term s at k n) (sym here_symbols) ∙ fun.1 args none_left ∙ ap (λ s. Ok (function_term s f args)) same in
-        let takes : Takes now.symbols f (length args) = subst (λ s. Takes s f (length args)) same (subst (Takes symbols f) (sym none_left) fun.0) in
-        replaced new next from t values os ts r (function_keeps now.symbols f args takes)
-        (resumed_same old.symbols os h.terms (take from h.terms ++ t ∷ []) rest ts (ap (followed old.symbols h.terms) is ∙ followed_term old.symbols h.terms (atom at k n) ts t read ∙ ap (λ us. followed old.symbols (us ++ t ∷ []) ts) (sym front)))
+        let read : term_in scope (atom at k n) ≡ Ok t = ap (λ s. atom_term s at k n) (sym here_scope) ∙ fun.1 args none_left in
+        let takes : Takes now f (length args) = subst (Takes now f) (sym none_left) fun.0 in
+        replaced new next from t values os ts r (function_keeps now f args takes)
+        (resumed_same scope os h.terms (take from h.terms ++ t ∷ []) rest ts (ap (followed scope h.terms) is ∙ followed_term scope h.terms (atom at k n) ts t read ∙ ap (λ us. followed scope (us ++ t ∷ []) ts) (sym front)))
         (rises_more 0 os (length h.terms) (length (take from h.terms ++ t ∷ [])) (omega (arith, length-append (take from h.terms) (t ∷ []), ap length front)) h.rises)
 
-    pub atom_refused : (at : ℕ) (k : Kind) (n : Name) (ts : Trees) (e : TermFault) → rest ≡ more (atom at k n) ts → IsFunction symbols 0 (λ _. atom_term symbols at k n) (Err e) → terms_in old.symbols all ≡ Err (located_of e)
+    pub atom_refused : (at : ℕ) (k : Kind) (n : Name) (ts : Trees) (e : TermFault) → rest ≡ more (atom at k n) ts → IsFunction now 0 (λ _. atom_term (scope_at now d) at k n) (Err e) → terms_in scope all ≡ Err (located_of e)
     unfolding term_in
-    atom_refused at k n ts e is fun = next_fault (atom at k n) ts e is (ap (λ s. atom_term s at k n) (sym here_symbols) ∙ fun [] refl)
+    atom_refused at k n ts e is fun = next_fault (atom at k n) ts e is (ap (λ s. atom_term s at k n) (sym here_scope) ∙ fun [] refl)
 
     pub closed_read : (ps : List Open) (o : Open) (f : Function) (new : TableView) (next : Bool) (values : List TermId) → rest ≡ none → os ≡ ps ++ o ∷ []
-        → IsFunction symbols (length ids - o.from) (applied symbols o.place o.name o.at) (Ok f) → Replaces most now new h.terms o.from (function_term now.symbols f (drop o.from h.terms)) values (Ok next) → Reading most all old new next ps values o.behind
+        → IsFunction now (length ids - o.from) (applied (scope_at now d) o.place o.name o.at) (Ok f) → Replaces most now new h.terms o.from (function_term now f (drop o.from h.terms)) values (Ok next) → Reading most scope all old new next ps values o.behind
     closed_read ps o f new next values is opens fun r =
         let args : List Term = drop o.from h.terms in
-        let t : Term = function_term now.symbols f args in
+        let t : Term = function_term now f args in
         let front : List Term = take o.from h.terms in
         let count : length args ≡ length ids - o.from = omega (arith, length-drop o.from h.terms, h.stack.count) in
         let rose = rises_closed 0 ps o (length h.terms) (subst (λ qs. Rises 0 qs (length h.terms)) opens h.rises) in
-        let read : applied old.symbols o.place o.name o.at args ≡ Ok t = ap (λ s. applied s o.place o.name o.at args) (sym here_symbols) ∙ fun.1 args count ∙ ap (λ s. Ok (function_term s f args)) same in
-        let takes : Takes now.symbols f (length args) = subst (λ s. Takes s f (length args)) same (subst (Takes symbols f) (sym count) fun.0) in
-        replaced new next o.from t values ps o.behind r (function_keeps now.symbols f args takes)
-        ((λ i. resumed old.symbols (opens i) h.terms (is i)) ∙ sym (resumed_more old.symbols ps o (front ++ t ∷ []) h.terms o.behind none (sym (closed_term old.symbols h.terms o t read))))
+        let read : applied scope o.place o.name o.at args ≡ Ok t = ap (λ s. applied s o.place o.name o.at args) (sym here_scope) ∙ fun.1 args count in
+        let takes : Takes now f (length args) = subst (Takes now f) (sym count) fun.0 in
+        replaced new next o.from t values ps o.behind r (function_keeps now f args takes)
+        ((λ i. resumed scope (opens i) h.terms (is i)) ∙ sym (resumed_more scope ps o (front ++ t ∷ []) h.terms o.behind none (sym (closed_term scope h.terms o t read))))
         (rises_more 0 ps o.from (length (front ++ t ∷ [])) (omega (arith, length-append front (t ∷ []), length-take o.from h.terms, rose.1)) rose.0)
 
-    pub closed_refused : (ps : List Open) (o : Open) (e : TermFault) → rest ≡ none → os ≡ ps ++ o ∷ [] → IsFunction symbols (length ids - o.from) (applied symbols o.place o.name o.at) (Err e) → terms_in old.symbols all ≡ Err (located_of e)
+    pub closed_refused : (ps : List Open) (o : Open) (e : TermFault) → rest ≡ none → os ≡ ps ++ o ∷ [] → IsFunction now (length ids - o.from) (applied (scope_at now d) o.place o.name o.at) (Err e) → terms_in scope all ≡ Err (located_of e)
     closed_refused ps o e is opens fun =
         let args : List Term = drop o.from h.terms in
         let count : length args ≡ length ids - o.from = omega (arith, length-drop o.from h.terms, h.stack.count) in
-        let wrong : applied old.symbols o.place o.name o.at args ≡ Err (located_of e) = ap (λ s. applied s o.place o.name o.at args) (sym here_symbols) ∙ fun args count in
-        h.same ∙ (λ i. resumed old.symbols (opens i) h.terms (is i)) ∙ resumed_closed_fault old.symbols ps o h.terms none (located_of e) (closed_fault old.symbols h.terms o (located_of e) wrong)
-
-    -- what its arguments are for
-    pub closed_takes : (n : ℕ) (f : Function) → Takes symbols f n → Takes now.symbols f n
-    closed_takes n f h = subst (λ s. Takes s f n) same h
+        let wrong : applied scope o.place o.name o.at args ≡ Err (located_of e) = ap (λ s. applied s o.place o.name o.at args) (sym here_scope) ∙ fun args count in
+        h.same ∙ (λ i. resumed scope (opens i) h.terms (is i)) ∙ resumed_closed_fault scope ps o h.terms none (located_of e) (closed_fault scope h.terms o (located_of e) wrong)
 
   pub list_read : (text : List ℕ) (at end : ℕ) (inside : Trees) (behind : List Item) (from : ℕ) (f : Frame) (us : List Item) → rest ≡ more (list at inside end) (trees_in text behind) → from ≡ length ids
-      → HasBegun text at inside behind from f us → Reading most all old now crowded (os ++ open_of text f ∷ []) ids (trees_in text us)
+      → HasBegun text at inside behind from f us → Reading most scope all old now crowded (os ++ open_of text f ∷ []) ids (trees_in text us)
   list_read text at end inside behind from f us is whole b =
       let o : Open = open_of text f in
       let first : o.from ≡ length h.terms = omega (arith, b.from, whole, h.stack.count) in
       record {
         terms = h.terms;
         stack = h.stack;
-        same = h.same ∙ resumed_more old.symbols os o h.terms h.terms rest (trees_in text us)
-            (ap (followed old.symbols h.terms) is ∙ (λ i. followed old.symbols h.terms (more (list (sym b.at i) inside end) (sym b.behind i))) ∙ followed_list old.symbols h.terms o inside end b.head first ∙ ap (resumed old.symbols (o ∷ []) h.terms) (sym b.arguments));
+        same = h.same ∙ resumed_more scope os o h.terms h.terms rest (trees_in text us)
+            (ap (followed scope h.terms) is ∙ (λ i. followed scope h.terms (more (list (sym b.at i) inside end) (sym b.behind i))) ∙ followed_list scope h.terms o inside end b.head first ∙ ap (resumed scope (o ∷ []) h.terms) (sym b.arguments));
         grows = h.grows;
         rises = rises_opened 0 os o (length h.terms) first h.rises;
       }
 
-  pub list_refused : (at end : ℕ) (inside ts : Trees) (e : TermFault) → rest ≡ more (list at inside end) ts → form_fault at (form_of inside) ≡ Some (located_of e) → terms_in old.symbols all ≡ Err (located_of e)
-  list_refused at end inside ts e is wrong = next_fault (list at inside end) ts e is (list_fault old.symbols at inside end (located_of e) wrong)
+  pub list_refused : (at end : ℕ) (inside ts : Trees) (e : TermFault) → rest ≡ more (list at inside end) ts → form_fault at (form_of inside) ≡ Some (located_of e) → terms_in scope all ≡ Err (located_of e)
+  list_refused at end inside ts e is wrong = next_fault (list at inside end) ts e is (list_fault scope at inside end (located_of e) wrong)
 
   -- what is on the stack
   pub stacked : (ts : List Term) × Stack crowded most now ts ids
   stacked = (h.terms, h.stack)
 
-  pub all_read : rest ≡ none → os ≡ [] → HasRead most all old now ids
+  pub all_read : rest ≡ none → os ≡ [] → HasRead most scope all old now ids
   all_read is closed = record {
     terms = h.terms;
-    read = h.same ∙ (λ i. resumed old.symbols (closed i) h.terms (is i)) ∙ resumed_end old.symbols h.terms;
+    read = h.same ∙ (λ i. resumed scope (closed i) h.terms (is i)) ∙ resumed_end scope h.terms;
     stand = λ few. stands crowded h.stack.stand few;
     grows = h.grows;
   }

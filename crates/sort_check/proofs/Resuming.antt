@@ -5,13 +5,13 @@ use Rattle.std.proofs.lemmas.List.{take_at, drop_at}
 use Rattle.spec_text.specs.Faults.{Located}
 use Rattle.spec_text.specs.Answers.{Answer, ◌>>=◌}
 use Rattle.spec_text.specs.Trees.{Tree, Trees, list, none, more}
-use Rattle.spec_terms.specs.Terms.{Symbol, Term}
+use Rattle.spec_terms.specs.Terms.{Term}
 use Rattle.spec_terms.specs.Forms.{Form, malformed, reserved, applies, form}
-use Rattle.spec_terms.specs.Reading.{applied, by_form, term_in, terms_in}
+use Rattle.spec_terms.specs.Reading.{Scope, applied, by_form, term_in, terms_in}
 use Rattle.sort_check.specs.Frames.{form_of, behind_first, form_fault}
 use Rattle.sort_check.specs.Resuming.{Open, followed, closed, resumed}
 
-module _ (symbols : List Symbol) where
+module _ (scope : Scope) where
   -- a term more, before those of the trees behind it
   one_more : (done : List Term) (a : Answer Term) (b : Answer (List Term)) → ((a >>= λ u. b >>= λ us. Ok (u ∷ us)) >>= λ us. Ok (done ++ us)) ≡ (a >>= λ u. b >>= λ us. Ok ((done ++ u ∷ []) ++ us))
   unfolding ◌>>=◌
@@ -20,24 +20,24 @@ module _ (symbols : List Symbol) where
   one_more done (Ok u) (Ok us) = ap Ok (sym (append_assoc done (u ∷ []) us))
 
   -- a tree's term was read
-  pub followed_term : (done : List Term) (t : Tree) (ts : Trees) (u : Term) → term_in symbols t ≡ Ok u → followed symbols done (more t ts) ≡ followed symbols (done ++ u ∷ []) ts
+  pub followed_term : (done : List Term) (t : Tree) (ts : Trees) (u : Term) → term_in scope t ≡ Ok u → followed scope done (more t ts) ≡ followed scope (done ++ u ∷ []) ts
   unfolding ◌>>=◌ term_in terms_in
-  followed_term done t ts u e = one_more done (term_in symbols t) (terms_in symbols ts) ∙ ap (λ a. a >>= λ v. terms_in symbols ts >>= λ us. Ok ((done ++ v ∷ []) ++ us)) e
+  followed_term done t ts u e = one_more done (term_in scope t) (terms_in scope ts) ∙ ap (λ a. a >>= λ v. terms_in scope ts >>= λ us. Ok ((done ++ v ∷ []) ++ us)) e
 
   -- a tree has a fault
-  pub followed_fault : (done : List Term) (t : Tree) (ts : Trees) (e : Located) → term_in symbols t ≡ Err e → followed symbols done (more t ts) ≡ Err e
+  pub followed_fault : (done : List Term) (t : Tree) (ts : Trees) (e : Located) → term_in scope t ≡ Err e → followed scope done (more t ts) ≡ Err e
   unfolding ◌>>=◌ term_in terms_in
-  followed_fault done t ts e h = one_more done (term_in symbols t) (terms_in symbols ts) ∙ ap (λ a. a >>= λ v. terms_in symbols ts >>= λ us. Ok ((done ++ v ∷ []) ++ us)) h
+  followed_fault done t ts e h = one_more done (term_in scope t) (terms_in scope ts) ∙ ap (λ a. a >>= λ v. terms_in scope ts >>= λ us. Ok ((done ++ v ∷ []) ++ us)) h
 
   -- an open list, whose arguments are to be read
   opened : (done : List Term) (o : Open) (a b : Answer (List Term)) → o.from ≡ length done
-      → ((a >>= λ xs. applied symbols o.place o.name o.at xs) >>= λ u. b >>= λ us. Ok ((done ++ u ∷ []) ++ us)) ≡ ((a >>= λ xs. Ok (done ++ xs)) >>= λ ts. closed symbols o ts >>= λ us. b >>= λ vs. Ok (us ++ vs))
+      → ((a >>= λ xs. applied scope o.place o.name o.at xs) >>= λ u. b >>= λ us. Ok ((done ++ u ∷ []) ++ us)) ≡ ((a >>= λ xs. Ok (done ++ xs)) >>= λ ts. closed scope o ts >>= λ us. b >>= λ vs. Ok (us ++ vs))
   unfolding ◌>>=◌
   opened done o (Err e) b n = refl
   opened done o (Ok xs) b n =
       let d : drop o.from (done ++ xs) ≡ xs = drop_at done xs o.from (sym n) in
       let t : take o.from (done ++ xs) ≡ done = take_at done xs o.from (sym n) in
-      go (applied symbols o.place o.name o.at xs) ∙ λ i. (applied symbols o.place o.name o.at (sym d i) >>= λ u. Ok (sym t i ++ u ∷ [])) >>= λ us. b >>= λ vs. Ok (us ++ vs)
+      go (applied scope o.place o.name o.at xs) ∙ λ i. (applied scope o.place o.name o.at (sym d i) >>= λ u. Ok (sym t i ++ u ∷ [])) >>= λ us. b >>= λ vs. Ok (us ++ vs)
     where
       go : (a : Answer Term) → (a >>= λ u. b >>= λ us. Ok ((done ++ u ∷ []) ++ us)) ≡ ((a >>= λ u. Ok (done ++ u ∷ [])) >>= λ us. b >>= λ vs. Ok (us ++ vs))
       go (Err e) = refl
@@ -45,19 +45,19 @@ module _ (symbols : List Symbol) where
 
   -- a list begins
   pub followed_list : (done : List Term) (o : Open) (inside : Trees) (end : ℕ) → form_of inside ≡ applies o.place o.name → o.from ≡ length done
-      → followed symbols done (more (list o.at inside end) o.behind) ≡ resumed symbols (o ∷ []) done (behind_first inside)
+      → followed scope done (more (list o.at inside end) o.behind) ≡ resumed scope (o ∷ []) done (behind_first inside)
   unfolding ◌>>=◌ term_in terms_in resumed
   followed_list done o none end f n = absurd (malformed_no f)
     where
       malformed_no : malformed ≡ applies o.place o.name → ⊥
       malformed_no e = cc
   followed_list done o (more head us) end f n =
-      one_more done (by_form symbols o.at (form head us) (terms_in symbols us)) (terms_in symbols o.behind)
-      ∙ ap (λ g. by_form symbols o.at g (terms_in symbols us) >>= λ v. terms_in symbols o.behind >>= λ us. Ok ((done ++ v ∷ []) ++ us)) f
-      ∙ opened done o (terms_in symbols us) (terms_in symbols o.behind) n
+      one_more done (by_form scope o.at (form head us) (terms_in scope us)) (terms_in scope o.behind)
+      ∙ ap (λ g. by_form scope o.at g (terms_in scope us) >>= λ v. terms_in scope o.behind >>= λ us. Ok ((done ++ v ∷ []) ++ us)) f
+      ∙ opened done o (terms_in scope us) (terms_in scope o.behind) n
 
   -- a list does not begin
-  pub list_fault : (at : ℕ) (inside : Trees) (end : ℕ) (e : Located) → form_fault at (form_of inside) ≡ Some e → term_in symbols (list at inside end) ≡ Err e
+  pub list_fault : (at : ℕ) (inside : Trees) (end : ℕ) (e : Located) → form_fault at (form_of inside) ≡ Some e → term_in scope (list at inside end) ≡ Err e
   unfolding term_in
   list_fault at none end e h = ap Err (some_same h)
     where
@@ -68,56 +68,56 @@ module _ (symbols : List Symbol) where
       some_same : {x y : Located} → Some x ≡ Some y → x ≡ y
       some_same h = cc
 
-      go : (f : Form) → form_fault at f ≡ Some e → by_form symbols at f (terms_in symbols us) ≡ Err e
+      go : (f : Form) → form_fault at f ≡ Some e → by_form scope at f (terms_in scope us) ≡ Err e
       go malformed h = ap Err (some_same h)
       go (reserved place) h = ap Err (some_same h)
       go (applies place n) h = absurd cc
 
   -- all arguments of a list were read
-  pub closed_term : (done : List Term) (o : Open) (u : Term) → applied symbols o.place o.name o.at (drop o.from done) ≡ Ok u
-      → resumed symbols (o ∷ []) done none ≡ followed symbols (take o.from done ++ u ∷ []) o.behind
+  pub closed_term : (done : List Term) (o : Open) (u : Term) → applied scope o.place o.name o.at (drop o.from done) ≡ Ok u
+      → resumed scope (o ∷ []) done none ≡ followed scope (take o.from done ++ u ∷ []) o.behind
   unfolding ◌>>=◌ terms_in resumed
   closed_term done o u e =
-      ap (λ ds. closed symbols o ds >>= λ us. followed symbols us o.behind) (append-nil done)
-      ∙ ap (λ a. (a >>= λ t. Ok (take o.from done ++ t ∷ [])) >>= λ us. followed symbols us o.behind) e
+      ap (λ ds. closed scope o ds >>= λ us. followed scope us o.behind) (append-nil done)
+      ∙ ap (λ a. (a >>= λ t. Ok (take o.from done ++ t ∷ [])) >>= λ us. followed scope us o.behind) e
 
   -- the list itself has a fault
-  pub closed_fault : (done : List Term) (o : Open) (e : Located) → applied symbols o.place o.name o.at (drop o.from done) ≡ Err e → resumed symbols (o ∷ []) done none ≡ Err e
+  pub closed_fault : (done : List Term) (o : Open) (e : Located) → applied scope o.place o.name o.at (drop o.from done) ≡ Err e → resumed scope (o ∷ []) done none ≡ Err e
   unfolding ◌>>=◌ terms_in resumed
   closed_fault done o e h =
-      ap (λ ds. closed symbols o ds >>= λ us. followed symbols us o.behind) (append-nil done)
-      ∙ ap (λ a. (a >>= λ t. Ok (take o.from done ++ t ∷ [])) >>= λ us. followed symbols us o.behind) h
+      ap (λ ds. closed scope o ds >>= λ us. followed scope us o.behind) (append-nil done)
+      ∙ ap (λ a. (a >>= λ t. Ok (take o.from done ++ t ∷ [])) >>= λ us. followed scope us o.behind) h
 
   -- what is the same in the innermost list is the same in all
-  pub resumed_same : (os : List Open) (done new : List Term) (rest next : Trees) → followed symbols done rest ≡ followed symbols new next → resumed symbols os done rest ≡ resumed symbols os new next
+  pub resumed_same : (os : List Open) (done new : List Term) (rest next : Trees) → followed scope done rest ≡ followed scope new next → resumed scope os done rest ≡ resumed scope os new next
   unfolding resumed
   resumed_same [] done new rest next e = e
-  resumed_same (o ∷ os) done new rest next e = ap (λ a. a >>= λ ts. closed symbols o ts >>= λ us. followed symbols us o.behind) (resumed_same os done new rest next e)
+  resumed_same (o ∷ os) done new rest next e = ap (λ a. a >>= λ ts. closed scope o ts >>= λ us. followed scope us o.behind) (resumed_same os done new rest next e)
 
-  pub resumed_more : (os : List Open) (o : Open) (done new : List Term) (rest next : Trees) → followed symbols done rest ≡ resumed symbols (o ∷ []) new next → resumed symbols os done rest ≡ resumed symbols (os ++ o ∷ []) new next
+  pub resumed_more : (os : List Open) (o : Open) (done new : List Term) (rest next : Trees) → followed scope done rest ≡ resumed scope (o ∷ []) new next → resumed scope os done rest ≡ resumed scope (os ++ o ∷ []) new next
   unfolding resumed
   resumed_more [] o done new rest next e = e
-  resumed_more (p ∷ os) o done new rest next e = ap (λ a. a >>= λ ts. closed symbols p ts >>= λ us. followed symbols us p.behind) (resumed_more os o done new rest next e)
+  resumed_more (p ∷ os) o done new rest next e = ap (λ a. a >>= λ ts. closed scope p ts >>= λ us. followed scope us p.behind) (resumed_more os o done new rest next e)
 
   -- a fault in the innermost list is the fault of all
-  pub resumed_fault : (os : List Open) (done : List Term) (rest : Trees) (e : Located) → followed symbols done rest ≡ Err e → resumed symbols os done rest ≡ Err e
+  pub resumed_fault : (os : List Open) (done : List Term) (rest : Trees) (e : Located) → followed scope done rest ≡ Err e → resumed scope os done rest ≡ Err e
   unfolding resumed ◌>>=◌
   resumed_fault [] done rest e h = h
-  resumed_fault (o ∷ os) done rest e h = ap (λ a. a >>= λ ts. closed symbols o ts >>= λ us. followed symbols us o.behind) (resumed_fault os done rest e h)
+  resumed_fault (o ∷ os) done rest e h = ap (λ a. a >>= λ ts. closed scope o ts >>= λ us. followed scope us o.behind) (resumed_fault os done rest e h)
 
-  pub resumed_closed_fault : (os : List Open) (o : Open) (done : List Term) (rest : Trees) (e : Located) → resumed symbols (o ∷ []) done rest ≡ Err e → resumed symbols (os ++ o ∷ []) done rest ≡ Err e
+  pub resumed_closed_fault : (os : List Open) (o : Open) (done : List Term) (rest : Trees) (e : Located) → resumed scope (o ∷ []) done rest ≡ Err e → resumed scope (os ++ o ∷ []) done rest ≡ Err e
   unfolding resumed ◌>>=◌
   resumed_closed_fault [] o done rest e h = h
-  resumed_closed_fault (p ∷ os) o done rest e h = ap (λ a. a >>= λ ts. closed symbols p ts >>= λ us. followed symbols us p.behind) (resumed_closed_fault os o done rest e h)
+  resumed_closed_fault (p ∷ os) o done rest e h = ap (λ a. a >>= λ ts. closed scope p ts >>= λ us. followed scope us p.behind) (resumed_closed_fault os o done rest e h)
 
   -- nothing is left
-  pub resumed_end : (done : List Term) → resumed symbols [] done none ≡ Ok done
+  pub resumed_end : (done : List Term) → resumed scope [] done none ≡ Ok done
   unfolding ◌>>=◌ terms_in resumed
   resumed_end done = ap Ok (append-nil done)
 
-  pub resumed_start : (all : Trees) → terms_in symbols all ≡ resumed symbols [] [] all
+  pub resumed_start : (all : Trees) → terms_in scope all ≡ resumed scope [] [] all
   unfolding ◌>>=◌ terms_in resumed
-  resumed_start all = go (terms_in symbols all)
+  resumed_start all = go (terms_in scope all)
     where
       go : (a : Answer (List Term)) → a ≡ (a >>= λ us. Ok us)
       go (Ok us) = refl

@@ -4,7 +4,7 @@ use Rattle.std.specs.declared.alloc.Global.{Global}
 use Rattle.spec_text.specs.Answers.{Answer}
 use Rattle.spec_text.specs.Trees.{Trees}
 use Rattle.spec_terms.specs.Terms.{Term}
-use Rattle.spec_terms.specs.Reading.{terms_in}
+use Rattle.spec_terms.specs.Reading.{Scope, terms_in}
 use Rattle.term_core.specs.declared.ids.TermId.{TermId}
 use Rattle.term_core.specs.Tables.{TableView, clause_at, AreIn}
 use Rattle.sort_check.specs.declared.faults.TermStop.{TermStop}
@@ -13,28 +13,28 @@ use Rattle.sort_check.specs.Functions.{located_of}
 use Rattle.sort_check.specs.Building.{Keeps, Grows, AllMean}
 
 -- The trees are these terms, for which the numbers stand unless the table has more than `most` terms, and it has grown by their subterms alone.
-pub record HasRead (most : ℕ) (all : Trees) (old new : TableView) (ids : List TermId) : Type 0 where
+pub record HasRead (most : ℕ) (scope : Scope) (all : Trees) (old new : TableView) (ids : List TermId) : Type 0 where
   -- the terms
   pub terms : List Term
   -- they are those of the trees
-  pub read : terms_in old.symbols all ≡ Ok terms
+  pub read : terms_in scope all ≡ Ok terms
   -- the numbers stand for them
   pub stand : length new.terms ≤ most → AllMean new terms ids
   -- what came is one of their subterms
   pub grows : Grows terms old new
 
 -- how reading ends
-abbrev pub EndsReading : ℕ → Trees → TableView → TableView → Result (Vec TermId Global) TermStop → Type 0
-EndsReading most all old new (Ok v) = HasRead most all old new v.items
-EndsReading most all old new (Err (Fault f)) = terms_in old.symbols all ≡ Err (located_of f)
-EndsReading most all old new (Err Memory) = Unit {0}
+abbrev pub EndsReading : ℕ → Scope → Trees → TableView → TableView → Result (Vec TermId Global) TermStop → Type 0
+EndsReading most scope all old new (Ok v) = HasRead most scope all old new v.items
+EndsReading most scope all old new (Err (Fault f)) = terms_in scope all ≡ Err (located_of f)
+EndsReading most scope all old new (Err Memory) = Unit {0}
 
 -- Reading, without a look at the room that there is.
-pub record Reads (most : ℕ) (all : Trees) (old new : TableView) (result : Result (Vec TermId Global) TermStop) : Type 0 where
+pub record Reads (most : ℕ) (scope : Scope) (all : Trees) (old new : TableView) (result : Result (Vec TermId Global) TermStop) : Type 0 where
   -- what was there is there still
   pub keeps : Keeps old new
   -- the terms, or the first fault
-  pub ends : EndsReading most all old new result
+  pub ends : EndsReading most scope all old new result
 
 -- the table has no more terms than those that were there before and as many as there is room for; their number has 64 bits
 abbrev pub HasRoom : (before room : ℕ) → TableView → Type 0

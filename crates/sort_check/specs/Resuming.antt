@@ -3,8 +3,8 @@ use Rattle.std.specs.Prelude.{ℕ, List, [], ◌∷◌, ◌++◌, take, drop, Ok
 use Rattle.spec_text.specs.Bytes.{Name}
 use Rattle.spec_text.specs.Answers.{Answer, ◌>>=◌}
 use Rattle.spec_text.specs.Trees.{Trees}
-use Rattle.spec_terms.specs.Terms.{Symbol, Term}
-use Rattle.spec_terms.specs.Reading.{applied, terms_in}
+use Rattle.spec_terms.specs.Terms.{Term}
+use Rattle.spec_terms.specs.Reading.{Scope, applied, terms_in}
 
 -- A list whose arguments are being read.
 pub record Open : Type 0 where
@@ -20,14 +20,14 @@ pub record Open : Type 0 where
   pub behind : Trees
 
 -- the terms that were read, with those of the trees behind them
-abbrev pub followed : List Symbol → List Term → Trees → Answer (List Term)
-followed symbols done rest = terms_in symbols rest >>= λ us. Ok (done ++ us)
+abbrev pub followed : Scope → List Term → Trees → Answer (List Term)
+followed scope done rest = terms_in scope rest >>= λ us. Ok (done ++ us)
 
 -- a list's term in the place of its arguments
-abbrev pub closed : List Symbol → Open → List Term → Answer (List Term)
-closed symbols o ts = applied symbols o.place o.name o.at (drop o.from ts) >>= λ t. Ok (take o.from ts ++ t ∷ [])
+abbrev pub closed : Scope → Open → List Term → Answer (List Term)
+closed scope o ts = applied scope o.place o.name o.at (drop o.from ts) >>= λ t. Ok (take o.from ts ++ t ∷ [])
 
 -- all terms, of what was read and what is left of the open lists, the outermost first, and of what stands behind them
-unfoldable pub resumed : List Symbol → List Open → List Term → Trees → Answer (List Term)
-resumed symbols [] done rest = followed symbols done rest
-resumed symbols (o ∷ os) done rest = resumed symbols os done rest >>= λ ts. closed symbols o ts >>= λ us. followed symbols us o.behind
+unfoldable pub resumed : Scope → List Open → List Term → Trees → Answer (List Term)
+resumed scope [] done rest = followed scope done rest
+resumed scope (o ∷ os) done rest = resumed scope os done rest >>= λ ts. closed scope o ts >>= λ us. followed scope us o.behind

@@ -1,6 +1,6 @@
 //! Puts terms into the table, as long as there is room for them.
 
-ghost use Rattle.std.specs.Prelude.{◌≡◌, true, [], ◌∷◌};
+ghost use Rattle.std.specs.Prelude.{◌≡◌, ◌<◌, true, [], ◌∷◌, length};
 ghost use Rattle.spec_terms.specs.Terms.{of};
 ghost use Rattle.spec_terms.specs.Theory.{pair, unequal, conjunction};
 ghost use Rattle.term_core.specs.Tables.{HasHead, head_meant, takes_so_many, term_at, clause_at, IsIn, AreIn};
@@ -101,13 +101,14 @@ pub fn put_unequal(
     put(alloc, table, Head::Not, &[equal], most)
 }
 
-/// Puts the conjunction of terms, or gives the one that there is. Source: own.
+/// Puts the conjunction of terms, of which there is one at least, or gives the one that there is. Source: own.
 pub fn conjoin(
     alloc: Global,
     table: &mut TermTable,
     parts: &[TermId],
     most: u64,
 ) -> Result<TermId, BuildStop>
+    requires some { 0 < length parts.now }
     requires there { AreIn table.old parts.now }
     ensures { Builds most table.old table.new (conjunction (clause_at table.old parts.now)) result }
 {

@@ -88,7 +88,7 @@ fn equality(
     arguments: &[TermId],
     most: u64,
 ) -> Result<TermId, BuildStop>
-    requires some { 0 < length arguments.now }
+    requires two { 1 < length arguments.now }
     requires there { AreIn table.old arguments.now }
     ensures { Builds most table.old table.new (each_pair (pair Equal) (neighbours (clause_at table.old arguments.now))) result }
 {
@@ -154,6 +154,7 @@ fn distinct(
     arguments: &[TermId],
     most: u64,
 ) -> Result<TermId, BuildStop>
+    requires two { 1 < length arguments.now }
     requires there { AreIn table.old arguments.now }
     ensures { Builds most table.old table.new (each_pair unequal (all_pairs (clause_at table.old arguments.now))) result }
 {
@@ -199,11 +200,12 @@ pub fn build(
     most: u64,
 ) -> Result<TermId, BuildStop>
     requires there { AreIn table.old arguments.now }
-    requires takes { Takes table.old.symbols function (length arguments.now) }
-    ensures { Builds most table.old table.new (function_term table.old.symbols function (clause_at table.old arguments.now)) result }
+    requires takes { Takes table.old function (length arguments.now) }
+    ensures { Builds most table.old table.new (function_term table.old function (clause_at table.old arguments.now)) result }
 {
     match function {
         Function::Core(head) => build_core(alloc, table, head, arguments, most),
         Function::Declared(symbol) => put(alloc, table, Head::Apply(symbol), arguments, most),
+        Function::Defined(term) => Ok(term),
     }
 }

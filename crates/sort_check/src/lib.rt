@@ -7,6 +7,7 @@
 
 mod build;
 mod chains;
+mod definitions;
 mod faults;
 mod frames;
 mod functions;
@@ -17,6 +18,7 @@ mod room;
 mod tests;
 mod values;
 
+pub use definitions::Definitions;
 pub use faults::{TermFault, TermStop};
-pub use room::terms;
+pub use room::{terms, terms_under};
 pub use spec_text::Fault;

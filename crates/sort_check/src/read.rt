@@ -1,8 +1,11 @@
 //! Reads terms from left to right, one list inside the other.
 
 ghost use Rattle.smt_sexpr.specs.Items.{trees_in};
+ghost use Rattle.term_core.specs.Tables.{AreIn};
+ghost use Rattle.sort_check.specs.Definitions.{scope_at};
 ghost use Rattle.sort_check.specs.Reads.{Reads};
 
+use crate::definitions::Definitions;
 use crate::faults::TermStop;
 use crate::frames::{Frame, begin};
 use crate::functions::{atom_function, function_named};
@@ -11,16 +14,18 @@ use smt_sexpr::{Item, View, look, split};
 use std::alloc::Global;
 use term_core::{TermId, TermTable};
 
-/// Reads the trees of items as terms, or says the first fault. As soon as the table has more than `most` terms, no
+/// Reads the trees of items as terms under the table's symbols and the definitions, or says the first fault. As soon as the table has more than `most` terms, no
 /// more are built, while the search for a fault goes on; the numbers mean nothing then. Source: own.
 pub fn read_terms<'a>(
     alloc: Global,
     table: &mut TermTable,
+    definitions: &Definitions,
     text: &'a [u8],
     items: &'a [Item],
     most: u64,
 ) -> Result<Vec<TermId>, TermStop>
-    ensures { Reads most (trees_in text.now items.now) table.old table.new result }
+    requires { AreIn table.old definitions.now.terms }
+    ensures { Reads most (scope_at table.old definitions.now) (trees_in text.now items.now) table.old table.new result }
 {
     let mut open: Vec<Frame<'a>> = Vec::new(alloc);
     let mut ids: Vec<TermId> = Vec::new(alloc);
@@ -30,7 +35,7 @@ pub fn read_terms<'a>(
         if let Some((first, behind)) = split(rest) {
             match look(text, first) {
                 View::Atom(at, kind, name) => {
-                    let function = atom_function(table.symbols(), u64::from(at), kind, name)?;
+                    let function = atom_function(table, definitions, u64::from(at), kind, name)?;
                     let from = ids.len();
                     crowded = replace(alloc, table, &mut ids, crowded, function, from, most)?;
                     rest = behind;
@@ -44,7 +49,8 @@ pub fn read_terms<'a>(
         } else if let Some(frame) = open.pop() {
             let count = ids.len() - frame.from;
             let function = function_named(
-                table.symbols(),
+                table,
+                definitions,
                 frame.place,
                 frame.name,
                 frame.at,

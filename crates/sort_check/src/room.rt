@@ -2,12 +2,15 @@
 
 ghost use Rattle.std.specs.Prelude.{◌≡◌, ◌≤◌, true, List, length, IfOk, OnErr};
 ghost use Rattle.spec_terms.specs.Terms.{Term};
+ghost use Rattle.spec_terms.specs.Reading.{scope_of};
 ghost use Rattle.spec_terms.specs.Subterms.{fit_in, roomy_terms};
 ghost use Rattle.term_core.specs.Tables.{AreIn};
 ghost use Rattle.smt_sexpr.specs.Items.{trees_in};
 ghost use Rattle.sort_check.specs.Building.{Keeps, AllMean, AreSubtermsFrom};
+ghost use Rattle.sort_check.specs.Definitions.{scope_at};
 ghost use Rattle.sort_check.specs.Reads.{HasRoom, AnswersTerms};
 
+use crate::definitions::Definitions;
 use crate::faults::{TermStop, fault_at};
 use crate::read::read_terms;
 use smt_sexpr::Item;
@@ -40,36 +43,76 @@ fn have_room(
 fn read_within(
     alloc: Global,
     table: &mut TermTable,
+    definitions: &Definitions,
     text: &[u8],
     items: &[Item],
     at: u64,
     room: u64,
 ) -> Result<Vec<TermId>, TermStop>
-    ensures answer { AnswersTerms (roomy_terms table.old.symbols room at (trees_in text.now items.now)) table.old table.new result }
+    requires { AreIn table.old definitions.now.terms }
+    ensures answer { AnswersTerms (roomy_terms (scope_at table.old definitions.now) room at (trees_in text.now items.now)) table.old table.new result }
     ensures keeps { Keeps table.old table.new }
 {
     let before = table.len();
-    let ids = read_terms(alloc, table, text, items, before.saturating_add(room))?;
+    let ids = read_terms(
+        alloc,
+        table,
+        definitions,
+        text,
+        items,
+        before.saturating_add(room),
+    )?;
     if have_room(alloc, table, before, &ids, room)? {
         return Ok(ids);
     }
     Err(TermStop::Fault(fault_at(at, Fault::Full)))
 }
 
-/// Reads the trees of `items`, whose offsets are those of `text`, as terms under the table's symbols, and gives their
-/// numbers in the table, in order. The table keeps what it had, and has their subterms.
+/// Reads the trees of `items`, whose offsets are those of `text`, as terms under the table's symbols and the
+/// definitions, and gives their numbers in the table, in order. A defined name is read as the term that it stands for,
+/// which must be in the table. The table keeps what it had, and has the subterms of what was read.
 ///
 /// - `Fault` is the first fault, with its offset. It is looked for from left to right, and in a list in this order: its
 ///   shape (`BadShape` at the list), a reserved word in front (`Reserved` at the word), the faults of its arguments, its
 ///   name (`UnknownSymbol` at the name), and how many arguments it has (`WrongCount` at the list). Of an atom, a number
 ///   is an `UnknownSymbol`, as a name that is not known is, a string or a keyword is a `BadShape`, a reserved word is
-///   `Reserved`, and a function that wants arguments a `WrongCount`.
+///   `Reserved`, and a function that wants arguments a `WrongCount`. A symbol and a defined name want none.
 /// - `Fault` with `Full` at `at` comes where there is no other fault, and the terms have more than `room` different
-///   subterms, all together.
+///   subterms, all together; those of the terms that names stand for count too.
 /// - `Memory` may come at any allocation, and says nothing of the text.
 ///
 /// After each of these the table is as it was. While terms are read it has `room` and one terms more at most. Time goes
 /// with the text and the arguments of the terms that it is read as, and nothing recurses.
+/// Source: SMT-LIB 2.6, section 3.6; the order of faults and the limit are own.
+pub fn terms_under(
+    alloc: Global,
+    table: &mut TermTable,
+    definitions: &Definitions,
+    text: &[u8],
+    items: &[Item],
+    at: u64,
+    room: u64,
+) -> Result<Vec<TermId>, TermStop>
+    requires { AreIn table.old definitions.now.terms }
+    ensures answer { AnswersTerms (roomy_terms (scope_at table.old definitions.now) room at (trees_in text.now items.now)) table.old table.new result }
+    ensures same { OnErr result (table.new ≡ table.old) }
+{
+    let before = table.len();
+    match read_within(alloc, table, definitions, text, items, at, room) {
+        Ok(ids) => Ok(ids),
+        Err(stop) => {
+            table.cut(before);
+            Err(stop)
+        }
+    }
+}
+
+/// Reads the trees of `items` as terms under the table's symbols alone, as `terms_under` does where no name is defined.
+///
+/// - `Fault` is the first fault, with its offset, as there.
+/// - `Memory` may come at any allocation, and says nothing of the text.
+///
+/// After each of these the table is as it was.
 /// Source: SMT-LIB 2.6, section 3.6; the order of faults and the limit are own.
 pub fn terms(
     alloc: Global,
@@ -79,15 +122,16 @@ pub fn terms(
     at: u64,
     room: u64,
 ) -> Result<Vec<TermId>, TermStop>
-    ensures answer { AnswersTerms (roomy_terms table.old.symbols room at (trees_in text.now items.now)) table.old table.new result }
+    ensures answer { AnswersTerms (roomy_terms (scope_of table.old.symbols) room at (trees_in text.now items.now)) table.old table.new result }
     ensures same { OnErr result (table.new ≡ table.old) }
 {
-    let before = table.len();
-    match read_within(alloc, table, text, items, at, room) {
-        Ok(ids) => Ok(ids),
-        Err(stop) => {
-            table.cut(before);
-            Err(stop)
-        }
-    }
+    terms_under(
+        alloc,
+        table,
+        &Definitions::new(alloc),
+        text,
+        items,
+        at,
+        room,
+    )
 }

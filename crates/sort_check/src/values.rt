@@ -23,8 +23,8 @@ fn value(
     most: u64,
 ) -> Result<Option<TermId>, NoMemory>
     requires there { (ts : List Term) × Stand crowded most table.old ts values.now }
-    requires takes { Takes table.old.symbols function (length values.now) }
-    ensures { (ts : List Term) → Stand crowded most table.old ts values.now → IsValue crowded most table.old table.new (function_term table.old.symbols function ts) result }
+    requires takes { Takes table.old function (length values.now) }
+    ensures { (ts : List Term) → Stand crowded most table.old ts values.now → IsValue crowded most table.old table.new (function_term table.old function ts) result }
 {
     if crowded {
         return Ok(None);
@@ -51,8 +51,8 @@ pub fn replace(
 ) -> Result<bool, NoMemory>
     requires there { (ts : List Term) × Stack crowded most table.old ts values.old.items }
     requires from { from ≤ length values.old.items }
-    requires takes { Takes table.old.symbols function (length values.old.items - from) }
-    ensures { (ts : List Term) → Stack crowded most table.old ts values.old.items → Replaces most table.old table.new ts from (function_term table.old.symbols function (drop from ts)) values.new.items result }
+    requires takes { Takes table.old function (length values.old.items - from) }
+    ensures { (ts : List Term) → Stack crowded most table.old ts values.old.items → Replaces most table.old table.new ts from (function_term table.old function (drop from ts)) values.new.items result }
 {
     let built = value(alloc, table, &values[from..], crowded, function, most)?;
     values.truncate(from);

@@ -16,7 +16,7 @@ use Rattle.spec_proofs.specs.Judging.{with_command, FaultBy, FirstFault}
 use Rattle.spec_proofs.specs.Accepted.{IsJudged, IsVerdict}
 
 -- of a front the same bytes are kept
-same_kept : (n : ℕ) (text : List ℕ) → take n (take (n + 1) text) ≡ take n text
+pub same_kept : (n : ℕ) (text : List ℕ) → take n (take (n + 1) text) ≡ take n text
 same_kept n text = take-take n (n + 1) text (omega arith)
 
 -- and it has more bytes exactly where the whole text has
@@ -28,7 +28,7 @@ whole_front : (n : ℕ) (text : List ℕ) → nat_lt n (length text) ≡ false �
 whole_front n text h = take_all (n + 1) text (grind (arith, nat_tests))
 
 -- a script is read by its front
-read_by : (text : List ℕ) (ts : Trees) (found : Option Located) → IsReadUpTo (front text) ts found → IsReadUpTo text ts found
+pub read_by : (text : List ℕ) (ts : Trees) (found : Option Located) → IsReadUpTo (front text) ts found → IsReadUpTo text ts found
 read_by text ts found r = record {
   rest = r.rest;
   trees = subst (λ bytes. AreTrees 0 (lexemes 0 0 bytes) ts r.rest) (same_kept text_limit text) r.trees;

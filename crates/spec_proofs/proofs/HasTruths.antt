@@ -14,7 +14,7 @@ use Rattle.spec_terms.specs.Values.{Value, truth, number, element, is_true, Inte
 use Rattle.spec_terms.specs.Lists.{left, right, neighbours, all_pairs}
 use Rattle.spec_terms.specs.Theory.{Rule, look_up, pair, unequal, each_pair, no_term, theory}
 use Rattle.spec_terms.specs.Forms.{Form, malformed, reserved, applies, form}
-use Rattle.spec_terms.specs.Reading.{symbol_named, applied, applied_as, atom_term, by_form, term_in, terms_in}
+use Rattle.spec_terms.specs.Reading.{Scope, symbol_named, applied, applied_as, atom_term, by_form, term_in, terms_in}
 use Rattle.spec_terms.specs.Subterms.{roomy_terms}
 use Rattle.spec_terms.specs.Agreement.{value_at, values_at}
 use Rattle.spec_scripts.specs.Stack.{term_limit}
@@ -142,22 +142,47 @@ module _ (i : Interpretation) where
       go true k = All-head IsTruthful s ss h
       go false k = k
 
-  module _ (ss : List Symbol) (symbols : All IsTruthful ss) where
+  -- a defined name stands for a term that has a truth value
+  abbrev pub IsMeant : Name × Term → Type 0
+  IsMeant d = HasTruth i d.1
+
+  -- What terms are read under: each symbol has a truth value, and so has each term that a name stands for.
+  pub record GivesTruths (scope : Scope) : Type 0 where
+    pub symbols : All IsTruthful scope.symbols
+    pub defined : All IsMeant scope.defined
+
+  -- a defined name that is found has a truth value, where all have
+  abbrev MeantAt : Option Term → Type 0
+  MeantAt (Some u) = HasTruth i u
+  MeantAt None = Unit {0}
+
+  meant_at : (ds : List (Name × Term)) (n : Name) → All IsMeant ds → MeantAt (look_up ds n)
+  meant_at [] n h = tt
+  meant_at (d ∷ ds) n h = go (bytes_eq d.0 n) (meant_at ds n (All-tail IsMeant d ds h))
+    where
+      go : (b : Bool) → MeantAt (look_up ds n) → MeantAt (cond b (Some d.1) (look_up ds n))
+      go true k = All-head IsMeant d ds h
+      go false k = k
+
+  module _ (scope : Scope) (all : GivesTruths scope) where
     -- a name before terms that have truth values has one
-    applied_truth : (place : ℕ) (n : Name) (at : ℕ) (ts : List Term) (u : Term) → All (HasTruth i) ts → applied ss place n at ts ≡ Ok u → HasTruth i u
+    applied_truth : (place : ℕ) (n : Name) (at : ℕ) (ts : List Term) (u : Term) → All (HasTruth i) ts → applied scope place n at ts ≡ Ok u → HasTruth i u
     unfolding value_at
-    applied_truth place n at ts u h e = go (look_up theory n) (symbol_named ss n) (keeps_at theory n theory_keeps) (truthful_at ss n symbols) e
+    applied_truth place n at ts u h e = go (look_up theory n) (symbol_named scope.symbols n) (look_up scope.defined n) (keeps_at theory n theory_keeps) (truthful_at scope.symbols n all.symbols) (meant_at scope.defined n all.defined) e
       where
-        go : (r : Option Rule) (o : Option Symbol) → KeepsAt r → TruthfulAt o → applied_as r o place at ts ≡ Ok u → HasTruth i u
-        go (Some r) o keeps truthful e =
+        go : (r : Option Rule) (o : Option Symbol) (d : Option Term) → KeepsAt r → TruthfulAt o → MeantAt d → applied_as r o d place at ts ≡ Ok u → HasTruth i u
+        go (Some r) o d keeps truthful meant e =
             let a = went _ _ u e in
             subst (HasTruth i) (answer (Ok (r.reads ts)) u a.then) (keeps ts h)
-        go None (Some s) keeps truthful e =
+        go None (Some s) d keeps truthful meant e =
             let a = went _ _ u e in
             subst (HasTruth i) (answer (Ok (of (Apply s) ts)) u a.then) (truthful (values_at i (terms_of ts)))
-        go None None keeps truthful e = absurd (answer (refused place UnknownSymbol) u e)
+        go None None (Some d) keeps truthful meant e =
+            let a = went _ _ u e in
+            subst (HasTruth i) (answer (Ok d) u a.then) meant
+        go None None None keeps truthful meant e = absurd (answer (refused place UnknownSymbol) u e)
 
-    atom_truth : (at : ℕ) (k : Kind) (n : Name) (u : Term) → atom_term ss at k n ≡ Ok u → HasTruth i u
+    atom_truth : (at : ℕ) (k : Kind) (n : Name) (u : Term) → atom_term scope at k n ≡ Ok u → HasTruth i u
     atom_truth at Numeral n u e = absurd (answer (refused at UnknownSymbol) u e)
     atom_truth at Decimal n u e = absurd (answer (refused at UnknownSymbol) u e)
     atom_truth at Text n u e = absurd (answer (refused at BadShape) u e)
@@ -170,38 +195,38 @@ module _ (i : Interpretation) where
       unfolding term_in terms_in
 
       -- the term of a text has a truth value
-      term_truth : (t : Tree) (u : Term) → term_in ss t ≡ Ok u → HasTruth i u
+      term_truth : (t : Tree) (u : Term) → term_in scope t ≡ Ok u → HasTruth i u
       term_truth (atom at k n) u e = atom_truth at k n u e
       term_truth (list at none end) u e = absurd (answer (refused at BadShape) u e)
       term_truth (list at (more head us) end) u e = go (form head us) (terms_truth us) e
         where
-          go : (f : Form) → ((ts : List Term) → terms_in ss us ≡ Ok ts → All (HasTruth i) ts) → by_form ss at f (terms_in ss us) ≡ Ok u → HasTruth i u
+          go : (f : Form) → ((ts : List Term) → terms_in scope us ≡ Ok ts → All (HasTruth i) ts) → by_form scope at f (terms_in scope us) ≡ Ok u → HasTruth i u
           go malformed all e = absurd (answer (refused at BadShape) u e)
           go (reserved place) all e = absurd (answer (refused place Reserved) u e)
           go (applies place n) all e =
-              let a = went (terms_in ss us) _ u e in
+              let a = went (terms_in scope us) _ u e in
               applied_truth place n at a.first u (all a.first a.was) a.then
 
       -- and so have terms
-      terms_truth : (ts : Trees) (us : List Term) → terms_in ss ts ≡ Ok us → All (HasTruth i) us
+      terms_truth : (ts : Trees) (us : List Term) → terms_in scope ts ≡ Ok us → All (HasTruth i) us
       terms_truth none us e = subst (All (HasTruth i)) (answer (Ok []) us e) (All-nil (HasTruth i))
       terms_truth (more t ts) us e =
-          let a = went (term_in ss t) _ us e in
-          let c = went (terms_in ss ts) _ us a.then in
+          let a = went (term_in scope t) _ us e in
+          let c = went (terms_in scope ts) _ us a.then in
           subst (All (HasTruth i)) (answer (Ok (a.first ∷ c.first)) us c.then) (All-cons (HasTruth i) a.first c.first (term_truth t a.first a.was) (terms_truth ts c.first c.was))
 
     -- with room for them
-    roomy_truth : (at : ℕ) (ts : Trees) (us : List Term) → roomy_terms ss term_limit at ts ≡ Ok us → All (HasTruth i) us
+    roomy_truth : (at : ℕ) (ts : Trees) (us : List Term) → roomy_terms scope term_limit at ts ≡ Ok us → All (HasTruth i) us
     unfolding roomy_terms
     roomy_truth at ts us e =
-        let a = went (terms_in ss ts) _ us e in
+        let a = went (terms_in scope ts) _ us e in
         let c = went _ _ us a.then in
         subst (All (HasTruth i)) (answer (Ok a.first) us c.then) (terms_truth ts a.first a.was)
 
-  -- the terms of a clause that is read have truth values, where all current symbols have
-  pub clause_truths : (k : Known) → All IsTruthful k.symbols → (at : ℕ) (ts : Trees) (c : List Term) → clause_in k at ts ≡ Ok c → All (HasTruth i) c
+  -- the terms of a clause that is read have truth values, where all symbols and defined names have
+  pub clause_truths : (k : Known) → GivesTruths k.scope → (at : ℕ) (ts : Trees) (c : List Term) → clause_in k at ts ≡ Ok c → All (HasTruth i) c
   unfolding in_proof
-  clause_truths k symbols at ts c e = go (roomy_terms k.symbols term_limit at ts) (roomy_truth k.symbols symbols at ts) e
+  clause_truths k all at ts c e = go (roomy_terms k.scope term_limit at ts) (roomy_truth k.scope all at ts) e
     where
       go : (a : Answer (List Term)) → ((us : List Term) → a ≡ Ok us → All (HasTruth i) us) → in_proof a ≡ Ok c → All (HasTruth i) c
       go (Ok us) h e = subst (All (HasTruth i)) (answer (Ok us) c e) (h us refl)

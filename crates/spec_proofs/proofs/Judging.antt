@@ -7,6 +7,7 @@ use Rattle.std.proofs.lemmas.List.Elements.{All-head, All-tail, All-cons, All-ni
 use Rattle.spec_text.specs.Bytes.{Name}
 use Rattle.spec_text.specs.Trees.{Tree, Trees, atom, list, none, more}
 use Rattle.spec_terms.specs.Terms.{Term}
+use Rattle.spec_scripts.specs.Stack.{sort_in}
 use Rattle.spec_terms.specs.Values.{Interpretation}
 use Rattle.spec_terms.specs.Literals.{Clause}
 use Rattle.spec_proofs.specs.declared.Rule.{Rule}
@@ -14,10 +15,10 @@ use Rattle.spec_proofs.specs.declared.ProofKind.TheVariants.{BadShape, UnknownPr
 use Rattle.spec_proofs.specs.Clauses.{term_true, clause_true, HasTruth}
 use Rattle.spec_proofs.specs.Rules.{IsRight}
 use Rattle.spec_proofs.specs.Faults.{Fault, Read, wrong}
-use Rattle.spec_proofs.specs.Commands.{Known, Entry, Command, Assume, Step, Shape, assumes, steps, shape_of}
-use Rattle.spec_proofs.specs.Known.{clause_of, fresh_name, clause_in, known_rule, premise_of, premises_of, term_alone, read_shape, shaped, command_of}
+use Rattle.spec_proofs.specs.Commands.{Known, Entry, Command, Assume, Step, Define, Shape, assumes, steps, defines, shape_of}
+use Rattle.spec_proofs.specs.Known.{clause_of, fresh_name, new_term_name, in_proof, clause_in, known_rule, premise_of, premises_of, term_alone, name_room, read_shape, shaped, command_of}
 use Rattle.spec_proofs.specs.Judging.{with_command, fault_of, IsRightAfter, HasEmptyClause, EndsBy, FaultBy, FirstFault}
-use Rattle.spec_proofs.proofs.HasTruths.{IsTruthful, clause_truths}
+use Rattle.spec_proofs.proofs.HasTruths.{IsMeant, GivesTruths, clause_truths}
 use Rattle.spec_proofs.proofs.Steps.{answer, went, in_turn, clause_by, known_by}
 
 module _ (i : Interpretation) where
@@ -52,12 +53,20 @@ module _ (i : Interpretation) where
       let b = went (premises_of k ts) _ cs a.then in
       subst (All IsTrue) (answer (Ok (a.first ∷ b.first)) cs b.then) (All-cons IsTrue a.first b.first (premise_true k t a.first h a.was) (premises_true k ts b.first h b.was))
 
-  -- the premises of a step that is read are true, and the terms of its clause have truth values
+  -- the one term of a text has a truth value, where all have
+  alone_truth : (at : ℕ) (us : List Term) (u : Term) → term_alone at us ≡ Ok u → All (HasTruth i) us → HasTruth i u
+  unfolding term_alone
+  alone_truth at [] u e h = absurd (answer (wrong at BadShape) u e)
+  alone_truth at (v ∷ []) u e h = subst (HasTruth i) (answer (Ok v) u e) (All-head (HasTruth i) v [] h)
+  alone_truth at (v ∷ w ∷ ws) u e h = absurd (answer (wrong at BadShape) u e)
+
+  -- the premises of a step that is read are true, and the terms of its clause have truth values, as a defined term has
   abbrev IsGrounded : Read Command → Type 0
   IsGrounded (Ok (Step at n c r ps)) = All IsTrue ps × All (HasTruth i) c
+  IsGrounded (Ok (Define at n u)) = HasTruth i u
   IsGrounded _ = Unit {0}
 
-  shape_grounded : (k : Known) (at : ℕ) (s : Shape) → All (IsTruthful i) k.symbols → All EntryTrue k.entries → IsGrounded (read_shape k at s)
+  shape_grounded : (k : Known) (at : ℕ) (s : Shape) → GivesTruths i k.scope → All EntryTrue k.entries → IsGrounded (read_shape k at s)
   unfolding read_shape
   shape_grounded k at (assumes h t) ss es =
       in_turn IsGrounded (λ _. tt) (fresh_name k h) _ λ n _.
@@ -68,8 +77,14 @@ module _ (i : Interpretation) where
       in_turn IsGrounded (λ _. tt) (clause_in k at ls) _ λ c read.
       in_turn IsGrounded (λ _. tt) (known_rule r) _ λ rule _.
       in_turn IsGrounded (λ _. tt) (premises_of k ps) _ λ qs e. (premises_true k ps qs es e, clause_truths i k ss at ls c read)
+  shape_grounded k at (defines f s t) ss es =
+      in_turn IsGrounded (λ _. tt) (new_term_name k f) _ λ n _.
+      in_turn IsGrounded (λ _. tt) (in_proof (sort_in s)) _ λ sort _.
+      in_turn IsGrounded (λ _. tt) (clause_in k at (more t none)) _ λ us read.
+      in_turn IsGrounded (λ _. tt) (term_alone at us) _ λ u alone.
+      in_turn IsGrounded (λ _. tt) (name_room k at) _ λ room _. alone_truth at us u alone (clause_truths i k ss at (more t none) us read)
 
-  command_grounded : (k : Known) (t : Tree) → All (IsTruthful i) k.symbols → All EntryTrue k.entries → IsGrounded (command_of k t)
+  command_grounded : (k : Known) (t : Tree) → GivesTruths i k.scope → All EntryTrue k.entries → IsGrounded (command_of k t)
   unfolding command_of
   command_grounded k (atom at kind n) ss h = tt
   command_grounded k (list at ts end) ss h = in_turn IsGrounded (λ _. tt) (shaped at (shape_of ts)) _ λ s _. shape_grounded k at s ss h
@@ -80,8 +95,8 @@ module _ (i : Interpretation) where
 
   -- what is known, where all that is known is true
   pub record IsTruly (k : Known) : Type 0 where
-    -- each symbol has a truth value
-    pub symbols : All (IsTruthful i) k.symbols
+    -- each symbol has a truth value, and each defined name
+    pub scope : GivesTruths i k.scope
     -- each clause is true
     pub entries : All EntryTrue k.entries
     -- each assertion is true
@@ -94,17 +109,23 @@ module _ (i : Interpretation) where
         let one : clause_true i (t ∷ []) ≡ true = ap (λ b. b || false) (All-contains TermTrue k.asserted t ts right) in
         All-push EntryTrue k.entries (record { name = n; clause = t ∷ [] }) es one
     right_true k (Step at n c r ps) ground right es ts = All-push EntryTrue k.entries (record { name = n; clause = c }) es (law r ps c ground.0 ground.1 right)
+    right_true k (Define at n u) ground right es ts = es
 
     -- a command that is right keeps it
     truly_kept : (k : Known) (c : Command) → IsGrounded (Ok c) → IsRightAfter k c → IsTruly k → IsTruly (with_command k c)
-    truly_kept k (Assume at n t) ground right all = record { symbols = all.symbols; entries = right_true k (Assume at n t) ground right all.entries all.asserted; asserted = all.asserted }
-    truly_kept k (Step at n c r ps) ground right all = record { symbols = all.symbols; entries = right_true k (Step at n c r ps) ground right all.entries all.asserted; asserted = all.asserted }
+    truly_kept k (Assume at n t) ground right all = record { scope = all.scope; entries = right_true k (Assume at n t) ground right all.entries all.asserted; asserted = all.asserted }
+    truly_kept k (Step at n c r ps) ground right all = record { scope = all.scope; entries = right_true k (Step at n c r ps) ground right all.entries all.asserted; asserted = all.asserted }
+    truly_kept k (Define at n u) ground right all = record {
+      scope = record { symbols = all.scope.symbols; defined = All-push (IsMeant i) k.scope.defined (n, u) all.scope.defined ground };
+      entries = all.entries;
+      asserted = all.asserted;
+    }
 
     -- where all assertions and clauses are true, no proof from there is without a fault
     pub sound : (k : Known) (end : ℕ) (ts : Trees) → IsTruly k → FirstFault k end None ts None → ⊥
     unfolding FirstFault
     sound k end none all h = none_empty k all.entries h
-    sound k end (more t ts) all h = go (command_of k t) (command_grounded k t all.symbols all.entries) h (λ next. sound next end ts)
+    sound k end (more t ts) all h = go (command_of k t) (command_grounded k t all.scope all.entries) h (λ next. sound next end ts)
       where
         go : (o : Read Command) → IsGrounded o → FaultBy k o (λ next. FirstFault next end None ts None) None → ((next : Known) → IsTruly next → FirstFault next end None ts None → ⊥) → ⊥
         go (Err f) ground h rec = let none : None ≡ Some f = h in cc

@@ -1,25 +1,27 @@
 -- The fault of a proof's command stands at an offset of its text, and the first fault of commands in theirs.
 use Rattle.std.proofs.Common.{◌≡◌, ℕ, Bool, true, false, cond, List, [], ◌∷◌, Option, Some, None, inl, inr, refl, sym, subst}
-use Rattle.std.specs.Prelude.{Ok, Err}
+use Rattle.std.specs.Prelude.{Ok, Err, codes, nat_lt, ◌+◌, length}
+use Rattle.std.specs.Str.{bytes_eq}
 use Rattle.spec_text.specs.declared.Fault.{Fault as TextFault}
-use Rattle.spec_text.specs.declared.Fault.TheVariants.{Full}
-use Rattle.spec_text.specs.Bytes.{among}
+use Rattle.spec_text.specs.declared.Fault.TheVariants.{UnknownSort, Reserved, Full}
+use Rattle.spec_text.specs.declared.Kind.TheVariants.{Numeral, Decimal, Text, Simple, Quoted, Reserved as word_kind, Keyword}
+use Rattle.spec_text.specs.Bytes.{Name, among}
 use Rattle.spec_text.specs.Faults.{Located}
-use Rattle.spec_text.specs.Shapes.{Word}
-use Rattle.spec_text.specs.Answers.{Answer, ◌>>=◌, require}
+use Rattle.spec_text.specs.Shapes.{Word, is_reserved}
+use Rattle.spec_text.specs.Answers.{Answer, ◌>>=◌, refused, require}
 use Rattle.spec_text.specs.Trees.{Tree, Trees, atom, list, none, more, offset_of}
 use Rattle.spec_text.specs.Offsets.{AllOffsets, AllOffsetsOf, HasOffset, HaveOffset, at_offset_of, own_offsets}
-use Rattle.spec_terms.specs.Terms.{Symbol, Term}
+use Rattle.spec_terms.specs.Terms.{Truth, Term}
 use Rattle.spec_terms.specs.Literals.{Clause}
-use Rattle.spec_terms.specs.Reading.{terms_in}
+use Rattle.spec_terms.specs.Reading.{Scope, terms_in}
 use Rattle.spec_terms.specs.Subterms.{fit_in, roomy_terms}
-use Rattle.spec_scripts.specs.Stack.{term_limit}
+use Rattle.spec_scripts.specs.Stack.{term_limit, sort_named, sort_in}
 use Rattle.spec_proofs.specs.declared.Rule.{Rule}
-use Rattle.spec_proofs.specs.declared.ProofKind.TheVariants.{TwiceName, UnknownRule}
+use Rattle.spec_proofs.specs.declared.ProofKind.TheVariants.{TwiceName, UnknownRule, Term as in_term}
 use Rattle.spec_proofs.specs.Rules.{rule_named}
 use Rattle.spec_proofs.specs.Faults.{Fault, Read, wrong}
-use Rattle.spec_proofs.specs.Commands.{Known, Command, Shape, assumes, steps, shape_of}
-use Rattle.spec_proofs.specs.Known.{clause_of, entry_names, fresh_name, in_proof, clause_in, known_rule, premise_of, premises_of, term_alone, read_shape, shaped, command_of}
+use Rattle.spec_proofs.specs.Commands.{Known, Command, Shape, assumes, steps, defines, shape_of}
+use Rattle.spec_proofs.specs.Known.{clause_of, entry_names, fresh_name, is_term_name, new_term_name, in_proof, clause_in, known_rule, premise_of, premises_of, term_alone, name_room, read_shape, shaped, command_of}
 use Rattle.spec_proofs.specs.Judging.{with_command, fault_of, FaultBy, FirstFault}
 use Rattle.spec_proofs.proofs.Steps.{clause_by, known_by}
 use Rattle.spec_proofs.proofs.Parts.{Holds, ShapeStands, shape_stands}
@@ -40,7 +42,7 @@ rule_known w = refl
 
 -- that terms have their faults at their own offsets
 abbrev pub TermLaw : Type 0
-TermLaw = (symbols : List Symbol) (ts : Trees) (f : Located) → terms_in symbols ts ≡ Err f → HaveOffset ts f.offset
+TermLaw = (scope : Scope) (ts : Trees) (f : Located) → terms_in scope ts ≡ Err f → HaveOffset ts f.offset
 
 module _ (P : ℕ → Type 0) where
   -- what is read has a property, and a fault an offset with the other
@@ -93,6 +95,35 @@ module _ (P : ℕ → Type 0) where
       go true = h
       go false = tt
 
+  term_name_stands : (k : Known) (w : Word) → P w.at → Stands (new_term_name k w)
+  unfolding new_term_name
+  term_name_stands k w h = go (is_reserved w.kind) (is_term_name k.scope w.bytes)
+    where
+      go : (b c : Bool) → Stands (cond b (wrong w.at (in_term Reserved)) (cond c (wrong w.at TwiceName) (Ok w.bytes)))
+      go true c = h
+      go false true = h
+      go false false = tt
+
+  named_sort_stands : (at : ℕ) (n : Name) → P at → TermsStand (sort_named at n)
+  named_sort_stands at n h = go (bytes_eq n (codes "Bool"))
+    where
+      go : (b : Bool) → TermsStand (cond b (Ok Truth) (refused at UnknownSort))
+      go true = tt
+      go false = h
+
+  sort_stands : (t : Tree) → AllOffsets P t → TermsStand (sort_in t)
+  sort_stands (list at ts end) h = h.0
+  sort_stands (atom at Simple n) h = named_sort_stands at n h
+  sort_stands (atom at Quoted n) h = named_sort_stands at n h
+  sort_stands (atom at word_kind n) h = h
+  sort_stands (atom at Numeral n) h = h
+  sort_stands (atom at Decimal n) h = h
+  sort_stands (atom at Text n) h = h
+  sort_stands (atom at Keyword n) h = h
+
+  room_stands : (k : Known) (at : ℕ) → P at → Stands (name_room k at)
+  room_stands k at h = in_proof_stands (require (nat_lt (length k.scope.symbols + length k.scope.defined) term_limit) at Full) (require_stands _ at Full h)
+
   rule_stands : (w : Word) → P w.at → Stands (known_rule w)
   rule_stands w h = subst Stands (sym (rule_known w)) (go (rule_named w.bytes))
     where
@@ -134,8 +165,8 @@ module _ (P : ℕ → Type 0) where
   module _ (law : TermLaw) where
     clause_stands : (k : Known) (at : ℕ) (ts : Trees) → P at → AllOffsetsOf P ts → Stands (clause_in k at ts)
     unfolding roomy_terms
-    clause_stands k at ts here h = in_proof_stands (roomy_terms k.symbols term_limit at ts) (
-        terms_in_turn (terms_in k.symbols ts) _ (terms_stand (terms_in k.symbols ts) λ f e. at_offset_of P ts f.offset h (law k.symbols ts f e)) λ us.
+    clause_stands k at ts here h = in_proof_stands (roomy_terms k.scope term_limit at ts) (
+        terms_in_turn (terms_in k.scope ts) _ (terms_stand (terms_in k.scope ts) λ f e. at_offset_of P ts f.offset h (law k.scope ts f e)) λ us.
         terms_in_turn (require (fit_in term_limit us) at Full) _ (require_stands _ at Full here) λ fits. tt)
 
     read_stands : (k : Known) (at : ℕ) (s : Shape) → P at → ShapeStands P s → Gives CommandStands (read_shape k at s)
@@ -149,6 +180,12 @@ module _ (P : ℕ → Type 0) where
         stands_in_turn CommandStands (clause_in k at ls) _ (clause_stands k at ls here h.1) λ c.
         stands_in_turn CommandStands (known_rule r) _ (rule_stands r h.2) λ rule.
         stands_in_turn CommandStands (premises_of k ps) _ (premises_stand k ps h.3) λ qs. here
+    read_stands k at (defines f s t) here h =
+        stands_in_turn CommandStands (new_term_name k f) _ (term_name_stands k f h.0) λ n.
+        stands_in_turn CommandStands (in_proof (sort_in s)) _ (in_proof_stands (sort_in s) (sort_stands s h.1)) λ sort.
+        stands_in_turn CommandStands (clause_in k at (more t none)) _ (clause_stands k at (more t none) here (h.2, tt)) λ us.
+        stands_in_turn CommandStands (term_alone at us) _ (alone_stands at us here) λ u.
+        stands_in_turn CommandStands (name_room k at) _ (room_stands k at here) λ room. here
 
     command_stands : (k : Known) (t : Tree) → AllOffsets P t → Gives CommandStands (command_of k t)
     unfolding command_of

@@ -3,10 +3,11 @@ use Rattle.std.proofs.Common.{ℕ, Bool, true, false, cond, Option, Some, None}
 use Rattle.std.specs.Prelude.{not, codes}
 use Rattle.std.specs.Str.{bytes_eq}
 use Rattle.spec_text.specs.Bytes.{Name}
-use Rattle.spec_text.specs.Shapes.{◌>>=◌, Word, passes, first_word, first_list, only_tree, is_symbol, is_keyword, is_word, wanted}
+use Rattle.spec_text.specs.Shapes.{◌>>=◌, Word, passes, first_word, first_list, only_tree, no_tree, is_symbol, is_keyword, is_word, wanted}
 use Rattle.spec_text.specs.Trees.{Tree, Trees, atom, list, none, more}
 use Rattle.spec_text.specs.Offsets.{AllOffsets, AllOffsetsOf}
-use Rattle.spec_proofs.specs.Commands.{Shape, assumes, steps, Parts, no_parts, symbol_in, list_in, all_symbols, symbols_in, is_new, with_rule, with_premises, with_args, with_discharge, with_part, parts_of, or_none, assume_shape, step_shape, shape_of}
+use Rattle.spec_scripts.specs.Commands.{is_name}
+use Rattle.spec_proofs.specs.Commands.{Shape, assumes, steps, defines, Parts, no_parts, symbol_in, list_in, all_symbols, symbols_in, is_new, with_rule, with_premises, with_args, with_discharge, with_part, parts_of, or_none, assume_shape, step_shape, first_tree, define_shape, is_definition, shape_of}
 
 -- what there is has a property
 abbrev pub Holds : {A : Type 0} → (A → Type 0) → Option A → Type 0
@@ -56,6 +57,14 @@ module _ (P : ℕ → Type 0) where
   list_stands none h = tt
   list_stands (more (atom at k bytes) ts) h = tt
   list_stands (more (list at us end) ts) h = (h.0.1, h.1)
+
+  -- a tree and what follows it
+  abbrev TreeStands : Tree × Trees → Type 0
+  TreeStands x = AllOffsets P x.0 × AllOffsetsOf P x.1
+
+  first_stands : (ts : Trees) → AllOffsetsOf P ts → Holds TreeStands (first_tree ts)
+  first_stands none h = tt
+  first_stands (more t ts) h = h
 
   tree_stands : (ts : Trees) → AllOffsetsOf P ts → Holds (AllOffsets P) (only_tree ts)
   tree_stands none h = tt
@@ -121,6 +130,7 @@ module _ (P : ℕ → Type 0) where
   abbrev pub ShapeStands : Shape → Type 0
   ShapeStands (assumes h t) = P h.at × AllOffsets P t
   ShapeStands (steps i ls r ps) = P i.at × AllOffsetsOf P ls × P r.at × AllOffsetsOf P ps
+  ShapeStands (defines f s t) = P f.at × AllOffsets P s × AllOffsets P t
 
   given_stand : (o : Option Trees) → Holds (AllOffsetsOf P) o → AllOffsetsOf P (or_none o)
   given_stand None h = tt
@@ -144,8 +154,20 @@ module _ (P : ℕ → Type 0) where
       holds_in_turn PartsStand ShapeStands (parts_of no_parts c.1) _ (all_parts_stand no_parts c.1 inside.1 (record { rule = tt; premises = tt })) λ p parts.
       holds_in_turn WordStands ShapeStands p.rule _ parts.rule λ r k. (front.0, literals.1, k, given_stand p.premises parts.premises)
 
+  define_stands : (ts : Trees) → AllOffsetsOf P ts → Holds ShapeStands (define_shape ts)
+  unfolding define_shape
+  define_stands ts h =
+      holds_in_turn FrontStands ShapeStands (first_word ts) _ (word_stands ts h) λ f front.
+      tested ShapeStands (is_name f.0.kind) _ λ named.
+      holds_in_turn ListStands ShapeStands (first_list f.1) _ (list_stands f.1 front.1) λ parameters inside.
+      holds_in_turn Anything ShapeStands (no_tree parameters.0) _ (any_holds (no_tree parameters.0)) λ no_parameter _.
+      holds_in_turn TreeStands ShapeStands (first_tree parameters.1) _ (first_stands parameters.1 inside.1) λ s sort.
+      holds_in_turn (AllOffsets P) ShapeStands (only_tree s.1) _ (tree_stands s.1 sort.1) λ t k. (front.0, sort.0, k)
+
   pub shape_stands : (ts : Trees) → AllOffsetsOf P ts → Holds ShapeStands (shape_of ts)
   unfolding shape_of
   shape_stands ts h =
       holds_in_turn FrontStands ShapeStands (first_word ts) _ (word_stands ts h) λ w front.
-      either ShapeStands (is_word (codes "assume") w.0) _ _ (assume_stands w.1 front.1) (either ShapeStands (is_word (codes "step") w.0) _ _ (step_stands w.1 front.1) tt)
+      either ShapeStands (is_word (codes "assume") w.0) _ _ (assume_stands w.1 front.1) (
+      either ShapeStands (is_word (codes "step") w.0) _ _ (step_stands w.1 front.1) (
+      either ShapeStands (is_definition w.0) _ _ (define_stands w.1 front.1) tt))

@@ -12,7 +12,7 @@ use Rattle.spec_text.specs.Shapes.{Word}
 use Rattle.spec_text.specs.Answers.{◌>>=◌, require}
 use Rattle.spec_text.specs.Trees.{Tree, Trees, atom, list, none, more, offset_of}
 use Rattle.spec_terms.specs.Terms.{Symbol, Term, same_term}
-use Rattle.spec_terms.specs.Reading.{term_in, terms_in}
+use Rattle.spec_terms.specs.Reading.{Scope, scope_of, term_in, terms_in}
 use Rattle.spec_terms.specs.Subterms.{fit_in, roomy_terms}
 use Rattle.spec_terms.specs.Literals.{Literal, complement, literal_of}
 use Rattle.spec_scripts.specs.Stack.{Stack, Assertion, term_limit}
@@ -129,17 +129,17 @@ abbrev resolved : Tree
 resolved = list 0 (more (atom 0 Simple (codes "step")) (more (atom 0 Simple (codes "c")) (more (list 0 (more (atom 0 Simple (codes "cl")) none) 0) (more (atom 0 Keyword (codes "rule")) (more (atom 0 Simple (codes "resolution")) (more (atom 0 Keyword (codes "premises")) (more (list 0 (more (atom 0 Simple (codes "a")) (more (atom 0 Simple (codes "b")) none)) 0) none))))))) 0
 
 -- a text that is read alone, where there is room
-read_alone : (ss : List Symbol) (room at : ℕ) (t : Tree) (u : Term) → term_in ss t ≡ Ok u → fit_in room (u ∷ []) ≡ true → roomy_terms ss room at (more t none) ≡ Ok (u ∷ [])
+read_alone : (scope : Scope) (room at : ℕ) (t : Tree) (u : Term) → term_in scope t ≡ Ok u → fit_in room (u ∷ []) ≡ true → roomy_terms scope room at (more t none) ≡ Ok (u ∷ [])
 unfolding roomy_terms terms_in require ◌>>=◌
-read_alone ss room at t u e fits = joined (terms_in ss (more t none)) _ (u ∷ []) (u ∷ []) (joined (term_in ss t) _ u (u ∷ []) e refl) (ap (λ b. require b at Full >>= λ f. Ok (u ∷ [])) fits)
+read_alone scope room at t u e fits = joined (terms_in scope (more t none)) _ (u ∷ []) (u ∷ []) (joined (term_in scope t) _ u (u ∷ []) e refl) (ap (λ b. require b at Full >>= λ f. Ok (u ∷ [])) fits)
 
-assumed_reads : (k : Known) (n : Name) (t : Tree) (u : Term) → fresh_name k (named n) ≡ Ok n → term_in k.symbols t ≡ Ok u → fit_in term_limit (u ∷ []) ≡ true → command_of k (assumed n t) ≡ Ok (Assume (offset_of t) n u)
+assumed_reads : (k : Known) (n : Name) (t : Tree) (u : Term) → fresh_name k (named n) ≡ Ok n → term_in k.scope t ≡ Ok u → fit_in term_limit (u ∷ []) ≡ true → command_of k (assumed n t) ≡ Ok (Assume (offset_of t) n u)
 unfolding command_of shaped shape_of assume_shape read_shape in_proof term_alone ◌>>=◌
 assumed_reads k n t u e f fits =
-    let read : clause_in k 0 (more t none) ≡ Ok (u ∷ []) = ap in_proof (read_alone k.symbols term_limit 0 t u f fits) in
+    let read : clause_in k 0 (more t none) ≡ Ok (u ∷ []) = ap in_proof (read_alone k.scope term_limit 0 t u f fits) in
     joined (fresh_name k (named n)) _ n (Assume (offset_of t) n u) e (joined (clause_in k 0 (more t none)) _ (u ∷ []) (Assume (offset_of t) n u) read refl)
 
-resolved_reads : (ss : List Symbol) (ts : List Term) (u w : Term) → command_of (record { symbols = ss; asserted = ts; entries = record { name = codes "a"; clause = u ∷ [] } ∷ record { name = codes "b"; clause = w ∷ [] } ∷ [] }) resolved ≡ Ok (Step 0 (codes "c") [] Resolution ((u ∷ []) ∷ (w ∷ []) ∷ []))
+resolved_reads : (ss : List Symbol) (ts : List Term) (u w : Term) → command_of (record { scope = scope_of ss; asserted = ts; entries = record { name = codes "a"; clause = u ∷ [] } ∷ record { name = codes "b"; clause = w ∷ [] } ∷ [] }) resolved ≡ Ok (Step 0 (codes "c") [] Resolution ((u ∷ []) ∷ (w ∷ []) ∷ []))
 unfolding command_of shaped shape_of step_shape parts_of read_shape fresh_name in_proof roomy_terms terms_in require known_rule known_clause premise_of premises_of ◌>>=◌
 resolved_reads ss ts u w = refl
 

@@ -28,6 +28,7 @@ use Rattle.spec_proofs.specs.Judging.{with_entry, with_command, HasEmptyClause, 
 use Rattle.spec_proofs.specs.Accepted.{IsVerdict}
 use Rattle.spec_proofs.specs.Examples
 use Rattle.spec_proofs.specs.Examples.{read_commands, known, first_items, refutation, refutation_is_read, refutation_commands, listed, listed_is_read, listed_commands, behind_list, behind_list_commands, unknown_premise, unknown_premise_is_read, unknown_premise_commands, unknown_rule, unknown_rule_is_read, unknown_rule_commands, one_premise, one_premise_is_read, one_premise_commands, dropped_literal, dropped_literal_is_read, dropped_literal_commands, unknown_symbol, unknown_symbol_is_read, unknown_symbol_commands, not_asserted, not_asserted_is_read, not_asserted_commands, same_name, same_name_is_read, same_name_commands, assumption, assumption_is_read, assumption_commands, unclosed, nothing, nothing_is_read, nothing_commands, tautology, tautology_is_read, tautology_commands, double_negation, double_negation_is_read, double_negation_commands, opened, opened_is_read, opened_commands}
+use Rattle.spec_proofs.specs.ExamplesDefinitions.{definitions, definitions_are_read, definitions_commands}
 use Rattle.spec_proofs.proofs.Rules.{weakening_true, resolution_true}
 use Rattle.spec_proofs.proofs.Models.{model_of}
 
@@ -133,6 +134,18 @@ listed_verdict = contradicts listed (first_items (trees_in listed)) complete lis
 
 pub double_negation_verdict : IsVerdict contradiction 1 double_negation None
 double_negation_verdict = contradicts double_negation (trees_in double_negation) complete double_negation_is_read _ None None double_negation_commands (inl ((0, omega arith, refl), inl (twice, inl ((1, omega arith, refl), inl (twice_resolves, (3, record { name = codes "t2"; clause = [] }, omega arith, refl, refl))))))
+
+-- two negations in front of a literal, and the literal
+doubled : IsResolvent ((p ∷ []) ∷ []) (negated (negated p) ∷ [])
+unfolding literal_of
+doubled = let premises = (literal true ∷ []) ∷ [] in both_ways (literal true) (alike premises _ (literal true ∷ []) (literal true) ((0, omega arith, refl)) ((0, omega arith, refl)) (one true)) (given (literal false) ((0, omega arith, refl)))
+
+doubled_resolves : IsResolvent ((negated (negated p) ∷ []) ∷ (negated p ∷ []) ∷ []) []
+unfolding literal_of
+doubled_resolves = units_resolve
+
+pub definitions_verdict : IsVerdict contradiction 1 definitions None
+definitions_verdict = contradicts definitions (trees_in definitions) complete definitions_are_read _ None None definitions_commands (inl (tt, inl (tt, inl ((0, omega arith, refl), inl (doubled, inl ((1, omega arith, refl), inl (doubled_resolves, (3, record { name = codes "t1"; clause = [] }, omega arith, refl, refl))))))))
 
 pub opened_verdict : IsVerdict disjunction 1 opened None
 opened_verdict = judged disjunction disjunction_stack disjunction_is_current opened (trees_in opened) complete opened_is_read _ None None opened_commands (inl ((0, omega arith, refl), inl ((1, omega arith, refl), inl (λ t there. there, inl (from_two p, inl (units_resolve, (4, record { name = codes "t3"; clause = [] }, omega arith, refl, refl)))))))

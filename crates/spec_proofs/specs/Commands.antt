@@ -3,9 +3,11 @@ use Rattle.std.specs.Prelude.{ℕ, Bool, true, false, not, ◌&&◌, List, [], m
 use Rattle.std.specs.Str.{bytes_eq}
 use Rattle.spec_text.specs.Bytes.{Name}
 use Rattle.spec_text.specs.Trees.{Tree, Trees, atom, list, none, more}
-use Rattle.spec_text.specs.Shapes.{◌>>=◌, Word, passes, first_word, first_list, only_tree, is_symbol, is_keyword, is_word, wanted}
-use Rattle.spec_terms.specs.Terms.{Symbol, Term}
+use Rattle.spec_text.specs.Shapes.{◌>>=◌, Word, passes, first_word, first_list, only_tree, no_tree, is_symbol, is_keyword, is_reserved, is_word, wanted}
+use Rattle.spec_terms.specs.Terms.{Term}
+use Rattle.spec_terms.specs.Reading.{Scope, scope_of}
 use Rattle.spec_terms.specs.Literals.{Clause}
+use Rattle.spec_scripts.specs.Commands.{is_name}
 use Rattle.spec_scripts.specs.Stack.{Stack, Assertion}
 use Rattle.spec_proofs.specs.declared.Rule.{Rule}
 
@@ -16,18 +18,18 @@ pub record Entry : Type 0 where
   -- the clause
   pub clause : Clause
 
--- What is known before a command: the script's symbols and assertions, and the earlier commands.
+-- What is known before a command: the script's symbols and assertions, the names that the proof defines, and the earlier assumes and steps.
 pub record Known : Type 0 where
-  -- the declared symbols
-  pub symbols : List Symbol
+  -- the declared symbols, and the names that are defined so far
+  pub scope : Scope
   -- the terms of the current assertions
   pub asserted : List Term
-  -- the earlier commands, oldest first
+  -- the earlier assumes and steps, oldest first
   pub entries : List Entry
 
 -- what is known at a check, before a proof's first command
 abbrev pub known_at : Stack → Known
-known_at s = record { symbols = s.symbols; asserted = map (λ (a : Assertion). a.term) s.assertions; entries = [] }
+known_at s = record { scope = scope_of s.symbols; asserted = map (λ (a : Assertion). a.term) s.assertions; entries = [] }
 
 -- A command that is read.
 pub data Command : Type 0 where
@@ -35,6 +37,8 @@ pub data Command : Type 0 where
   Assume : ℕ → Name → Term → Command
   -- the offset of the step, its name, its clause, its rule, and the clauses of its premises
   Step : ℕ → Name → Clause → Rule → List Clause → Command
+  -- the offset of the definition, the name, and the term that it stands for
+  Define : ℕ → Name → Term → Command
 
 -- A command by its shape.
 pub data Shape : Type 0 where
@@ -42,6 +46,8 @@ pub data Shape : Type 0 where
   assumes : Word → Tree → Shape
   -- the name, the literals' texts, the rule's name, and the premises' names
   steps : Word → Trees → Word → Trees → Shape
+  -- the name, the text of the sort, and that of the term
+  defines : Word → Tree → Tree → Shape
 
 -- What the keywords of a step say.
 pub record Parts : Type 0 where
@@ -140,9 +146,33 @@ step_shape ts = do
   r ← p.rule
   Some (steps i.0 cl.1 r (or_none p.premises))
 
+-- a tree, and what follows it
+abbrev pub first_tree : Trees → Option (Tree × Trees)
+first_tree none = None
+first_tree (more t ts) = Some (t, ts)
+
+-- f () S t, behind (define-fun; that f is no reserved word is asked later
+unfoldable pub define_shape : Trees → Option Shape
+define_shape ts = do
+  f ← first_word ts
+  named ← passes (is_name f.0.kind)
+  parameters ← first_list f.1
+  no_parameter ← no_tree parameters.0
+  s ← first_tree parameters.1
+  t ← only_tree s.1
+  Some (defines f.0 s.0 t)
+
+-- the word `define-fun`, which is reserved
+abbrev pub is_definition : Word → Bool
+is_definition w = is_reserved w.kind && bytes_eq w.bytes (codes "define-fun")
+
 -- the items of a list, behind its first one
 abbrev pub shape_by : Word × Trees → Option Shape
-shape_by x = if is_word (codes "assume") x.0 then assume_shape x.1 else if is_word (codes "step") x.0 then step_shape x.1 else None
+shape_by x =
+    if is_word (codes "assume") x.0 then assume_shape x.1
+    else if is_word (codes "step") x.0 then step_shape x.1
+    else if is_definition x.0 then define_shape x.1
+    else None
 
 -- the shape of a command's list
 unfoldable pub shape_of : Trees → Option Shape

@@ -2,31 +2,40 @@
 use Rattle.std.specs.Prelude.{◌≡◌, ℕ, [], ◌∷◌, ◌++◌, Any, ◌⊎◌, Option, Some, None, Ok, Err, Contains}
 use Rattle.spec_text.specs.Bytes.{Name}
 use Rattle.spec_text.specs.Trees.{Trees, none, more}
+use Rattle.spec_terms.specs.Terms.{Term}
+use Rattle.spec_terms.specs.Reading.{with_definition}
 use Rattle.spec_terms.specs.Literals.{Clause}
-use Rattle.spec_proofs.specs.declared.ProofKind.TheVariants.{NotAsserted, RuleFails, NoEmptyClause}
+use Rattle.spec_proofs.specs.declared.ProofKind.TheVariants.{BadShape, NotAsserted, RuleFails, NoEmptyClause}
 use Rattle.spec_proofs.specs.Rules.{IsRight}
 use Rattle.spec_proofs.specs.Faults.{Fault, Read, fault_at}
-use Rattle.spec_proofs.specs.Commands.{Known, Entry, Command, Assume, Step}
+use Rattle.spec_proofs.specs.Commands.{Known, Entry, Command, Assume, Step, Define}
 use Rattle.spec_proofs.specs.Known.{command_of}
 
 -- what is known with a command's clause under its name
 abbrev pub with_entry : Known → Name → Clause → Known
-with_entry k n c = record { symbols = k.symbols; asserted = k.asserted; entries = k.entries ++ (record { name = n; clause = c }) ∷ [] }
+with_entry k n c = record { scope = k.scope; asserted = k.asserted; entries = k.entries ++ (record { name = n; clause = c }) ∷ [] }
+
+-- what is known with a name that stands for a term
+abbrev pub with_name : Known → Name → Term → Known
+with_name k n u = record { scope = with_definition k.scope n u; asserted = k.asserted; entries = k.entries }
 
 -- what a command makes known
 abbrev pub with_command : Known → Command → Known
 with_command k (Assume at n t) = with_entry k n (t ∷ [])
 with_command k (Step at n c r ps) = with_entry k n c
+with_command k (Define at n u) = with_name k n u
 
--- an assumed term is a current assertion, and a step is right by its rule
+-- an assumed term is a current assertion, and a step is right by its rule; a definition that is read is right
 abbrev pub IsRightAfter : Known → Command → Type 0
 IsRightAfter k (Assume at n t) = Contains k.asserted t
 IsRightAfter k (Step at n c r ps) = IsRight r ps c
+IsRightAfter k (Define at n u) = Unit {0}
 
--- the fault of a command that isn't right
+-- the fault of a command that isn't right; a definition never has it
 abbrev pub fault_of : Command → Fault
 fault_of (Assume at n t) = fault_at at NotAsserted
 fault_of (Step at n c r ps) = fault_at at RuleFails
+fault_of (Define at n u) = fault_at at BadShape
 
 -- some clause is empty
 abbrev pub HasEmptyClause : Known → Type 0

@@ -1,19 +1,21 @@
 -- What a command's parts are under what is known before it. Source: Alethe specification, commands; the order of faults is own.
-use Rattle.std.specs.Prelude.{ℕ, List, [], ◌∷◌, map, Option, Some, None, Ok, Err, if◌then◌else◌}
+use Rattle.std.specs.Prelude.{ℕ, Bool, ◌+◌, ◌||◌, List, [], ◌∷◌, length, map, Option, Some, None, Ok, Err, nat_lt, if◌then◌else◌}
 use Rattle.std.specs.Str.{bytes_eq}
+use Rattle.spec_text.specs.declared.Fault.TheVariants.{Reserved, Full}
 use Rattle.spec_text.specs.Bytes.{Name, among}
 use Rattle.spec_text.specs.Trees.{Tree, Trees, atom, list, none, more, offset_of}
-use Rattle.spec_text.specs.Shapes.{Word}
-use Rattle.spec_text.specs.Answers.{Answer, ◌>>=◌}
+use Rattle.spec_text.specs.Shapes.{Word, is_reserved}
+use Rattle.spec_text.specs.Answers.{Answer, ◌>>=◌, require}
 use Rattle.spec_terms.specs.Terms.{Term}
+use Rattle.spec_terms.specs.Reading.{Scope}
 use Rattle.spec_terms.specs.Literals.{Clause}
 use Rattle.spec_terms.specs.Subterms.{roomy_terms}
-use Rattle.spec_scripts.specs.Stack.{term_limit}
+use Rattle.spec_scripts.specs.Stack.{term_limit, is_taken, sort_in}
 use Rattle.spec_proofs.specs.declared.Rule.{Rule}
-use Rattle.spec_proofs.specs.declared.ProofKind.TheVariants.{BadShape, TwiceName, UnknownPremise, UnknownRule}
+use Rattle.spec_proofs.specs.declared.ProofKind.TheVariants.{BadShape, TwiceName, UnknownPremise, UnknownRule, Term as in_term}
 use Rattle.spec_proofs.specs.Rules.{rule_named}
 use Rattle.spec_proofs.specs.Faults.{Read, wrong, term_fault}
-use Rattle.spec_proofs.specs.Commands.{Entry, Known, Command, Assume, Step, Shape, assumes, steps, shape_of}
+use Rattle.spec_proofs.specs.Commands.{Entry, Known, Command, Assume, Step, Define, Shape, assumes, steps, defines, shape_of}
 
 -- the clause of a name
 abbrev pub clause_of : List Entry → Name → Option Clause
@@ -28,6 +30,18 @@ entry_names es = map (λ (e : Entry). e.name) es
 unfoldable pub fresh_name : Known → Word → Read Name
 fresh_name k w = if among (entry_names k.entries) w.bytes then wrong w.at TwiceName else Ok w.bytes
 
+-- the names that are defined, oldest first
+abbrev pub defined_names : Scope → List Name
+defined_names s = map (λ (d : Name × Term). d.0) s.defined
+
+-- the name is a theory's, or declared, or defined
+abbrev pub is_term_name : Scope → Name → Bool
+is_term_name s n = is_taken s.symbols n || among (defined_names s) n
+
+-- a name that may be defined: no reserved word, and not known as a term's; which names commands have does not matter
+unfoldable pub new_term_name : Known → Word → Read Name
+new_term_name k w = if is_reserved w.kind then wrong w.at (in_term Reserved) else if is_term_name k.scope w.bytes then wrong w.at TwiceName else Ok w.bytes
+
 -- a fault of reading terms, as one of the proof
 unfoldable pub in_proof : {A : Type 0} → Answer A → Read A
 in_proof (Ok a) = Ok a
@@ -35,7 +49,7 @@ in_proof (Err f) = Err (term_fault f)
 
 -- the terms of a clause, all of which there is room for
 abbrev pub clause_in : Known → ℕ → Trees → Read Clause
-clause_in k at ts = in_proof (roomy_terms k.symbols term_limit at ts)
+clause_in k at ts = in_proof (roomy_terms k.scope term_limit at ts)
 
 -- the rule of a name
 unfoldable pub known_rule : Word → Read Rule
@@ -63,12 +77,16 @@ unfoldable pub premises_of : Known → Trees → Read (List Clause)
 premises_of k none = Ok []
 premises_of k (more t ts) = premise_of k t >>= λ c. premises_of k ts >>= λ cs. Ok (c ∷ cs)
 
--- the one literal of an assumed term
+-- the one term of a text
 unfoldable pub term_alone : ℕ → List Term → Read Term
 term_alone at (u ∷ []) = Ok u
 term_alone at _ = wrong at BadShape
 
--- a command by its shape, which stands at an offset
+-- room for one name more beside those that are declared and defined
+abbrev pub name_room : Known → ℕ → Read (Unit {0})
+name_room k at = in_proof (require (nat_lt (length k.scope.symbols + length k.scope.defined) term_limit) at Full)
+
+-- a command by its shape, which stands at an offset; in a definition the term has the sort that is stated, since Bool is the one sort so far
 unfoldable pub read_shape : Known → ℕ → Shape → Read Command
 read_shape k at (assumes h t) = do
   n ← fresh_name k h
@@ -81,6 +99,13 @@ read_shape k at (steps i ls r ps) = do
   rule ← known_rule r
   qs ← premises_of k ps
   Ok (Step at n c rule qs)
+read_shape k at (defines f s t) = do
+  n ← new_term_name k f
+  sort ← in_proof (sort_in s)
+  us ← clause_in k at (more t none)
+  u ← term_alone at us
+  room ← name_room k at
+  Ok (Define at n u)
 
 -- what has the shape of a command, or the fault at its start
 unfoldable pub shaped : ℕ → Option Shape → Read Shape

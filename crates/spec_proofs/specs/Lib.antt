@@ -14,3 +14,4 @@ pub mod Accepted
 pub mod Examples
 pub mod ExamplesRules
 pub mod ExamplesUnread
+pub mod ExamplesDefinitions

@@ -8,6 +8,7 @@ ghost use Rattle.spec_proofs.specs.declared.ProofKind.TheVariants.{Lexical, BadS
 ghost use Rattle.spec_proofs.specs.Faults.{fault_at};
 ghost use Rattle.spec_proofs.specs.Accepted.{IsAccepted, IsVerdict};
 ghost use Rattle.spec_proofs.specs.Examples.{refutation, listed, behind_list, unknown_premise, unknown_rule, one_premise, dropped_literal, unknown_symbol, not_asserted, same_name, assumption, unclosed, nothing, tautology, double_negation, opened, IsAt};
+ghost use Rattle.spec_proofs.specs.ExamplesDefinitions.{definitions};
 
 /// States that a refutation has no fault, and is accepted: a row of commands, or a list of them behind `unsat`.
 /// Source: own.
@@ -24,6 +25,12 @@ pub fn refutation_is_accepted()
 pub fn rules_are_taken()
     ensures opened { IsVerdict disjunction 1 opened None }
     ensures double { IsVerdict contradiction 1 double_negation None }
+{}
+
+/// States that a proof may use names that it defines, also in further definitions, and beside commands of the same names.
+/// Source: own.
+pub fn definitions_are_taken()
+    ensures { IsVerdict contradiction 1 definitions None }
 {}
 
 /// States where a name, a term, a rule or a premise is told that cannot be read. Source: own.

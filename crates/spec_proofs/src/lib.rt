@@ -143,7 +143,8 @@ pub enum ProofKind {
     Lexical(Fault),
     /// P2: a command or a term of another form than is wanted: at its opening parenthesis, or the atom.
     BadShape,
-    /// P3: a name that an earlier command has: at the name.
+    /// P3: an assume's or a step's name that an earlier one has, or a defined name that is a theory's, declared, or defined
+    /// before: at the name.
     TwiceName,
     /// P4: a premise that no earlier command has for its name: at the premise.
     UnknownPremise,
@@ -155,7 +156,8 @@ pub enum ProofKind {
     RuleFails,
     /// P8: all commands are right, but no clause is empty: at the end of the proof.
     NoEmptyClause,
-    /// P10: a term that cannot be read, by a fault E10 to E18 or E24: at the fault's place.
+    /// P10: a term or a sort that cannot be read, a reserved word for a defined name, or terms or names without room, by a
+    /// fault E10 to E18 or E24: at the fault's place.
     Term(Fault),
     /// P11: the script ends before that check: at the proof's first byte.
     NoSuchCheck,

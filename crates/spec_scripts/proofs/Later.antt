@@ -12,7 +12,7 @@ use Rattle.spec_text.specs.Trees.{Tree, Trees, atom, list, none, more}
 use Rattle.spec_terms.specs.Terms.{Symbol, Term}
 use Rattle.spec_terms.specs.Theory.{Rule, look_up, theory}
 use Rattle.spec_terms.specs.Forms.{Form, malformed, reserved, applies, form}
-use Rattle.spec_terms.specs.Reading.{symbol_named, applied, applied_as, atom_term, by_form, term_in, terms_in}
+use Rattle.spec_terms.specs.Reading.{scope_of, symbol_named, applied, applied_as, atom_term, by_form, term_in, terms_in}
 
 -- What an answer through two steps says of each.
 pub record Went {A B : Type 0} (a : Answer A) (f : A → Answer B) (b : B) : Type 0 where
@@ -53,15 +53,15 @@ found_later (x ∷ ss) new n s e = go (bytes_eq x.name n) (found_later ss new n 
     go false rest e = rest e
 
 module _ (ss new : List Symbol) where
-  applied_later : (place : ℕ) (n : Name) (at : ℕ) (ts : List Term) (u : Term) → applied ss place n at ts ≡ Ok u → applied (ss ++ new) place n at ts ≡ Ok u
+  applied_later : (place : ℕ) (n : Name) (at : ℕ) (ts : List Term) (u : Term) → applied (scope_of ss) place n at ts ≡ Ok u → applied (scope_of (ss ++ new)) place n at ts ≡ Ok u
   applied_later place n at ts u e = go (look_up theory n) (symbol_named ss n) (found_later ss new n) e
     where
-      go : (r : Option Rule) (o : Option Symbol) → ((s : Symbol) → o ≡ Some s → symbol_named (ss ++ new) n ≡ Some s) → applied_as r o place at ts ≡ Ok u → applied_as r (symbol_named (ss ++ new) n) place at ts ≡ Ok u
+      go : (r : Option Rule) (o : Option Symbol) → ((s : Symbol) → o ≡ Some s → symbol_named (ss ++ new) n ≡ Some s) → applied_as r o None place at ts ≡ Ok u → applied_as r (symbol_named (ss ++ new) n) None place at ts ≡ Ok u
       go (Some r) o later e = e
-      go None (Some s) later e = ap (λ x. applied_as None x place at ts) (later s refl) ∙ e
+      go None (Some s) later e = ap (λ x. applied_as None x None place at ts) (later s refl) ∙ e
       go None None later e = absurd (answer (refused place UnknownSymbol) u e)
 
-  atom_later : (at : ℕ) (k : Kind) (n : Name) (u : Term) → atom_term ss at k n ≡ Ok u → atom_term (ss ++ new) at k n ≡ Ok u
+  atom_later : (at : ℕ) (k : Kind) (n : Name) (u : Term) → atom_term (scope_of ss) at k n ≡ Ok u → atom_term (scope_of (ss ++ new)) at k n ≡ Ok u
   atom_later at Numeral n u e = e
   atom_later at Decimal n u e = e
   atom_later at Text n u e = e
@@ -74,22 +74,22 @@ module _ (ss new : List Symbol) where
     unfolding term_in terms_in
 
     -- a text that is read is read the same under more symbols
-    pub read_later : (t : Tree) (u : Term) → term_in ss t ≡ Ok u → term_in (ss ++ new) t ≡ Ok u
+    pub read_later : (t : Tree) (u : Term) → term_in (scope_of ss) t ≡ Ok u → term_in (scope_of (ss ++ new)) t ≡ Ok u
     read_later (atom at k n) u e = atom_later at k n u e
     read_later (list at none end) u e = e
     read_later (list at (more head us) end) u e = go (form head us) (all_later us) e
       where
-        go : (f : Form) → ((ts : List Term) → terms_in ss us ≡ Ok ts → terms_in (ss ++ new) us ≡ Ok ts) → by_form ss at f (terms_in ss us) ≡ Ok u → by_form (ss ++ new) at f (terms_in (ss ++ new) us) ≡ Ok u
+        go : (f : Form) → ((ts : List Term) → terms_in (scope_of ss) us ≡ Ok ts → terms_in (scope_of (ss ++ new)) us ≡ Ok ts) → by_form (scope_of ss) at f (terms_in (scope_of ss) us) ≡ Ok u → by_form (scope_of (ss ++ new)) at f (terms_in (scope_of (ss ++ new)) us) ≡ Ok u
         go malformed all e = e
         go (reserved place) all e = e
         go (applies place n) all e =
-            let a = went (terms_in ss us) _ u e in
-            joined (terms_in (ss ++ new) us) _ a.first u (all a.first a.was) (applied_later place n at a.first u a.then)
+            let a = went (terms_in (scope_of ss) us) _ u e in
+            joined (terms_in (scope_of (ss ++ new)) us) _ a.first u (all a.first a.was) (applied_later place n at a.first u a.then)
 
     -- and so are texts, in their order
-    all_later : (ts : Trees) (us : List Term) → terms_in ss ts ≡ Ok us → terms_in (ss ++ new) ts ≡ Ok us
+    all_later : (ts : Trees) (us : List Term) → terms_in (scope_of ss) ts ≡ Ok us → terms_in (scope_of (ss ++ new)) ts ≡ Ok us
     all_later none us e = e
     all_later (more t ts) us e =
-        let a = went (term_in ss t) _ us e in
-        let c = went (terms_in ss ts) _ us a.then in
-        joined (term_in (ss ++ new) t) _ a.first us (read_later t a.first a.was) (joined (terms_in (ss ++ new) ts) _ c.first us (all_later ts c.first c.was) c.then)
+        let a = went (term_in (scope_of ss) t) _ us e in
+        let c = went (terms_in (scope_of ss) ts) _ us a.then in
+        joined (term_in (scope_of (ss ++ new)) t) _ a.first us (read_later t a.first a.was) (joined (terms_in (scope_of (ss ++ new)) ts) _ c.first us (all_later ts c.first c.was) c.then)

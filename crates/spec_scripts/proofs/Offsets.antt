@@ -12,7 +12,7 @@ use Rattle.spec_text.specs.Answers.{Answer, ◌>>=◌, require}
 use Rattle.spec_text.specs.Trees.{Tree, Trees, atom, list, none, more, offset_of}
 use Rattle.spec_text.specs.Offsets.{AllOffsets, AllOffsetsOf, HasOffset, HaveOffset, at_offset_of, own_offsets}
 use Rattle.spec_terms.specs.Terms.{Symbol}
-use Rattle.spec_terms.specs.Reading.{terms_in}
+use Rattle.spec_terms.specs.Reading.{Scope, scope_of, terms_in}
 use Rattle.spec_terms.specs.Subterms.{fit_in, roomy_terms}
 use Rattle.spec_scripts.specs.Commands.{Command, SetOption, DeclareConst, Assert, CheckSat, Exit, Verb, shaped, verb_of, command_by, command_as, command_of}
 use Rattle.spec_scripts.specs.Stack.{Stack, is_barred, is_taken, new_name, sort_named, sort_in, truth_in, with_success, is_known_option, performed, step}
@@ -92,11 +92,11 @@ module _ (P : ℕ → Type 0) where
   success_stands at s (Some b) h = tt
   success_stands at s None h = h
 
-  module _ (law : (symbols : List Symbol) (ts : Trees) (f : Located) → terms_in symbols ts ≡ Err f → HaveOffset ts f.offset) where
-    roomy_stands : (symbols : List Symbol) (room at : ℕ) (ts : Trees) → P at → AllOffsetsOf P ts → Stands (roomy_terms symbols room at ts)
+  module _ (law : (scope : Scope) (ts : Trees) (f : Located) → terms_in scope ts ≡ Err f → HaveOffset ts f.offset) where
+    roomy_stands : (scope : Scope) (room at : ℕ) (ts : Trees) → P at → AllOffsetsOf P ts → Stands (roomy_terms scope room at ts)
     unfolding roomy_terms
-    roomy_stands symbols room at ts here h =
-        stands_in_turn (terms_in symbols ts) _ (stands (terms_in symbols ts) λ f e. at_offset_of P ts f.offset h (law symbols ts f e)) λ us.
+    roomy_stands scope room at ts here h =
+        stands_in_turn (terms_in scope ts) _ (stands (terms_in scope ts) λ f e. at_offset_of P ts f.offset h (law scope ts f e)) λ us.
         stands_in_turn (require (fit_in room us) at Full) _ (require_stands _ at Full here) λ fits. tt
 
     performed_stands : (limit at : ℕ) (s : Stack) (c : Command) → P at → PartsStand P c → Stands (performed limit at s c)
@@ -106,7 +106,7 @@ module _ (P : ℕ → Type 0) where
         stands_in_turn (sort_in t) _ (sort_stands t h.1) λ sort.
         stands_in_turn (require (nat_lt (length s.symbols) limit) at Full) _ (require_stands _ at Full here) λ room. tt
     performed_stands limit at s (Assert t) here h =
-        stands_in_turn (roomy_terms s.symbols limit at (more t none)) _ (roomy_stands s.symbols limit at (more t none) here (h, tt)) λ us. tt
+        stands_in_turn (roomy_terms (scope_of s.symbols) limit at (more t none)) _ (roomy_stands (scope_of s.symbols) limit at (more t none) here (h, tt)) λ us. tt
     performed_stands limit at s CheckSat here h = tt
     performed_stands limit at s Exit here h = tt
 
@@ -116,5 +116,5 @@ module _ (P : ℕ → Type 0) where
         gives_in_turn (PartsStand P) (λ _. Unit {0}) (command_of t) _ (command_stands t h) λ c parts.
         stands_in_turn (performed limit (offset_of t) s c) _ (performed_stands limit (offset_of t) s c (own_offset P t h) parts) λ next. tt
 
-pub step_fault_stands : (law : (symbols : List Symbol) (ts : Trees) (f : Located) → terms_in symbols ts ≡ Err f → HaveOffset ts f.offset) (limit : ℕ) (s : Stack) (t : Tree) (f : Located) → step limit s t ≡ Err f → HasOffset t f.offset
+pub step_fault_stands : (law : (scope : Scope) (ts : Trees) (f : Located) → terms_in scope ts ≡ Err f → HaveOffset ts f.offset) (limit : ℕ) (s : Stack) (t : Tree) (f : Located) → step limit s t ≡ Err f → HasOffset t f.offset
 step_fault_stands law limit s t f e = subst (Stands (HasOffset t)) e (step_stands (HasOffset t) law limit s t (own_offsets t))

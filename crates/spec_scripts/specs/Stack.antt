@@ -13,6 +13,7 @@ use Rattle.spec_text.specs.Trees.{Tree, Trees, atom, list, none, more, offset_of
 use Rattle.spec_terms.specs.Terms.{Sort, Truth, Symbol, constant, Term}
 use Rattle.spec_terms.specs.Values.{truth, Interpretation, Interprets}
 use Rattle.spec_terms.specs.Meaning.{value_under}
+use Rattle.spec_terms.specs.Reading.{scope_of}
 use Rattle.spec_terms.specs.Subterms.{roomy_terms}
 use Rattle.spec_scripts.specs.Commands.{Command, SetOption, DeclareConst, Assert, CheckSat, Exit, command_of}
 
@@ -120,7 +121,7 @@ performed limit at s (DeclareConst w t) =
     require (nat_lt (length s.symbols) limit) at Full >>= λ room.
     Ok (with_symbol s (constant n sort))
 performed limit at s (Assert t) =
-    roomy_terms s.symbols limit at (more t none) >>= λ us.
+    roomy_terms (scope_of s.symbols) limit at (more t none) >>= λ us.
     Ok (with_assertions s t us)
 performed limit at s CheckSat = Ok s
 performed limit at s Exit = Ok s

@@ -1,6 +1,6 @@
 //! What the definitions imply. Each law is a function whose contract is the law; it computes nothing.
 
-ghost use Rattle.std.specs.Prelude.{◌≡◌, ℕ, true, List, [], ◌∷◌, All, Err};
+ghost use Rattle.std.specs.Prelude.{◌≡◌, ℕ, true, List, [], ◌∷◌, All, Ok, Err};
 ghost use Rattle.spec_text.specs.Trees.{Tree};
 ghost use Rattle.spec_text.specs.Faults.{Located};
 ghost use Rattle.spec_text.specs.Offsets.{HasOffset};
@@ -8,8 +8,8 @@ ghost use Rattle.spec_terms.specs.Values.{Interpretation};
 ghost use Rattle.spec_terms.specs.Meaning.{value_under};
 ghost use Rattle.spec_terms.specs.Agreement.{value_at, HaveOwnNames};
 ghost use Rattle.spec_terms.specs.Subterms.{fit_in};
-ghost use Rattle.spec_scripts.specs.Stack.{Stack, Assertion, term_limit, step, IsCurrent, HasNoCheck};
-ghost use Rattle.spec_scripts.specs.Current.{IsReadStack};
+ghost use Rattle.spec_scripts.specs.Stack.{Stack, Assertion, Taken, empty_stack, term_limit, step, IsCurrent, HasNoCheck};
+ghost use Rattle.spec_scripts.specs.Current.{IsReadStack, IsKeptStack};
 
 /// States that what is current at a check is determined by the text and the check's number, and that a text which ends
 /// before the check has nothing current there. Source: own.
@@ -28,6 +28,17 @@ pub fn assertions_are_read()
         → All (λ (a : Assertion). fit_in term_limit (a.term ∷ []) ≡ true) s.assertions }
     ensures own { (s : Stack) → IsReadStack s → HaveOwnNames s.symbols }
 {}
+
+/// States that commands leave what they should, under any limit: nothing is declared or asserted at first, and behind a
+/// command that is taken the terms of the assertions are again those of their texts, and fit in. Source: own.
+pub fn commands_keep_stacks()
+    ensures first { (limit : ℕ) → IsKeptStack limit empty_stack }
+    ensures next { (limit : ℕ) (s : Stack) (t : Tree) (d : Taken) → step limit s t ≡ Ok d → IsKeptStack limit s → IsKeptStack limit d.stack }
+    ensures value { (limit : ℕ) (s : Stack) (i : Interpretation) → IsKeptStack limit s
+        → All (λ (a : Assertion). value_under i a.text ≡ value_at i a.term) s.assertions }
+{
+    spec_terms::terms_have_their_texts_value();
+}
 
 /// States that the text and the term of a current assertion have one value, under every interpretation.
 /// Source: SMT-LIB 2.6, section 5.3.

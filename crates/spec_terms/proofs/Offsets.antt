@@ -13,7 +13,7 @@ use Rattle.spec_text.specs.Offsets.{AllOffsets, AllOffsetsOf, HasOffset, HaveOff
 use Rattle.spec_terms.specs.Terms.{Symbol, Term}
 use Rattle.spec_terms.specs.Theory.{Rule, look_up, theory}
 use Rattle.spec_terms.specs.Forms.{Form, malformed, reserved, applies, form}
-use Rattle.spec_terms.specs.Reading.{symbol_named, applied, applied_as, atom_term, by_form, term_in, terms_in}
+use Rattle.spec_terms.specs.Reading.{Scope, symbol_named, applied, applied_as, atom_term, by_form, term_in, terms_in}
 
 module _ (P : ℕ → Type 0) where
   -- a fault, where there is one, has an offset with the property
@@ -32,16 +32,17 @@ module _ (P : ℕ → Type 0) where
   require_stands true at f h = tt
   require_stands false at f h = h
 
-  module _ (symbols : List Symbol) where
-    applied_stands : (place : ℕ) (n : Name) (at : ℕ) (ts : List Term) → P place → P at → Stands (applied symbols place n at ts)
-    applied_stands place n at ts named here = go (look_up theory n) (symbol_named symbols n)
+  module _ (scope : Scope) where
+    applied_stands : (place : ℕ) (n : Name) (at : ℕ) (ts : List Term) → P place → P at → Stands (applied scope place n at ts)
+    applied_stands place n at ts named here = go (look_up theory n) (symbol_named scope.symbols n) (look_up scope.defined n)
       where
-        go : (r : Option Rule) (s : Option Symbol) → Stands (applied_as r s place at ts)
-        go (Some r) s = stands_in_turn (require _ at WrongCount) _ (require_stands _ at WrongCount here) λ counted. tt
-        go None (Some s) = stands_in_turn (require _ at WrongCount) _ (require_stands _ at WrongCount here) λ counted. tt
-        go None None = named
+        go : (r : Option Rule) (s : Option Symbol) (d : Option Term) → Stands (applied_as r s d place at ts)
+        go (Some r) s d = stands_in_turn (require _ at WrongCount) _ (require_stands _ at WrongCount here) λ counted. tt
+        go None (Some s) d = stands_in_turn (require _ at WrongCount) _ (require_stands _ at WrongCount here) λ counted. tt
+        go None None (Some u) = stands_in_turn (require _ at WrongCount) _ (require_stands _ at WrongCount here) λ counted. tt
+        go None None None = named
 
-    atom_stands : (at : ℕ) (k : Kind) (n : Name) → P at → Stands (atom_term symbols at k n)
+    atom_stands : (at : ℕ) (k : Kind) (n : Name) → P at → Stands (atom_term scope at k n)
     atom_stands at Numeral n h = h
     atom_stands at Decimal n h = h
     atom_stands at Text n h = h
@@ -67,7 +68,7 @@ module _ (P : ℕ → Type 0) where
     form_stands (atom at Quoted n) (more t ts) h = h
     form_stands (list at us end) (more t ts) h = tt
 
-    by_form_stands : (at : ℕ) (f : Form) (ts : Answer (List Term)) → P at → FormStands f → Stands ts → Stands (by_form symbols at f ts)
+    by_form_stands : (at : ℕ) (f : Form) (ts : Answer (List Term)) → P at → FormStands f → Stands ts → Stands (by_form scope at f ts)
     by_form_stands at malformed ts here front inside = here
     by_form_stands at (reserved place) ts here front inside = front
     by_form_stands at (applies place n) ts here front inside = stands_in_turn ts _ inside λ us. applied_stands place n at us front here
@@ -75,17 +76,17 @@ module _ (P : ℕ → Type 0) where
     mutual
       unfolding term_in terms_in
 
-      pub term_stands : (t : Tree) → AllOffsets P t → Stands (term_in symbols t)
+      pub term_stands : (t : Tree) → AllOffsets P t → Stands (term_in scope t)
       term_stands (atom at k n) h = atom_stands at k n h
       term_stands (list at none end) h = h.0
-      term_stands (list at (more head us) end) h = by_form_stands at (form head us) (terms_in symbols us) h.0 (form_stands head us h.1.0) (terms_stand us h.1.1)
+      term_stands (list at (more head us) end) h = by_form_stands at (form head us) (terms_in scope us) h.0 (form_stands head us h.1.0) (terms_stand us h.1.1)
 
-      pub terms_stand : (ts : Trees) → AllOffsetsOf P ts → Stands (terms_in symbols ts)
+      pub terms_stand : (ts : Trees) → AllOffsetsOf P ts → Stands (terms_in scope ts)
       terms_stand none h = tt
-      terms_stand (more t ts) h = stands_in_turn (term_in symbols t) _ (term_stands t h.0) λ u. stands_in_turn (terms_in symbols ts) _ (terms_stand ts h.1) λ us. tt
+      terms_stand (more t ts) h = stands_in_turn (term_in scope t) _ (term_stands t h.0) λ u. stands_in_turn (terms_in scope ts) _ (terms_stand ts h.1) λ us. tt
 
-pub term_fault_stands : (symbols : List Symbol) (t : Tree) (f : Located) → term_in symbols t ≡ Err f → HasOffset t f.offset
-term_fault_stands symbols t f e = subst (Stands (HasOffset t)) e (term_stands (HasOffset t) symbols t (own_offsets t))
+pub term_fault_stands : (scope : Scope) (t : Tree) (f : Located) → term_in scope t ≡ Err f → HasOffset t f.offset
+term_fault_stands scope t f e = subst (Stands (HasOffset t)) e (term_stands (HasOffset t) scope t (own_offsets t))
 
-pub terms_fault_stands : (symbols : List Symbol) (ts : Trees) (f : Located) → terms_in symbols ts ≡ Err f → HaveOffset ts f.offset
-terms_fault_stands symbols ts f e = subst (Stands (HaveOffset ts)) e (terms_stand (HaveOffset ts) symbols ts (own_offsets_of ts))
+pub terms_fault_stands : (scope : Scope) (ts : Trees) (f : Located) → terms_in scope ts ≡ Err f → HaveOffset ts f.offset
+terms_fault_stands scope ts f e = subst (Stands (HaveOffset ts)) e (terms_stand (HaveOffset ts) scope ts (own_offsets_of ts))

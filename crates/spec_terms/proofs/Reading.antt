@@ -14,9 +14,9 @@ use Rattle.spec_terms.specs.Terms.{Symbol, Apply, Term, of}
 use Rattle.spec_terms.specs.Values.{Value, Interpretation, table_value}
 use Rattle.spec_terms.specs.Theory.{Rule, look_up, theory}
 use Rattle.spec_terms.specs.Forms.{Form, malformed, reserved, applies, form}
-use Rattle.spec_terms.specs.Meaning.{theory_values, name_value, value_by, symbol_value, form_value, value_of, values_of, value_under}
-use Rattle.spec_terms.specs.Reading.{symbol_named, by_rule, by_symbol, applied, applied_as, atom_term, by_form, term_in, terms_in}
-use Rattle.spec_terms.specs.Agreement.{value_at}
+use Rattle.spec_terms.specs.Meaning.{Meaning, theory_values, name_value, value_by, symbol_value, form_value, value_of, values_of, value_under}
+use Rattle.spec_terms.specs.Reading.{Scope, scope_of, symbol_named, by_rule, by_symbol, by_definition, applied, applied_as, atom_term, by_form, term_in, terms_in}
+use Rattle.spec_terms.specs.Agreement.{value_at, named_value, meaning_under}
 use Rattle.spec_terms.proofs.Heads.{MeansAt, theory_at, theory_means, values_of_list}
 
 -- What an answer through two steps says of each.
@@ -64,21 +64,33 @@ by_symbol_ok s at ts u e =
     let a = went _ _ _ e in
     answer (Ok (of (Apply s) ts)) u a.then
 
-module _ (ss : List Symbol) (i : Interpretation) where
+-- and a defined name as its term
+pub by_definition_ok : (d : Term) (at : ℕ) (ts : List Term) (u : Term) → by_definition d at ts ≡ Ok u → d ≡ u
+by_definition_ok d at ts u e =
+    let a = went _ _ _ e in
+    answer (Ok d) u a.then
+
+module _ (scope : Scope) (i : Interpretation) where
+  -- what names give
+  abbrev gives : Meaning
+  gives = meaning_under i scope
+
   -- a name before terms has the value that it has at their values
-  applied_value : (place : ℕ) (n : Name) (at : ℕ) (ts : List Term) (u : Term) → applied ss place n at ts ≡ Ok u → name_value (table_value i) n (map (value_at i) ts) ≡ value_at i u
+  applied_value : (place : ℕ) (n : Name) (at : ℕ) (ts : List Term) (u : Term) → applied scope place n at ts ≡ Ok u → name_value gives n (map (value_at i) ts) ≡ value_at i u
   unfolding value_at
-  applied_value place n at ts u e = go (look_up theory n) (look_up theory_values n) (symbol_named ss n) (theory_at theory theory_values n theory_means) (found_name ss n) e
+  applied_value place n at ts u e = go (look_up theory n) (look_up theory_values n) (symbol_named scope.symbols n) (look_up scope.defined n) (theory_at theory theory_values n theory_means) (found_name scope.symbols n) e
     where
-      go : (r : Option Rule) (f : Option (List Value → Value)) (o : Option Symbol) → MeansAt r f → ((s : Symbol) → o ≡ Some s → s.name ≡ n) → applied_as r o place at ts ≡ Ok u → value_by f (table_value i n (map (value_at i) ts)) (map (value_at i) ts) ≡ value_at i u
-      go (Some r) (Some f) o means same e = sym (means i ts) ∙ ap (value_at i) (by_rule_ok r at ts u e)
-      go (Some r) None o means same e = absurd means
-      go None (Some f) o means same e = absurd means
-      go None None (Some s) means same e = ap (λ m. table_value i m (map (value_at i) ts)) (sym (same s refl)) ∙ ap (table_value i s.name) (sym (values_of_list i ts)) ∙ ap (value_at i) (by_symbol_ok s at ts u e)
-      go None None None means same e = absurd (answer (refused place UnknownSymbol) u e)
+      go : (r : Option Rule) (f : Option (List Value → Value)) (o : Option Symbol) (d : Option Term) → MeansAt r f → ((s : Symbol) → o ≡ Some s → s.name ≡ n) → applied_as r o d place at ts ≡ Ok u
+          → value_by f (named_value i o d n (map (value_at i) ts)) (map (value_at i) ts) ≡ value_at i u
+      go (Some r) (Some f) o d means same e = sym (means i ts) ∙ ap (value_at i) (by_rule_ok r at ts u e)
+      go (Some r) None o d means same e = absurd means
+      go None (Some f) o d means same e = absurd means
+      go None None (Some s) d means same e = ap (λ m. table_value i m (map (value_at i) ts)) (sym (same s refl)) ∙ ap (table_value i s.name) (sym (values_of_list i ts)) ∙ ap (value_at i) (by_symbol_ok s at ts u e)
+      go None None None (Some d) means same e = ap (value_at i) (by_definition_ok d at ts u e)
+      go None None None None means same e = absurd (answer (refused place UnknownSymbol) u e)
 
   -- an atom has its term's value
-  atom_value : (at : ℕ) (k : Kind) (n : Name) (u : Term) → atom_term ss at k n ≡ Ok u → symbol_value (table_value i) k n [] ≡ value_at i u
+  atom_value : (at : ℕ) (k : Kind) (n : Name) (u : Term) → atom_term scope at k n ≡ Ok u → symbol_value gives k n [] ≡ value_at i u
   atom_value at Numeral n u e = absurd (answer (refused at UnknownSymbol) u e)
   atom_value at Decimal n u e = absurd (answer (refused at UnknownSymbol) u e)
   atom_value at Text n u e = absurd (answer (refused at BadShape) u e)
@@ -91,22 +103,33 @@ module _ (ss : List Symbol) (i : Interpretation) where
     unfolding term_in terms_in value_of values_of
 
     -- a text has its term's value
-    pub read_value : (t : Tree) (u : Term) → term_in ss t ≡ Ok u → value_under i t ≡ value_at i u
+    pub read_value : (t : Tree) (u : Term) → term_in scope t ≡ Ok u → value_of gives t ≡ value_at i u
     read_value (atom at k n) u e = atom_value at k n u e
     read_value (list at none end) u e = absurd (answer (refused at BadShape) u e)
     read_value (list at (more head us) end) u e = go (form head us) (read_values us) e
       where
-        go : (f : Form) → ((ts : List Term) → terms_in ss us ≡ Ok ts → values_of (table_value i) us ≡ map (value_at i) ts) → by_form ss at f (terms_in ss us) ≡ Ok u → form_value (table_value i) f (values_of (table_value i) us) ≡ value_at i u
+        go : (f : Form) → ((ts : List Term) → terms_in scope us ≡ Ok ts → values_of gives us ≡ map (value_at i) ts) → by_form scope at f (terms_in scope us) ≡ Ok u → form_value gives f (values_of gives us) ≡ value_at i u
         go malformed all e = absurd (answer (refused at BadShape) u e)
         go (reserved place) all e = absurd (answer (refused place Reserved) u e)
         go (applies place n) all e =
-            let a = went (terms_in ss us) _ u e in
-            ap (name_value (table_value i) n) (all a.first a.was) ∙ applied_value place n at a.first u a.then
+            let a = went (terms_in scope us) _ u e in
+            ap (name_value gives n) (all a.first a.was) ∙ applied_value place n at a.first u a.then
 
     -- and so have texts, in their order
-    pub read_values : (ts : Trees) (us : List Term) → terms_in ss ts ≡ Ok us → values_of (table_value i) ts ≡ map (value_at i) us
+    pub read_values : (ts : Trees) (us : List Term) → terms_in scope ts ≡ Ok us → values_of gives ts ≡ map (value_at i) us
     read_values none us e = ap (map (value_at i)) (answer (Ok []) us e)
     read_values (more t ts) us e =
-        let a = went (term_in ss t) _ us e in
-        let c = went (terms_in ss ts) _ us a.then in
+        let a = went (term_in scope t) _ us e in
+        let c = went (terms_in scope ts) _ us a.then in
         ap₂ (λ (v : Value) (vs : List Value). v ∷ vs) (read_value t a.first a.was) (read_values ts c.first c.was) ∙ ap (map (value_at i)) (answer (Ok (a.first ∷ c.first)) us c.then)
+
+-- where no name is defined, tables alone give values
+undefined : (i : Interpretation) (o : Option Symbol) (n : Name) (vs : List Value) → named_value i o None n vs ≡ table_value i n vs
+undefined i (Some s) n vs = refl
+undefined i None n vs = refl
+
+-- a text of declared symbols has its term's value
+pub declared_value : (symbols : List Symbol) (i : Interpretation) (t : Tree) (u : Term) → term_in (scope_of symbols) t ≡ Ok u → value_under i t ≡ value_at i u
+declared_value symbols i t u e =
+    let same : meaning_under i (scope_of symbols) ≡ table_value i = λ j n vs. undefined i (symbol_named symbols n) n vs j in
+    ap (λ m. value_of m t) (sym same) ∙ read_value (scope_of symbols) i t u e

@@ -1,8 +1,11 @@
 -- The value of a term as read, and symbols that have no theory's name. Source: SMT-LIB 2.6, section 5.3 and theory Core.
-use Rattle.std.specs.Prelude.{◌≡◌, true, false, not, ◌||◌, List, [], ◌∷◌, All, None}
+use Rattle.std.specs.Prelude.{◌≡◌, true, false, not, ◌||◌, List, [], ◌∷◌, All, Option, Some, None}
+use Rattle.spec_text.specs.Bytes.{Name}
 use Rattle.spec_terms.specs.Terms.{Symbol, Head, True, False, Not, And, Or, Xor, Implies, Equal, Ite, Apply, Term, Terms, app, nil, cons}
 use Rattle.spec_terms.specs.Values.{Value, truth, same_value, is_true, all_true, any_true, different, chosen, Interpretation, table_value}
 use Rattle.spec_terms.specs.Theory.{look_up, theory}
+use Rattle.spec_terms.specs.Meaning.{Meaning}
+use Rattle.spec_terms.specs.Reading.{Scope, symbol_named}
 
 -- what a head gives at its arguments' values
 abbrev pub head_value : Interpretation → Head → List Value → Value
@@ -35,3 +38,13 @@ HasOwnName s = look_up theory s.name ≡ None
 -- no symbol's name is a theory's
 abbrev pub HaveOwnNames : List Symbol → Type 0
 HaveOwnNames symbols = All HasOwnName symbols
+
+-- what a name gives at values: a defined one the value of its term, any other one what its table has
+abbrev pub named_value : Interpretation → Option Symbol → Option Term → Name → List Value → Value
+named_value i (Some s) d n vs = table_value i n vs
+named_value i None (Some u) n vs = value_at i u
+named_value i None None n vs = table_value i n vs
+
+-- what names give where some are defined
+abbrev pub meaning_under : Interpretation → Scope → Meaning
+meaning_under i scope n vs = named_value i (symbol_named scope.symbols n) (look_up scope.defined n) n vs

@@ -5,7 +5,7 @@ use Rattle.spec_text.specs.Lexemes.{Lexeme, opens, closes, word, lexemes, first_
 use Rattle.spec_text.specs.Answers.{Answer, ◌>>=◌, refused, require}
 use Rattle.spec_text.specs.Trees.{Trees, atom, list, none, more}
 use Rattle.spec_terms.specs.Terms.{Symbol, constant, Truth, True, False, And, Or, Xor, Implies, Equal, Ite, Term, of, constant_term, negated}
-use Rattle.spec_terms.specs.Reading.{term_in, terms_in}
+use Rattle.spec_terms.specs.Reading.{Scope, scope_of, with_definition, term_in, terms_in}
 
 -- The trees behind a lexeme up to the end of its list, and behind the closing parentheses of the lists around it.
 pub record Built : Type 0 where
@@ -49,7 +49,7 @@ q = constant_term (constant (codes "q") Truth)
 
 -- what the trees of a text are read as under both constants
 abbrev pub read : List ℕ → Answer (List Term)
-read text = terms_in symbols (trees_in text)
+read text = terms_in (scope_of symbols) (trees_in text)
 
 -- a constant stands alone, with bars or without
 pub constants : read (codes "p |q|") ≡ Ok (p ∷ q ∷ [])
@@ -215,3 +215,31 @@ two_negated = refl
 pub two_choices : read (codes "(ite p q)") ≡ refused 0 WrongCount
 unfolding lexemes first_piece built term_in terms_in require ◌>>=◌
 two_choices = refl
+
+-- both constants, and two defined names, of which the second stands for a term with the first in it
+abbrev pub defining : Scope
+defining = with_definition (with_definition (scope_of symbols) (codes "@a") (of And (p ∷ q ∷ []))) (codes "b") (negated (of And (p ∷ q ∷ [])))
+
+-- what the trees of a text are read as under them
+abbrev pub read_defined : List ℕ → Answer (List Term)
+read_defined text = terms_in defining (trees_in text)
+
+-- a defined name is read as its term, with bars or without
+pub definitions : read_defined (codes "@a |@a| (or b q)") ≡ Ok (of And (p ∷ q ∷ []) ∷ of And (p ∷ q ∷ []) ∷ of Or (negated (of And (p ∷ q ∷ [])) ∷ q ∷ []) ∷ [])
+unfolding lexemes first_piece built term_in terms_in require ◌>>=◌
+definitions = refl
+
+-- so that the term is the one that is written out
+pub written_out : read_defined (codes "(not @a)") ≡ read_defined (codes "b")
+unfolding lexemes first_piece built term_in terms_in require ◌>>=◌
+written_out = refl
+
+-- a defined name takes no arguments
+pub definition_applied : read_defined (codes "(not (@a q))") ≡ refused 5 WrongCount
+unfolding lexemes first_piece built term_in terms_in require ◌>>=◌
+definition_applied = refl
+
+-- and another name is not known
+pub not_defined : read_defined (codes "(not @b)") ≡ refused 5 UnknownSymbol
+unfolding lexemes first_piece built term_in terms_in require ◌>>=◌
+not_defined = refl

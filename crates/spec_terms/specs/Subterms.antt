@@ -3,8 +3,8 @@ use Rattle.std.specs.Prelude.{ℕ, Bool, false, ◌||◌, List, [], ◌∷◌, l
 use Rattle.spec_text.specs.declared.Fault.TheVariants.{Full}
 use Rattle.spec_text.specs.Trees.{Trees}
 use Rattle.spec_text.specs.Answers.{Answer, ◌>>=◌, require}
-use Rattle.spec_terms.specs.Terms.{Symbol, Term, Terms, app, nil, cons, same_term}
-use Rattle.spec_terms.specs.Reading.{terms_in}
+use Rattle.spec_terms.specs.Terms.{Term, Terms, app, nil, cons, same_term}
+use Rattle.spec_terms.specs.Reading.{Scope, terms_in}
 
 -- whether a term is one of these
 abbrev pub has_term : List Term → Term → Bool
@@ -35,5 +35,5 @@ abbrev pub fit_in : ℕ → List Term → Bool
 fit_in room ts = nat_le (length (subterms_of ts)) room
 
 -- the terms of trees, and the fault at an offset where there is no room for them, all together
-unfoldable pub roomy_terms : List Symbol → (room at : ℕ) → Trees → Answer (List Term)
-roomy_terms symbols room at ts = terms_in symbols ts >>= λ us. require (fit_in room us) at Full >>= λ fits. Ok us
+unfoldable pub roomy_terms : Scope → (room at : ℕ) → Trees → Answer (List Term)
+roomy_terms scope room at ts = terms_in scope ts >>= λ us. require (fit_in room us) at Full >>= λ fits. Ok us

@@ -126,13 +126,13 @@ abbrev pub all_same : Sort → List Sort → Bool
 all_same s [] = true
 all_same s (t ∷ ts) = same_sort s t && all_same s ts
 
--- the head takes arguments of these sorts; `and` and `or` take any number
+-- the head takes arguments of these sorts; `and` and `or` take any number from one
 abbrev pub head_takes : Head → List Sort → Bool
 head_takes True [] = true
 head_takes False [] = true
 head_takes Not (Truth ∷ []) = true
-head_takes And ss = all_same Truth ss
-head_takes Or ss = all_same Truth ss
+head_takes And (s ∷ ss) = all_same Truth (s ∷ ss)
+head_takes Or (s ∷ ss) = all_same Truth (s ∷ ss)
 head_takes Xor (Truth ∷ Truth ∷ []) = true
 head_takes Implies (Truth ∷ Truth ∷ []) = true
 head_takes Equal (s ∷ t ∷ []) = same_sort s t

@@ -20,7 +20,7 @@ lexemes_skip (suc n) at [] = refl
 lexemes_skip (suc n) at (b ∷ bs) = lexemes_skip n (at + 1) bs ∙ ap (λ k. lexemes 0 k (drop n bs)) (omega arith)
 
 -- what may stand behind a word: nothing, a space, or the end of a list
-abbrev Ends : List ℕ → Type 0
+abbrev pub Ends : List ℕ → Type 0
 Ends [] = ⊤
 Ends (b ∷ bs) = (is_symbol_byte b ≡ false) × ((b == 34) ≡ false)
 
@@ -33,7 +33,7 @@ ends_string [] h = tt
 ends_string (b ∷ bs) h = h.1
 
 -- what a word is once it is printed
-abbrev kind_of : Kind → List ℕ → Kind
+abbrev pub kind_of : Kind → List ℕ → Kind
 kind_of Quoted w = cond (is_bare w) Simple Quoted
 kind_of k w = k
 
@@ -87,11 +87,11 @@ one_word at (b ∷ xs) rest k w e some =
     ap (λ (p : Piece). before at p (lexemes (p.size - 1) (at + 1) (xs ++ rest))) e
     ∙ ap (λ ys. (at, word k w) ∷ ys) (ap (λ n. lexemes n (at + 1) (xs ++ rest)) (omega arith) ∙ lexemes_skip (length xs) (at + 1) (xs ++ rest) ∙ ap (λ ys. lexemes 0 (at + 1 + length xs) ys) (drop_at xs rest (length xs) refl) ∙ ap (λ n. lexemes 0 n rest) (omega arith))
 
-open_read : (at : ℕ) (rest : List ℕ) → lexemes 0 at (40 ∷ rest) ≡ (at, opens) ∷ lexemes 0 (at + 1) rest
+pub open_read : (at : ℕ) (rest : List ℕ) → lexemes 0 at (40 ∷ rest) ≡ (at, opens) ∷ lexemes 0 (at + 1) rest
 unfolding lexemes first_piece
 open_read at rest = refl
 
-close_read : (at : ℕ) (rest : List ℕ) → lexemes 0 at (41 ∷ rest) ≡ (at, closes) ∷ lexemes 0 (at + 1) rest
+pub close_read : (at : ℕ) (rest : List ℕ) → lexemes 0 at (41 ∷ rest) ≡ (at, closes) ∷ lexemes 0 (at + 1) rest
 unfolding lexemes first_piece
 close_read at rest = refl
 
@@ -122,16 +122,16 @@ abbrev mutual
   moved at (atom from k w) = atom at (kind_of k w) w
   moved at (list from ts end) = list at (moved_all (at + 1) ts) (at + 1 + length (printed_all ts))
 
-  moved_all : ℕ → Trees → Trees
+  pub moved_all : ℕ → Trees → Trees
   moved_all at none = none
   moved_all at (more t ts) = more (moved at t) (moved_all (at + length (printed t) + 1) ts)
 
 -- a tree is read from what is printed of it, whatever may stand behind
-abbrev IsReadAt : Tree → Type 0
+abbrev pub IsReadAt : Tree → Type 0
 IsReadAt t = (at : ℕ) (rest : List ℕ) → Ends rest → lexemes 0 at (printed t ++ rest) ≡ spelled (moved at t) ++ lexemes 0 (at + length (printed t)) rest
 
 -- trees are, before the end of their list
-abbrev AreReadAt : Trees → Type 0
+abbrev pub AreReadAt : Trees → Type 0
 AreReadAt ts = (at : ℕ) (rest : List ℕ) → lexemes 0 at (printed_all ts ++ 41 ∷ rest) ≡ spelled_all (moved_all at ts) ++ lexemes 0 (at + length (printed_all ts)) (41 ∷ rest)
 
 one_more : (t : Tree) (ts : Trees) → IsReadAt t → AreReadAt ts → AreReadAt (more t ts)
@@ -146,7 +146,7 @@ one_more t (more u us) first others at rest =
     ∙ sym (append_assoc (spelled (moved at t)) (spelled_all (moved_all (at + length (printed t) + 1) (more u us))) (lexemes 0 (at + length (printed t ++ 32 ∷ printed_all (more u us))) (41 ∷ rest)))
 
 mutual
-  tree_read : (t : Tree) → HasWords t → IsReadAt t
+  pub tree_read : (t : Tree) → HasWords t → IsReadAt t
   tree_read (atom from k w) h at rest ends = one_word at (printed_word k w) rest (kind_of k w) w (word_read rest ends k w h) (some_bytes k w h)
   tree_read (list from ts end) h at rest ends =
       let n = at + 1 + length (printed_all ts) in
@@ -177,7 +177,7 @@ mutual
   same_moved at (atom from k w) = (same_kind k w, refl)
   same_moved at (list from ts end) = all_moved (at + 1) ts
 
-  all_moved : (at : ℕ) (ts : Trees) → SameTrees ts (moved_all at ts)
+  pub all_moved : (at : ℕ) (ts : Trees) → SameTrees ts (moved_all at ts)
   all_moved at none = tt
   all_moved at (more t ts) = (same_moved at t, all_moved (at + length (printed t) + 1) ts)
 

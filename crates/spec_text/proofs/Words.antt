@@ -11,7 +11,7 @@ use Rattle.spec_text.proofs.Longest.{first_is_longest}
 abbrev pub IsWord : Kind → List ℕ → Type 0
 IsWord k w = (bs : List ℕ) × Spells bs (word k w)
 
-abbrev AreWords : List (ℕ × Lexeme) → Type 0
+abbrev pub AreWords : List (ℕ × Lexeme) → Type 0
 AreWords [] = ⊤
 AreWords ((at, word k w) ∷ xs) = IsWord k w × AreWords xs
 AreWords ((at, _) ∷ xs) = AreWords xs
@@ -26,7 +26,7 @@ words_before at b bs p rest first h = go p.lexeme first
     go (word k w) f = ((take p.size (b ∷ bs), f.begins.spelled), h)
     go (wrong f) _ = tt
 
-words_all : (n at : ℕ) (bs : List ℕ) → AreWords (lexemes n at bs)
+pub words_all : (n at : ℕ) (bs : List ℕ) → AreWords (lexemes n at bs)
 unfolding lexemes
 words_all n at [] = tt
 words_all (suc n) at (b ∷ bs) = words_all n (at + 1) bs
@@ -47,7 +47,7 @@ mutual
   words_first (atom at k w) rest h = h
   words_first (list at ts end) rest h = words_rest ts ((end, closes) ∷ rest) (subst AreWords (append_assoc (spelled_all ts) ((end, closes) ∷ []) rest) h)
 
-  words_rest : (ts : Trees) (rest : List (ℕ × Lexeme)) → AreWords (spelled_all ts ++ rest) → HaveWords ts × AreWords rest
+  pub words_rest : (ts : Trees) (rest : List (ℕ × Lexeme)) → AreWords (spelled_all ts ++ rest) → HaveWords ts × AreWords rest
   words_rest none rest h = (tt, h)
   words_rest (more t ts) rest h =
       let f = words_first t (spelled_all ts ++ rest) (subst AreWords (append_assoc (spelled t) (spelled_all ts) rest) h) in

@@ -1,9 +1,10 @@
 -- The arguments of a table's terms are among them, and their heads, which are declared, take them.
-use Rattle.std.proofs.Common.{◌≡◌, true, List, [], get_or, Contains, map, sym, ◌∙◌, subst}
+use Rattle.std.proofs.Common.{◌≡◌, true, List, [], ◌∷◌, ◌++◌, length, take, get_or, Contains, map, sym, ap, ◌∙◌, subst, length-append, arith}
+use Rattle.std.proofs.Math.Seq.{get_or-append_seam, take-append_seam}
 use Rattle.std.proofs.lemmas.List.{get_or_default}
 use Rattle.std.proofs.lemmas.List.Elements.{All-contains, Contains-get_or}
 use Rattle.spec_terms.specs.Terms.{Symbol, Head, Apply, Term, Terms, app, list_of, sort_of, head_takes}
-use Rattle.spec_terms.specs.Subsets.{arguments_of, IsClosed}
+use Rattle.spec_terms.specs.Subsets.{arguments_of, AreAmong, IsClosed}
 use Rattle.term_core.specs.declared.ids.TermId.{TermId}
 use Rattle.term_core.specs.declared.nodes.Head.{Head as NodeHead}
 use Rattle.term_core.specs.declared.nodes.Head.TheVariants as heads
@@ -76,3 +77,17 @@ pub heads_declared : (symbols : List Symbol) (nodes : List Node) → IsWhole sym
 heads_declared symbols nodes whole s ts c =
     let w = is_written symbols nodes whole (app (Apply s) ts) c in
     subst (HeadIsDeclared symbols) (sym w.2) (meant_declared symbols w.0.head w.1.head)
+
+-- the arguments of a term stand before it
+pub first_arguments : (symbols : List Symbol) (nodes : List Node) → IsWhole symbols nodes → (before after : List Term) (t : Term) → grown symbols [] (shapes_of nodes) ≡ before ++ t ∷ after → AreAmong (arguments_of t) before
+first_arguments symbols nodes whole before after t e u a =
+    let s : Shape = get_or (shapes_of nodes) (length before) no_shape in
+    let here = at symbols nodes whole (length before) (omega (arith, ap length e, length-append before (t ∷ after))) in
+    let front = here.front in
+    let tv : TableView = view symbols front in
+    let both : before ++ t ∷ after ≡ front ++ shape_term tv s ∷ here.more = sym e ∙ here.whole in
+    let same : before ≡ front = sym (take-append_seam before (t ∷ after)) ∙ ap (take (length before)) both ∙ ap (λ k. take k (front ++ shape_term tv s ∷ here.more)) (sym here.long) ∙ take-append_seam front (shape_term tv s ∷ here.more) in
+    let is : t ≡ shape_term tv s = sym (get_or-append_seam before t after no_term) ∙ ap (λ l. get_or l (length before) no_term) both ∙ ap (λ k. get_or (front ++ shape_term tv s ∷ here.more) k no_term) (sym here.long) ∙ get_or-append_seam front (shape_term tv s) here.more no_term in
+    let arg = argument_of tv s u (subst (λ x. Contains (arguments_of x) u) is a) in
+    let within : IsIn tv arg.0 = All-contains (λ id. IsIn tv id) s.arguments arg.0 here.fits.arguments arg.1 in
+    subst (λ l. Contains l u) (sym same) (subst (Contains front) arg.2 (term_there tv arg.0 within))

@@ -67,8 +67,8 @@ all_truths (id ∷ ids) = all_truths ids
 
 -- of truths, a head takes so many
 count_decides : (symbols : List Symbol) (h : NodeHead) (ids : List TermId) → AreTruths symbols → HasHead symbols h → head_takes (head_meant symbols h) (sorts_for ids) ≡ takes_so_many h ids
-count_decides symbols heads.And ids truths here = all_truths ids
-count_decides symbols heads.Or ids truths here = all_truths ids
+count_decides symbols heads.And (a ∷ ids) truths here = all_truths (a ∷ ids)
+count_decides symbols heads.Or (a ∷ ids) truths here = all_truths (a ∷ ids)
 count_decides symbols (heads.Apply s) [] truths here = ap (λ (x : Symbol). same_sorts x.parameters []) (truths s.0 no_symbol here)
 count_decides symbols (heads.Apply s) (a ∷ ids) truths here = ap (λ (x : Symbol). same_sorts x.parameters (sorts_for (a ∷ ids))) (truths s.0 no_symbol here)
 count_decides symbols _ [] truths here = refl

@@ -193,8 +193,8 @@ positive_literal t = record { atom = t; positive = true }
 
 -- the head takes so many arguments
 abbrev pub takes_so_many : NodeHead → List TermId → Bool
-takes_so_many heads.And ids = true
-takes_so_many heads.Or ids = true
+takes_so_many heads.And (a ∷ ids) = true
+takes_so_many heads.Or (a ∷ ids) = true
 takes_so_many heads.True [] = true
 takes_so_many heads.False [] = true
 takes_so_many (heads.Apply s) [] = true

@@ -19,9 +19,9 @@ pub enum Head {
     False,
     /// The negation of its one argument.
     Not,
-    /// That all of its arguments are true, of which there may be any number.
+    /// That all of its arguments are true, of which there is one at least.
     And,
-    /// That one of its arguments is true, of which there may be any number.
+    /// That one of its arguments is true, of which there is one at least.
     Or,
     /// That exactly one of its two arguments is true.
     Xor,
@@ -43,8 +43,8 @@ impl Head {
         ensures { result ≡ takes_so_many self arguments.now }
     {
         match self {
-            Head::And => true,
-            Head::Or => true,
+            Head::And => !arguments.is_empty(),
+            Head::Or => !arguments.is_empty(),
             Head::True => arguments.is_empty(),
             Head::False => arguments.is_empty(),
             Head::Apply(_) => arguments.is_empty(),

@@ -1,9 +1,9 @@
 //! The table of terms: each term once, by its number.
 
-ghost use Rattle.std.specs.Prelude.{◌⊎◌, ◌≡◌, map, MatchBool, true, false, Contains, ◌<◌, ◌≤◌, [], ◌∷◌, ◌++◌, length, take, None, Some, All, IfOk, OnErr, OnOk, MatchOption, slice_get};
-ghost use Rattle.spec_terms.specs.Terms.{Symbol, Head as TermHead, Apply, Terms, app, list_of, Truth, sort_of, head_takes, negated};
+ghost use Rattle.std.specs.Prelude.{◌⊎◌, ◌≡◌, List, map, MatchBool, true, false, Contains, ◌<◌, ◌≤◌, [], ◌∷◌, ◌++◌, length, take, None, Some, All, IfOk, OnErr, OnOk, MatchOption, slice_get};
+ghost use Rattle.spec_terms.specs.Terms.{Symbol, Head as TermHead, Apply, Term, Terms, app, list_of, Truth, sort_of, head_takes, negated};
 ghost use Rattle.spec_terms.specs.Reading.{symbol_named};
-ghost use Rattle.spec_terms.specs.Subsets.{IsClosed};
+ghost use Rattle.spec_terms.specs.Subsets.{arguments_of, AreAmong, IsClosed};
 ghost use Rattle.spec_terms.specs.Literals.{literal_of};
 ghost use Rattle.term_core.specs.Tables.{truth_symbol, term_at, IsIn, AreIn, HasHead, head_meant, clause_at, Shape, takes_so_many, literal_at, sort_meant, IsPlaced, node_term, NamesBelow, AreDifferent, Extends, positive_literal};
 ghost use Rattle.term_core.specs.declared.ids.TermId.{TermId as Number};
@@ -177,6 +177,15 @@ impl TermTable {
     /// Source: own.
     pub fn terms_are_closed(&self)
         ensures { IsClosed self.now.terms }
+    {
+        let _ = &self.symbols;
+    }
+
+    /// States that the arguments of each of the table's terms stand before it.
+    ///
+    /// Source: own.
+    pub fn arguments_come_first(&self)
+        ensures { (before after : List Term) (t : Term) → self.now.terms ≡ before ++ t ∷ after → AreAmong (arguments_of t) before }
     {
         let _ = &self.symbols;
     }

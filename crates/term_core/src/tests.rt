@@ -43,7 +43,7 @@ fn put(
 }
 
 /// Nodes, and the numbers that they get in a table with the constants; `None` where it does not take them.
-const NODES: [(Head, &[TermId], Option<u64>); 24] = [
+const NODES: [(Head, &[TermId], Option<u64>); 25] = [
     (Head::Apply(SymbolId(1)), &[], Some(1)),
     (Head::True, &[], Some(3)),
     (Head::False, &[], Some(4)),
@@ -56,10 +56,11 @@ const NODES: [(Head, &[TermId], Option<u64>); 24] = [
     (Head::Ite, &[A, B, C], Some(11)),
     (Head::And, &[B, A], Some(12)),
     (Head::And, &[A, B, C], Some(13)),
-    (Head::And, &[], Some(14)),
-    (Head::Or, &[], Some(15)),
-    (Head::And, &[A], Some(16)),
-    (Head::And, &[TermId(16), TermId(16)], Some(17)),
+    (Head::And, &[A], Some(14)),
+    (Head::And, &[TermId(14), TermId(14)], Some(15)),
+    (Head::Or, &[A], Some(16)),
+    (Head::And, &[], None),
+    (Head::Or, &[], None),
     (Head::Not, &[], None),
     (Head::Not, &[A, B], None),
     (Head::True, &[A], None),
@@ -86,7 +87,7 @@ fn puts_each_node_once(rt: HostRuntime) -> Result<(), Fail> {
             }
         }
     }
-    assert!(rt; table.len() == 18);
+    assert!(rt; table.len() == 17);
     Ok(())
 }
 
@@ -169,8 +170,9 @@ const TRUTHS: [(Head, &[TermId], &[u8; 8]); 23] = [
     (Head::Not, &[A], b"11110000"),
     (Head::And, &[A, B, C], b"00000001"),
     (Head::Or, &[A, B, C], b"01111111"),
-    (Head::And, &[], b"11111111"),
-    (Head::Or, &[], b"00000000"),
+    // One argument means itself.
+    (Head::And, &[A], b"00001111"),
+    (Head::Or, &[B], b"00110011"),
     // (xor a b c), from the left
     (Head::Xor, &[A, B], b"00111100"),
     (Head::Xor, &[TermId(10), C], b"01101001"),

@@ -2,3 +2,5 @@
 pub mod Outside
 pub mod Ends
 pub mod Memory
+pub mod Writing
+pub mod Gathering

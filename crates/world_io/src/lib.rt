@@ -6,6 +6,9 @@
 
 mod bytes;
 mod fault;
+mod gathered;
+#[cfg(test)]
+mod gathered_tests;
 mod host;
 mod memory;
 mod read;
@@ -16,6 +19,7 @@ mod tests;
 
 pub use bytes::{Bytes, NoMemory};
 pub use fault::Failed;
+pub use gathered::Gathered;
 pub use host::{HostShelf, HostSink};
 pub use memory::{MemShelf, MemSink};
 pub use read::{ReadEnd, ReadStop, read_all};

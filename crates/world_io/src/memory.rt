@@ -254,7 +254,7 @@ fn copy_from(text: &[u8], offset: usize, most: usize, buf: &mut [u8]) -> usize
 /// Appends bytes for which there is room. It takes no memory.
 ///
 /// Source: own.
-fn append_reserved(bytes: &mut Vec<u8>, piece: &[u8])
+pub(crate) fn append_reserved(bytes: &mut Vec<u8>, piece: &[u8])
     requires { vec_len bytes.old + length piece.now ≤ vec_capacity bytes.old }
     ensures items { bytes.new.items ≡ bytes.old.items ++ piece.now }
     ensures len { vec_len bytes.new ≡ vec_len bytes.old + length piece.now }

@@ -10,7 +10,7 @@ pub returns-in-Ok-clause-gives : goal.returns-in-Ok-clause-gives
 returns-in-Ok-clause-gives c = proof_read _ _ c.in-Ok.ensures.answer.terms
 
 pub returns-in-Ok-clause-same : goal.returns-in-Ok-clause-same
-returns-in-Ok-clause-same c = known_kept c.args.held.now.table c.terms.new.table c.in-Ok.ensures.answer.keeps.extends c.args.held.now.asserted c.args.held.now.names c.args.held.now.clauses.items c.in-Ok.ensures.answer.keeps.symbols c.requires.asserted c.requires.clauses
+returns-in-Ok-clause-same c = known_kept c.args.held.now.table c.terms_under.new.table c.in-Ok.ensures.answer.keeps.extends c.args.held.now.definitions c.args.held.now.asserted c.args.held.now.names c.args.held.now.clauses.items c.in-Ok.ensures.answer.keeps.symbols c.requires.definitions c.requires.asserted c.requires.clauses
 
 pub returns-in-Err-clause-gives : goal.returns-in-Err-clause-gives
-returns-in-Err-clause-gives c = proof_stopped {X = Vec TermId Global} (λ v. clause_at c.terms.new.table v.items) c.args.held.now.table c.terms.new.table _ c.in-Err.stop c.in_proof.result c.in_proof.ensures c.in-Err.ensures.answer
+returns-in-Err-clause-gives c = proof_stopped {X = Vec TermId Global} (λ v. clause_at c.terms_under.new.table v.items) c.args.held.now.table c.terms_under.new.table _ c.in-Err.stop c.in_proof.result c.in_proof.ensures c.in-Err.ensures.answer

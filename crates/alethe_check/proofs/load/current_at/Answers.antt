@@ -1,5 +1,5 @@
 use Rattle.std.proofs.Common.{sym, ap, ◌∙◌, arith}
-use Rattle.alethe_check.specs.declared.script.Took.TheVariants as took
+use Rattle.assertion_stack.specs.declared.script.Took.TheVariants as took
 use Rattle.alethe_check.proofs.Loading.{script_finishes, script_breaks, check_here, leaves_here, one_less, taken_here, refused_here}
 use Rattle.alethe_check.proofs.load.current_at.Goals.{in-Ok-Check+else-left-eq1, in-Ok-Done, in-Ok-Unsupported, in-Err-Fault-command}
 use Rattle.alethe_check.proofs.load.current_at.Goals as goal

@@ -1,7 +1,7 @@
 use Rattle.std.proofs.Common.{true, length, subst, ◌≡◌}
 use Rattle.spec_terms.specs.Theory.{takes}
 use Rattle.sort_check.specs.Heads.{rule_of}
-use Rattle.sort_check.proofs.Counts.{true_takes, false_takes, not_takes, ite_takes, xor_takes, implies_takes, equal_takes}
+use Rattle.sort_check.proofs.Counts.{true_takes, false_takes, not_takes, ite_takes, xor_takes, implies_takes, equal_takes, distinct_takes, and_takes, or_takes}
 use Rattle.sort_check.proofs.chains.build_core.Goals as goal
 
 pub put-requires-clause-takes : goal.put-requires-clause-takes
@@ -22,5 +22,14 @@ exclusive-requires-clause-some c = xor_takes c.args.arguments.now (subst (λ h. 
 pub implication-requires-clause-some : goal.implication-requires-clause-some
 implication-requires-clause-some c = implies_takes c.args.arguments.now (subst (λ h. takes (rule_of h) (length c.args.arguments.now) ≡ true) c.in-Implies.is c.requires.takes)
 
-pub equality-requires-clause-some : goal.equality-requires-clause-some
-equality-requires-clause-some c = equal_takes c.args.arguments.now (subst (λ h. takes (rule_of h) (length c.args.arguments.now) ≡ true) c.in-Equal.is c.requires.takes)
+pub equality-requires-clause-two : goal.equality-requires-clause-two
+equality-requires-clause-two c = equal_takes c.args.arguments.now (subst (λ h. takes (rule_of h) (length c.args.arguments.now) ≡ true) c.in-Equal.is c.requires.takes)
+
+pub distinct-requires-clause-two : goal.distinct-requires-clause-two
+distinct-requires-clause-two c = distinct_takes c.args.arguments.now (subst (λ h. takes (rule_of h) (length c.args.arguments.now) ≡ true) c.in-Distinct.is c.requires.takes)
+
+pub put-requires-in-And-clause-takes : goal.put-requires-in-And-clause-takes
+put-requires-in-And-clause-takes c = and_takes c.args.arguments.now (subst (λ h. takes (rule_of h) (length c.args.arguments.now) ≡ true) c.in-And.is c.requires.takes)
+
+pub put-requires-in-Or-clause-takes : goal.put-requires-in-Or-clause-takes
+put-requires-in-Or-clause-takes c = or_takes c.args.arguments.now (subst (λ h. takes (rule_of h) (length c.args.arguments.now) ≡ true) c.in-Or.is c.requires.takes)

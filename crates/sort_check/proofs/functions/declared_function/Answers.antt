@@ -1,11 +1,13 @@
-use Rattle.std.proofs.Common.{arith}
-use Rattle.std.proofs.lemmas.Bool.Decides.{nat_tests}
-use Rattle.sort_check.proofs.Named.{constant_taken, constant_refused}
+use Rattle.std.proofs.Common.{◌≡◌, Some, List, subst}
+use Rattle.spec_terms.specs.Terms.{Symbol}
+use Rattle.spec_terms.specs.Reading.{symbol_named}
+use Rattle.term_core.specs.Tables.{truth_symbol, symbol_at, IsSymbol}
+use Rattle.sort_check.proofs.Named.{constant}
 use Rattle.sort_check.proofs.functions.declared_function.Goals as goal
 
-pub returns-then-count-eq0 : goal.returns-then-count-eq0
-returns-then-count-eq0 c = constant_taken c.args.symbols.now c.args.place c.args.name.now c.args.at c.args.count c.requires c.in-Some.symbol c.in-Some.ensures.0 c.in-Some.ensures.1 c.in-Some.ensures.2 c.if-count-eq0.true
-
-pub returns-else-count-eq0 : goal.returns-else-count-eq0
-returns-else-count-eq0 c =
-    constant_refused c.args.symbols.now c.args.place c.args.name.now c.args.at c.args.count c.requires c.fault_at-in-Some.result c.in-Some.ensures.2 (grind (arith, nat_tests, c.if-count-eq0.false)) c.fault_at-in-Some.ensures
+pub returns-in-Some : goal.returns-in-Some
+returns-in-Some c =
+    let s = c.in-Some.symbol in
+    let n = c.args.name.now in
+    let found = subst (λ (ss : List Symbol). IsSymbol ss s × (symbol_at ss s ≡ truth_symbol n) × (symbol_named ss n ≡ Some (truth_symbol n))) c.symbols.ensures c.in-Some.ensures in
+    constant c.args.table.now c.args.definitions.now c.args.place n c.args.at c.args.count c.requires.theory s found.0 found.1 found.2 c.alone.result c.alone.ensures

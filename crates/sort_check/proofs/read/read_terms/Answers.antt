@@ -1,11 +1,12 @@
 -- What each step comes to.
-use Rattle.std.proofs.Common.{◌≡◌, ◌-◌, length, ap, ◌∙◌, subst, arith}
+use Rattle.std.proofs.Common.{◌≡◌, ◌-◌, length, refl, ap, ◌∙◌, subst, arith}
 use Rattle.std.specs.Prelude.{Ok, Err}
 use Rattle.spec_text.specs.Trees.{atom, list}
 use Rattle.spec_terms.specs.Reading.{applied}
 use Rattle.smt_sexpr.specs.Items.{trees_in, tree_in}
 use Rattle.sort_check.specs.declared.faults.TermStop.TheVariants.{Fault, Memory}
 use Rattle.sort_check.specs.Functions.{IsFunction}
+use Rattle.sort_check.specs.Definitions.{scope_at}
 use Rattle.sort_check.specs.Frames.{open_of, opens_of}
 use Rattle.sort_check.specs.Reads.{Reads}
 use Rattle.sort_check.proofs.Errors.{by_error}
@@ -16,34 +17,34 @@ use Rattle.sort_check.proofs.Reading.{reading_begins, atom_read, atom_refused, c
 use Rattle.sort_check.proofs.read.read_terms.Goals as goal
 
 pub steps-init : goal.steps-init
-steps-init c = rw (c.new-open.ensures.items, c.new-ids.ensures.items) (reading_begins c.args.most (trees_in c.args.text.now c.args.items.now) c.args.table.now)
+steps-init c = rw (c.new-open.ensures.items, c.new-ids.ensures.items) (reading_begins c.args.most (scope_at c.args.table.now c.args.definitions.now) (trees_in c.args.text.now c.args.items.now) c.args.table.now)
 
 pub returns-in_err-function-in-Atom : goal.returns-in_err-function-in-Atom
 returns-in_err-function-in-Atom c =
     let e = c.in_err-function-in-Atom.field-0.0 in
-    by_error (Reads c.args.most (trees_in c.args.text.now c.args.items.now) c.args.table.now c.steps.table) c.from_residual.result (Fault e) c.from_residual.ensures.1
+    by_error (Reads c.args.most (scope_at c.args.table.now c.args.definitions.now) (trees_in c.args.text.now c.args.items.now) c.args.table.now c.steps.table) c.from_residual.result (Fault e) c.from_residual.ensures.1
     (record {
       keeps = c.steps.invariant.grows.keeps;
-      ends = atom_refused c.args.most (trees_in c.args.text.now c.args.items.now) c.args.table.now c.steps.table c.steps.crowded (opens_of c.args.text.now c.steps.open.items) c.steps.ids.items (trees_in c.args.text.now c.steps.rest.now) c.steps.invariant c.symbols.result.now c.symbols.ensures c.from.result c.in-Atom.kind c.in-Atom.name.now (trees_in c.args.text.now c.in-Some.behind.now) e (next_is c.args.text.now c.steps.rest.now c.in-Some.behind.now (atom c.from.result c.in-Atom.kind c.in-Atom.name.now) (tree_in c.args.text.now c.in-Some.first.now) (c.in-Some.ensures.first c.args.text.now) (ap (λ a. atom a c.in-Atom.kind c.in-Atom.name.now) c.from.ensures ∙ c.in-Atom.ensures.seen)) c.in_err-function-in-Atom.ensures;
+      ends = atom_refused c.args.most (scope_at c.args.table.now c.args.definitions.now) (trees_in c.args.text.now c.args.items.now) c.args.table.now c.steps.table c.steps.crowded (opens_of c.args.text.now c.steps.open.items) c.steps.ids.items (trees_in c.args.text.now c.steps.rest.now) c.steps.invariant c.args.definitions.now refl c.requires c.from.result c.in-Atom.kind c.in-Atom.name.now (trees_in c.args.text.now c.in-Some.behind.now) e (next_is c.args.text.now c.steps.rest.now c.in-Some.behind.now (atom c.from.result c.in-Atom.kind c.in-Atom.name.now) (tree_in c.args.text.now c.in-Some.first.now) (c.in-Some.ensures.first c.args.text.now) (ap (λ a. atom a c.in-Atom.kind c.in-Atom.name.now) c.from.ensures ∙ c.in-Atom.ensures.seen)) c.in_err-function-in-Atom.ensures;
     })
 
 pub returns-in_err-crowded-in-Atom : goal.returns-in_err-crowded-in-Atom
 returns-in_err-crowded-in-Atom c =
-    by_error (Reads c.args.most (trees_in c.args.text.now c.args.items.now) c.args.table.now c.replace.new.table) c.from_residual-in_err-crowded-in-Atom.result Memory c.from_residual-in_err-crowded-in-Atom.ensures.1
+    by_error (Reads c.args.most (scope_at c.args.table.now c.args.definitions.now) (trees_in c.args.text.now c.args.items.now) c.args.table.now c.replace.new.table) c.from_residual-in_err-crowded-in-Atom.result Memory c.from_residual-in_err-crowded-in-Atom.ensures.1
     (record { keeps = keeps_along c.args.table.now c.steps.table c.replace.new.table c.steps.invariant.grows.keeps (c.replace.ensures c.steps.invariant.terms c.steps.invariant.stack).grows.keeps; ends = tt })
 
 pub steps-preserved-in-Atom : goal.steps-preserved-in-Atom
 steps-preserved-in-Atom c =
-    atom_read c.args.most (trees_in c.args.text.now c.args.items.now) c.args.table.now c.steps.table c.steps.crowded (opens_of c.args.text.now c.steps.open.items) c.steps.ids.items (trees_in c.args.text.now c.steps.rest.now) c.steps.invariant c.symbols.result.now c.symbols.ensures c.from.result c.in-Atom.kind c.in-Atom.name.now (trees_in c.args.text.now c.in-Some.behind.now) c.in_ok-function-in-Atom.function c.replace.new.table c.in_ok-crowded-in-Atom.crowded c.len-from.result c.replace.new.values.items
+    atom_read c.args.most (scope_at c.args.table.now c.args.definitions.now) (trees_in c.args.text.now c.args.items.now) c.args.table.now c.steps.table c.steps.crowded (opens_of c.args.text.now c.steps.open.items) c.steps.ids.items (trees_in c.args.text.now c.steps.rest.now) c.steps.invariant c.args.definitions.now refl c.requires c.from.result c.in-Atom.kind c.in-Atom.name.now (trees_in c.args.text.now c.in-Some.behind.now) c.in_ok-function-in-Atom.function c.replace.new.table c.in_ok-crowded-in-Atom.crowded c.len-from.result c.replace.new.values.items
     (next_is c.args.text.now c.steps.rest.now c.in-Some.behind.now (atom c.from.result c.in-Atom.kind c.in-Atom.name.now) (tree_in c.args.text.now c.in-Some.first.now) (c.in-Some.ensures.first c.args.text.now) (ap (λ a. atom a c.in-Atom.kind c.in-Atom.name.now) c.from.ensures ∙ c.in-Atom.ensures.seen)) c.in_ok-function-in-Atom.ensures (omega (arith, c.len-from.ensures, c.steps.ids.ok.0)) (c.in_ok-crowded-in-Atom.ensures c.steps.invariant.terms c.steps.invariant.stack)
 
 pub returns-in_err-frame-in-List : goal.returns-in_err-frame-in-List
 returns-in_err-frame-in-List c =
     let e = c.in_err-frame-in-List.field-0.0 in
-    by_error (Reads c.args.most (trees_in c.args.text.now c.args.items.now) c.args.table.now c.steps.table) c.from_residual-in_err-frame-in-List.result (Fault e) c.from_residual-in_err-frame-in-List.ensures.1
+    by_error (Reads c.args.most (scope_at c.args.table.now c.args.definitions.now) (trees_in c.args.text.now c.args.items.now) c.args.table.now c.steps.table) c.from_residual-in_err-frame-in-List.result (Fault e) c.from_residual-in_err-frame-in-List.ensures.1
     (record {
       keeps = c.steps.invariant.grows.keeps;
-      ends = list_refused c.args.most (trees_in c.args.text.now c.args.items.now) c.args.table.now c.steps.table c.steps.crowded (opens_of c.args.text.now c.steps.open.items) c.steps.ids.items (trees_in c.args.text.now c.steps.rest.now) c.steps.invariant c.from-in-List.result c.in-List.field-2 (trees_in c.args.text.now c.in-List.inside.now) (trees_in c.args.text.now c.in-Some.behind.now) e (next_is c.args.text.now c.steps.rest.now c.in-Some.behind.now (list c.from-in-List.result (trees_in c.args.text.now c.in-List.inside.now) c.in-List.field-2) (tree_in c.args.text.now c.in-Some.first.now) (c.in-Some.ensures.first c.args.text.now) (ap (λ a. list a (trees_in c.args.text.now c.in-List.inside.now) c.in-List.field-2) c.from-in-List.ensures ∙ c.in-List.ensures.seen)) c.in_err-frame-in-List.ensures;
+      ends = list_refused c.args.most (scope_at c.args.table.now c.args.definitions.now) (trees_in c.args.text.now c.args.items.now) c.args.table.now c.steps.table c.steps.crowded (opens_of c.args.text.now c.steps.open.items) c.steps.ids.items (trees_in c.args.text.now c.steps.rest.now) c.steps.invariant c.from-in-List.result c.in-List.field-2 (trees_in c.args.text.now c.in-List.inside.now) (trees_in c.args.text.now c.in-Some.behind.now) e (next_is c.args.text.now c.steps.rest.now c.in-Some.behind.now (list c.from-in-List.result (trees_in c.args.text.now c.in-List.inside.now) c.in-List.field-2) (tree_in c.args.text.now c.in-Some.first.now) (c.in-Some.ensures.first c.args.text.now) (ap (λ a. list a (trees_in c.args.text.now c.in-List.inside.now) c.in-List.field-2) c.from-in-List.ensures ∙ c.in-List.ensures.seen)) c.in_err-frame-in-List.ensures;
     })
 
 pub steps-smaller-in-List : goal.steps-smaller-in-List
@@ -57,7 +58,7 @@ pub steps-preserved-in-List : goal.steps-preserved-in-List
 steps-preserved-in-List c =
     let f = c.in_ok-frame-in-List.frame in
     rw (opens_last c.args.text.now c.push.new.self.items c.steps.open.items f c.in_ok-push-in-List.ensures.items)
-    (list_read c.args.most (trees_in c.args.text.now c.args.items.now) c.args.table.now c.steps.table c.steps.crowded (opens_of c.args.text.now c.steps.open.items) c.steps.ids.items (trees_in c.args.text.now c.steps.rest.now) c.steps.invariant c.args.text.now c.from-in-List.result c.in-List.field-2 (trees_in c.args.text.now c.in-List.inside.now) c.in-Some.behind.now c.len.result f c.in_ok-frame-in-List.arguments.now (next_is c.args.text.now c.steps.rest.now c.in-Some.behind.now (list c.from-in-List.result (trees_in c.args.text.now c.in-List.inside.now) c.in-List.field-2) (tree_in c.args.text.now c.in-Some.first.now) (c.in-Some.ensures.first c.args.text.now) (ap (λ a. list a (trees_in c.args.text.now c.in-List.inside.now) c.in-List.field-2) c.from-in-List.ensures ∙ c.in-List.ensures.seen)) (omega (arith, c.len.ensures, c.steps.ids.ok.0)) c.in_ok-frame-in-List.ensures)
+    (list_read c.args.most (scope_at c.args.table.now c.args.definitions.now) (trees_in c.args.text.now c.args.items.now) c.args.table.now c.steps.table c.steps.crowded (opens_of c.args.text.now c.steps.open.items) c.steps.ids.items (trees_in c.args.text.now c.steps.rest.now) c.steps.invariant c.args.text.now c.from-in-List.result c.in-List.field-2 (trees_in c.args.text.now c.in-List.inside.now) c.in-Some.behind.now c.len.result f c.in_ok-frame-in-List.arguments.now (next_is c.args.text.now c.steps.rest.now c.in-Some.behind.now (list c.from-in-List.result (trees_in c.args.text.now c.in-List.inside.now) c.in-List.field-2) (tree_in c.args.text.now c.in-Some.first.now) (c.in-Some.ensures.first c.args.text.now) (ap (λ a. list a (trees_in c.args.text.now c.in-List.inside.now) c.in-List.field-2) c.from-in-List.ensures ∙ c.in-List.ensures.seen)) (omega (arith, c.len.ensures, c.steps.ids.ok.0)) c.in_ok-frame-in-List.ensures)
 
 pub overflow_sub-count : goal.overflow_sub-count
 overflow_sub-count c =
@@ -68,10 +69,10 @@ pub returns-in_err-function : goal.returns-in_err-function
 returns-in_err-function c =
     let counted : c.len-in-Some-pop.result - c.in-Some-pop.frame.from ≡ length c.steps.ids.items - c.in-Some-pop.frame.from = omega (arith, c.len-in-Some-pop.ensures, c.steps.ids.ok.0) in
     let e = c.in_err-function.field-0.0 in
-    by_error (Reads c.args.most (trees_in c.args.text.now c.args.items.now) c.args.table.now c.steps.table) c.from_residual-in_err-function.result (Fault e) c.from_residual-in_err-function.ensures.1
+    by_error (Reads c.args.most (scope_at c.args.table.now c.args.definitions.now) (trees_in c.args.text.now c.args.items.now) c.args.table.now c.steps.table) c.from_residual-in_err-function.result (Fault e) c.from_residual-in_err-function.ensures.1
     (record {
       keeps = c.steps.invariant.grows.keeps;
-      ends = closed_refused c.args.most (trees_in c.args.text.now c.args.items.now) c.args.table.now c.steps.table c.steps.crowded (opens_of c.args.text.now c.steps.open.items) c.steps.ids.items (trees_in c.args.text.now c.steps.rest.now) c.steps.invariant c.symbols-in-Some-pop.result.now c.symbols-in-Some-pop.ensures (opens_of c.args.text.now c.pop.new.self.items) (open_of c.args.text.now c.in-Some-pop.frame) e (split_none (trees_in c.args.text.now c.steps.rest.now) (c.in_default.ensures.first c.args.text.now)) (opens_last c.args.text.now c.steps.open.items c.pop.new.self.items c.in-Some-pop.frame c.in-Some-pop.ensures.items) (subst (λ n. IsFunction c.symbols-in-Some-pop.result.now n (applied c.symbols-in-Some-pop.result.now c.in-Some-pop.frame.place c.in-Some-pop.frame.name.now c.in-Some-pop.frame.at) (Err e)) counted c.in_err-function.ensures);
+      ends = closed_refused c.args.most (scope_at c.args.table.now c.args.definitions.now) (trees_in c.args.text.now c.args.items.now) c.args.table.now c.steps.table c.steps.crowded (opens_of c.args.text.now c.steps.open.items) c.steps.ids.items (trees_in c.args.text.now c.steps.rest.now) c.steps.invariant c.args.definitions.now refl c.requires (opens_of c.args.text.now c.pop.new.self.items) (open_of c.args.text.now c.in-Some-pop.frame) e (split_none (trees_in c.args.text.now c.steps.rest.now) (c.in_default.ensures.first c.args.text.now)) (opens_last c.args.text.now c.steps.open.items c.pop.new.self.items c.in-Some-pop.frame c.in-Some-pop.ensures.items) (subst (λ n. IsFunction c.steps.table n (applied (scope_at c.steps.table c.args.definitions.now) c.in-Some-pop.frame.place c.in-Some-pop.frame.name.now c.in-Some-pop.frame.at) (Err e)) counted c.in_err-function.ensures);
     })
 
 pub replace-requires-in-Some-pop-clause-from : goal.replace-requires-in-Some-pop-clause-from
@@ -81,7 +82,7 @@ replace-requires-in-Some-pop-clause-from c =
 
 pub returns-in_err-crowded : goal.returns-in_err-crowded
 returns-in_err-crowded c =
-    by_error (Reads c.args.most (trees_in c.args.text.now c.args.items.now) c.args.table.now c.replace-in-Some-pop.new.table) c.from_residual-in_err-crowded.result Memory c.from_residual-in_err-crowded.ensures.1
+    by_error (Reads c.args.most (scope_at c.args.table.now c.args.definitions.now) (trees_in c.args.text.now c.args.items.now) c.args.table.now c.replace-in-Some-pop.new.table) c.from_residual-in_err-crowded.result Memory c.from_residual-in_err-crowded.ensures.1
     (record { keeps = keeps_along c.args.table.now c.steps.table c.replace-in-Some-pop.new.table c.steps.invariant.grows.keeps (c.replace-in-Some-pop.ensures c.steps.invariant.terms c.steps.invariant.stack).grows.keeps; ends = tt })
 
 pub steps-smaller : goal.steps-smaller
@@ -90,12 +91,12 @@ steps-smaller c = closed_smaller (opens_of c.args.text.now c.steps.open.items) (
 pub steps-preserved : goal.steps-preserved
 steps-preserved c =
     let counted : c.len-in-Some-pop.result - c.in-Some-pop.frame.from ≡ length c.steps.ids.items - c.in-Some-pop.frame.from = omega (arith, c.len-in-Some-pop.ensures, c.steps.ids.ok.0) in
-    closed_read c.args.most (trees_in c.args.text.now c.args.items.now) c.args.table.now c.steps.table c.steps.crowded (opens_of c.args.text.now c.steps.open.items) c.steps.ids.items (trees_in c.args.text.now c.steps.rest.now) c.steps.invariant c.symbols-in-Some-pop.result.now c.symbols-in-Some-pop.ensures (opens_of c.args.text.now c.pop.new.self.items) (open_of c.args.text.now c.in-Some-pop.frame) c.in_ok-function.function c.replace-in-Some-pop.new.table c.in_ok-crowded.crowded c.replace-in-Some-pop.new.values.items (split_none (trees_in c.args.text.now c.steps.rest.now) (c.in_default.ensures.first c.args.text.now)) (opens_last c.args.text.now c.steps.open.items c.pop.new.self.items c.in-Some-pop.frame c.in-Some-pop.ensures.items)
-    (subst (λ n. IsFunction c.symbols-in-Some-pop.result.now n (applied c.symbols-in-Some-pop.result.now c.in-Some-pop.frame.place c.in-Some-pop.frame.name.now c.in-Some-pop.frame.at) (Ok c.in_ok-function.function)) counted c.in_ok-function.ensures) (c.in_ok-crowded.ensures c.steps.invariant.terms c.steps.invariant.stack)
+    closed_read c.args.most (scope_at c.args.table.now c.args.definitions.now) (trees_in c.args.text.now c.args.items.now) c.args.table.now c.steps.table c.steps.crowded (opens_of c.args.text.now c.steps.open.items) c.steps.ids.items (trees_in c.args.text.now c.steps.rest.now) c.steps.invariant c.args.definitions.now refl c.requires (opens_of c.args.text.now c.pop.new.self.items) (open_of c.args.text.now c.in-Some-pop.frame) c.in_ok-function.function c.replace-in-Some-pop.new.table c.in_ok-crowded.crowded c.replace-in-Some-pop.new.values.items (split_none (trees_in c.args.text.now c.steps.rest.now) (c.in_default.ensures.first c.args.text.now)) (opens_last c.args.text.now c.steps.open.items c.pop.new.self.items c.in-Some-pop.frame c.in-Some-pop.ensures.items)
+    (subst (λ n. IsFunction c.steps.table n (applied (scope_at c.steps.table c.args.definitions.now) c.in-Some-pop.frame.place c.in-Some-pop.frame.name.now c.in-Some-pop.frame.at) (Ok c.in_ok-function.function)) counted c.in_ok-function.ensures) (c.in_ok-crowded.ensures c.steps.invariant.terms c.steps.invariant.stack)
 
 pub returns-in_default-pop : goal.returns-in_default-pop
 returns-in_default-pop c =
     record {
       keeps = c.steps.invariant.grows.keeps;
-      ends = all_read c.args.most (trees_in c.args.text.now c.args.items.now) c.args.table.now c.steps.table c.steps.crowded (opens_of c.args.text.now c.steps.open.items) c.steps.ids.items (trees_in c.args.text.now c.steps.rest.now) c.steps.invariant (split_none (trees_in c.args.text.now c.steps.rest.now) (c.in_default.ensures.first c.args.text.now)) (ap (opens_of c.args.text.now) (none_left c.steps.open.items (omega (arith, c.in_default-pop.ensures.cases.0, c.steps.open.ok.0))));
+      ends = all_read c.args.most (scope_at c.args.table.now c.args.definitions.now) (trees_in c.args.text.now c.args.items.now) c.args.table.now c.steps.table c.steps.crowded (opens_of c.args.text.now c.steps.open.items) c.steps.ids.items (trees_in c.args.text.now c.steps.rest.now) c.steps.invariant (split_none (trees_in c.args.text.now c.steps.rest.now) (c.in_default.ensures.first c.args.text.now)) (ap (opens_of c.args.text.now) (none_left c.steps.open.items (omega (arith, c.in_default-pop.ensures.cases.0, c.steps.open.ok.0))));
     }

@@ -8,7 +8,7 @@ use Rattle.spec_scripts.specs.Stack.{Stack, Assertion}
 use Rattle.spec_proofs.specs.Commands.{known_at}
 use Rattle.spec_proofs.proofs.Good.{no_fault}
 use Rattle.spec_proofs.proofs.Judging.{sound, EntryTrue, TermTrue, IsTruly}
-use Rattle.spec_proofs.proofs.HasTruths.{all_truthful}
+use Rattle.spec_proofs.proofs.HasTruths.{all_truthful, IsMeant}
 use Rattle.spec_proofs.proofs.laws.acceptance_is_sound.Goals as goal
 
 pub returns : goal.returns
@@ -19,7 +19,10 @@ returns c = λ script proof k accepted i model.
     let values = c.assertions_have_their_texts_value.ensures script k s accepted.current i in
     let declared = (c.assertions_are_read.ensures.read script k s accepted.current).symbols in
     let all : IsTruly i (known_at s) = record {
-      symbols = all_truthful i s.symbols declared (subst (λ (x : Stack). Interprets i x.symbols) same model.interprets);
+      scope = record {
+        symbols = all_truthful i s.symbols declared (subst (λ (x : Stack). Interprets i x.symbols) same model.interprets);
+        defined = All-nil (IsMeant i);
+      };
       entries = All-nil (EntryTrue i);
       asserted = All-map (TermTrue i) (λ (a : Assertion). a.term) s.assertions (λ n d h. ap is_true (sym (values n d h) ∙ texts n d h));
     } in

@@ -1,5 +1,0 @@
-use Rattle.alethe_check.proofs.Members.{contains_by}
-use Rattle.alethe_check.proofs.asserted.Asserted.contains.Goals as goal
-
-pub returns : goal.returns
-returns c = rw (← c.self.view_is) (contains_by c.self.inside.list.items c.self.inside.set.keys c.args.id c.contains.result c.self.invariant c.contains.ensures)

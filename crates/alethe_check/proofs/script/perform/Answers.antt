@@ -1,4 +1,0 @@
-use Rattle.alethe_check.proofs.script.perform.Goals as goal
-
-pub returns-in-SetOption : goal.returns-in-SetOption
-returns-in-SetOption c s h = rw c.in-SetOption.is (c.set_option.ensures c.args.limit s h)

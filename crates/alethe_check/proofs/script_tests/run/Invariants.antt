@@ -1,5 +1,0 @@
-use Rattle.spec_text.specs.Places.{IsPlaceOf}
-use Rattle.alethe_check.proofs.script_tests.run.Given as goal
-
-abbrev pub invariant-loop : goal.invariant-loop
-invariant-loop l = IsPlaceOf l.text l.at

@@ -1,0 +1,7 @@
+-- The numbers so far are marked.
+use Rattle.std.proofs.Common.{take}
+use Rattle.alethe_writer.specs.Marks.{Marks, plain_numbers}
+use Rattle.alethe_writer.proofs.marks.mark_terms.Given as goal
+
+abbrev pub invariant-ids : goal.invariant-ids
+invariant-ids l = record { so_far : Marks l.fn.marks (plain_numbers (take l.id-index l.ids)) l.marks }

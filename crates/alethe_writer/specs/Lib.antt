@@ -1,0 +1,4 @@
+-- How what is printed is marked, numbered and written.
+pub mod Marks
+pub mod Counting
+pub mod Printing

@@ -1,0 +1,322 @@
+//! A script's commands, one call for each: what stands behind it, or its first fault.
+//!
+//! The commands are `set-option`, `declare-const` of sort Bool, `assert`, `check-sat` and `exit`.
+
+ghost use Rattle.std.specs.Prelude.{◌≡◌, ℕ, ◌≤◌, ◌<◌, [], Bool, true, false, List, length, option_map, IfOk, MatchOption, ◌∷◌};
+ghost use Rattle.spec_text.specs.Bytes.{among, one_of};
+ghost use Rattle.spec_text.specs.Places.{IsPlaceOf};
+ghost use Rattle.spec_text.specs.Trees.{Tree, more, none, offset_of};
+ghost use Rattle.spec_terms.specs.Terms.{Truth};
+ghost use Rattle.spec_scripts.specs.Stack.{with_success, performed, Stack, empty_stack, theory_names, names_of, is_kept_name, is_barred, is_taken, new_name, sort_named, atom_sort, sort_in, truth_named, truth_in, is_known_option};
+ghost use Rattle.spec_scripts.specs.Commands.{SetOption, DeclareConst, Assert};
+ghost use Rattle.smt_sexpr.specs.Items.{tree_of, text_of, start_of};
+ghost use Rattle.smt_sexpr.specs.Items.{trees_in, tree_in};
+ghost use Rattle.smt_sexpr.specs.Views.{word_view};
+ghost use Rattle.term_core.specs.Tables.{term_at, AreIn};
+ghost use Rattle.term_core.specs.declared.ids.TermId.{TermId};
+ghost use Rattle.assertion_stack.specs.Views.{Gives};
+ghost use Rattle.spec_scripts.specs.Stack.{effect_of};
+ghost use Rattle.assertion_stack.specs.Scripts.{command_view, effect_meant, IsStack, Becomes, roomy_symbol, Takes, Steps};
+
+use crate::asserted::Asserted;
+use crate::commands::{ScriptCommand, refused, script_command};
+use crate::names::{new_name, sort_in};
+use smt_lexer::{Place, Refusal, Refused};
+use smt_sexpr::{Item, Sexpr, View, Word, is_symbol, look, offset, same_bytes, split};
+use sort_check::{TermStop, terms};
+use spec_text::Fault;
+use std::alloc::Global;
+use term_core::{TermId, TermTable};
+
+/// The most constants that a script may declare, and the most different subterms that the terms of one command may have.
+///
+/// Source: own.
+pub const TERM_LIMIT: u64 = 1 << 24;
+
+/// What a script has stated: its symbols and terms, its assertions, and its option.
+///
+/// Contracts see it as a `Stack` of the definitions, by the relation `IsStack`. Its table may be lent beside the numbers of its
+/// assertions; while it grows by terms alone, the script stays the same stack (`stacks_stand_in_grown_tables`).
+/// Source: SMT-LIB 2.6, section 4.1.4.
+#[derive(Drop)]
+pub struct Script {
+    /// The terms, and the declared symbols.
+    pub table: TermTable,
+    /// The assertions, oldest first.
+    pub asserted: Asserted,
+    /// Whether commands that are taken are answered `success`.
+    pub print_success: bool,
+}
+
+/// What a command that was taken is answered.
+///
+/// Source: SMT-LIB 2.6, section 4.1.
+#[derive(Clone, Copy, Debug, PartialEq, Eq)]
+pub enum Took {
+    /// It is done: the answer is `success`, where that is printed.
+    Done,
+    /// Its option is not known: the answer is `unsupported`.
+    Unsupported,
+    /// It asks for a check of what is asserted.
+    Check,
+    /// It ends the script.
+    Exit,
+}
+
+impl Script {
+    /// Makes the script that has stated nothing. It takes no memory.
+    ///
+    /// Source: own.
+    pub fn new(alloc: Global) -> Script
+        ensures { IsStack result empty_stack }
+    {
+        Script {
+            table: TermTable::new(alloc),
+            asserted: Asserted::new(alloc),
+            print_success: true,
+        }
+    }
+
+    /// Takes the command that an s-expression is, and says what it is answered.
+    ///
+    /// `limit` is the most constants that may be declared, and the most different subterms that the term of one command
+    /// may have. `Fault` has the command's first fault and its place in the text: its head (`UnknownCommand`), then its own
+    /// shape (`BadShape` at its parenthesis), then its parts in reading order (for a new name `Reserved`, `Twice`; for a
+    /// sort `UnknownSort`, `Reserved`, `BadShape`; for a term `BadShape`, `Reserved`, `UnknownSymbol`, `WrongCount`), then
+    /// `Full` at its parenthesis. A command that is refused, or for which memory ran out, changes nothing.
+    /// Source: SMT-LIB 2.6, sections 3.9 and 4.2; the order of faults is own.
+    pub fn command(&mut self, alloc: Global, sexpr: &Sexpr<'_>, limit: u64) -> Result<Took, Refused>
+        ensures steps { (s : Stack) → IsStack self.old s → Steps limit s sexpr.now result self.new }
+    {
+        spec_scripts::laws::faults_stand_in_their_command();
+        sexpr.offsets_have_places();
+        match take(self, alloc, sexpr.text(), sexpr.items(), limit) {
+            Ok(took) => Ok(took),
+            Err(TermStop::Fault(fault)) => Err(Refused::Fault(Refusal {
+                place: place_in(sexpr, fault.offset),
+                fault: fault.fault,
+            })),
+            Err(TermStop::Memory) => Err(Refused::Memory),
+        }
+    }
+}
+
+/// The place of an offset that stands in an s-expression; of any other offset, where the s-expression begins.
+fn place_in(sexpr: &Sexpr<'_>, offset: u64) -> Place
+    ensures place { IsPlaceOf (text_of sexpr.now) result }
+    ensures offset { start_of sexpr.now ≤ offset → offset < length (text_of sexpr.now) → result.offset ≡ offset }
+{
+    let start = sexpr.start();
+    if start.offset <= offset && offset < sexpr.text().len() as u64 {
+        return sexpr.place(offset);
+    }
+    start
+}
+
+/// The truth value of a name, where it is one.
+fn truth_named(name: &[u8]) -> Option<bool>
+    ensures { result ≡ truth_named name.now }
+{
+    if same_bytes(name, b"true") {
+        return Some(true);
+    }
+    if same_bytes(name, b"false") {
+        return Some(false);
+    }
+    None
+}
+
+/// The truth value that the first tree of the items is, where it is one.
+fn truth_in(text: &[u8], items: &[Item]) -> Option<bool>
+    ensures { result ≡ truth_in (tree_in text.now items.now) }
+{
+    match look(text, items) {
+        View::Atom(_, kind, bytes) => {
+            if is_symbol(kind) {
+                return truth_named(bytes);
+            }
+            None
+        }
+        View::List(_, _, _) => None,
+    }
+}
+
+/// Tells whether an option is known.
+fn is_known_option(name: &[u8]) -> bool
+    ensures { result ≡ is_known_option name.now }
+{
+    same_bytes(name, b"print-success")
+}
+
+/// Sets the option that is known, by a command at an offset.
+fn set_success(script: &mut Script, at: u64, value: Option<bool>) -> Result<(), TermStop>
+    ensures { (s : Stack) → IsStack script.old s → Becomes (with_success at s value) s result script.new }
+{
+    match value {
+        Some(print) => {
+            script.print_success = print;
+            Ok(())
+        }
+        None => Err(refused(at, Fault::BadShape)),
+    }
+}
+
+/// Sets an option of a command at an offset.
+fn set_option(
+    script: &mut Script,
+    text: &[u8],
+    at: u64,
+    name: &[u8],
+    value: &[Item],
+) -> Result<(), TermStop>
+    ensures { (limit : ℕ) (s : Stack) → IsStack script.old s → Becomes (performed limit at s (SetOption name.now (tree_in text.now value.now))) s result script.new }
+{
+    if is_known_option(name) {
+        return set_success(script, at, truth_in(text, value));
+    }
+    Ok(())
+}
+
+/// Declares a constant of sort Bool under a new name, by a command at an offset, if there is room for it.
+fn declare_name(script: &mut Script, at: u64, name: &[u8], limit: u64) -> Result<(), TermStop>
+    requires { is_taken script.old.table.symbols name.now ≡ false }
+    ensures { (s : Stack) → IsStack script.old s → Becomes (roomy_symbol limit at s name.now) s result script.new }
+{
+    if script.table.symbols().len() >= limit {
+        return Err(refused(at, Fault::Full));
+    }
+    match script.table.declare(name) {
+        Ok(_) => Ok(()),
+        Err(_) => Err(TermStop::Memory),
+    }
+}
+
+/// Declares a constant by a command at an offset.
+fn declare(
+    script: &mut Script,
+    text: &[u8],
+    at: u64,
+    word: Word<'_>,
+    sort: &[Item],
+    limit: u64,
+) -> Result<(), TermStop>
+    ensures { (s : Stack) → IsStack script.old s → Becomes (performed limit at s (DeclareConst (word_view word.entry) (tree_in text.now sort.now))) s result script.new }
+{
+    let name = match new_name(&script.table, word) {
+        Ok(name) => name,
+        Err(stop) => return Err(stop),
+    };
+    match sort_in(text, sort) {
+        Ok(()) => declare_name(script, at, name, limit),
+        Err(stop) => Err(stop),
+    }
+}
+
+/// The first of numbers.
+pub(crate) fn first_of(ids: &[TermId]) -> Option<TermId>
+    ensures { MatchOption result (ids.now ≡ []) (λ id. (rest : List TermId) × (ids.now ≡ id ∷ rest)) }
+{
+    match ids.split_first() {
+        Some((id, _)) => Some(*id),
+        None => None,
+    }
+}
+
+/// Asserts the term that items mean that are of one tree, by a command at an offset.
+fn assert_alone(
+    script: &mut Script,
+    alloc: Global,
+    text: &[u8],
+    at: u64,
+    items: &[Item],
+    limit: u64,
+) -> Result<(), TermStop>
+    requires { trees_in text.now items.now ≡ more (tree_in text.now items.now) none }
+    ensures { (s : Stack) → IsStack script.old s → Becomes (performed limit at s (Assert (tree_in text.now items.now))) s result script.new }
+{
+    let read = match terms(alloc, &mut script.table, text, items, at, limit) {
+        Ok(read) => read,
+        Err(stop) => return Err(stop),
+    };
+    match first_of(&read) {
+        None => Ok(()),
+        Some(id) => match script.asserted.add(id) {
+            Ok(()) => Ok(()),
+            Err(_) => Err(TermStop::Memory),
+        },
+    }
+}
+
+/// Asserts the term that the first tree of the items is, by a command at an offset.
+fn assert_term(
+    script: &mut Script,
+    alloc: Global,
+    text: &[u8],
+    at: u64,
+    items: &[Item],
+    limit: u64,
+) -> Result<(), TermStop>
+    ensures { (s : Stack) → IsStack script.old s → Becomes (performed limit at s (Assert (tree_in text.now items.now))) s result script.new }
+{
+    match split(items) {
+        Some((first, _)) => assert_alone(script, alloc, text, at, first, limit),
+        None => Err(refused(0, Fault::UnknownSymbol)),
+    }
+}
+
+/// Performs a command at an offset.
+fn perform(
+    script: &mut Script,
+    alloc: Global,
+    text: &[u8],
+    at: u64,
+    command: ScriptCommand<'_>,
+    limit: u64,
+) -> Result<(), TermStop>
+    ensures { (s : Stack) → IsStack script.old s → Becomes (performed limit at s (command_view text.now command.entry)) s result script.new }
+{
+    match command {
+        ScriptCommand::SetOption(name, value) => set_option(script, text, at, name, value),
+        ScriptCommand::DeclareConst(word, sort) => declare(script, text, at, word, sort, limit),
+        ScriptCommand::Assert(items) => assert_term(script, alloc, text, at, items, limit),
+        ScriptCommand::CheckSat => Ok(()),
+        ScriptCommand::Exit => Ok(()),
+    }
+}
+
+/// What a command is answered that was taken.
+fn answer(command: &ScriptCommand<'_>) -> Took
+    ensures { (text : List ℕ) → effect_meant result ≡ effect_of (command_view text command.now) }
+{
+    match command {
+        ScriptCommand::SetOption(name, _) => {
+            if is_known_option(name) {
+                return Took::Done;
+            }
+            Took::Unsupported
+        }
+        ScriptCommand::DeclareConst(_, _) | ScriptCommand::Assert(_) => Took::Done,
+        ScriptCommand::CheckSat => Took::Check,
+        ScriptCommand::Exit => Took::Exit,
+    }
+}
+
+/// Takes the command that the first tree of the items is.
+fn take(
+    script: &mut Script,
+    alloc: Global,
+    text: &[u8],
+    items: &[Item],
+    limit: u64,
+) -> Result<Took, TermStop>
+    ensures { (s : Stack) → IsStack script.old s → Takes limit s (tree_in text.now items.now) result script.new }
+{
+    let command = match script_command(text, items) {
+        Ok(command) => command,
+        Err(stop) => return Err(stop),
+    };
+    match perform(script, alloc, text, offset(items), command, limit) {
+        Ok(()) => Ok(answer(&command)),
+        Err(stop) => Err(stop),
+    }
+}

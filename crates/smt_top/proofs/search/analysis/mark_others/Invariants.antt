@@ -1,7 +1,0 @@
--- What is marked so far.
-use Rattle.std.proofs.Common.{take}
-use Rattle.smt_top.specs.Analyses.{MarksOthers}
-use Rattle.smt_top.proofs.search.analysis.mark_others.Given as goal
-
-abbrev pub invariant-loop-m : goal.invariant-loop-m
-invariant-loop-m l = MarksOthers (take l.m-index l.clause) l.l l.fn.marked l.marked

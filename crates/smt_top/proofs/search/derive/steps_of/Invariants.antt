@@ -1,7 +1,0 @@
--- The steps of the numbers so far.
-use Rattle.std.proofs.Common.{◌≡◌, take}
-use Rattle.smt_top.specs.Rounds.{steps_at}
-use Rattle.smt_top.proofs.search.derive.steps_of.Given as goal
-
-abbrev pub invariant-loop-number : goal.invariant-loop-number
-invariant-loop-number l = l.steps.items ≡ steps_at l.store.steps.items (take l.number-index l.numbers)

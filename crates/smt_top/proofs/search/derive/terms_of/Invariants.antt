@@ -1,6 +1,0 @@
--- The terms of the literals so far.
-use Rattle.std.proofs.Common.{◌≡◌, map, take}
-use Rattle.smt_top.proofs.search.derive.terms_of.Given as goal
-
-abbrev pub invariant-loop-l : goal.invariant-loop-l
-invariant-loop-l l = l.terms.items ≡ map (λ x. x.term) (take l.l-index l.clause)

@@ -1,7 +1,0 @@
--- The truth values that the literals so far give.
-use Rattle.std.proofs.Common.{take}
-use Rattle.smt_top.specs.SearchModels.{AreTruthsOf}
-use Rattle.smt_top.proofs.search.model.truths_by_symbol.Given as goal
-
-abbrev pub invariant-literals : goal.invariant-literals
-invariant-literals l = AreTruthsOf l.table (take l.at l.held) l.truths.items

@@ -1,7 +1,0 @@
--- The store of the steps so far.
-use Rattle.std.proofs.Common.{take}
-use Rattle.smt_top.specs.Stores.{IsStoreOf}
-use Rattle.smt_top.proofs.search.store.store_of.Given as goal
-
-abbrev pub invariant-loop-step : goal.invariant-loop-step
-invariant-loop-step l = IsStoreOf l.table l.log (take l.step-index l.steps) l.store

@@ -1,0 +1,19 @@
+-- Lemmas on the parts of the search.
+pub mod SearchTrails
+pub mod SearchPasses
+pub mod SearchMarks
+pub mod SearchAnalysis
+pub mod SearchStores
+pub mod SearchDecisions
+pub mod SearchResolved
+pub mod SearchNew
+pub mod SearchLogs
+pub mod SearchAtoms
+pub mod SearchCuts
+pub mod SearchDerive
+pub mod SearchModels
+pub mod SearchModelsMade
+pub mod SearchRounds
+pub mod SearchInterprets
+pub mod SearchLoop
+pub mod SearchDecided

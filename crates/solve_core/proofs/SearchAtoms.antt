@@ -1,0 +1,84 @@
+-- That a learned clause is over atoms of the terms.
+use Rattle.std.proofs.Common.{◌≡◌, ◌≢◌, true, false, not, List, [], ◌∷◌, map, Contains, inl, inr, refl, sym, ◌∙◌, subst, arith}
+use Rattle.std.specs.Prelude.{flat_map}
+use Rattle.std.proofs.lemmas.List.Elements.{Contains-append_left, Contains-append_right}
+use Rattle.spec_terms.specs.Terms.{True, False, Truth, Term, of, negated, sort_of}
+use Rattle.spec_terms.specs.Literals.{Clause, Literal, literal_of, literals_of}
+use Rattle.spec_terms.specs.Subterms.{subterms_of}
+use Rattle.spec_search.specs.Base.{clauses_of, base_clauses}
+use Rattle.spec_search.specs.Spent.{IsAtomOf}
+use Rattle.term_core.specs.declared.ids.Lit.{Lit}
+use Rattle.term_core.specs.Tables.{TableView, IsIn, AreDifferent, term_at, literal_at}
+use Rattle.rule_bool.specs.Literals.{lit_complement}
+use Rattle.rule_bool.specs.Findings.{IsSettled}
+use Rattle.rule_bool.proofs.Counting.{Contains-cons_cases}
+use Rattle.rule_bool.proofs.Transport.{to_image}
+use Rattle.rule_bool.proofs.Resolvents.{literals_apart}
+use Rattle.solve_core.specs.Search.{IsQuiet}
+
+-- what one item gives, the list gives
+pub in_flat_map : {A B : Type 0} (f : A → List B) (xs : List A) (x : A) (y : B) → Contains xs x → Contains (f x) y → Contains (flat_map f xs) y
+in_flat_map f [] x y i j = absurd (omega (arith, i.1))
+in_flat_map f (a ∷ xs) x y i j = elim (Contains-cons_cases xs a x i) [
+  | inl e ↦ Contains-append_left (f a) (flat_map f xs) y (subst (λ z. Contains (f z) y) (sym e) j)
+  | inr k ↦ Contains-append_right (f a) (flat_map f xs) y (in_flat_map f xs x y k j)
+]
+
+-- a clause of a subterm is one of the base clauses
+pub in_base : (terms : List Term) (u : Term) (c : Clause) → Contains (subterms_of terms) u → Contains (clauses_of u) c → Contains (base_clauses terms) c
+in_base terms u c i j = Contains-append_right (map (λ (x : Term). x ∷ []) terms) (flat_map clauses_of (subterms_of terms)) c (in_flat_map clauses_of (subterms_of terms) u c i j)
+
+true_clause : Contains (clauses_of (of True [])) (of True [] ∷ [])
+true_clause = (0, omega arith, refl)
+
+false_clause : Contains (clauses_of (of False [])) (negated (of False []) ∷ [])
+false_clause = (0, omega arith, refl)
+
+false_literal : literals_of (negated (of False []) ∷ []) ≡ record { atom = of False []; positive = false } ∷ []
+unfolding literal_of
+false_literal = refl
+
+true_literal : literals_of (of True [] ∷ []) ≡ record { atom = of True []; positive = true } ∷ []
+unfolding literal_of
+true_literal = refl
+
+-- the one of a list of one
+only_one : (l : Literal) (x : Literal) → Contains (l ∷ []) x → l ≡ x
+only_one l x i = elim (Contains-cons_cases [] l x i) [ inl e ↦ e | inr none ↦ absurd (omega (arith, none.1)) ]
+
+module _ (t : TableView) (differ : AreDifferent t.terms) (front d : List Lit) (there : (l : Lit) → Contains d l → IsIn t l.term) where
+  -- a clause of one literal is settled only where that holds
+  unit_settled : (y : Lit) → IsIn t y.term → map (literal_at t) d ≡ literal_at t y ∷ [] → IsSettled front d → Contains front y
+  unit_settled y y_in e s = go s
+    where
+      same : (l : Lit) → Contains d l → l ≡ y
+      same l i = literals_apart t differ l y (there l i) y_in (sym (only_one (literal_at t y) (literal_at t l) (subst (λ (xs : List Literal). Contains xs (literal_at t l)) e (to_image (literal_at t) d l i))))
+
+      go : IsSettled front d → Contains front y
+      go (inl h) = subst (λ (x : Lit). Contains front x) (same h.literal h.there) h.holds
+      go (inr h) = absurd (h.differ (same h.one h.has_one ∙ sym (same h.other h.has_other)))
+
+-- a term that is decided positively
+module _ (t : TableView) (differ : AreDifferent t.terms) (terms : List Term) (clauses : List (List Lit)) (clauses_in : (d : List Lit) (l : Lit) → Contains clauses d → Contains d l → IsIn t l.term)
+    (base : (c : Clause) → Contains (base_clauses terms) c → (d : List Lit) × Contains clauses d × (map (literal_at t) d ≡ literals_of c))
+    (front : List Lit) (quiet : IsQuiet clauses front) (m : Lit) (m_in : IsIn t m.term) (positive : m.positive ≡ true) (not_held : Contains front m → ⊥) (not_false : Contains front (lit_complement m) → ⊥)
+    (subterm : Contains (subterms_of terms) (term_at t m.term)) where
+  settled_base : (c : Clause) → Contains (base_clauses terms) c → (y : Lit) → IsIn t y.term → literals_of c ≡ literal_at t y ∷ [] → Contains front y
+  settled_base c i y y_in e =
+      let h = base c i in
+      unit_settled t differ front h.0 (λ l j. clauses_in h.0 l h.1 j) y y_in (h.2 ∙ e) (quiet h.0 h.1)
+
+  is_no_true : term_at t m.term ≢ of True []
+  is_no_true e =
+      let i : Contains (base_clauses terms) (of True [] ∷ []) = in_base terms (of True []) (of True [] ∷ []) (subst (λ (u : Term). Contains (subterms_of terms) u) e subterm) true_clause in
+      let same : literals_of (of True [] ∷ []) ≡ literal_at t m ∷ [] = true_literal ∙ (λ j. record { atom = sym e j; positive = sym positive j } ∷ []) in
+      not_held (settled_base (of True [] ∷ []) i m m_in same)
+
+  is_no_false : term_at t m.term ≢ of False []
+  is_no_false e =
+      let i : Contains (base_clauses terms) (negated (of False []) ∷ []) = in_base terms (of False []) (negated (of False []) ∷ []) (subst (λ (u : Term). Contains (subterms_of terms) u) e subterm) false_clause in
+      let same : literals_of (negated (of False []) ∷ []) ≡ literal_at t (lit_complement m) ∷ [] = false_literal ∙ (λ j. record { atom = sym e j; positive = not (sym positive j) } ∷ []) in
+      not_false (settled_base (negated (of False []) ∷ []) i (lit_complement m) m_in same)
+
+  pub is_atom : sort_of (term_at t m.term) ≡ Truth → IsAtomOf terms (term_at t m.term)
+  is_atom sort = record { subterm = subterm; sort = sort; not_true = is_no_true; not_false = is_no_false }

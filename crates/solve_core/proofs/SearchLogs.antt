@@ -1,0 +1,64 @@
+-- What a log says with one step more.
+use Rattle.std.proofs.Common.{◌≡◌, ℕ, ◌<◌, List, [], ◌∷◌, ◌++◌, length, get_or, take, drop, All, Contains, sym, ap, ◌∙◌, subst, arith, suc}
+use Rattle.std.proofs.Math.Seq.{drop-cons}
+use Rattle.std.proofs.lemmas.List.{length-append, length-map, map-append, take-append-drop, length-take-le}
+use Rattle.std.proofs.lemmas.List.Elements.{All-contains}
+use Rattle.spec_terms.specs.Terms.{Term}
+use Rattle.spec_terms.specs.Literals.{Clause, Literal, literals_of}
+use Rattle.spec_search.specs.Derivations.{Inference, «assumption», by_rule, Derivation, premises_of, no_inference, inference_at, conclusion, conclusion_at, FollowsFrom, IsDerivation, RestsOn, itself, by_premise, AssumesAmong, IsDerivedFrom}
+use Rattle.spec_search.specs.Spent.{IsLearnedFrom}
+use Rattle.term_core.specs.declared.ids.Lit.{Lit}
+use Rattle.term_core.specs.Tables.{TableView}
+use Rattle.rule_bool.specs.Resolvents.{Means}
+use Rattle.proof_log.specs.declared.premises.StepId.{StepId}
+use Rattle.proof_log.specs.Logs.{Logged, inference_of, derivation_in}
+use Rattle.clausify.specs.Clausified.{stated}
+use Rattle.solve_core.specs.Stores.{no_step, Derives}
+use Rattle.solve_core.proofs.SearchTrails.{get_early}
+
+-- a derivation whose assumptions are all among terms
+module _ (terms : List Term) (d : Derivation) (right : IsDerivation d) (among : All (AssumesAmong terms) d) where
+  split_at : (n : ℕ) → n < length d → d ≡ take n d ++ inference_at d n ∷ drop (suc n) d
+  split_at n lt = sym (take-append-drop n d) ∙ ap (λ (rest : Derivation). take n d ++ rest) (drop-cons d n no_inference lt)
+
+  -- a premise is one of its numbers
+  premise_within : (n k : ℕ) → n < length d → Contains (premises_of (inference_at d n)) k → k < length d
+  premise_within n k lt i = go (inference_at d n) i (right (take n d) (inference_at d n) (drop (suc n) d) (split_at n lt))
+    where
+      go : (x : Inference) → Contains (premises_of x) k → FollowsFrom (take n d) x → k < length d
+      go («assumption» t) j f = absurd (omega (arith, j.1))
+      go (by_rule r ps c) j f = let small = All-contains (λ (m : ℕ). m < length (take n d)) ps k f.0 j in omega (arith, small, lt, length-take-le n d (omega (arith, lt)))
+
+  -- so is what a number rests on
+  rests_within : (n m : ℕ) → RestsOn d n m → n < length d → m < length d
+  rests_within n _ (itself _) lt = lt
+  rests_within n m (by_premise _ k _ i rest) lt = rests_within k m rest (premise_within n k lt i)
+
+  -- and each of its numbers is derived from the terms
+  pub derived_from : (n : ℕ) → n < length d → IsDerivedFrom terms d n
+  derived_from n lt = record { there = lt; assumptions = λ m rests. among m no_inference (rests_within n m rests lt) }
+
+  -- what was learned before is derived from the terms still
+  module _ (earlier : Derivation) (x : Inference) (is : d ≡ earlier ++ x ∷ []) where
+    pub learned_kept : (c : List Literal) → IsLearnedFrom terms earlier c → IsLearnedFrom terms d c
+    learned_kept c h =
+        let lt : h.number < length d = omega (arith, h.derived.there, ap length is, length-append earlier (x ∷ [])) in
+        let same : conclusion_at d h.number ≡ conclusion_at earlier h.number = ap (λ (e : Derivation). conclusion_at e h.number) is ∙ ap conclusion (get_early earlier x h.number no_inference h.derived.there) in
+        record { number = h.number; derived = derived_from h.number lt; same = ap literals_of same ∙ h.same }
+
+-- over a table
+module _ (t : TableView) (log : List Logged) (x : Logged) where
+  -- the derivation has one inference more
+  pub derivation_more : derivation_in t (log ++ x ∷ []) ≡ derivation_in t log ++ inference_of t x ∷ []
+  derivation_more = map-append (inference_of t) log (x ∷ [])
+
+  -- earlier steps state what they did
+  pub stated_kept : (s : StepId) → s.0 < length log → stated t (log ++ x ∷ []) s ≡ stated t log s
+  stated_kept s lt = ap (λ (e : Derivation). conclusion_at e s.0) derivation_more ∙ ap conclusion (get_early (derivation_in t log) (inference_of t x) s.0 no_inference (rw length-map lt))
+
+  pub derives_kept : (clauses : List (List Lit)) (steps : List StepId) → Derives t log clauses steps → Derives t (log ++ x ∷ []) clauses steps
+  derives_kept clauses steps d = record {
+    paired = d.paired;
+    there = λ k lt. let h = d.there k lt in omega (arith, h, length-append log (x ∷ []));
+    same = λ k lt. subst (λ (c : Clause). Means t (get_or clauses k []) c) (sym (stated_kept (get_or steps k no_step) (d.there k lt))) (d.same k lt);
+  }

@@ -1,0 +1,8 @@
+-- The truth value that a literal changes.
+use Rattle.std.proofs.Common.{subst}
+use Rattle.term_core.specs.Tables.{AreDeclared}
+use Rattle.solve_core.proofs.SearchModelsMade.{truths_more}
+use Rattle.solve_core.proofs.model.note.Goals as goal
+
+pub returns-in-Some : goal.returns-in-Some
+returns-in-Some c held h = truths_more c.args.table.now held c.args.l c.args.truths.now.items c.in-Some.symbol (subst AreDeclared c.symbols.ensures c.are_declared.ensures) c.in-Some.ensures h

@@ -1,0 +1,7 @@
+-- The truth values that the literals so far give.
+use Rattle.std.proofs.Common.{take}
+use Rattle.solve_core.specs.SearchModels.{AreTruthsOf}
+use Rattle.solve_core.proofs.model.truths_by_symbol.Given as goal
+
+abbrev pub invariant-literals : goal.invariant-literals
+invariant-literals l = AreTruthsOf l.table (take l.at l.held) l.truths.items

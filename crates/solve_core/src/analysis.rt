@@ -1,0 +1,116 @@
+//! What a conflict rests on.
+
+ghost use Rattle.std.specs.Prelude.{◌≡◌, ◌<◌, ◌∷◌, [], length, OnOk, IfOk, get_or};
+ghost use Rattle.rule_bool.specs.Literals.{lit_complement, lists};
+ghost use Rattle.solve_core.specs.Search.{IsTrail, IsClash};
+ghost use Rattle.solve_core.specs.Analyses.{MarksEach, MarksOthers, Notes, Follows, HasFound};
+
+use crate::store::Store;
+use crate::trail::Trail;
+use rule_bool::{Held, negated, same};
+use std::alloc::{AllocError, Global};
+use term_core::Lit;
+
+/// What a conflict rests on, as far back as it was followed.
+#[derive(Drop)]
+pub(crate) struct Analysis {
+    /// Literals that hold and that the conflict rests on.
+    pub(crate) marked: Held,
+    /// The numbers of the clause that is false and of the reasons that it rests on.
+    pub(crate) premises: Vec<usize>,
+    /// The negations of the decisions that it rests on, newest first.
+    pub(crate) clause: Vec<Lit>,
+    /// How many literals stay where that clause is learned: all before the decision behind the second of those, or before all
+    /// decisions where there is no second.
+    pub(crate) cut: usize,
+}
+
+/// Marks the complement of each literal of a false clause.
+fn mark_each(clause: &[Lit], marked: &mut Held) -> Result<(), AllocError>
+    ensures { OnOk result (MarksEach clause.now marked.old marked.new) }
+{
+    for m in clause {
+        marked.add(negated(*m))?;
+    }
+    Ok(())
+}
+
+/// Marks the complement of each literal of a clause but the one that it forced.
+fn mark_others(clause: &[Lit], l: Lit, marked: &mut Held) -> Result<(), AllocError>
+    ensures { OnOk result (MarksOthers clause.now l marked.old marked.new) }
+{
+    for m in clause {
+        if !same(*m, l) {
+            marked.add(negated(*m))?;
+        }
+    }
+    Ok(())
+}
+
+/// Notes the place of a decision.
+fn pass_decision(at: usize, found: &mut Analysis)
+    ensures { Notes found.old found.new [] at }
+{
+    if found.clause.len() < 2 {
+        found.cut = at;
+    }
+}
+
+/// Notes a decision on which the conflict rests.
+fn take_decision(l: Lit, at: usize, found: &mut Analysis) -> Result<(), AllocError>
+    ensures { OnOk result (Notes found.old found.new (lit_complement l ∷ []) at) }
+{
+    found.clause.push(negated(l))?;
+    if found.clause.len() < 2 {
+        found.cut = at;
+    }
+    Ok(())
+}
+
+/// Follows the conflict back over the literal of a place: to the others of its reason, or to it as a decision.
+fn follow(store: &Store, trail: &Trail, at: usize, found: &mut Analysis) -> Result<(), AllocError>
+    requires at { at < length trail.now.held }
+    requires trail { IsTrail (lists store.now.clauses.items) trail.now.held trail.now.reasons.items }
+    ensures { OnOk result (Follows (lists store.now.clauses.items) trail.now.held trail.now.reasons.items at found.old found.new) }
+{
+    let l = trail.held.at(at);
+    match (trail.reasons[at], found.marked.contains(l)) {
+        (Some(number), true) => {
+            found.premises.push(number)?;
+            mark_others(&store.clauses[number], l, &mut found.marked)?;
+            Ok(())
+        }
+        (Some(_), false) => Ok(()),
+        (None, true) => take_decision(l, at, found),
+        (None, false) => {
+            pass_decision(at, found);
+            Ok(())
+        }
+    }
+}
+
+/// Follows the conflict of a clause that is false back to the decisions.
+pub(crate) fn analyze(
+    alloc: Global,
+    store: &Store,
+    trail: &Trail,
+    clash: usize,
+) -> Result<Analysis, AllocError>
+    requires trail { IsTrail (lists store.now.clauses.items) trail.now.held trail.now.reasons.items }
+    requires clash { IsClash (lists store.now.clauses.items) trail.now.held clash }
+    ensures { IfOk result (λ found. HasFound (lists store.now.clauses.items) trail.now.held trail.now.reasons.items clash 0 found) }
+{
+    let mut premises = Vec::new(alloc);
+    premises.push(clash)?;
+    let mut found = Analysis {
+        marked: Held::new(alloc),
+        premises,
+        clause: Vec::new(alloc),
+        cut: trail.held.len(),
+    };
+    mark_each(&store.clauses[clash], &mut found.marked)?;
+    'places: for at in (0..trail.held.len()).rev() {
+        follow(store, trail, at, &mut found)?;
+    }
+    Ok(found)
+}

@@ -1,0 +1,28 @@
+//! A search for truths that make terms true: it decides, propagates, learns and goes back, and shows evidence for its answer.
+//!
+//! It is plain and slow: propagation looks at all clauses until none is false or unit, and a learned clause is the negation of the
+//! decisions that a conflict rests on. What a faster search answers can be compared with it.
+#![tactic(auto)]
+
+mod analysis;
+#[cfg(test)]
+mod common_tests;
+mod decision;
+#[cfg(test)]
+mod derivation_tests;
+mod derive;
+#[cfg(test)]
+mod formula_tests;
+#[cfg(test)]
+mod known_tests;
+mod model;
+#[cfg(test)]
+mod model_tests;
+mod outcome;
+mod propagate;
+mod rounds;
+mod store;
+mod trail;
+
+pub use outcome::{Outcome, decide};
+pub use rounds::Answer;

@@ -1,0 +1,78 @@
+//! The answer of a check.
+
+ghost use Rattle.std.specs.Prelude.{◌≡◌, IfOk, OnErr};
+ghost use Rattle.term_core.specs.Tables.{AreIn, Extends, clause_at};
+ghost use Rattle.solve_core.specs.Decisions.{IsJustified};
+
+use crate::rounds::{Answer, search};
+use crate::store::store_of;
+use clausify::clauses_of_all;
+use proof_log::ProofLog;
+use proof_log::laws::empty_logs_are_right;
+use sat_budget::{Budget, Limits};
+use spec_search::laws::base_clauses_are_over_subterms;
+use std::alloc::Global;
+use term_core::{TermId, TermTable};
+use world_io::NoMemory;
+
+/// A check's answer, with the log of its steps, and the budget: its limits and what was learned.
+#[derive(Drop)]
+pub struct Outcome {
+    /// The answer.
+    pub answer: Answer,
+    /// The clauses of the terms, what was learned, and how they are derived.
+    pub log: ProofLog,
+    /// The clauses that were learned, and how many might have been.
+    pub budget: Budget,
+}
+
+/// Decides whether some interpretation makes all of the terms true, or says why it was not found out.
+///
+/// The table grows by the terms of the clauses that define them, and stays as it was where memory runs out, the one failure. Source: own.
+pub fn decide(
+    alloc: Global,
+    table: &mut TermTable,
+    roots: &[TermId],
+    limits: &Limits,
+) -> Result<Outcome, NoMemory>
+    requires roots { AreIn table.old roots.now }
+    ensures grown { Extends table.old table.new }
+    ensures symbols { table.new.symbols ≡ table.old.symbols }
+    ensures decided { IfOk result (IsJustified table.new (clause_at table.old roots.now) limits.now.conflicts) }
+    ensures same { OnErr result (table.new ≡ table.old) }
+{
+    let len = table.len();
+    match decided(alloc, table, roots, limits) {
+        Ok(decision) => Ok(decision),
+        Err(NoMemory) => {
+            table.cut(len);
+            Err(NoMemory)
+        }
+    }
+}
+
+/// Decides it; where memory runs out, the terms that it has put stay.
+fn decided(
+    alloc: Global,
+    table: &mut TermTable,
+    roots: &[TermId],
+    limits: &Limits,
+) -> Result<Outcome, NoMemory>
+    requires roots { AreIn table.old roots.now }
+    ensures grown { Extends table.old table.new }
+    ensures symbols { table.new.symbols ≡ table.old.symbols }
+    ensures decided { IfOk result (IsJustified table.new (clause_at table.old roots.now) limits.now.conflicts) }
+{
+    base_clauses_are_over_subterms();
+    empty_logs_are_right();
+    let mut log = ProofLog::new(alloc);
+    let list = clauses_of_all(alloc, table, &mut log, roots)?;
+    let mut store = store_of(alloc, table, &log, list.as_slice())?;
+    let mut budget = Budget::new(alloc, limits)?;
+    let answer = search(alloc, table, &mut log, &mut store, &mut budget)?;
+    Ok(Outcome {
+        answer,
+        log,
+        budget,
+    })
+}

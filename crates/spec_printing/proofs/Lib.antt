@@ -1,0 +1,15 @@
+-- The lemmas of this crate.
+pub mod Numbers
+mod Told
+mod Planned
+pub mod Names
+pub mod Lexed
+pub mod Lookups
+pub mod Arguments
+pub mod Heads
+pub mod CommandShapes
+pub mod Standing
+pub mod EachLine
+pub mod Sizes
+pub mod AllLines
+pub mod ScriptNames

@@ -1,0 +1,4 @@
+-- Lemmas of this crate.
+pub mod Named
+pub mod Lines
+pub mod Reading

@@ -1,0 +1,100 @@
+-- What commands are answered, and what is written for that. Source: SMT-LIB 2.6, sections 3.9 and 4.2; the evidence behind an answer is own.
+use Rattle.std.specs.Prelude.{◌≡◌, ℕ, Bool, true, false, List, [], ◌++◌, Ok, Err, if◌then◌else◌}
+use Rattle.spec_text.specs.Places.{line_of, column_of, name_of}
+use Rattle.spec_text.specs.Faults.{Located}
+use Rattle.spec_text.specs.Answers.{Answer}
+use Rattle.spec_text.specs.Trees.{Tree}
+use Rattle.spec_scripts.specs.Stack.{Stack, Effect, done, unsupported, check, leave, Taken, step}
+use Rattle.spec_replies.specs.declared.Word.TheVariants.{Success, Unsupported, Sat, Unsat, Unknown}
+use Rattle.spec_replies.specs.Lines.{error_text, word_line, reason_line}
+use Rattle.spec_replies.specs.Models.{model_text}
+use Rattle.spec_runs.specs.Evidence.{Limits, Found, model, proof, unknown, Justifies}
+
+-- How much is written.
+pub data Mode : Type 0 where
+  -- the standard's responses
+  solve : Mode
+  -- with these, after the answer of a check, what shows it
+  certify : Mode
+
+-- What a command is answered.
+pub data Response : Type 0 where
+  -- it was done
+  success : Response
+  -- its option is not known
+  not_supported : Response
+  -- this was found at its check
+  answered : Found → Response
+  -- it was done, and the script ends
+  ended : Response
+  -- it was refused, for this fault
+  rejected : Located → Response
+
+-- What a command is answered, and what stands behind it.
+pub record Answered : Type 0 where
+  -- the response
+  pub response : Response
+  -- the stack behind the command
+  pub stack : Stack
+
+-- what a command that was taken is answered, where this stack stands behind it
+abbrev pub Responds : Limits → Stack → Effect → Response → Type 0
+Responds limits s done r = r ≡ success
+Responds limits s unsupported r = r ≡ not_supported
+Responds limits s check r = (f : Found) × Justifies limits s f × (r ≡ answered f)
+Responds limits s leave r = r ≡ ended
+
+-- what a command is answered after a stack: a command that is refused changes nothing
+abbrev pub AnswersBy : Limits → Stack → Answer Taken → Answered → Type 0
+AnswersBy limits s (Ok d) a = Responds limits d.stack d.effect a.response × (a.stack ≡ d.stack)
+AnswersBy limits s (Err f) a = (a.response ≡ rejected f) × (a.stack ≡ s)
+
+-- the same of the command that a tree is
+abbrev pub Answers : Limits → Stack → Tree → Answered → Type 0
+Answers limits s t a = AnswersBy limits s (step limits.terms s t) a
+
+-- the line of a fault of a text
+abbrev pub fault_text : List ℕ → Located → List ℕ
+fault_text text f = error_text (line_of text f.offset) (column_of text f.offset) (name_of f.fault)
+
+-- the line of an answer
+abbrev pub answer_text : Found → List ℕ
+answer_text (model i) = word_line Sat
+answer_text (proof text) = word_line Unsat
+answer_text (unknown r d learned) = word_line Unknown
+
+-- what shows it, in print
+abbrev pub evidence_text : Stack → Found → List ℕ
+evidence_text s (model i) = model_text i s.symbols
+evidence_text s (proof text) = text
+evidence_text s (unknown r d learned) = reason_line r
+
+-- what is written behind the line of an answer
+abbrev pub shown_text : Mode → Stack → Found → List ℕ
+shown_text solve s f = []
+shown_text certify s f = evidence_text s f
+
+-- `success`, where it is printed
+abbrev pub success_by : Bool → List ℕ
+success_by print = if print then word_line Success else []
+
+-- what is written for a response to a command of a text
+abbrev pub response_text : Mode → List ℕ → Answered → List ℕ
+response_text mode text a = by a.response
+  where
+    by : Response → List ℕ
+    by success = success_by a.stack.print_success
+    by not_supported = word_line Unsupported
+    by (answered f) = answer_text f ++ shown_text mode a.stack f
+    by ended = success_by a.stack.print_success
+    by (rejected f) = fault_text text f
+
+-- whether the command was refused
+abbrev pub is_rejected : Response → Bool
+is_rejected (rejected f) = true
+is_rejected _ = false
+
+-- whether the script ends behind it
+abbrev pub is_end : Response → Bool
+is_end ended = true
+is_end _ = false
