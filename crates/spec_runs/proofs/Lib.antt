@@ -1,3 +1,5 @@
 -- Lemmas on runs.
 pub mod Checks
 pub mod Running
+pub mod Soundness
+pub mod Models

@@ -63,7 +63,7 @@ follows_weaker ended P Q given f h = h
 follows_weaker (rejected x) P Q given f h = f h
 
 -- what all commands are answered, the first of them are
-begins_all : (limits : Limits) (s : Stack) (ts : Trees) (given : List Answered) → Runs limits s ts given → Begins limits s ts given
+pub begins_all : (limits : Limits) (s : Stack) (ts : Trees) (given : List Answered) → Runs limits s ts given → Begins limits s ts given
 unfolding Runs Begins
 begins_all limits s none [] h = tt
 begins_all limits s none (a ∷ given) h = cc

@@ -1,19 +1,17 @@
 -- Small scripts with what is written for them.
-use Rattle.std.specs.Prelude.{◌≡◌, refl, ℕ, true, false, List, [], ◌∷◌, ◌++◌, Option, Some, None, codes}
-use Rattle.std.proofs.Common.{arith}
+use Rattle.std.specs.Prelude.{refl, ℕ, true, false, List, [], ◌∷◌, None, codes}
+use Rattle.std.proofs.Common.{inl, arith}
 use Rattle.std.specs.Fmt.{digits}
-use Rattle.spec_text.specs.declared.Fault.TheVariants.{UnknownCommand, UnclosedString}
-use Rattle.spec_text.specs.Faults.{Located}
-use Rattle.spec_text.specs.Lexemes.{lexemes, first_piece, string_body, after_quote}
+use Rattle.spec_text.specs.declared.Fault.TheVariants.{UnknownCommand}
+use Rattle.spec_text.specs.Lexemes.{lexemes, first_piece}
 use Rattle.spec_text.specs.Answers.{require, ◌>>=◌}
-use Rattle.spec_text.specs.Readings.{IsReadUpTo}
 use Rattle.spec_terms.specs.Values.{truth, Interpretation}
 use Rattle.spec_terms.specs.Examples.{built, trees_in}
-use Rattle.spec_scripts.specs.Commands.{command_of}
-use Rattle.spec_scripts.specs.Stack.{Stack, empty_stack, term_limit, step}
+use Rattle.spec_scripts.specs.Commands.{command_of, set_option}
+use Rattle.spec_scripts.specs.Stack.{empty_stack, term_limit, step}
 use Rattle.spec_runs.specs.Evidence.{Limits, model, IsModelOf}
-use Rattle.spec_runs.specs.Responses.{solve, certify, answered, ended, rejected, success, Answered}
-use Rattle.spec_runs.specs.Transcripts.{Runs, IsTranscript}
+use Rattle.spec_runs.specs.Responses.{solve, certify, not_supported, answered, ended, rejected, Answered}
+use Rattle.spec_runs.specs.Transcripts.{Runs, Begins, IsTranscript, IsBegun}
 
 -- what is meant by default
 abbrev pub limits : Limits
@@ -24,7 +22,7 @@ abbrev pub any_tables : Interpretation
 any_tables = record { table = λ n. record { rows = []; default = truth false } }
 
 -- and make true what is asserted there
-nothing_asked : IsModelOf empty_stack any_tables
+pub nothing_asked : IsModelOf empty_stack any_tables
 nothing_asked = record { interprets = λ k d lt. absurd (omega (arith, lt)); each = λ k d lt. absurd (omega (arith, lt)) }
 
 -- the answer of a check where nothing is asserted
@@ -77,3 +75,40 @@ refused_and_left = record {
   written = refl;
   told = refl;
 }
+
+-- an option that is not known, and a check
+abbrev pub option_first : List ℕ
+option_first = codes "(set-option :zz 1)(check-sat)"
+
+-- what is not known is no refusal
+pub unknown_option : IsTranscript limits solve option_first (codes "unsupported\nsat\n") false
+unfolding lexemes first_piece built command_of set_option require ◌>>=◌ step Runs
+unknown_option = record {
+  commands = trees_in option_first;
+  end = None;
+  read = record { rest = []; trees = record { split = refl; within = omega arith }; stop = None; stops = refl; is = refl };
+  answers = record { response = not_supported; stack = empty_stack } ∷ sat_here ∷ [];
+  runs = ((refl, refl), (((model any_tables, nothing_asked, refl), refl), refl));
+  written = refl;
+  told = refl;
+}
+
+-- of a run that was cut short behind its first answer so much was written
+pub first_answer : IsBegun limits solve option_first (codes "unsupported\n")
+unfolding lexemes first_piece built command_of set_option require ◌>>=◌ step Begins
+first_answer = record {
+  commands = trees_in option_first;
+  end = None;
+  read = record { rest = []; trees = record { split = refl; within = omega arith }; stop = None; stops = refl; is = refl };
+  answers = record { response = not_supported; stack = empty_stack } ∷ [];
+  begins = ((refl, refl), tt);
+  written = inl refl;
+}
+
+-- a check, and a parenthesis too many
+abbrev pub closed_too_often : List ℕ
+closed_too_often = codes "(check-sat)\n)"
+
+-- what cannot be, and a check
+abbrev pub false_asserted : List ℕ
+false_asserted = codes "(assert false)(check-sat)"

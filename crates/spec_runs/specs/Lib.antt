@@ -2,4 +2,5 @@
 pub mod Evidence
 pub mod Responses
 pub mod Transcripts
+pub mod Meaning
 pub mod Examples

@@ -1,49 +1,40 @@
 //! What the definitions imply. Each law is a function whose contract is the law; it computes nothing.
 
-ghost use Rattle.std.specs.Prelude.{◌≡◌, ℕ, suc, Bool, false, List, [], ◌∷◌, ◌++◌, length};
-ghost use Rattle.spec_terms.specs.Values.{Interpretation};
-ghost use Rattle.spec_text.specs.Readings.{front, is_long};
-ghost use Rattle.spec_scripts.specs.Stack.{IsCurrent, MakesTrue, HasNoModel, term_limit};
-ghost use Rattle.spec_proofs.specs.Accepted.{IsAccepted};
-ghost use Rattle.spec_runs.specs.Evidence.{Limits, model, proof, Justifies};
-ghost use Rattle.spec_runs.specs.Responses.{Mode, answer_text};
+ghost use Rattle.std.specs.Prelude.{◌≡◌, ℕ, Bool, List};
+ghost use Rattle.spec_text.specs.Readings.{front};
+ghost use Rattle.spec_scripts.specs.Stack.{IsCurrent, term_limit};
+ghost use Rattle.spec_runs.specs.Evidence.{Limits, Justifies};
+ghost use Rattle.spec_runs.specs.Responses.{Mode};
 ghost use Rattle.spec_runs.specs.Transcripts.{IsTranscript, IsBegun, Checked, checks_in};
+ghost use Rattle.spec_runs.specs.Meaning.{Says, AllSay};
 
-/// States that the k-th check that a transcript answers is the k-th check of the text, from 1, and that what was found shows
-/// of what is current there. Source: own.
-pub fn answers_are_of_their_checks()
-    ensures { (limits : Limits) (mode : Mode) (text out : List ℕ) (refused : Bool) (t : IsTranscript limits mode text out refused)
-        (before : List Checked) (c : Checked) (after : List Checked) → limits.terms ≡ term_limit
-        → checks_in t.answers ≡ before ++ c ∷ after
-        → IsCurrent text (suc (length before)) c.stack × Justifies limits c.stack c.found }
-{}
-
-/// States that a model that a transcript has for a check makes true what is current there. Source: own.
-pub fn models_make_their_checks_true()
-    ensures { (limits : Limits) (mode : Mode) (text out : List ℕ) (refused : Bool) (t : IsTranscript limits mode text out refused)
-        (before : List Checked) (c : Checked) (after : List Checked) (i : Interpretation) → limits.terms ≡ term_limit
-        → checks_in t.answers ≡ before ++ c ∷ after → c.found ≡ model i → MakesTrue i text (suc (length before)) }
+/// States what the answer of a check means: where something is current at a check of a text, and what was found shows of it
+/// what it should, a model makes true what is asserted there, and so does each interpretation with the values that its printed
+/// text defines; and a proof is accepted of the check, if its text is not too long, and no interpretation makes true what is
+/// asserted there, however long it is. Source: own.
+pub fn what_is_shown_is_so()
+    ensures { (limits : Limits) (text : List ℕ) (k : ℕ) (c : Checked) → IsCurrent text k c.stack → Justifies limits c.stack c.found
+        → Says limits text k c }
 {
-    answers_are_of_their_checks();
+    spec_scripts::laws::checks_have_one_stack();
+    spec_scripts::laws::assertions_are_read();
+    spec_scripts::laws::assertions_have_their_texts_value();
+    spec_proofs::laws::rules_are_sound();
+    spec_replies::laws::model_texts_say_their_interpretation();
+    spec_printing::laws::declared_names_can_be_written();
+    spec_printing::laws::printed_proofs_are_accepted();
 }
 
-/// States that a proof that a transcript has for a check is accepted, alone and behind the line of its answer, if it is no
-/// longer than a text may be; and that then no interpretation makes true what is current there. Source: own.
-pub fn proofs_of_checks_are_accepted()
-    ensures accepted { (limits : Limits) (mode : Mode) (text out : List ℕ) (refused : Bool) (t : IsTranscript limits mode text out refused)
-        (before : List Checked) (c : Checked) (after : List Checked) (p : List ℕ) → limits.terms ≡ term_limit
-        → checks_in t.answers ≡ before ++ c ∷ after → c.found ≡ proof p → is_long p ≡ false → IsAccepted text (suc (length before)) p }
-    ensures answered { (limits : Limits) (mode : Mode) (text out : List ℕ) (refused : Bool) (t : IsTranscript limits mode text out refused)
-        (before : List Checked) (c : Checked) (after : List Checked) (p : List ℕ) → limits.terms ≡ term_limit
-        → checks_in t.answers ≡ before ++ c ∷ after → c.found ≡ proof p → is_long (answer_text c.found ++ p) ≡ false
-        → IsAccepted text (suc (length before)) (answer_text c.found ++ p) }
-    ensures no_model { (limits : Limits) (mode : Mode) (text out : List ℕ) (refused : Bool) (t : IsTranscript limits mode text out refused)
-        (before : List Checked) (c : Checked) (after : List Checked) (p : List ℕ) → limits.terms ≡ term_limit
-        → checks_in t.answers ≡ before ++ c ∷ after → c.found ≡ proof p → is_long p ≡ false → HasNoModel text (suc (length before)) }
+/// States that the checks which a transcript answers are those of the text, the first of them the first, and that each answer
+/// says what is so of its check, under the limit on terms under which proofs are checked; and the same of what was begun.
+/// Source: own.
+pub fn answers_say_what_is_so()
+    ensures whole { (limits : Limits) (mode : Mode) (text out : List ℕ) (refused : Bool) (t : IsTranscript limits mode text out refused)
+        → limits.terms ≡ term_limit → AllSay limits text 0 (checks_in t.answers) }
+    ensures begun { (limits : Limits) (mode : Mode) (text out : List ℕ) (t : IsBegun limits mode text out)
+        → limits.terms ≡ term_limit → AllSay limits text 0 (checks_in t.answers) }
 {
-    answers_are_of_their_checks();
-    spec_printing::laws::printed_proofs_are_accepted();
-    spec_proofs::laws::acceptance_is_sound();
+    what_is_shown_is_so();
 }
 
 /// States that a transcript, or a front of one, of the front of a text, of 2^26 + 1 bytes at most, is one of the whole text.

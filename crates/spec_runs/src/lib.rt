@@ -4,4 +4,5 @@
 //! `specs/`.
 #![tactic(auto)]
 
+pub mod examples;
 pub mod laws;

@@ -1,10 +1,9 @@
 -- That a transcript needs a front alone.
-use Rattle.std.proofs.Common.{◌≡◌, List, ◌++◌, inl, inr, ap, ◌∙◌, ℕ, subst, ◌⊎◌}
-use Rattle.spec_text.specs.Readings.{text_limit, kept}
+use Rattle.std.proofs.Common.{◌≡◌, List, ◌++◌, ℕ, subst, ◌⊎◌}
+use Rattle.spec_text.specs.Readings.{text_limit}
 use Rattle.spec_proofs.proofs.Fronts.{same_kept, read_by}
 use Rattle.spec_scripts.specs.Stack.{empty_stack}
 use Rattle.spec_runs.specs.Transcripts.{Runs, answers_text, closing, closing_text}
-use Rattle.spec_runs.proofs.Running
 use Rattle.spec_runs.proofs.laws.transcripts_need_a_front_alone.Goals as goal
 
 pub returns-clause-whole : goal.returns-clause-whole
