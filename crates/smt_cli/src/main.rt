@@ -1,6 +1,7 @@
-//! Judges an Alethe proof against an SMT-LIB script, both real files.
+//! Runs SMT-LIB scripts, and judges Alethe proofs against them.
 //!
-//! The words of the program go to the run with real files and standard output; the program ends with the status of the run.
+//! The words of the program go to the run with real files, standard input and standard output, the last behind a buffer; the
+//! program ends with the status of the run.
 #![tactic(auto)]
 
 use smt_top::{Status, run};
@@ -8,7 +9,7 @@ use std::env;
 use std::io::ErrorKind;
 use std::process::ExitCode;
 use std::rt::{Env, Files};
-use world_io::{HostShelf, HostSink};
+use world_io::{Gathered, HostShelf, HostSink};
 
 /// Ends with the status of the run: 0 to 5.
 ///
@@ -19,11 +20,13 @@ fn main(rt: HostRuntime) -> ExitCode {
 
 /// Runs the words that the program was given.
 ///
-/// Words that are not UTF-8, or that cannot be had as a whole, are as no words; where memory for them is wanting the
-/// answer is `Memory`. Source: own.
+/// Words that are not UTF-8, or that cannot be had as a whole, are as no words; where memory for them or for the buffer is
+/// wanting the answer is `Memory`. Source: own.
 fn status_of<R: Files + Input + Print + Env + AllocGlobal>(rt: &R) -> Status {
     let mut shelf = HostShelf::new(rt);
-    let mut out = HostSink::new(rt);
+    let Ok(mut out) = Gathered::new(rt.alloc(), HostSink::new(rt)) else {
+        return Status::Memory;
+    };
     match words_of(rt) {
         Ok(words) => run(rt.alloc(), &words, &mut shelf, &mut out),
         Err(Unread::Unreadable) => run(rt.alloc(), &[], &mut shelf, &mut out),

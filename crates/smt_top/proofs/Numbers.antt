@@ -1,4 +1,4 @@
--- Words as numbers of checks.
+-- Words as numbers.
 use Rattle.std.proofs.Common.{◌≡◌, ◌∙◌, ap, sym, refl, subst, arith, ℕ, List, Option, Some, None, Bool, true, false, cond, ◌&&◌, nat_le, decimal, unwrap_or, Result, Ok}
 use Rattle.std.proofs.lemmas.Option.{none-some}
 use Rattle.std.proofs.lemmas.Bool.{leb-true, le-leb, false≢true}
@@ -7,10 +7,10 @@ use Rattle.std.proofs.lemmas.Fmt.{decimal_is_IsNumeral, parse-decimal}
 use Rattle.std.specs.Result.{result_unwrap_or}
 use Rattle.std.specs.Str.{bytes_eq}
 use Rattle.std.specs.Str.Parse.{digits_value, ParsesUnsigned}
-use Rattle.smt_top.specs.Words.{IsNumber, number_of, most_checks}
+use Rattle.smt_top.specs.Words.{IsNumber, number_of, most_number}
 
 abbrev test : List ℕ → ℕ → Bool
-test word n = bytes_eq word (decimal n) && (nat_le 1 n && nat_le n most_checks)
+test word n = bytes_eq word (decimal n) && (nat_le 1 n && nat_le n most_number)
 
 both : (a b : Bool) → (a && b) ≡ true → (a ≡ true) × (b ≡ true)
 both true b e = (refl, e)
@@ -21,7 +21,7 @@ pub is_its_number : (word : List ℕ) (n : ℕ) → IsNumber word n → Some n �
 unfolding number_of
 is_its_number word n h =
     let value : digits_value 10 word ≡ n = ap (digits_value 10) h.0 ∙ (decimal_is_IsNumeral n (omega (arith, h.2))).1 in
-    rw (value, (bytes_eq-Decides word (decimal n)).1 h.0, le-leb 1 n h.1, le-leb n most_checks h.2) refl
+    rw (value, (bytes_eq-Decides word (decimal n)).1 h.0, le-leb 1 n h.1, le-leb n most_number h.2) refl
 
 -- the word's number is such a number
 pub its_number_is : (word : List ℕ) (n : ℕ) → number_of word ≡ Some n → IsNumber word n
@@ -33,7 +33,7 @@ its_number_is word n e = go (digits_value 10 word) (test word (digits_value 10 w
     go m true h e =
         let outer = both _ _ h in
         let inner = both _ _ outer.1 in
-        subst (IsNumber word) (ap (λ o. unwrap_or o 0) e) ((bytes_eq-Decides word (decimal m)).0 outer.0, leb-true 1 m inner.0, leb-true m most_checks inner.1)
+        subst (IsNumber word) (ap (λ o. unwrap_or o 0) e) ((bytes_eq-Decides word (decimal m)).0 outer.0, leb-true 1 m inner.0, leb-true m most_number inner.1)
 
 -- without such a number it has none
 pub has_no_number : (word : List ℕ) → ((n : ℕ) → IsNumber word n → ⊥) → None ≡ number_of word

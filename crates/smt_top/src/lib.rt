@@ -1,12 +1,22 @@
-//! One run: it reads a script and a proof by their names, judges them, and writes the verdict. Beside it, a search that decides whether
-//! terms can be true, which no command uses so far.
+//! One run: it reads the words, and runs a script, or judges a proof against one.
 #![tactic(auto)]
 
 mod check_run;
+#[cfg(test)]
+mod fault_tests;
+#[cfg(test)]
+mod handing_tests;
 mod in_memory;
+#[cfg(test)]
+mod model_tests;
 mod output;
+#[cfg(test)]
+mod proof_tests;
 mod read;
-mod status;
+#[cfg(test)]
+mod refusal_tests;
+#[cfg(test)]
+mod script_tests;
 #[cfg(test)]
 mod test_support;
 #[cfg(test)]
@@ -20,4 +30,4 @@ mod words_tests;
 
 pub use check_run::run;
 pub use in_memory::run_in_memory;
-pub use status::Status;
+pub use smt_session::{After, Halt, Mode, Session, Status, run_text};

@@ -38,7 +38,11 @@ fn bytes_of(end: ReadEnd) -> Bytes
 ///
 /// `Failed` comes only where the shelf's count of faults rose in this call, `Memory` where an allocation was refused.
 /// Source: own.
-fn read_text<F: Shelf>(alloc: Global, shelf: &mut F, name: &str) -> Result<Bytes, ReadStop>
+pub(crate) fn read_text<F: Shelf>(
+    alloc: Global,
+    shelf: &mut F,
+    name: &str,
+) -> Result<Bytes, ReadStop>
     ensures end { IfOk result (λ bytes. (text : List ℕ) × (bytes ≡ front text) × IfSome (F.holds shelf.old name.now) (λ t. t ≡ text)) }
     ensures found { ((s : F) → IsSome (F.left s)) → IsOk result → IsSome (F.holds shelf.old name.now) }
     ensures last { IsOk result → TakesFront (F.holds shelf.old name.now) (F.left shelf.new) }

@@ -3,18 +3,17 @@
 ghost use Rattle.std.specs.Prelude.{◌≡◌};
 
 use crate::read::read_both;
+use crate::run;
 use crate::test_support::{
-    AMPLE, CHECK, LIMIT, PROOF, SCRIPT, padded, run_words, shelf_of, shelf_with, sink_of,
+    AMPLE, CHECK, LIMIT, PROOF, SCRIPT, USAGE, padded, run_words, shelf_of, shelf_with, sink_of,
 };
 use crate::verdict::report;
 use crate::words::Names;
-use crate::{Status, run};
 use alethe_check::{Place, ProofFault, ProofKind, ProofStop};
+use smt_session::Status;
 use spec_text::Fault;
 use std::test::Fail;
 use world_io::Shelf;
-
-const USAGE: &str = "usage: smt_cli check [--at K] SCRIPT PROOF\n";
 
 #[test]
 fn statuses_have_their_numbers(rt: HostRuntime) -> Result<(), Fail> {
@@ -43,7 +42,7 @@ fn other_words_give_the_usage_text(rt: HostRuntime) -> Result<(), Fail> {
         &["check", "a", "-b"],
         &["check", "--at", "0", "a", "b"],
         &["--help"],
-        &["solve", "x"],
+        &["solve", "--conflicts", "0", "a"],
         &["solve", "a", "b"],
         &["Check", "a", "b"],
         &["a", "check", "b"],

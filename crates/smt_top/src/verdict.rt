@@ -5,10 +5,10 @@ ghost use Rattle.spec_text.specs.Readings.{front};
 ghost use Rattle.smt_top.specs.Output.{longest_line};
 ghost use Rattle.smt_top.specs.Calls.{Judges, Reports};
 
-use crate::Status;
 use crate::output::{write_fault, write_valid};
 use crate::read::Texts;
 use alethe_check::{ProofStop, check};
+use smt_session::Status;
 use std::alloc::Global;
 use world_io::Sink;
 

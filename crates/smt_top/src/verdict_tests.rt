@@ -2,10 +2,10 @@
 
 ghost use Rattle.std.specs.Prelude.{◌≡◌};
 
-use crate::Status;
 use crate::test_support::{
     AMPLE, CHECK, LIMIT, PROOF, SCRIPT, padded, run_words, shelf_of, shelf_with, sink_of,
 };
+use smt_session::Status;
 use std::test::Fail;
 
 /// The words of a run over the two texts, of the script's second check.

@@ -1,18 +1,26 @@
 //! The words of a run, as they stand behind the program's name.
 
-ghost use Rattle.std.specs.Prelude.{◌≡◌, ◌↔◌, ℕ, false, map, option_map, option_and_then, IfOk, IsTrue, IfSome, None, string_bytes};
+ghost use Rattle.std.specs.Prelude.{◌≡◌, ◌↔◌, ℕ, [], false, map, option_map, option_and_then, unwrap_or, codes, IfOk, IsTrue, IfSome, None, string_bytes};
 ghost use Rattle.clap.specs.Words.{app_of, rule_of, FailsBy, fault_of, first_of, found_of, kind_of, rows_of, subcommand_of, subcommand_rows_of};
 ghost use Rattle.clap.specs.declared.builder.command.Command.TheViews.{out-Command};
-ghost use Rattle.smt_top.specs.Calls.{asked_by, Asks};
-ghost use Rattle.smt_top.specs.Words.{named, IsNumber, number_of, at_of, names_in, at_option, needed_word, check_app, smt_app};
+ghost use Rattle.smt_session.specs.Sessions.{mode_meant};
+ghost use Rattle.smt_top.specs.Calls.{names_of, asked_by, Asks};
+ghost use Rattle.smt_top.specs.Words.{asked, asked_in, IsNumber, number_of, number_or, conflicts_in, run_in, names_in, option_named, needed_word, run_app, check_app, bare_app, smt_app};
 
 use clap::error::ErrorKind;
 use clap::{Arg, ArgMatches, Command, Error};
 use itoa::Buffer;
+use smt_session::Mode;
 use std::alloc::{AllocError, Global};
 
-/// No check has a greater number.
-const MOST_CHECKS: u64 = 1_000_000_000;
+/// No number of the words is greater.
+const MOST_NUMBER: u64 = 1_000_000_000;
+
+/// How many conflicts a check may learn from where no word says so.
+const USUAL_CONFLICTS: u64 = 1_000_000;
+
+/// How many pivots a check may make where no word says so.
+const USUAL_PIVOTS: u64 = 10_000_000;
 
 /// Holds the names of the two texts.
 ///
@@ -25,15 +33,41 @@ pub(crate) struct Names<'a> {
     pub(crate) proof: &'a str,
 }
 
-/// Holds what the words of a run ask for.
+/// Holds what the words of `check` ask for.
 ///
 /// Source: own.
 #[derive(Clone, Copy)]
-pub(crate) struct Request<'a> {
+pub(crate) struct CheckRequest<'a> {
     /// The names of the two texts.
     pub(crate) names: Names<'a>,
     /// Which of the script's checks is meant, from 1 to 1,000,000,000.
     pub(crate) at: u64,
+}
+
+/// Holds what the words of `solve` and of `certify` ask for.
+///
+/// Source: own.
+#[derive(Clone, Copy)]
+pub(crate) struct RunRequest<'a> {
+    /// How much is written.
+    pub(crate) mode: Mode,
+    /// The script's name; it is empty where no word gives one.
+    pub(crate) name: &'a str,
+    /// How many conflicts each check may learn from, from 1 to 1,000,000,000.
+    pub(crate) conflicts: u64,
+    /// How many pivots each check may make, from 1 to 1,000,000,000. It has no effect so far.
+    pub(crate) pivots: u64,
+}
+
+/// Holds what the words of a run ask for.
+///
+/// Source: own.
+#[derive(Clone, Copy)]
+pub(crate) enum Request<'a> {
+    /// A script is to be run.
+    Run(RunRequest<'a>),
+    /// A proof is to be judged against a script.
+    Check(CheckRequest<'a>),
 }
 
 /// Tells why words give no request.
@@ -47,12 +81,14 @@ pub(crate) enum WordsStop {
     Memory,
 }
 
-/// Gives what the words `check [--at K] SCRIPT PROOF` behind the program's name ask for.
+/// Gives what the words behind the program's name ask for: `solve [--conflicts N] [--pivots N] [NAME]`, `certify` with the same,
+/// or `check [--at K] SCRIPT PROOF`.
 ///
-/// K is 1 where it is not given. `Wrong` comes for all other words. `Memory` comes only where an allocation was refused,
-/// whatever the words are. Source: own.
+/// N and K are from 1 to 1,000,000,000, in decimal digits. Where they are not given, a check may learn from 1,000,000 conflicts and
+/// make 10,000,000 pivots, K is 1, and NAME is empty. `Wrong` comes for all other words. `Memory` comes only where an allocation
+/// was refused, whatever the words are. Source: own.
 pub(crate) fn words_of<'a>(alloc: Global, words: &'a [String]) -> Result<Request<'a>, WordsStop>
-    ensures { Asks (named words.entry.now) result }
+    ensures { Asks (asked words.entry.now) result }
 {
     let matches = match matches_of(alloc, words) {
         Ok(matches) => matches,
@@ -73,14 +109,14 @@ fn stop_of(error: &Error) -> WordsStop
     }
 }
 
-/// Makes the option `--at`.
+/// Makes an option of this name, with any word as its value.
 ///
 /// Source: own.
-fn at_option<'a>(alloc: Global) -> Arg<'a>
-    ensures rule { rule_of result ≡ at_option }
+fn option_named<'a>(alloc: Global, id: &'a str) -> Arg<'a>
+    ensures rule { rule_of result ≡ option_named id.entry.now }
     ensures own { result.global ≡ false }
 {
-    Arg::new(alloc, "at").long("at")
+    Arg::new(alloc, id).long(id)
 }
 
 /// Makes a word that must be there.
@@ -93,6 +129,19 @@ fn needed_word<'a>(alloc: Global, id: &'a str) -> Arg<'a>
     Arg::new(alloc, id).required(true)
 }
 
+/// Makes a command that runs a script, `solve` or `certify`.
+///
+/// `AllocError` comes where an allocation was refused. Source: own.
+fn run_command<'a>(alloc: Global, name: &'a str) -> Result<Command<'a>, AllocError>
+    ensures app { IfOk result (λ c. app_of c ≡ run_app name.entry.now) }
+    ensures own { IfOk result (λ c. (out-Command c).has_globals ≡ false) }
+{
+    Command::new(alloc, name)
+        .arg(option_named(alloc, "conflicts"))?
+        .arg(option_named(alloc, "pivots"))?
+        .arg(Arg::new(alloc, "name"))
+}
+
 /// Makes the command `check`.
 ///
 /// `AllocError` comes where an allocation was refused. Source: own.
@@ -101,23 +150,36 @@ fn check_command<'a>(alloc: Global) -> Result<Command<'a>, AllocError>
     ensures own { IfOk result (λ c. (out-Command c).has_globals ≡ false) }
 {
     Command::new(alloc, "check")
-        .arg(at_option(alloc))?
+        .arg(option_named(alloc, "at"))?
         .arg(needed_word(alloc, "script"))?
         .arg(needed_word(alloc, "proof"))
 }
 
-/// Makes the program's command, with `check` below it.
+/// Makes the program's command without those below it.
 ///
-/// `AllocError` comes where an allocation was refused. Source: own.
-fn whole_command<'a>(alloc: Global) -> Result<Command<'a>, AllocError>
-    ensures { IfOk result (λ c. app_of c ≡ smt_app) }
+/// Source: own.
+fn bare_command<'a>(alloc: Global) -> Command<'a>
+    ensures { app_of result ≡ bare_app }
 {
-    let check = check_command(alloc)?;
     Command::new(alloc, "smt_cli")
         .disable_help_flag(true)
         .disable_help_subcommand(true)
         .disable_version_flag(true)
         .subcommand_required(true)
+}
+
+/// Makes the program's command, with `solve`, `certify` and `check` below it.
+///
+/// `AllocError` comes where an allocation was refused. Source: own.
+fn whole_command<'a>(alloc: Global) -> Result<Command<'a>, AllocError>
+    ensures { IfOk result (λ c. app_of c ≡ smt_app) }
+{
+    let solve = run_command(alloc, "solve")?;
+    let certify = run_command(alloc, "certify")?;
+    let check = check_command(alloc)?;
+    bare_command(alloc)
+        .subcommand(solve)?
+        .subcommand(certify)?
         .subcommand(check)
 }
 
@@ -137,22 +199,64 @@ fn matches_of<'a>(alloc: Global, words: &'a [String]) -> Result<ArgMatches<'a>, 
 ///
 /// Source: own.
 fn request_of<'a>(matches: &ArgMatches<'a>) -> Option<Request<'a>>
-    ensures { option_map asked_by result ≡ option_and_then (λ m. names_in m.1) (subcommand_rows_of matches.now) }
+    ensures { option_map asked_by result ≡ option_and_then asked_in (subcommand_rows_of matches.now) }
 {
-    let (_, check) = matches.subcommand()?;
-    request_in(check)
+    let (name, found) = matches.subcommand()?;
+    request_in(name, found)
+}
+
+/// Gives what a command of this name asks for by its matches, and `None` where it is none of the three, or a value is wanting or
+/// is no number.
+///
+/// Source: own.
+fn request_in<'a>(name: &str, found: &ArgMatches<'a>) -> Option<Request<'a>>
+    ensures { option_map asked_by result ≡ asked_in (name.now, rows_of (found_of found.now)) }
+{
+    match name {
+        "solve" => Some(Request::Run(run_in(Mode::Solve, found)?)),
+        "certify" => Some(Request::Run(run_in(Mode::Certify, found)?)),
+        "check" => Some(Request::Check(check_in(found)?)),
+        _ => None,
+    }
+}
+
+/// Gives what the matches of `solve` or `certify` ask for, and `None` where the value of an option is no number.
+///
+/// Source: own.
+fn run_in<'a>(mode: Mode, found: &ArgMatches<'a>) -> Option<RunRequest<'a>>
+    ensures { option_map (λ r. asked_by (Request.Run r)) result ≡ run_in (mode_meant mode) (rows_of (found_of found.now)) }
+{
+    let (conflicts, pivots) = budgets_in(found)?;
+    Some(RunRequest {
+        mode,
+        name: name_or_empty(value_of(found, "name")),
+        conflicts,
+        pivots,
+    })
+}
+
+/// Gives how many conflicts and how many pivots each check may have, by the values of `--conflicts` and `--pivots`, and `None`
+/// where one of them is no number.
+///
+/// Source: own.
+fn budgets_in(found: &ArgMatches<'_>) -> Option<(u64, u64)>
+    ensures { option_map (λ b. b.0) result ≡ conflicts_in (rows_of (found_of found.now)) }
+{
+    let conflicts = number_or(USUAL_CONFLICTS, value_of(found, "conflicts"))?;
+    let pivots = number_or(USUAL_PIVOTS, value_of(found, "pivots"))?;
+    Some((conflicts, pivots))
 }
 
 /// Gives what the matches of `check` ask for, and `None` where a name is wanting or the value of `--at` is no number.
 ///
 /// Source: own.
-fn request_in<'a>(check: &ArgMatches<'a>) -> Option<Request<'a>>
-    ensures { option_map asked_by result ≡ names_in (rows_of (found_of check.now)) }
+fn check_in<'a>(found: &ArgMatches<'a>) -> Option<CheckRequest<'a>>
+    ensures { option_map names_of result ≡ names_in (rows_of (found_of found.now)) }
 {
-    let script = value_of(check, "script")?;
-    let proof = value_of(check, "proof")?;
-    let at = at_of(value_of(check, "at"))?;
-    Some(Request {
+    let script = value_of(found, "script")?;
+    let proof = value_of(found, "proof")?;
+    let at = number_or(1, value_of(found, "at"))?;
+    Some(CheckRequest {
         names: Names { script, proof },
         at,
     })
@@ -161,21 +265,34 @@ fn request_in<'a>(check: &ArgMatches<'a>) -> Option<Request<'a>>
 /// Gives the value of an argument, where it has one.
 ///
 /// Source: own.
-fn value_of<'a>(check: &ArgMatches<'a>, id: &str) -> Option<&'a str>
-    ensures { option_map (λ s. s.now) result ≡ first_of id.now (rows_of (found_of check.now)) }
+fn value_of<'a>(found: &ArgMatches<'a>, id: &str) -> Option<&'a str>
+    ensures { option_map (λ s. s.now) result ≡ first_of id.now (rows_of (found_of found.now)) }
 {
-    check.get_str(id)
+    found.get_str(id)
 }
 
-/// Gives the number of a check by the value of `--at`: 1 where there is none, and `None` where it is no number.
+/// Gives the name that a value is: the empty one where there is no value.
 ///
 /// Source: own.
-fn at_of(value: Option<&str>) -> Option<u64>
-    ensures { result ≡ at_of (option_map (λ s. s.now) value.entry) }
+fn name_or_empty<'a>(value: Option<&'a str>) -> &'a str
+    ensures { result.now ≡ unwrap_or (option_map (λ s. s.now) value.entry) [] }
+{
+    match value {
+        Some(name) => name,
+        None => "",
+    }
+}
+
+/// Gives the number that the value of an option stands for: the usual one where there is no value, and `None` where it is no
+/// number.
+///
+/// Source: own.
+fn number_or(usual: u64, value: Option<&str>) -> Option<u64>
+    ensures { result ≡ number_or usual (option_map (λ s. s.now) value.entry) }
 {
     match value {
         Some(word) => number_of(word),
-        None => Some(1),
+        None => Some(usual),
     }
 }
 
@@ -205,5 +322,5 @@ fn is_decimal_of(word: &str, n: u64) -> bool
     ensures { IsTrue result ↔ IsNumber word.now n }
 {
     let mut digits = Buffer::new();
-    1 <= n && n <= MOST_CHECKS && word == digits.format(n)
+    1 <= n && n <= MOST_NUMBER && word == digits.format(n)
 }

@@ -5,4 +5,4 @@ use Rattle.clap.proofs.WalkLemmas.{first_value-rows}
 use Rattle.smt_top.proofs.words.value_of.Goals as goal
 
 pub returns : goal.returns
-returns c = c.get_str.ensures ∙ first_value-rows (found_of c.args.check.now) c.args.id.now
+returns c = c.get_str.ensures ∙ first_value-rows (found_of c.args.found.now) c.args.id.now

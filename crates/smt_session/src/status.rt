@@ -1,24 +1,25 @@
 //! How a run ends.
 
 ghost use Rattle.std.specs.Prelude.{◌≡◌};
-ghost use Rattle.smt_top.specs.Words.{code_of};
+ghost use Rattle.smt_session.specs.Runs.{code_of};
 
 /// Tells how a run ended.
 ///
 /// Source: own.
 #[derive(Clone, Copy, Debug, PartialEq, Eq)]
 pub enum Status {
-    /// The proof is accepted, and `valid` was written.
+    /// The input was read to its end, or to `exit`, and nothing was refused; of a proof that is judged, it is accepted.
     Done,
-    /// The proof is not accepted, and its first fault was written.
+    /// A command was refused, or the text has a fault behind which it cannot be read on; of a proof that is judged, it is not
+    /// accepted.
     Refused,
     /// The words are not those of a run, and the usage text was written.
     Words,
-    /// Memory was wanting, and nothing was written.
+    /// Memory was wanting, and the run ended at once.
     Memory,
-    /// The shelf failed, and nothing was written.
+    /// The shelf failed, and the run ended at once.
     ReadFault,
-    /// The sink failed, and a front of what was to be written may be written.
+    /// The sink failed, and the run ended at once.
     WriteFault,
 }
 

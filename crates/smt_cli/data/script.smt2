@@ -1,1 +1,0 @@
-(declare-const p Bool)(assert p)(assert (not p))(check-sat)

@@ -1,0 +1,42 @@
+-- By the answer.
+use Rattle.std.proofs.Common.{refl, sym, subst}
+use Rattle.spec_printing.specs.Lines.{proof_text}
+use Rattle.spec_printing.specs.Meaning.{AreRightLines}
+use Rattle.spec_printing.specs.Plans.{lines_of}
+use Rattle.spec_runs.specs.Evidence.{proof, terms_of}
+use Rattle.proof_log.specs.Logs.{derivation_in}
+use Rattle.solve_core.specs.Rounds.{HasEvidence}
+use Rattle.smt_session.proofs.Showing.{model_shown, any_reason_shown}
+use Rattle.smt_session.proofs.evidence.evidence_of.Goals as goal
+
+pub returns-in-Sat : goal.returns-in-Sat
+returns-in-Sat c = λ limits s kept symbols h.
+    let t = c.args.table.now in
+    let o = c.args.outcome in (
+      model_shown limits t s symbols o.log o.budget o.budget (λ i. c.commands_keep_stacks.ensures.value limits.terms s i kept) c.in-Sat.interp
+          (subst (HasEvidence t (terms_of s) o.log o.budget) c.in-Sat.is h.evidence),
+      (derivation_in t o.log, h.learning.learns),
+    )
+
+pub returns-in_ok-plan-in-Unsat : goal.returns-in_ok-plan-in-Unsat
+returns-in_ok-plan-in-Unsat c = λ limits s kept symbols h.
+    let t = c.args.table.now in
+    let o = c.args.outcome in
+    let d = derivation_in t o.log in
+    let p = c.in_ok-plan-in-Unsat.plan in
+    let n = c.in-Unsat.step.0 in
+    let shown = subst (HasEvidence t (terms_of s) o.log o.budget) c.in-Unsat.is h.evidence in
+    let right = c.planned_lines_are_right.ensures t.symbols t.terms (terms_of s) d n p c.terms_are_printable.ensures (c.logs_are_over_their_terms.ensures t o.log h.log_right) h.log_right.right shown.1 shown.0 c.in_ok-plan-in-Unsat.ensures.plan in (
+      (
+        proof (proof_text (lines_of t.terms d p)),
+        record { lines = lines_of t.terms d p; written = refl; right = subst (λ ss. AreRightLines ss (terms_of s) (lines_of t.terms d p)) (sym symbols) right },
+        (h.log_right, c.in_ok-plan-in-Unsat.ensures.fits, refl),
+      ),
+      (d, h.learning.learns),
+    )
+
+pub returns-in-Unknown : goal.returns-in-Unknown
+returns-in-Unknown c = λ limits s kept symbols h.
+    let t = c.args.table.now in
+    let o = c.args.outcome in
+    (any_reason_shown limits t s symbols o.log o.budget o.budget c.in-Unknown.reason h.limit_is (subst (HasEvidence t (terms_of s) o.log o.budget) c.in-Unknown.is h.evidence), (derivation_in t o.log, h.learning.learns))

@@ -1,0 +1,12 @@
+//! How much a run writes.
+
+/// How much is written for a check.
+///
+/// Source: own.
+#[derive(Clone, Copy, Debug, PartialEq, Eq)]
+pub enum Mode {
+    /// The standard's responses alone.
+    Solve,
+    /// Behind the answer of each check a model, a proof or a reason too.
+    Certify,
+}

@@ -1,0 +1,168 @@
+//! A session: it takes commands one after the other, and writes what each is answered.
+
+ghost use Rattle.std.specs.Prelude.{◌≡◌, ◌≤◌, [], IfOk, IsErrOf};
+ghost use Rattle.world_io.specs.Outside.{Rose};
+ghost use Rattle.spec_scripts.specs.Stack.{Stack, empty_stack};
+ghost use Rattle.smt_session.specs.Sessions.{limits_meant, IsHeld, IsSession, Takes, Rejects, Stepped};
+
+use crate::evidence::check;
+use crate::mode::Mode;
+use crate::responses::{Response, after_of, send_response};
+use assertion_stack::{Script, Took};
+use sat_budget::{Budget, Limits};
+use smt_lexer::Refused;
+use smt_sexpr::Sexpr;
+use spec_scripts::laws::commands_keep_stacks;
+use std::alloc::Global;
+use std::marker::Model;
+use world_io::{Failed, NoMemory, Sink};
+
+/// Tells what comes after a command.
+///
+/// Source: own.
+#[derive(Clone, Copy, Debug, PartialEq, Eq)]
+pub enum After {
+    /// It was taken; the session goes on.
+    Went,
+    /// It was refused, and changed nothing; the session goes on.
+    Refused,
+    /// It ended the script.
+    Ended,
+}
+
+/// Tells why a step came to no end.
+///
+/// Source: own.
+#[derive(Clone, Copy, Debug, PartialEq, Eq)]
+pub enum Halt {
+    /// Memory was wanting: the session is as before the command, and nothing was written.
+    Memory,
+    /// The sink failed: the session is as after the command, and a front of its response was written.
+    Sink,
+}
+
+impl From<NoMemory> for Halt {
+    ghost use Rattle.smt_session.specs.declared.session.Halt.TheVariants as halts;
+
+    ghost from_gives = { λ _ r. r ≡ halts.Memory };
+
+    fn from(_error: NoMemory) -> Halt {
+        Halt::Memory
+    }
+}
+
+/// Holds what a script has stated so far, what its checks may spend, and what the last check learned.
+///
+/// Contracts see it as a stack of the definitions, by the relation `IsSession`. Source: SMT-LIB 2.6, section 4.2.
+#[derive(Drop)]
+pub struct Session {
+    alloc: Global,
+    script: Script,
+    limits: Limits,
+    mode: Mode,
+    budget: Budget,
+}
+
+impl Model for Session {
+    ghost use Rattle.spec_scripts.specs.Stack.{Stack};
+    ghost use Rattle.std.specs.Coded.{codes};
+    ghost use Rattle.term_core.specs.Tables.{table_code};
+    ghost use Rattle.smt_session.specs.Sessions.{SessionView, IsHeld};
+
+    ghost Value = { SessionView };
+
+    ghost coded = { Prim.hlevel (codes, table_code) };
+
+    ghost view = { λ x. record { script = x.script; limits = x.limits; mode = x.mode; budget = x.budget } };
+
+    ghost invariant = { λ x. (s : Stack) × IsHeld x.limits.terms x.script s };
+}
+
+impl Session {
+    /// Makes a session that has stated nothing.
+    ///
+    /// `limits` are those of each check, but `terms`: how many constants may be declared, and how many different subterms
+    /// a command may have. `NoMemory` comes where memory ran out. Source: own.
+    pub fn new(alloc: Global, limits: &Limits, mode: Mode) -> Result<Session, NoMemory>
+        ensures { IfOk result (λ x. IsSession x empty_stack × (x.limits ≡ limits.now) × (x.mode ≡ mode) × (x.budget.learned ≡ [])) }
+    {
+        commands_keep_stacks();
+        let budget = Budget::new(alloc, limits)?;
+        Ok(Session {
+            alloc,
+            script: Script::new(alloc),
+            limits: *limits,
+            mode,
+            budget,
+        })
+    }
+
+    /// Gives the budget of the last check that was answered, with the clauses that it learned, whatever the answer was; before the
+    /// first one there are none. It takes no memory.
+    ///
+    /// Source: own.
+    pub fn budget(&self) -> &Budget
+        ensures { result.now ≡ self.now.budget }
+    {
+        &self.budget
+    }
+
+    /// Takes the command that an s-expression is, and writes what it is answered.
+    ///
+    /// It takes its memory first, then changes the session, then writes. `Memory` comes where memory ran out: the session
+    /// is as before the command, and nothing was written. `Sink` comes only where the sink's count of faults rose in this
+    /// call: the session is as after the command, and a front of its response was written.
+    /// Source: SMT-LIB 2.6, sections 3.9 and 4.2.
+    pub fn step<K: Sink>(&mut self, command: &Sexpr<'_>, out: &mut K) -> Result<After, Halt>
+        ensures same { (self.new.limits ≡ self.old.limits) × (self.new.mode ≡ self.old.mode) }
+        ensures stepped { (s : Stack) → IsSession self.old s → Stepped s command.now self.old self.new result (record { old = K.written out.old; new = K.written out.new; faults_old = K.faults out.old; faults_new = K.faults out.new }) }
+        ensures failed { IsErrOf result Halt.Sink → Rose (K.faults out.old) (K.faults out.new) }
+        ensures count { K.faults out.old ≤ K.faults out.new }
+    {
+        let response = take(
+            self.alloc,
+            &mut self.script,
+            &mut self.budget,
+            &self.limits,
+            command,
+        )?;
+        match send_response(self.mode, &self.script, &response, out) {
+            Ok(()) => Ok(after_of(&response)),
+            Err(Failed) => Err(Halt::Sink),
+        }
+    }
+}
+
+/// Takes a command: all that it changes, but nothing is written. Where memory runs out nothing is changed.
+fn take(
+    alloc: Global,
+    script: &mut Script,
+    budget: &mut Budget,
+    limits: &Limits,
+    command: &Sexpr<'_>,
+) -> Result<Response, NoMemory>
+    requires { (s : Stack) × IsHeld limits.now.terms script.old s }
+    ensures { (s : Stack) → IsHeld limits.now.terms script.old s → Takes (limits_meant limits.now) s command.now result script.new budget.old budget.new }
+{
+    commands_keep_stacks();
+    match script.command(alloc, command, limits.terms) {
+        Ok(Took::Done) => Ok(Response::Success),
+        Ok(Took::Unsupported) => Ok(Response::Unsupported),
+        Ok(Took::Check) => match check(alloc, script, budget, limits) {
+            Ok(evidence) => Ok(Response::Answered(evidence)),
+            Err(NoMemory) => Err(NoMemory),
+        },
+        Ok(Took::Exit) => Ok(Response::Ended),
+        Err(stop) => rejected(stop),
+    }
+}
+
+/// What a command is answered that was not taken.
+fn rejected(stop: Refused) -> Result<Response, NoMemory>
+    ensures { Rejects stop result }
+{
+    match stop {
+        Refused::Fault(refusal) => Ok(Response::Rejected(refusal)),
+        Refused::Memory => Err(NoMemory),
+    }
+}

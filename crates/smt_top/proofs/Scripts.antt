@@ -1,0 +1,38 @@
+-- From the run of what was read of a script to the end of a run.
+use Rattle.std.proofs.Common.{◌≡◌, inl, ℕ, Bool, List, IfSome}
+use Rattle.spec_text.specs.Readings.{front}
+use Rattle.spec_runs.specs.Evidence.{Limits}
+use Rattle.spec_runs.specs.Responses.{Mode}
+use Rattle.spec_runs.specs.Transcripts.{IsTranscript, IsBegun}
+use Rattle.smt_session.specs.declared.status.Status.{Status}
+use Rattle.smt_session.specs.declared.status.Status.TheVariants.{Done, Refused, Words, Memory, ReadFault, WriteFault}
+use Rattle.smt_session.specs.Runs.{EndsText, OnTranscript, OnBegun}
+use Rattle.smt_session.proofs.Saying.{WholeSays, BegunSays}
+use Rattle.smt_top.specs.Ends.{Reads, Writes, Holdings, ScriptEnds}
+
+-- that a transcript needs a front of the text alone, whole and cut short
+abbrev pub WholeFront : Type 0
+WholeFront = (limits : Limits) (mode : Mode) (text out : List ℕ) (refused : Bool) → IsTranscript limits mode (front text) out refused → IsTranscript limits mode text out refused
+
+abbrev pub BegunFront : Type 0
+BegunFront = (limits : Limits) (mode : Mode) (text out : List ℕ) → IsBegun limits mode (front text) out → IsBegun limits mode text out
+
+module _ (whole_front : WholeFront) (begun_front : BegunFront) (whole_says : WholeSays) (begun_says : BegunSays) (limits : Limits) (mode : Mode) (text : List ℕ) where
+  on_transcript : (refused : Bool) (P : List ℕ → Type 0) → OnTranscript limits mode (front text) refused P → OnTranscript limits mode text refused P
+  on_transcript refused P (all, t, say, p) =
+      let w = whole_front limits mode text all refused t in
+      (all, w, whole_says limits mode text all refused w, p)
+
+  on_begun : (P : List ℕ → Type 0) → OnBegun limits mode (front text) P → OnBegun limits mode text P
+  on_begun P (begun, t, say, p) =
+      let w = begun_front limits mode text begun t in
+      (begun, w, begun_says limits mode text begun w, p)
+
+  -- the name's text is told, and its front was run
+  pub script_ends : (status : Status) (name : List ℕ) (holds : Holdings) (reads : Reads) (out : Writes) → IfSome (holds name) (λ t. t ≡ text) → EndsText limits mode (front text) status out → ScriptEnds status mode name limits holds reads out
+  script_ends Done name holds reads out held r = (text, held, on_transcript _ _ r)
+  script_ends Refused name holds reads out held r = (text, held, on_transcript _ _ r)
+  script_ends Words name holds reads out held r = absurd r
+  script_ends Memory name holds reads out held r = inl (text, held, on_begun _ r)
+  script_ends ReadFault name holds reads out held r = absurd r
+  script_ends WriteFault name holds reads out held r = (r.1, (text, held, on_begun _ r.0))

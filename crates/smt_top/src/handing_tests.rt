@@ -1,0 +1,45 @@
+//! Tests that all that a run writes is handed on, through a buffer in front of a sink.
+
+ghost use Rattle.std.specs.Prelude.{◌≡◌};
+
+use crate::test_support::{AMPLE, CHECK, PROOF, SCRIPT, USAGE, shelf_of, sink_of, words_of};
+use crate::{Status, run};
+use std::test::Fail;
+use world_io::Gathered;
+
+/// Words and a proof, each with the status and what the sink behind the buffer has got at the end.
+const ROWS: &[(&[&str], &str, Status, &str)] = &[
+    (&["help"], "", Status::Words, USAGE),
+    (&CHECK, PROOF, Status::Done, "valid\n"),
+    (
+        &CHECK,
+        "(assume h1 p)",
+        Status::Refused,
+        "(error \"1:14: NoEmptyClause\")\n",
+    ),
+    (
+        &["solve", "script.smt2"],
+        "",
+        Status::Done,
+        "success\nsuccess\nsuccess\nunsat\n",
+    ),
+    (
+        &["solve", "proof.alethe"],
+        "(check-sat)\n(assume h1 p)\n\"",
+        Status::Refused,
+        "sat\n(error \"2:2: UnknownCommand\")\n(error \"3:1: UnclosedString\")\n",
+    ),
+];
+
+#[test]
+fn all_is_handed_on_at_the_end_of_a_run(rt: HostRuntime) -> Result<(), Fail> {
+    for (words, proof, status, all) in ROWS.iter() {
+        let words = words_of(rt.alloc(), words)?;
+        let mut shelf = shelf_of(rt.alloc(), SCRIPT, proof, &[])?;
+        let mut out = Gathered::new(rt.alloc(), sink_of(rt.alloc(), AMPLE, AMPLE, &[])?)?;
+        let found = run(rt.alloc(), words.as_slice(), &mut shelf, &mut out);
+        assert_eq!(rt; found, *status, "{proof}");
+        assert_eq!(rt; out.sink().written(), all.as_bytes(), "{proof}");
+    }
+    Ok(())
+}
