@@ -1,0 +1,87 @@
+"""Runs a program once, and tells what it wrote, how it ended, how long it took and how much memory it had.
+
+Scripts beside this file use it. Times are those of a processor, in the program and in the system for it, so that other work on
+the machine counts little. Memory is the most that was resident. Where /usr/bin/time is there it is measured by that; else the
+system's record of the child is taken, which is never below Python's own few megabytes.
+
+It needs Python 3 and its standard library.
+"""
+
+from __future__ import annotations
+
+import os
+import resource
+import subprocess
+import sys
+import tempfile
+import threading
+import time
+from dataclasses import dataclass
+
+GNU_TIME = "/usr/bin/time"
+
+
+@dataclass
+class Run:
+    """What one run came to: times in seconds, memory in kilobytes, and no status where a limit of time stopped it."""
+
+    output: bytes
+    status: int | None
+    seconds: float
+    memory: int
+
+    @property
+    def lines(self):
+        """The lines of the output, as text."""
+        return self.output.decode("ascii", "replace").splitlines()
+
+
+def run(words, seconds=None, memory=None):
+    """Runs the words. It is stopped after so many seconds of the clock, and gets so many bytes of address space."""
+
+    def limit_memory():
+        if memory is not None:
+            resource.setrlimit(resource.RLIMIT_AS, (memory, memory))
+
+    with tempfile.TemporaryDirectory() as folder:
+        report = os.path.join(folder, "memory")
+        timed = [GNU_TIME, "-q", "-f", "%M", "-o", report] if os.path.exists(GNU_TIME) else []
+        began = time.perf_counter()
+        with subprocess.Popen(
+            [*timed, *words],
+            stdin=subprocess.DEVNULL,
+            stdout=subprocess.PIPE,
+            preexec_fn=limit_memory,
+            start_new_session=True,
+        ) as child:
+            stop = threading.Timer(seconds or 1e6, os.killpg, (child.pid, 9))
+            stop.daemon = True
+            stop.start()
+            output = child.stdout.read()
+            _, status, usage = os.wait4(child.pid, 0)
+            taken = time.perf_counter() - began
+            stop.cancel()
+            child.returncode = os.waitstatus_to_exitcode(status)
+        peak, processor = usage.ru_maxrss, usage.ru_utime + usage.ru_stime
+        if os.path.exists(report) and os.path.getsize(report):
+            with open(report, encoding="ascii") as text:
+                peak = int(text.read())
+    stopped = child.returncode < 0 and seconds is not None and taken >= seconds
+    return Run(output, None if stopped else child.returncode, processor, peak)
+
+
+def least(words, runs, seconds=None):
+    """Runs the words a few times, and gives the run that took least; all of them have to write the same and end alike.
+
+    One that takes more than five seconds is not repeated.
+    """
+    best = run(words, seconds)
+    for _ in range(1, runs):
+        if best.seconds > 5 or best.status is None:
+            break
+        again = run(words, seconds)
+        if (again.output, again.status) != (best.output, best.status):
+            sys.exit(f"two runs differ: {' '.join(words)}")
+        if again.seconds < best.seconds:
+            best = again
+    return best

@@ -1,0 +1,5 @@
+(declare-const p Bool)
+(check-sat)
+(exit)
+(assert q)
+(check-sat)

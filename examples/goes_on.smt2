@@ -1,0 +1,5 @@
+(set-option :print-success false)
+(declare-const p Bool)
+(assert (and p q))
+(assert p)
+(check-sat)

@@ -1,0 +1,8 @@
+(set-option :print-success true)
+(declare-const p Bool)
+(set-option :print-success false)
+(assert p)
+(check-sat)
+(set-option :print-success true)
+(assert (not p))
+(check-sat)

@@ -1,0 +1,7 @@
+(declare-const p Bool)
+(declare-const q Bool)
+(declare-const |two words| Bool)
+(assert (or p q))
+(assert (not p))
+(assert (=> q |two words|))
+(check-sat)

@@ -1,0 +1,8 @@
+(set-option :print-success false)
+(declare-const p Bool)
+(declare-const |two words| Bool)
+(declare-const r Bool)
+(assert (=> (and p |two words|) r))
+(assert (and p |two words|))
+(assert (not r))
+(check-sat)

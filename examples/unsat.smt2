@@ -1,0 +1,5 @@
+(set-option :print-success false)
+(declare-const p Bool)
+(assert p)
+(assert (not p))
+(check-sat)

@@ -1,0 +1,3 @@
+(set-option :verbosity 1)
+(declare-const p Bool)
+(check-sat)
