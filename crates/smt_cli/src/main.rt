@@ -4,7 +4,7 @@
 //! program ends with the status of the run.
 #![tactic(auto)]
 
-use smt_top::{Status, run};
+use smt_top::{Status, run_buffered};
 use std::env;
 use std::io::ErrorKind;
 use std::process::ExitCode;
@@ -28,8 +28,8 @@ fn status_of<R: Files + Input + Print + Env + AllocGlobal>(rt: &R) -> Status {
         return Status::Memory;
     };
     match words_of(rt) {
-        Ok(words) => run(rt.alloc(), &words, &mut shelf, &mut out),
-        Err(Unread::Unreadable) => run(rt.alloc(), &[], &mut shelf, &mut out),
+        Ok(words) => run_buffered(rt.alloc(), &words, &mut shelf, &mut out),
+        Err(Unread::Unreadable) => run_buffered(rt.alloc(), &[], &mut shelf, &mut out),
         Err(Unread::Memory) => Status::Memory,
     }
 }

@@ -6,3 +6,4 @@ pub mod Asked
 pub mod Scripts
 pub mod Lengths
 pub mod InMemory
+pub mod Buffers

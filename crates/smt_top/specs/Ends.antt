@@ -1,5 +1,5 @@
 -- How a run ends: what it was given, what it judged, and what it wrote. Source: own.
-use Rattle.std.specs.Prelude.{◌≡◌, ℕ, true, false, List, Option, Some, None, IsSome, IfSome, ⊤, ◌⊎◌}
+use Rattle.std.specs.Prelude.{◌≡◌, ℕ, Bool, true, false, List, Option, Some, None, IsSome, IfSome, ⊤, ◌⊎◌}
 use Rattle.std.specs.Io.KnownBytes.{Appends, Keeps}
 use Rattle.world_io.specs.Outside.{Rose, TakesFront, AppendsFront}
 use Rattle.spec_scripts.specs.Stack.{HasNoModel}
@@ -79,6 +79,13 @@ ScriptEnds Words mode name limits holds reads out = ⊥
 ScriptEnds Memory mode name limits holds reads out = OnText name holds (λ text. OnBegun limits mode text (Appends out.old out.new)) ⊎ Keeps out.old out.new
 ScriptEnds ReadFault mode name limits holds reads out = Rose reads.old reads.new × Keeps out.old out.new
 ScriptEnds WriteFault mode name limits holds reads out = Rose out.faults_old out.faults_new × OnText name holds (λ text. OnBegun limits mode text (AppendsFront out.old out.new))
+
+-- all that was to be written was written
+abbrev pub is_answered : Status → Bool
+is_answered Done = true
+is_answered Refused = true
+is_answered Words = true
+is_answered _ = false
 
 -- how a run ends, by what its words ask for and its status
 abbrev pub Ends : Status → Option Asked → Holdings → Reads → Writes → Type 0

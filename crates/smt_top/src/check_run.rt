@@ -37,6 +37,7 @@ fn run_check<F: Shelf, K: Sink>(
     ensures order { (result ≡ Status.Done) ⊎ (result ≡ Status.Refused) → ProofIsLast (Some (names_of request.entry)) (F.holds shelf.old) (F.left shelf.new) }
     ensures found { ((s : F) → IsSome (F.left s)) → BothHold (Some (names_of request.entry)) (F.holds shelf.old) ⊎ IsUnread result (K.written out.old) (K.written out.new) }
     ensures write { (most : ℕ) → K.has_room out.old most → longest_line ≤ most → result ≢ Status.WriteFault }
+    ensures count { K.faults out.old ≤ K.faults out.new }
 {
     match read_both(alloc, shelf, request.names) {
         Ok(texts) => report(judge(alloc, &texts, request.at), out),
@@ -60,6 +61,7 @@ fn run_script<F: Shelf, K: Sink>(
     ensures read { F.is_sound shelf.old → IsSome (F.holds shelf.old request.entry.name.now) → result ≢ Status.ReadFault }
     ensures order { (result ≡ Status.Done) ⊎ (result ≡ Status.Refused) → TakesFront (F.holds shelf.old request.entry.name.now) (F.left shelf.new) }
     ensures found { ((s : F) → IsSome (F.left s)) → IsSome (F.holds shelf.old request.entry.name.now) ⊎ IsUnread result (K.written out.old) (K.written out.new) }
+    ensures count { K.faults out.old ≤ K.faults out.new }
 {
     spec_runs::laws::transcripts_need_a_front_alone();
     spec_runs::laws::answers_say_what_is_so();
@@ -82,6 +84,7 @@ fn run_usage<K: Sink>(out: &mut K) -> Status
     ensures ends { (holds : Holdings) (reads : Reads) → CheckEnds result None holds reads (record { old = K.written out.old; new = K.written out.new; faults_old = K.faults out.old; faults_new = K.faults out.new }) }
     ensures no_read { (result ≡ Status.Words) ⊎ (result ≡ Status.WriteFault) }
     ensures write { (most : ℕ) → K.has_room out.old most → longest_line ≤ most → result ≢ Status.WriteFault }
+    ensures count { K.faults out.old ≤ K.faults out.new }
 {
     match write_usage(out) {
         Ok(()) => Status::Words,
@@ -110,6 +113,7 @@ pub fn run<F: Shelf, K: Sink>(alloc: Global, words: &[String], shelf: &mut F, ou
     ensures order { (result ≡ Status.Done) ⊎ (result ≡ Status.Refused) → LastIsRead (asked words.now) (F.holds shelf.old) (F.left shelf.new) }
     ensures found { ((s : F) → IsSome (F.left s)) → AreHeld (asked words.now) (F.holds shelf.old) ⊎ IsUnread result (K.written out.old) (K.written out.new) }
     ensures write { RunsNoScript (asked words.now) → (most : ℕ) → K.has_room out.old most → longest_line ≤ most → result ≢ Status.WriteFault }
+    ensures count { K.faults out.old ≤ K.faults out.new }
 {
     match words_of(alloc, words) {
         Ok(Request::Check(request)) => run_check(alloc, request, shelf, out),

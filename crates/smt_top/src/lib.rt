@@ -1,6 +1,7 @@
 //! One run: it reads the words, and runs a script, or judges a proof against one.
 #![tactic(auto)]
 
+mod buffered;
 mod check_run;
 #[cfg(test)]
 mod fault_tests;
@@ -28,6 +29,7 @@ mod words;
 #[cfg(test)]
 mod words_tests;
 
+pub use buffered::run_buffered;
 pub use check_run::run;
 pub use in_memory::run_in_memory;
 pub use smt_session::{After, Halt, Mode, Session, Status, run_text};

@@ -24,6 +24,7 @@ const VALID: &[u8] = b"valid\n";
 /// `Failed` comes only where the sink's count of faults rose in this call; a front was then appended. Source: own.
 fn send<K: Sink>(out: &mut K, bytes: &[u8]) -> Result<(), Failed>
     ensures sends { SendsLine (record { old = K.written out.old; new = K.written out.new; faults_old = K.faults out.old; faults_new = K.faults out.new }) bytes.now result }
+    ensures count { K.faults out.old ≤ K.faults out.new }
     ensures room { (most : ℕ) → K.has_room out.old most → length bytes.now ≤ most → IsOk result }
 {
     write_all(out, bytes)?;
@@ -35,6 +36,7 @@ fn send<K: Sink>(out: &mut K, bytes: &[u8]) -> Result<(), Failed>
 /// `Failed` comes only where the sink's count of faults rose in this call; a front was then appended. Source: own.
 pub(crate) fn write_usage<K: Sink>(out: &mut K) -> Result<(), Failed>
     ensures sends { SendsLine (record { old = K.written out.old; new = K.written out.new; faults_old = K.faults out.old; faults_new = K.faults out.new }) usage result }
+    ensures count { K.faults out.old ≤ K.faults out.new }
     ensures room { (most : ℕ) → K.has_room out.old most → longest_line ≤ most → IsOk result }
 {
     send(out, USAGE)
@@ -45,6 +47,7 @@ pub(crate) fn write_usage<K: Sink>(out: &mut K) -> Result<(), Failed>
 /// `Failed` comes only where the sink's count of faults rose in this call; a front was then appended. Source: own.
 pub(crate) fn write_valid<K: Sink>(out: &mut K) -> Result<(), Failed>
     ensures sends { SendsLine (record { old = K.written out.old; new = K.written out.new; faults_old = K.faults out.old; faults_new = K.faults out.new }) valid result }
+    ensures count { K.faults out.old ≤ K.faults out.new }
     ensures room { (most : ℕ) → K.has_room out.old most → longest_line ≤ most → IsOk result }
 {
     send(out, VALID)
@@ -55,6 +58,7 @@ pub(crate) fn write_valid<K: Sink>(out: &mut K) -> Result<(), Failed>
 /// `Failed` comes only where the sink's count of faults rose in this call; a front was then appended. Source: own.
 pub(crate) fn write_fault<K: Sink>(out: &mut K, fault: ProofFault) -> Result<(), Failed>
     ensures sends { SendsLine (record { old = K.written out.old; new = K.written out.new; faults_old = K.faults out.old; faults_new = K.faults out.new }) (error_text fault.place.line fault.place.col (fault_name fault.kind)) result }
+    ensures count { K.faults out.old ≤ K.faults out.new }
     ensures room { (most : ℕ) → K.has_room out.old most → longest_line ≤ most → IsOk result }
 {
     error(fault.place, fault.kind.name().as_bytes(), out)?;

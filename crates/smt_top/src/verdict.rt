@@ -29,6 +29,7 @@ pub(crate) fn judge(alloc: Global, texts: &Texts, at: u64) -> Result<(), ProofSt
 /// Where memory was wanting nothing is written. Source: own.
 pub(crate) fn report<K: Sink>(verdict: Result<(), ProofStop>, out: &mut K) -> Status
     ensures reports { (script : List ℕ) (at : ℕ) (proof : List ℕ) → Judges script at proof verdict → Reports result script at proof (record { old = K.written out.old; new = K.written out.new; faults_old = K.faults out.old; faults_new = K.faults out.new }) }
+    ensures count { K.faults out.old ≤ K.faults out.new }
     ensures no_read { result ≢ Status.ReadFault }
     ensures room { (most : ℕ) → K.has_room out.old most → longest_line ≤ most → result ≢ Status.WriteFault }
 {
