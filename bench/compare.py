@@ -1,0 +1,222 @@
+#!/usr/bin/env python3
+"""Compares `smt_cli` with an independent reading of the formats, on texts that are made by chance.
+
+    bench/compare.py EXECUTABLE [--seconds N] [--seed K]
+
+The modules in bench/compare/ say in Python what docs/FORMATS.md, docs/ALETHE.md and SMT-LIB 2.6 say, and share nothing
+with the program: a reader, truth tables, the rules of proofs, and a judge. Each kind of run gets an even share of the N
+seconds, 60 if none are given. A round of a kind is seeded by K, 1 if none is given, by the kind and by the number of the
+round, so the same words make the same texts, and more seconds make more of them. Where proofs are changed, the texts
+depend on what `certify` printed, too.
+
+solve well-formed      scripts, of which output and status are foretold
+solve ill-formed       scripts with about a third of the commands ill-formed
+solve damaged          texts of scripts, changed at some places
+certify                the answers are foretold; models and proofs are judged, and so is the form of their text
+check certified        proofs that `certify` printed, which have to be valid, alone and behind the answer
+check changed          such proofs, changed in their parts or in their bytes
+check invented         proofs of steps by all rules, mostly right, and single steps, right or near to it
+check forms            forms of a small proof, with odd names, attributes, definitions and ends
+
+Of each `valid` it is looked up that the truth tables have no row that makes all assertions true, too.
+
+It prints a table of the kinds with the number of runs and of differences. What each difference is on is written to
+files in a temporary folder, which is printed. It ends with status 1 where there is a difference, else with 0.
+"""
+
+import argparse
+import os
+import random
+import subprocess
+import sys
+import tempfile
+import time
+
+sys.dont_write_bytecode = True
+sys.path.insert(0, os.path.join(os.path.dirname(os.path.abspath(__file__)), "compare"))
+
+from changes import changed, proof_text, tree_of_item
+from forms import SCRIPTS, a_form
+from judging import judge_certify, predict_check
+from meaning import checks_of, predict_solve, run_script
+from proofs import invented, single_step_texts
+from reading import read_one
+from scripts import a_script, damaged
+
+MOST_DIFFERENCES = 20
+LONGEST_RUN = 120
+
+
+class Comparison:
+    """The runs of one kind: how many there were, and how many differed from what was foretold."""
+
+    def __init__(self, executable, kind, folder):
+        self.executable = executable
+        self.kind = kind
+        self.folder = folder
+        self.runs = 0
+        self.differences = 0
+
+    def run(self, words, text=b""):
+        """Runs the program over a text on standard input; returns its output, its status and its errors."""
+        command = [self.executable, *words]
+        done = subprocess.run(command, input=text, capture_output=True, timeout=LONGEST_RUN, check=False)
+        self.runs += 1
+        return done.stdout, done.returncode, done.stderr
+
+    def tell(self, what, script, proof=None):
+        """Prints a difference and keeps its texts."""
+        self.differences += 1
+        path = os.path.join(self.folder, f"{self.kind.replace(' ', '-')}-{self.differences}")
+        texts = {".smt2": script} if proof is None else {".smt2": script, ".alethe": proof}
+        for ending, text in texts.items():
+            with open(path + ending, "wb") as out:
+                out.write(text)
+        print(f"{self.kind}: {what}\n    in {path}.*", flush=True)
+
+    def solve(self, script):
+        """Compares `solve` on a script."""
+        wanted, status = predict_solve(script)
+        got = self.run(["solve"], script)
+        if got != (wanted, status, b""):
+            self.tell(f"wanted {wanted!r} and {status}, got {got!r}", script)
+
+    def certify(self, script):
+        """Judges `certify` on a script; returns the proofs that are right."""
+        output, status, errors = self.run(["certify"], script)
+        wrong, proofs = judge_certify(script, output, status)
+        if wrong or errors:
+            self.tell(f"{wrong} {errors!r}", script)
+        return proofs
+
+    def check(self, script, number, proof, must_be_valid=False):
+        """Compares `check` on a script and a proof, which it reads from a file or from standard input."""
+        wanted, status = predict_check(script, number, proof)
+        paths = [os.path.join(self.folder, name) for name in ("script", "proof")]
+        for path, text in zip(paths, (script, proof)):
+            with open(path, "wb") as out:
+                out.write(text)
+        words = ["check"] if number == 1 and random.random() < 0.8 else ["check", "--at", str(number)]
+        from_input = random.random() < 0.3
+        got = self.run([*words, paths[0], "" if from_input else paths[1]], proof if from_input else b"")
+        if got != (wanted, status, b"") or (must_be_valid and status != 0):
+            self.tell(f"at {number}, wanted {wanted!r} and {status}, got {got!r}", script, proof)
+        elif status == 0 and checks_of(run_script(script)[0])[number - 1].is_satisfiable:
+            self.tell(f"at {number}, valid, but there is a model", script, proof)
+
+
+def solve_well_formed(comparison):
+    comparison.solve(a_script(0))
+
+
+def solve_ill_formed(comparison):
+    comparison.solve(a_script(0.35))
+
+
+def solve_damaged(comparison):
+    comparison.solve(damaged(a_script(random.choice([0, 0.1]))))
+
+
+def certify(comparison):
+    script = a_script(random.choice([0, 0, 0.1, 0.35]))
+    comparison.certify(damaged(script) if random.random() < 0.3 else script)
+
+
+def some_certified(comparison):
+    """Returns a script and the proofs that `certify` prints for it; the run counts for `certify` alone."""
+    script = a_script(random.choice([0, 0, 0, 0.1]))
+    proofs = comparison.certify(script)
+    comparison.runs -= 1
+    return script, proofs[:3]
+
+
+def check_certified(comparison):
+    script, proofs = some_certified(comparison)
+    for number, proof in proofs:
+        comparison.check(script, number, proof, True)
+        comparison.check(script, number, b"unsat\n" + proof, True)
+
+
+def check_changed(comparison):
+    script, proofs = some_certified(comparison)
+    checks = checks_of(run_script(script)[0])
+    for number, proof in proofs:
+        commands = [tree_of_item(item) for item in read_one(proof, 0)[0][1]]
+        names = checks[number - 1].order
+        for _ in range(14):
+            other = random.choice([1, 2, len(checks), len(checks) + 1, 1000000000])
+            at = number if random.random() < 0.93 else other
+            comparison.check(script, at, proof_text(changed(commands, names, random.choice([0, 1, 1, 1, 2, 3]))))
+        for _ in range(5):
+            text = random.choice([proof, proof_text(commands)])
+            comparison.check(script, number, damaged(text))
+
+
+def check_invented(comparison):
+    if random.random() < 0.6:
+        script, proof = single_step_texts()
+        comparison.check(script, 1, proof)
+        return
+    script = a_script(random.choice([0, 0, 0, 0.1]))
+    checks = checks_of(run_script(script)[0])
+    if checks:
+        number = random.randint(1, len(checks))
+        commands = invented(checks[number - 1])
+        commands = changed(commands, checks[number - 1].order, random.choice([0, 0, 0, 1, 2]))
+        comparison.check(script, number, proof_text(commands))
+
+
+def check_forms(comparison):
+    comparison.check(random.choice(SCRIPTS), random.choice([1] * 20 + [2, 2, 3]), a_form())
+
+
+KINDS = {
+    "solve well-formed": solve_well_formed,
+    "solve ill-formed": solve_ill_formed,
+    "solve damaged": solve_damaged,
+    "certify": certify,
+    "check certified": check_certified,
+    "check changed": check_changed,
+    "check invented": check_invented,
+    "check forms": check_forms,
+}
+
+
+def compare(executable, kind, folder, seconds, seed):
+    """Runs one kind for so many seconds; returns its comparison."""
+    comparison = Comparison(executable, kind, folder)
+    end = time.monotonic() + seconds
+    number = 0
+    while time.monotonic() < end and comparison.differences < MOST_DIFFERENCES:
+        number += 1
+        random.seed(f"{seed} {kind} {number}")
+        KINDS[kind](comparison)
+    return comparison
+
+
+def main():
+    parser = argparse.ArgumentParser(description=__doc__, formatter_class=argparse.RawDescriptionHelpFormatter)
+    parser.add_argument("executable")
+    parser.add_argument("--seconds", type=float, default=60)
+    parser.add_argument("--seed", type=int, default=1)
+    words = parser.parse_args()
+    sys.setrecursionlimit(20000)
+    folder = tempfile.mkdtemp(prefix="compare-")
+    share = words.seconds / len(KINDS)
+    executable = os.path.abspath(words.executable)
+    done = [compare(executable, kind, folder, share, words.seed) for kind in KINDS]
+    print("| kind | runs | differences |")
+    print("|---|---|---|")
+    for comparison in done:
+        print(f"| {comparison.kind} | {comparison.runs:,} | {comparison.differences} |")
+    if any(comparison.differences for comparison in done):
+        print(f"the texts are in {folder}", file=sys.stderr)
+        return 1
+    for name in os.listdir(folder):
+        os.remove(os.path.join(folder, name))
+    os.rmdir(folder)
+    return 0
+
+
+if __name__ == "__main__":
+    sys.exit(main())
