@@ -1,4 +1,4 @@
--- What is known of a proof while it is judged. Source: own.
+-- What is known of a proof while it is judged.
 use Rattle.std.specs.Prelude.{◌≡◌, ◌<◌, ℕ, List, [], ◌∷◌, length, map, All, slice_index_or, Bool, true, false, ◌==◌, if◌then◌else◌}
 use Rattle.spec_text.specs.Bytes.{Name}
 use Rattle.spec_terms.specs.Literals.{Clause}

@@ -1,4 +1,4 @@
--- Commands of a proof as the code has them, and what judging comes to. Source: own.
+-- Commands of a proof as the code has them, and what judging comes to.
 use Rattle.std.specs.Prelude.{◌≡◌, ◌≢◌, ◌⊎◌, ℕ, Bool, true, false, List, [], ◌∷◌, length, Option, Some, None, Result, Ok, Err}
 use Rattle.spec_text.specs.Bytes.{among}
 use Rattle.spec_text.specs.Places.{IsPlaceOf}

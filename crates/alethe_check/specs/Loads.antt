@@ -1,4 +1,4 @@
--- What reading a script up to a check comes to. Source: own.
+-- What reading a script up to a check comes to.
 use Rattle.std.specs.Prelude.{ℕ, List, Option, Some, None, Result, Ok, Err}
 use Rattle.world_io.specs.declared.bytes.NoMemory.{NoMemory}
 use Rattle.spec_scripts.specs.Stack.{Stack, IsCurrent, HasNoCheck}

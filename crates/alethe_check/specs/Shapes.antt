@@ -1,4 +1,4 @@
--- The shapes of a proof's commands as the code has them. Source: own.
+-- The shapes of a proof's commands as the code has them.
 use Rattle.std.specs.Prelude.{◌≡◌, ℕ, List, Option, Some, None, option_map, if◌then◌else◌}
 use Rattle.std.specs.Borrow.{Bor}
 use Rattle.spec_text.specs.Bytes.{Name}

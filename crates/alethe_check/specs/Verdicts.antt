@@ -1,4 +1,4 @@
--- What the checker answers. Source: own.
+-- What the checker answers.
 use Rattle.std.specs.Prelude.{◌≡◌, ℕ, List, Some, None, Result, Ok, Err}
 use Rattle.spec_text.specs.Places.{IsPlaceOf}
 use Rattle.spec_proofs.specs.declared.ProofKind.{ProofKind}

@@ -1,4 +1,4 @@
--- What the values that reading returns mean. Source: own.
+-- What the values that reading returns mean.
 use Rattle.std.specs.Prelude.{◌≡◌, ℕ, List, map, Result, Ok, Err}
 use Rattle.std.specs.Borrow.{Bor}
 use Rattle.spec_text.specs.Bytes.{Name}

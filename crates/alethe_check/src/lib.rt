@@ -34,8 +34,6 @@ use stop::Stop;
 use thiserror::Error;
 
 /// Why a proof is not accepted, and where: a place of the proof.
-///
-/// Source: own.
 #[derive(Clone, Copy, Debug, PartialEq, Eq)]
 pub struct ProofFault {
     /// The place in the proof.
@@ -45,8 +43,6 @@ pub struct ProofFault {
 }
 
 /// Why a check did not answer that the proof is accepted.
-///
-/// Source: own.
 #[derive(Clone, Copy, Debug, Error, PartialEq, Eq)]
 pub enum ProofStop {
     /// The first fault of the proof.

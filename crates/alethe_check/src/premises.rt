@@ -50,7 +50,7 @@ fn clauses_of(alloc: Global, held: &Held, numbers: &[u64]) -> Result<Vec<Clause>
 /// Copies the clause of each different number, in the order of first mention.
 ///
 /// The numbers are of clauses, from 0. However often a number comes, its clause is copied once, so the copies take no more
-/// memory than the clauses that are known. Out of memory is the one error. Source: own.
+/// memory than the clauses that are known. Out of memory is the one error.
 pub fn distinct_clauses(
     alloc: Global,
     held: &Held,

@@ -1,4 +1,4 @@
--- Numbers that are given one after the other. Source: own.
+-- Numbers that are given one after the other.
 use Rattle.std.specs.Prelude.{◌≡◌, ℕ, ◌+◌, Bool, true, false, Option, Some, None}
 use Rattle.proof_log.specs.Logs.{Logged, assumed, stepped}
 

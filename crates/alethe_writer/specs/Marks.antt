@@ -1,4 +1,4 @@
--- Numbers that are marked. Source: own.
+-- Numbers that are marked.
 use Rattle.std.specs.Prelude.{◌≡◌, ◌⊎◌, ℕ, ◌<◌, Bool, true, false, List, length, map, Contains, get_or, slice_index_or}
 use Rattle.spec_terms.specs.Subsets.{arguments_of}
 use Rattle.term_core.specs.declared.ids.TermId.{TermId}

@@ -1,4 +1,4 @@
--- Which plans are of a log, and the texts of which its proof is made. Source: own.
+-- Which plans are of a log, and the texts of which its proof is made.
 use Rattle.std.specs.Prelude.{ℕ, ◌≤◌, List, [], ◌∷◌, ◌++◌, length, flat_map, Option, None, get_or, codes}
 use Rattle.spec_text.specs.Printed.{printed}
 use Rattle.spec_printing.specs.Lines.{Argument, argument_tree, Reference, assumed, stepped, reference_name}

@@ -19,7 +19,6 @@ use world_io::NoMemory;
 /// Says what is printed for a clause of a log: which terms are defined, which clauses are assumes and steps, and their numbers.
 ///
 /// It means something with the log and the table alone for which it was prepared.
-/// Source: own.
 #[derive(Drop)]
 pub struct Plan {
     terms: Vec<Option<u64>>,
@@ -82,7 +81,7 @@ fn number_at(numbers: &[Option<u64>], place: u64) -> Option<u64>
 ///
 /// It takes time and memory in proportion to the clauses up to that one and to the table's terms.
 ///
-/// `NoMemory` comes where memory runs out. Source: own.
+/// `NoMemory` comes where memory runs out.
 pub fn prepare(
     alloc: Global,
     log: &ProofLog,

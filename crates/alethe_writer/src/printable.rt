@@ -8,8 +8,6 @@ ghost use Rattle.spec_printing.specs.Printable.{ArePrintable, AreOver};
 use term_core::TermTable;
 
 /// States that a table's terms can be printed in their order. It computes nothing.
-///
-/// Source: own.
 pub fn terms_are_printable(table: &TermTable)
     ensures { ArePrintable table.now.symbols table.now.terms }
 {
@@ -22,8 +20,6 @@ pub fn terms_are_printable(table: &TermTable)
 }
 
 /// States that what a log says over a table is over the table's terms. It computes nothing.
-///
-/// Source: own.
 pub fn logs_are_over_their_terms()
     ensures { (t : TableView) (log : List Logged) → IsLogOf t log → AreOver t.terms (derivation_in t log) }
 {}

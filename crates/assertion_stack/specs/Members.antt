@@ -1,4 +1,4 @@
--- Lists with the same members. Source: own.
+-- Lists with the same members.
 use Rattle.std.specs.Prelude.{List, Contains}
 use Rattle.term_core.specs.declared.ids.TermId.{TermId}
 

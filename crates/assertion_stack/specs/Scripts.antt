@@ -1,4 +1,4 @@
--- What is known of a script while it is read. Source: own.
+-- What is known of a script while it is read.
 use Rattle.std.specs.Prelude.{◌≡◌, ℕ, List, map, length, nat_lt, Result, Ok, Err}
 use Rattle.spec_text.specs.declared.Fault.{Fault}
 use Rattle.spec_text.specs.declared.Fault.TheVariants.{BadShape, Full}

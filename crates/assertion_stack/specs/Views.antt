@@ -1,4 +1,4 @@
--- What the values that reading the parts of commands returns mean. Source: own.
+-- What the values that reading the parts of commands returns mean.
 use Rattle.std.specs.Prelude.{◌≡◌, Result, Ok, Err}
 use Rattle.spec_text.specs.Faults.{Located}
 use Rattle.spec_text.specs.Answers.{Answer}

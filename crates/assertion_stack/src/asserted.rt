@@ -9,7 +9,7 @@ use term_core::TermId;
 
 /// Terms by their numbers, in the order in which they were asserted.
 ///
-/// Contracts see it as the list of these numbers. Source: own.
+/// Contracts see it as the list of these numbers.
 #[derive(Drop)]
 pub struct Asserted {
     list: Vec<TermId>,
@@ -30,8 +30,6 @@ impl Model for Asserted {
 
 impl Asserted {
     /// Makes the list of no terms. It takes no memory.
-    ///
-    /// Source: own.
     pub fn new(alloc: Global) -> Asserted
         ensures { result ≡ [] }
     {
@@ -42,8 +40,6 @@ impl Asserted {
     }
 
     /// Gives the numbers, oldest first.
-    ///
-    /// Source: own.
     pub fn as_slice(&self) -> &[TermId]
         ensures { result.now ≡ self.now }
     {
@@ -51,8 +47,6 @@ impl Asserted {
     }
 
     /// Tells whether a term is asserted.
-    ///
-    /// Source: own.
     pub fn contains(&self, id: TermId) -> bool
         ensures { MatchBool result (Contains self.now id) (Contains self.now id → ⊥) }
     {
@@ -60,8 +54,6 @@ impl Asserted {
     }
 
     /// Puts a term last. Where memory runs out the list is as it was.
-    ///
-    /// Source: own.
     pub fn add(&mut self, id: TermId) -> Result<(), AllocError>
         ensures added { OnOk result (self.new ≡ self.old ++ id ∷ []) }
         ensures same { OnErr result (self.new ≡ self.old) }

@@ -29,8 +29,6 @@ use std::alloc::Global;
 use term_core::{TermId, TermTable};
 
 /// The most constants that a script may declare, and the most different subterms that the terms of one command may have.
-///
-/// Source: own.
 pub const TERM_LIMIT: u64 = 1 << 24;
 
 /// What a script has stated: its symbols and terms, its assertions, and its option.
@@ -65,8 +63,6 @@ pub enum Took {
 
 impl Script {
     /// Makes the script that has stated nothing. It takes no memory.
-    ///
-    /// Source: own.
     pub fn new(alloc: Global) -> Script
         ensures { IsStack result empty_stack }
     {

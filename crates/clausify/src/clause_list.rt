@@ -7,7 +7,7 @@ use std::marker::Model;
 
 /// Owns a list of clauses of a log by their numbers.
 ///
-/// Contracts see it as the list. Source: own.
+/// Contracts see it as the list.
 #[derive(Drop)]
 pub struct ClauseList {
     steps: Vec<StepId>,
@@ -32,8 +32,6 @@ impl From<Vec<StepId>> for ClauseList {
 
 impl ClauseList {
     /// Gives the numbers back as a `Vec`. It takes no memory.
-    ///
-    /// Source: own.
     pub fn into_vec(self) -> Vec<StepId>
         ensures { result.items ≡ self }
     {
@@ -41,8 +39,6 @@ impl ClauseList {
     }
 
     /// Lends the numbers. It takes no memory.
-    ///
-    /// Source: own.
     pub fn as_slice(&self) -> &[StepId]
         ensures { result.now ≡ self.now }
     {
@@ -50,8 +46,6 @@ impl ClauseList {
     }
 
     /// Counts the clauses. It takes no memory.
-    ///
-    /// Source: own.
     pub fn len(&self) -> usize
         ensures { result ≡ length self.now }
     {

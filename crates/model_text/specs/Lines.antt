@@ -1,4 +1,4 @@
--- The line of a constant of sort Bool. Source: own.
+-- The line of a constant of sort Bool.
 use Rattle.std.specs.Prelude.{ℕ, List, []}
 use Rattle.spec_text.specs.Bytes.{Name}
 use Rattle.spec_terms.specs.Values.{Value}

@@ -1,4 +1,4 @@
--- What comes of adding to a log. Source: own.
+-- What comes of adding to a log.
 use Rattle.std.specs.Prelude.{◌≡◌, List, [], ◌∷◌, ◌++◌, length, Vec, Result, Ok, Err}
 use Rattle.std.specs.declared.alloc.Global.{Global}
 use Rattle.world_io.specs.declared.bytes.NoMemory.{NoMemory}

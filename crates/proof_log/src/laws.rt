@@ -9,26 +9,25 @@ ghost use Rattle.term_core.specs.Tables.{TableView, term_at, clause_at, Extends}
 ghost use Rattle.proof_log.specs.declared.premises.StepId.{StepId};
 ghost use Rattle.proof_log.specs.Logs.{Logged, assumed, named, logged_at, derivation_in, AreBelow, IsLogOf};
 
-/// States that a log without clauses is one over each table. Source: own.
+/// States that a log without clauses is one over each table.
 pub fn empty_logs_are_right()
     ensures { (t : TableView) → IsLogOf t [] }
 {}
 
-/// States that a log over a table is one over each table to which this grows, and says the same there. Source: own.
+/// States that a log over a table is one over each table to which this grows, and says the same there.
 pub fn logs_stand_in_grown_tables()
     ensures right { (t u : TableView) (log : List Logged) → IsLogOf t log → Extends t u → IsLogOf u log }
     ensures same { (t u : TableView) (log : List Logged) → IsLogOf t log → Extends t u → derivation_in u log ≡ derivation_in t log }
 {}
 
 /// States that a log over a table is one over each table of its first terms, if it names these alone, and says the same there.
-/// Source: own.
 pub fn logs_stand_in_cut_tables()
     ensures right { (t u : TableView) (n : ℕ) (log : List Logged) → IsLogOf t log → u.terms ≡ take n t.terms → AreBelow n log → IsLogOf u log }
     ensures same { (t u : TableView) (n : ℕ) (log : List Logged) → IsLogOf t log → u.terms ≡ take n t.terms → AreBelow n log → derivation_in u log ≡ derivation_in t log }
 {}
 
 /// States that under an interpretation that gives each term of a table a truth value, a clause of a log over it is true where the
-/// assumed terms that it rests on are, and so where all of the log's are. Source: own.
+/// assumed terms that it rests on are, and so where all of the log's are.
 pub fn logs_are_sound()
     ensures each { (t : TableView) (log : List Logged) (i : Interpretation) → IsLogOf t log → All (HasTruth i) t.terms
         → (s : StepId) → s.0 < length log

@@ -40,8 +40,6 @@ impl Model for ProofLog {
 
 impl ProofLog {
     /// Makes an empty log, which takes no memory before the first clause.
-    ///
-    /// Source: own.
     pub fn new(alloc: Global) -> ProofLog
         ensures { result ≡ [] }
     {
@@ -52,8 +50,6 @@ impl ProofLog {
     }
 
     /// Counts the clauses. It takes no memory.
-    ///
-    /// Source: own.
     pub fn len(&self) -> u64
         ensures { result ≡ length self.now }
     {
@@ -61,8 +57,6 @@ impl ProofLog {
     }
 
     /// Lends a clause by its number. It takes no memory.
-    ///
-    /// Source: own.
     pub fn clause(&self, step: StepId) -> &[TermId]
         requires { step.0 < length self.now }
         ensures { result.now ≡ named (logged_at self.now step) }
@@ -75,8 +69,6 @@ impl ProofLog {
 
     /// Lends the step of a clause by its number; `None` exactly where the clause is assumed, or none has that number. It takes no
     /// memory.
-    ///
-    /// Source: own.
     pub fn step(&self, step: StepId) -> Option<&Step>
         ensures { MatchOption result (IsAssumed (logged_at self.now step)) (λ s. logged_at self.now step ≡ stepped s.now.rule s.now.premises s.now.clause) }
     {
@@ -154,7 +146,7 @@ impl ProofLog {
 
     /// Takes away all clauses but the first `len`. It takes no memory.
     ///
-    /// What is left is right over each table over which the whole was. Source: own.
+    /// What is left is right over each table over which the whole was.
     pub fn cut(&mut self, len: u64)
         requires { len ≤ length self.old }
         ensures clauses { self.new ≡ take len self.old }
@@ -164,8 +156,6 @@ impl ProofLog {
     }
 
     /// States that the premises of each step stand before it.
-    ///
-    /// Source: own.
     pub fn premises_are_earlier(&self)
         ensures { AreEarlier self.now }
     {

@@ -37,8 +37,6 @@ impl From<Vec<StepId>> for Premises {
 
 impl Premises {
     /// Gives the numbers back as a `Vec`. It takes no memory.
-    ///
-    /// Source: own.
     pub fn into_vec(self) -> Vec<StepId>
         ensures { result.items ≡ self }
     {
@@ -46,8 +44,6 @@ impl Premises {
     }
 
     /// Lends the numbers. It takes no memory.
-    ///
-    /// Source: own.
     pub fn as_slice(&self) -> &[StepId]
         ensures { result.now ≡ self.now }
     {
@@ -55,8 +51,6 @@ impl Premises {
     }
 
     /// Counts the numbers. It takes no memory.
-    ///
-    /// Source: own.
     pub fn len(&self) -> usize
         ensures { result ≡ length self.now }
     {

@@ -1,4 +1,4 @@
--- What a budget's reason means. Source: own.
+-- What a budget's reason means.
 use Rattle.sat_budget.specs.declared.limits.Reason.{Reason as BudgetReason}
 use Rattle.sat_budget.specs.declared.limits.Reason.TheVariants.{Conflicts}
 use Rattle.spec_replies.specs.Lines.{Reason, conflicts}

@@ -123,7 +123,6 @@ fn write_reason<'a, K: Sink>(
 /// Writes why a check was answered `unknown`, as `(conflicts 10)`, with no line feed.
 ///
 /// It takes no memory. `Failed` comes only where the sink's count of faults rose in this call; a front was then appended.
-/// Source: own.
 pub fn reason<K: Sink>(r: &Reason, out: &mut K) -> Result<(), Failed>
     ensures sends { Sends (reason_text (reason_meant r.now)) result (K.written out.old) (K.written out.new) (K.faults out.old) (K.faults out.new) }
     ensures room { SendsWithin (reason_text (reason_meant r.now)) result (K.has_room out.old) (K.has_room out.new) }
@@ -134,7 +133,6 @@ pub fn reason<K: Sink>(r: &Reason, out: &mut K) -> Result<(), Failed>
 /// Writes why a check was answered `unknown`, on a line of its own.
 ///
 /// It takes no memory. `Failed` comes only where the sink's count of faults rose in this call; a front was then appended.
-/// Source: own.
 pub fn reason_line<K: Sink>(r: &Reason, out: &mut K) -> Result<(), Failed>
     ensures sends { Sends (reason_line (reason_meant r.now)) result (K.written out.old) (K.written out.new) (K.faults out.old) (K.faults out.new) }
     ensures room { SendsWithin (reason_line (reason_meant r.now)) result (K.has_room out.old) (K.has_room out.new) }

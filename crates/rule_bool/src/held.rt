@@ -11,7 +11,7 @@ use term_core::Lit;
 
 /// Holds literals, each once, in the order in which they were added.
 ///
-/// Contracts see it as the list. Source: own.
+/// Contracts see it as the list.
 #[derive(Drop)]
 pub struct Held {
     literals: IndexSet<Lit>,
@@ -28,8 +28,6 @@ impl Model for Held {
 
 impl Held {
     /// Makes the set of no literals, which takes no memory before the first of them.
-    ///
-    /// Source: own.
     pub fn new(alloc: Global) -> Held
         ensures { result ≡ [] }
     {
@@ -39,8 +37,6 @@ impl Held {
     }
 
     /// Counts the literals. It takes no memory.
-    ///
-    /// Source: own.
     pub fn len(&self) -> usize
         ensures { result ≡ length self.now }
     {
@@ -48,8 +44,6 @@ impl Held {
     }
 
     /// Gives the literal that was added after so many others. It takes no memory.
-    ///
-    /// Source: own.
     pub fn at(&self, index: usize) -> Lit
         requires { index < length self.now }
         ensures { result ≡ slice_index_or self.now index result }
@@ -58,8 +52,6 @@ impl Held {
     }
 
     /// Tells whether a literal holds. It takes no memory.
-    ///
-    /// Source: own.
     pub fn contains(&self, l: Lit) -> bool
         ensures { MatchBool result (Contains self.now l) (Contains self.now l → ⊥) }
     {
@@ -68,7 +60,7 @@ impl Held {
 
     /// Adds a literal as the last, unless it holds.
     ///
-    /// `AllocError` comes where a new literal finds no memory. Source: own.
+    /// `AllocError` comes where a new literal finds no memory.
     pub fn add(&mut self, l: Lit) -> Result<(), AllocError>
         ensures { OnOk result (AddsLast self.old l self.new) }
     {
@@ -79,8 +71,6 @@ impl Held {
     }
 
     /// Takes away all literals but the first `len`. It takes no memory.
-    ///
-    /// Source: own.
     pub fn truncate(&mut self, len: usize)
         ensures { self.new ≡ take len self.old }
     {

@@ -6,8 +6,6 @@ ghost use Rattle.rule_bool.specs.Literals.{lit_complement};
 use term_core::Lit;
 
 /// Gives the literal with the other sign.
-///
-/// Source: own.
 pub fn negated(l: Lit) -> Lit
     ensures { result ≡ lit_complement l }
 {
@@ -18,8 +16,6 @@ pub fn negated(l: Lit) -> Lit
 }
 
 /// Tells whether two literals are one.
-///
-/// Source: own.
 pub fn same(a: Lit, b: Lit) -> bool
     ensures { MatchBool result (a ≡ b) (a ≢ b) }
 {

@@ -46,8 +46,6 @@ fn found_with(found: Finding, m: Lit, held: &Held) -> Finding
 }
 
 /// Looks at a clause under the literals that hold. It takes no memory, and time in proportion to the clause.
-///
-/// Source: own.
 pub fn look(clause: &[Lit], held: &Held) -> Finding
     ensures { Finds held.now clause.now result }
 {

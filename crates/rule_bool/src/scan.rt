@@ -51,7 +51,7 @@ pub(crate) fn pass_over(premises: &[Vec<Lit>], held: &mut Held) -> Result<Pass, 
 
 /// Tells the same as `resolves`, by passes over the premises until nothing changes.
 ///
-/// A chain in a bad order takes as many passes as it has steps. Out of memory is the one error. Source: own.
+/// A chain in a bad order takes as many passes as it has steps. Out of memory is the one error.
 pub(crate) fn resolves_by_scan(
     alloc: Global,
     premises: &[Vec<Lit>],

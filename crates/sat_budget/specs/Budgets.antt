@@ -1,4 +1,4 @@
--- What a budget holds, and what comes of a conflict. Source: own.
+-- What a budget holds, and what comes of a conflict.
 use Rattle.std.specs.Prelude.{◌≡◌, ℕ, ◌<◌, ◌++◌, List, [], ◌∷◌, length, map, Vec, Result, Ok, Err}
 use Rattle.std.specs.declared.alloc.Global.{Global}
 use Rattle.term_core.specs.declared.ids.Lit.{Lit}

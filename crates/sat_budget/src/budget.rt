@@ -11,7 +11,7 @@ use world_io::NoMemory;
 
 /// Holds the limit on the conflicts of one check, and the clauses that it has learned, oldest first.
 ///
-/// Each conflict that is learned from is a clause here, so that what is spent can be seen. Source: own.
+/// Each conflict that is learned from is a clause here, so that what is spent can be seen.
 #[derive(Drop)]
 pub struct Budget {
     alloc: Global,
@@ -33,7 +33,7 @@ impl Model for Budget {
 impl Budget {
     /// Makes the budget of a new check, which has learned nothing.
     ///
-    /// `NoMemory` never comes, as an empty list of clauses takes no memory. Source: own.
+    /// `NoMemory` never comes, as an empty list of clauses takes no memory.
     pub fn new(alloc: Global, limits: &Limits) -> Result<Budget, NoMemory>
         ensures { MatchResult result (λ b. b ≡ record { limit = limits.now.conflicts; learned = [] }) (λ _. ⊥) }
     {
@@ -47,7 +47,7 @@ impl Budget {
     /// Puts a learned clause last, by a copy of its literals.
     ///
     /// `Spent` comes exactly where as many clauses were learned as the limit allows, and says that number; `Memory` where the
-    /// copy or its place find no memory before that. After both the budget is as it was. Source: own.
+    /// copy or its place find no memory before that. After both the budget is as it was.
     pub fn learnt(&mut self, clause: &[Lit]) -> Result<(), BudgetStop>
         ensures { Learns self.old clause.now result self.new }
     {
@@ -60,8 +60,6 @@ impl Budget {
     }
 
     /// Counts the learned clauses. It takes no memory.
-    ///
-    /// Source: own.
     pub fn learnt_len(&self) -> u64
         ensures { result ≡ length self.now.learned }
     {
@@ -69,8 +67,6 @@ impl Budget {
     }
 
     /// Lends a learned clause by its number, from 0 for the oldest. It takes no memory.
-    ///
-    /// Source: own.
     pub fn clause(&self, n: u64) -> &[Lit]
         requires { n < length self.now.learned }
         ensures { result.now ≡ slice_index_or self.now.learned n [] }
@@ -80,7 +76,7 @@ impl Budget {
 
     /// Makes a copy, which is spent as far.
     ///
-    /// `NoMemory` comes where a clause or its place find no memory. Source: own.
+    /// `NoMemory` comes where a clause or its place find no memory.
     pub fn copy(&self) -> Result<Budget, NoMemory>
         ensures { IfOk result (λ b. b ≡ self.now) }
     {
@@ -96,8 +92,6 @@ impl Budget {
     }
 
     /// States that no more clauses are learned than the limit allows.
-    ///
-    /// Source: own.
     pub fn is_within(&self)
         ensures { length self.now.learned ≤ self.now.limit }
     {

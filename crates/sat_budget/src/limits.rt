@@ -31,8 +31,6 @@ pub enum Reason {
 }
 
 /// Says why a clause is not learned.
-///
-/// Source: own.
 #[derive(Clone, Copy, Debug, PartialEq, Eq, Error)]
 pub enum BudgetStop {
     /// The limit, this number of clauses, is reached.

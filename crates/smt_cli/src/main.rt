@@ -12,8 +12,6 @@ use std::rt::{Env, Files};
 use world_io::{Gathered, HostShelf, HostSink};
 
 /// Ends with the status of the run: 0 to 5.
-///
-/// Source: own.
 fn main(rt: HostRuntime) -> ExitCode {
     ExitCode::from(status_of(&rt).code())
 }
@@ -21,7 +19,7 @@ fn main(rt: HostRuntime) -> ExitCode {
 /// Runs the words that the program was given.
 ///
 /// Words that are not UTF-8, or that cannot be had as a whole, are as no words; where memory for them or for the buffer is
-/// wanting the answer is `Memory`. Source: own.
+/// wanting the answer is `Memory`.
 fn status_of<R: Files + Input + Print + Env + AllocGlobal>(rt: &R) -> Status {
     let mut shelf = HostShelf::new(rt);
     let Ok(mut out) = Gathered::new(rt.alloc(), HostSink::new(rt)) else {
@@ -35,8 +33,6 @@ fn status_of<R: Files + Input + Print + Env + AllocGlobal>(rt: &R) -> Status {
 }
 
 /// Says why the words were not had.
-///
-/// Source: own.
 #[derive(Clone, Copy, Debug, PartialEq, Eq)]
 enum Unread {
     /// One is not UTF-8, or they cannot be had as a whole.
@@ -46,8 +42,6 @@ enum Unread {
 }
 
 /// Collects the words of the program, its name first.
-///
-/// Source: own.
 fn words_of<R: Env + AllocGlobal>(rt: &R) -> Result<Vec<String>, Unread> {
     match env::args(rt) {
         Ok(args) => args.collect(rt.alloc()).map_err(|_| Unread::Memory),

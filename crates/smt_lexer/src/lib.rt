@@ -24,7 +24,7 @@ pub use places::{place_after, place_at, start};
 pub use spec_text::{Fault, Kind, Place};
 pub use words::{bars_of, is_bare, is_one_of};
 
-/// A fault with its place. Source: own.
+/// A fault with its place.
 #[derive(Clone, Copy, Debug, PartialEq, Eq)]
 pub struct Refusal {
     /// Where the fault stands: of a byte that may not stand there its own place, of a string or quoted symbol that does
@@ -34,7 +34,7 @@ pub struct Refusal {
     pub fault: Fault,
 }
 
-/// Why reading stopped. Source: own.
+/// Why reading stopped.
 #[derive(Debug, Drop, Error, PartialEq, Eq)]
 pub enum Refused {
     /// The text has a fault: which one, and where.
@@ -79,11 +79,11 @@ pub enum TokenKind<'a> {
     /// A word by its kind, and its bytes as written, but without quotes, bars or colon. Two quotes inside a string are
     /// both there.
     Word(Kind, &'a [u8]),
-    /// The end of the text. Source: own.
+    /// The end of the text.
     End,
 }
 
-/// A token with the place of its first byte. Source: own.
+/// A token with the place of its first byte.
 #[derive(Clone, Copy, Debug)]
 pub struct Token<'a> {
     /// The place of its first byte, be it a quote, a bar or a colon; of `End`, the end of the text.

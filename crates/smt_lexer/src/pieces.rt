@@ -81,7 +81,7 @@ fn head_of(b: u8) -> Head
     }
 }
 
-/// Gives a fault behind so many bytes. Source: own.
+/// Gives a fault behind so many bytes.
 fn fault_at<'a>(fault: Fault, size: usize) -> Found<'a>
     ensures within { (n : ℕ) → size ≤ n → IsWithin result.what result.size n }
     ensures piece { piece_of result ≡ lexicon.piece (lexicon.wrong fault) size }

@@ -6,7 +6,6 @@ ghost use Rattle.spec_text.specs.Places.{IsPlaceOf};
 use spec_text::Place;
 
 /// Gives the place of the first byte: offset 0, line 1 and column 1. It is one of every text, also of the empty one.
-/// Source: own.
 pub fn start() -> Place
     ensures offset { result.offset ≡ 0 }
     ensures place { (text : List ℕ) → IsPlaceOf text result }
@@ -18,7 +17,7 @@ pub fn start() -> Place
     }
 }
 
-/// Gives the place one byte further. Source: own.
+/// Gives the place one byte further.
 fn one_further(bytes: &[u8], place: Place) -> Place
     requires place { IsPlaceOf bytes.now place }
     requires within { place.offset < length bytes.now }
@@ -41,7 +40,7 @@ fn one_further(bytes: &[u8], place: Place) -> Place
 }
 
 /// Gives the place so many bytes behind a place of the bytes, which is a byte's or the end's. It takes time linear in
-/// the number of bytes between them. Source: own.
+/// the number of bytes between them.
 pub fn place_after(bytes: &[u8], from: Place, distance: usize) -> Place
     requires place { IsPlaceOf bytes.now from }
     requires within { from.offset + distance ≤ length bytes.now }
@@ -57,7 +56,7 @@ pub fn place_after(bytes: &[u8], from: Place, distance: usize) -> Place
 }
 
 /// Gives the place of an offset of the bytes, from 0 up to their number, which is that of their end. It takes time
-/// linear in the offset. Source: own.
+/// linear in the offset.
 pub fn place_at(bytes: &[u8], offset: usize) -> Place
     requires { offset ≤ length bytes.now }
     ensures place { IsPlaceOf bytes.now result }

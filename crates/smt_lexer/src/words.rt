@@ -54,7 +54,7 @@ const RESERVED: [&[u8]; 43] = [
     b"set-option",
 ];
 
-/// Says whether a name is one of these words, byte by byte; of no words none is. Source: own.
+/// Says whether a name is one of these words, byte by byte; of no words none is.
 pub fn is_one_of(words: &[&[u8]], name: &[u8]) -> bool
     ensures { result ≡ among (texts_of words.now) name.now }
 {

@@ -1,4 +1,4 @@
--- How the run of a script's text ends. Source: own.
+-- How the run of a script's text ends.
 use Rattle.std.specs.Prelude.{◌≡◌, ℕ, Bool, true, false, List}
 use Rattle.std.specs.Io.KnownBytes.{Appends}
 use Rattle.world_io.specs.Outside.{Rose, AppendsFront}

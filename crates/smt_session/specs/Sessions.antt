@@ -1,4 +1,4 @@
--- Sessions: what one stands for, and what a command comes to. Source: SMT-LIB 2.6, section 4.2; own.
+-- Sessions: what one stands for, and what a command comes to. Source: SMT-LIB 2.6, section 4.2.
 use Rattle.std.specs.Prelude.{◌≡◌, ℕ, List, map, Option, Result, Ok, Err, IsErr}
 use Rattle.std.specs.Io.KnownBytes.{Appends}
 use Rattle.world_io.specs.Outside.{Rose, AppendsFront}

@@ -63,7 +63,7 @@ fn evidence_of(
 
 /// Checks what is asserted, and keeps what was learned in the budget.
 ///
-/// `NoMemory` comes where memory ran out; script and budget are then as they were. Source: own.
+/// `NoMemory` comes where memory ran out; script and budget are then as they were.
 pub(crate) fn check(
     alloc: Global,
     script: &mut Script,

@@ -1,8 +1,6 @@
 //! How much a run writes.
 
 /// How much is written for a check.
-///
-/// Source: own.
 #[derive(Clone, Copy, Debug, PartialEq, Eq)]
 pub enum Mode {
     /// The standard's responses alone.

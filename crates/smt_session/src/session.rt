@@ -18,8 +18,6 @@ use std::marker::Model;
 use world_io::{Failed, NoMemory, Sink};
 
 /// Tells what comes after a command.
-///
-/// Source: own.
 #[derive(Clone, Copy, Debug, PartialEq, Eq)]
 pub enum After {
     /// It was taken; the session goes on.
@@ -31,8 +29,6 @@ pub enum After {
 }
 
 /// Tells why a step came to no end.
-///
-/// Source: own.
 #[derive(Clone, Copy, Debug, PartialEq, Eq)]
 pub enum Halt {
     /// Memory was wanting: the session is as before the command, and nothing was written.
@@ -82,7 +78,7 @@ impl Session {
     /// Makes a session that has stated nothing.
     ///
     /// `limits` are those of each check, but `terms`: how many constants may be declared, and how many different subterms
-    /// a command may have. `NoMemory` comes where memory ran out. Source: own.
+    /// a command may have. `NoMemory` comes where memory ran out.
     pub fn new(alloc: Global, limits: &Limits, mode: Mode) -> Result<Session, NoMemory>
         ensures { IfOk result (λ x. IsSession x empty_stack × (x.limits ≡ limits.now) × (x.mode ≡ mode) × (x.budget.learned ≡ [])) }
     {
@@ -99,8 +95,6 @@ impl Session {
 
     /// Gives the budget of the last check that was answered, with the clauses that it learned, whatever the answer was; before the
     /// first one there are none. It takes no memory.
-    ///
-    /// Source: own.
     pub fn budget(&self) -> &Budget
         ensures { result.now ≡ self.now.budget }
     {

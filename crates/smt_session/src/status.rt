@@ -4,8 +4,6 @@ ghost use Rattle.std.specs.Prelude.{◌≡◌};
 ghost use Rattle.smt_session.specs.Runs.{code_of};
 
 /// Tells how a run ended.
-///
-/// Source: own.
 #[derive(Clone, Copy, Debug, PartialEq, Eq)]
 pub enum Status {
     /// The input was read to its end, or to `exit`, and nothing was refused; of a proof that is judged, it is accepted.
@@ -25,8 +23,6 @@ pub enum Status {
 
 impl Status {
     /// Gives the number that the program ends with, from 0 to 5.
-    ///
-    /// Source: own.
     pub fn code(self) -> u8
         ensures { result ≡ code_of self }
     {

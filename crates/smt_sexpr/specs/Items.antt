@@ -1,4 +1,4 @@
--- What an s-expression, and a list of items, are in the words of trees. Source: own.
+-- What an s-expression, and a list of items, are in the words of trees.
 use Rattle.std.specs.Prelude.{ℕ, ◌+◌, ◌<◌, ◌≤◌, min, List, [], ◌∷◌, length, Option, Some, None, ⊤}
 use Rattle.std.specs.Borrow.{Bor}
 use Rattle.spec_text.specs.Trees.{Tree, Trees, atom, list, none, more}

@@ -1,4 +1,4 @@
--- The trees that a flat list of items means, and the items of trees. Source: own.
+-- The trees that a flat list of items means, and the items of trees.
 use Rattle.std.specs.Prelude.{◌≡◌, ℕ, zero, suc, ◌+◌, List, [], ◌∷◌, ◌++◌, length, take, drop}
 use Rattle.spec_text.specs.declared.Kind.{Kind}
 use Rattle.spec_text.specs.declared.Kind.TheVariants.{Numeral, Text, Quoted, Keyword}

@@ -1,4 +1,4 @@
--- What is written of each token of an s-expression. Source: own.
+-- What is written of each token of an s-expression.
 use Rattle.std.specs.Prelude.{◌≡◌, ◌<◌, ◌⊎◌, ℕ, Option, Some, None, Bool, true, false, List, [], ◌∷◌, ◌++◌, if◌then◌else◌}
 use Rattle.spec_text.specs.declared.Place.{Place}
 use Rattle.spec_text.specs.declared.Fault.{Fault}

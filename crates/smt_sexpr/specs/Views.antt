@@ -1,4 +1,4 @@
--- What the values that looking into items returns mean. Source: own.
+-- What the values that looking into items returns mean.
 use Rattle.std.specs.Prelude.{ℕ, List}
 use Rattle.std.specs.Borrow.{Bor}
 use Rattle.spec_text.specs.Trees.{Tree, Trees}

@@ -8,7 +8,6 @@ ghost use Rattle.smt_sexpr.specs.Items.{split_first, two, seen, count_first, IsS
 use smt_lexer::Kind;
 
 /// An item of a flat list: an atom, or a list with as many items behind it as it counts. Offsets and sizes are in bytes.
-/// Source: own.
 #[derive(Clone, Copy, Debug, PartialEq, Eq)]
 pub enum Item {
     /// The kind, the offset of the first byte, and the number of bytes without quotes, bars or colon.
@@ -17,7 +16,7 @@ pub enum Item {
     List(u32, u32, u32),
 }
 
-/// A tree at the front of a list of items. Source: own.
+/// A tree at the front of a list of items.
 #[derive(Clone, Copy, Debug)]
 pub enum View<'a> {
     /// An atom's offset, kind and own bytes.
@@ -42,7 +41,6 @@ fn first_len(items: &[Item]) -> usize
 }
 
 /// Splits items behind the first tree: that tree's items, and those of the trees behind it; `None` where there is no item.
-/// Source: own.
 pub fn split(items: &[Item]) -> Option<(&[Item], &[Item])>
     ensures first { (text : List ℕ) → option_map (two text) result ≡ split_first (trees_in text items.now) }
     ensures alone { (text : List ℕ) → IfSome result (λ x. trees_in text x.0.now ≡ more (tree_in text x.0.now) none) }
@@ -85,7 +83,7 @@ fn word_bytes(text: &[u8], kind: Kind, at: u32, size: u32) -> &[u8]
 }
 
 /// Looks at the first tree: an atom, or a list with the items in it. Where there is no item it gives the numeral at offset 0
-/// that has no bytes, which no text has. Source: own.
+/// that has no bytes, which no text has.
 pub fn look<'a>(text: &'a [u8], items: &'a [Item]) -> View<'a>
     ensures seen { seen text.now result ≡ tree_in text.now items.now }
     ensures less { IsShorter result (length items.now) }

@@ -29,21 +29,21 @@ impl<'a> Sexpr<'a> {
     ghost use Rattle.spec_text.specs.Offsets.{AllOffsets};
     ghost use Rattle.smt_sexpr.specs.Items.{text_of, items_of, start_of, tree_of};
 
-    /// Lends the whole text that it was read from. Source: own.
+    /// Lends the whole text that it was read from.
     pub fn text(&self) -> &'a [u8]
         ensures { result.now ≡ text_of self.now }
     {
         self.text
     }
 
-    /// Lends its items, which mean the one tree that it is. Source: own.
+    /// Lends its items, which mean the one tree that it is.
     pub fn items(&self) -> &[Item]
         ensures { result.now ≡ items_of self.now }
     {
         self.items.as_slice()
     }
 
-    /// Gives the place of its first byte. Source: own.
+    /// Gives the place of its first byte.
     pub fn start(&self) -> Place
         ensures place { IsPlaceOf (text_of self.now) result }
         ensures offset { result.offset ≡ start_of self.now }
@@ -52,7 +52,7 @@ impl<'a> Sexpr<'a> {
     }
 
     /// Gives the place of an offset of the text, from its first byte on up to the end of the text. It takes time linear in
-    /// the number of bytes between them. Source: own.
+    /// the number of bytes between them.
     pub fn place(&self, offset: u64) -> Place
         requires behind { start_of self.now ≤ offset }
         requires within { offset ≤ length (text_of self.now) }
@@ -63,7 +63,7 @@ impl<'a> Sexpr<'a> {
     }
 
     /// States that each offset of its tree lies in the text, from its own first byte on, and so has a place. It computes
-    /// nothing. Source: own.
+    /// nothing.
     pub fn offsets_have_places(&self)
         ensures { AllOffsets (λ n. (start_of self.now ≤ n) × (n < length (text_of self.now))) (tree_of self.now) }
     {

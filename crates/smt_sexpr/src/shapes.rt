@@ -21,7 +21,7 @@ pub struct Word<'a> {
     pub bytes: &'a [u8],
 }
 
-/// Tells whether two lists of bytes are equal. Source: own.
+/// Tells whether two lists of bytes are equal.
 pub fn same_bytes(a: &[u8], b: &[u8]) -> bool
     ensures { result ≡ bytes_eq a.now b.now }
 {
@@ -68,7 +68,7 @@ pub fn is_reserved(kind: Kind) -> bool
     }
 }
 
-/// Asks that a test holds: `None` where it does not. Source: own.
+/// Asks that a test holds: `None` where it does not.
 pub fn passes(test: bool) -> Option<()>
     ensures { result ≡ passes test }
 {
@@ -85,7 +85,7 @@ pub fn is_word(name: &[u8], word: Word<'_>) -> bool
     is_symbol(word.kind) && same_bytes(word.bytes, name)
 }
 
-/// Asks for this symbol: `None` where a word is another. Source: own.
+/// Asks for this symbol: `None` where a word is another.
 pub fn want(name: &[u8], word: Word<'_>) -> Option<()>
     ensures { result ≡ wanted name.now (word_view word.entry) }
 {
@@ -95,7 +95,7 @@ pub fn want(name: &[u8], word: Word<'_>) -> Option<()>
     None
 }
 
-/// Asks for this keyword, whose name stands without its colon: `None` where a word is another. Source: own.
+/// Asks for this keyword, whose name stands without its colon: `None` where a word is another.
 pub fn want_keyword(name: &[u8], word: Word<'_>) -> Option<()>
     ensures { result ≡ wanted_keyword name.now (word_view word.entry) }
 {
@@ -106,7 +106,6 @@ pub fn want_keyword(name: &[u8], word: Word<'_>) -> Option<()>
 }
 
 /// Takes the atom in front, and gives the items behind it too: `None` where there is no item, or a list in front.
-/// Source: own.
 pub fn word_first<'a>(text: &'a [u8], items: &'a [Item]) -> Option<(Word<'a>, &'a [Item])>
     ensures gives { option_map (word_rest text.now) result ≡ first_word (trees_in text.now items.now) }
     ensures less { IfSome result (λ x. length x.1.now < length items.now) }
@@ -126,7 +125,7 @@ pub fn word_first<'a>(text: &'a [u8], items: &'a [Item]) -> Option<(Word<'a>, &'
 }
 
 /// Takes the list in front, and gives the items in it and those behind it: `None` where there is no item, or an atom in
-/// front. Source: own.
+/// front.
 pub fn list_first<'a>(text: &'a [u8], items: &'a [Item]) -> Option<(&'a [Item], &'a [Item])>
     ensures gives { option_map (list_rest text.now) result ≡ first_list (trees_in text.now items.now) }
     ensures inside { IfSome result (λ x. length x.0.now < length items.now) }
@@ -139,7 +138,7 @@ pub fn list_first<'a>(text: &'a [u8], items: &'a [Item]) -> Option<(&'a [Item], 
     }
 }
 
-/// Gives the items of the one tree that there is: `None` where there is none, or more than one. Source: own.
+/// Gives the items of the one tree that there is: `None` where there is none, or more than one.
 pub fn tree_alone(items: &[Item]) -> Option<&[Item]>
     ensures gives { (text : List ℕ) → option_map (tree_view text) result ≡ only_tree (trees_in text items.now) }
     ensures less { IfSome result (λ x. length x.now ≤ length items.now) }
@@ -151,7 +150,7 @@ pub fn tree_alone(items: &[Item]) -> Option<&[Item]>
     }
 }
 
-/// Asks that there is nothing more: `None` where there is an item. Source: own.
+/// Asks that there is nothing more: `None` where there is an item.
 pub fn want_end(items: &[Item]) -> Option<()>
     ensures { (text : List ℕ) → result ≡ no_tree (trees_in text items.now) }
 {
@@ -162,7 +161,6 @@ pub fn want_end(items: &[Item]) -> Option<()>
 }
 
 /// Gives the offset of the list in front and the items in it: `None` where there is no item, or an atom in front.
-/// Source: own.
 pub fn list_inside<'a>(text: &'a [u8], items: &'a [Item]) -> Option<(u64, &'a [Item])>
     ensures gives { option_map (inside_view text.now) result ≡ inside_of (tree_in text.now items.now) }
     ensures inside { IfSome result (λ x. length x.1.now < length items.now) }
@@ -173,7 +171,7 @@ pub fn list_inside<'a>(text: &'a [u8], items: &'a [Item]) -> Option<(u64, &'a [I
     }
 }
 
-/// Gives the offset of the first byte of the tree in front; 0 where there is no item. Source: own.
+/// Gives the offset of the first byte of the tree in front; 0 where there is no item.
 pub fn offset(items: &[Item]) -> u64
     ensures { (text : List ℕ) → result ≡ offset_of (tree_in text items.now) }
 {

@@ -1,4 +1,4 @@
--- What the parts of a run promise. Source: own.
+-- What the parts of a run promise.
 use Rattle.std.specs.Prelude.{◌≡◌, ℕ, List, Option, Some, None, Result, Ok, Err, ⊤}
 use Rattle.std.specs.Io.KnownBytes.{Appends, Keeps}
 use Rattle.world_io.specs.Outside.{Rose, AppendsFront}

@@ -1,4 +1,4 @@
--- How a run ends: what it was given, what it judged, and what it wrote. Source: own.
+-- How a run ends: what it was given, what it judged, and what it wrote.
 use Rattle.std.specs.Prelude.{◌≡◌, ℕ, Bool, true, false, List, Option, Some, None, IsSome, IfSome, ⊤, ◌⊎◌}
 use Rattle.std.specs.Io.KnownBytes.{Appends, Keeps}
 use Rattle.world_io.specs.Outside.{Rose, TakesFront, AppendsFront}

@@ -1,4 +1,4 @@
--- A run from memory to memory. Source: own.
+-- A run from memory to memory.
 use Rattle.std.specs.Prelude.{◌≡◌, ℕ, ◌≤◌, true, false, List, ◌++◌, length, take, Option, Some, None, ◌⊎◌}
 use Rattle.world_io.specs.Memory.{Text, text_named}
 use Rattle.spec_proofs.specs.Faults.{Fault}

@@ -1,4 +1,4 @@
--- What a run writes. Source: own.
+-- What a run writes.
 use Rattle.std.specs.Prelude.{ℕ, List, codes, Option, Some, None}
 use Rattle.spec_text.specs.Places.{line_of, column_of}
 use Rattle.spec_proofs.specs.Faults.{Fault, fault_name}

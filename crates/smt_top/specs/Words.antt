@@ -1,4 +1,4 @@
--- The words of a run. Source: own.
+-- The words of a run.
 use Rattle.std.specs.Prelude.{◌≡◌, ℕ, ◌≤◌, true, ◌&&◌, List, [], ◌∷◌, map, codes, decimal, Option, Some, None, option_map, option_and_then, unwrap_or, String, string_bytes, nat_le, if◌then◌else◌}
 use Rattle.std.specs.Str.{bytes_eq}
 use Rattle.std.specs.Str.Parse.{digits_value}

@@ -13,7 +13,7 @@ use world_io::{Gathered, Shelf, Sink};
 /// Runs the program as `run` does, through a buffer in front of a sink, and at the end hands on what waits in the buffer.
 ///
 /// The statuses are those of `run`; where what waits at the end cannot be handed on, it is `WriteFault`. After `Done`, `Refused` and
-/// `Words` nothing waits: the sink has got all that was written. Source: own.
+/// `Words` nothing waits: the sink has got all that was written.
 pub fn run_buffered<F: Shelf, K: Sink + Drop>(
     alloc: Global,
     words: &[String],

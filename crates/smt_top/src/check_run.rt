@@ -23,7 +23,7 @@ const MOST_TERMS: u64 = 1 << 24;
 /// Judges the proof of a request against its script, and writes the verdict.
 ///
 /// Both texts are read, the script first, before anything is judged. Of each text the first 2^26 bytes are judged: a check
-/// behind them is not there, and a proof that goes on behind them has a fault. Source: own.
+/// behind them is not there, and a proof that goes on behind them has a fault.
 fn run_check<F: Shelf, K: Sink>(
     alloc: Global,
     request: CheckRequest<'_>,
@@ -47,8 +47,6 @@ fn run_check<F: Shelf, K: Sink>(
 }
 
 /// Runs the script of a request: its text is read to its end, and then each command is taken and its response written.
-///
-/// Source: own.
 fn run_script<F: Shelf, K: Sink>(
     alloc: Global,
     request: RunRequest<'_>,
@@ -104,7 +102,7 @@ fn run_usage<K: Sink>(out: &mut K) -> Status
 ///
 /// `Done` and `Refused` tell of a script whether something in it was refused, of a proof whether it is accepted. `Memory`
 /// comes where an allocation was refused, `ReadFault` where the shelf failed, `WriteFault` where the sink failed: what was
-/// written is then a front of what was to be written for the commands that were run, or of the line. Source: own.
+/// written is then a front of what was to be written for the commands that were run, or of the line.
 pub fn run<F: Shelf, K: Sink>(alloc: Global, words: &[String], shelf: &mut F, out: &mut K) -> Status
     ensures ends { Ends result (asked words.now) (F.holds shelf.old)
         (record { old = F.faults shelf.old; new = F.faults shelf.new })

@@ -15,7 +15,7 @@ use world_io::{MemShelf, MemSink};
 
 /// Runs from memory to memory.
 ///
-/// The statuses are those of `run`. Source: own.
+/// The statuses are those of `run`.
 pub fn run_in_memory(
     alloc: Global,
     words: &[String],

@@ -21,7 +21,7 @@ const VALID: &[u8] = b"valid\n";
 
 /// Writes bytes, and hands them on. It takes no memory.
 ///
-/// `Failed` comes only where the sink's count of faults rose in this call; a front was then appended. Source: own.
+/// `Failed` comes only where the sink's count of faults rose in this call; a front was then appended.
 fn send<K: Sink>(out: &mut K, bytes: &[u8]) -> Result<(), Failed>
     ensures sends { SendsLine (record { old = K.written out.old; new = K.written out.new; faults_old = K.faults out.old; faults_new = K.faults out.new }) bytes.now result }
     ensures count { K.faults out.old ≤ K.faults out.new }
@@ -33,7 +33,7 @@ fn send<K: Sink>(out: &mut K, bytes: &[u8]) -> Result<(), Failed>
 
 /// Writes how the words are to be, and hands it on. It takes no memory.
 ///
-/// `Failed` comes only where the sink's count of faults rose in this call; a front was then appended. Source: own.
+/// `Failed` comes only where the sink's count of faults rose in this call; a front was then appended.
 pub(crate) fn write_usage<K: Sink>(out: &mut K) -> Result<(), Failed>
     ensures sends { SendsLine (record { old = K.written out.old; new = K.written out.new; faults_old = K.faults out.old; faults_new = K.faults out.new }) usage result }
     ensures count { K.faults out.old ≤ K.faults out.new }
@@ -44,7 +44,7 @@ pub(crate) fn write_usage<K: Sink>(out: &mut K) -> Result<(), Failed>
 
 /// Writes that the proof is accepted, and hands it on. It takes no memory.
 ///
-/// `Failed` comes only where the sink's count of faults rose in this call; a front was then appended. Source: own.
+/// `Failed` comes only where the sink's count of faults rose in this call; a front was then appended.
 pub(crate) fn write_valid<K: Sink>(out: &mut K) -> Result<(), Failed>
     ensures sends { SendsLine (record { old = K.written out.old; new = K.written out.new; faults_old = K.faults out.old; faults_new = K.faults out.new }) valid result }
     ensures count { K.faults out.old ≤ K.faults out.new }
@@ -55,7 +55,7 @@ pub(crate) fn write_valid<K: Sink>(out: &mut K) -> Result<(), Failed>
 
 /// Writes a fault of a proof with its line and column, both from 1, in decimal, and hands it on. It takes no memory.
 ///
-/// `Failed` comes only where the sink's count of faults rose in this call; a front was then appended. Source: own.
+/// `Failed` comes only where the sink's count of faults rose in this call; a front was then appended.
 pub(crate) fn write_fault<K: Sink>(out: &mut K, fault: ProofFault) -> Result<(), Failed>
     ensures sends { SendsLine (record { old = K.written out.old; new = K.written out.new; faults_old = K.faults out.old; faults_new = K.faults out.new }) (error_text fault.place.line fault.place.col (fault_name fault.kind)) result }
     ensures count { K.faults out.old ≤ K.faults out.new }

@@ -13,8 +13,6 @@ use world_io::{Bytes, ReadEnd, ReadStop, Shelf, read_all};
 const FRONT: u64 = (1 << 26) + 1;
 
 /// Holds the fronts of the two texts of a run.
-///
-/// Source: own.
 #[derive(Drop)]
 pub(crate) struct Texts {
     /// The script.
@@ -24,8 +22,6 @@ pub(crate) struct Texts {
 }
 
 /// Gives the bytes that were read, whether there are more or not.
-///
-/// Source: own.
 fn bytes_of(end: ReadEnd) -> Bytes
     ensures { (text : List ℕ) → IsReadTo (text_limit + 1) end text → result ≡ front text }
 {
@@ -37,7 +33,6 @@ fn bytes_of(end: ReadEnd) -> Bytes
 /// Reads the front of a name's text.
 ///
 /// `Failed` comes only where the shelf's count of faults rose in this call, `Memory` where an allocation was refused.
-/// Source: own.
 pub(crate) fn read_text<F: Shelf>(
     alloc: Global,
     shelf: &mut F,
@@ -59,7 +54,6 @@ pub(crate) fn read_text<F: Shelf>(
 /// Reads the fronts of the texts of both names, the script's first.
 ///
 /// `Failed` comes only where the shelf's count of faults rose in this call, `Memory` where an allocation was refused.
-/// Source: own.
 pub(crate) fn read_both<F: Shelf>(
     alloc: Global,
     shelf: &mut F,

@@ -14,7 +14,7 @@ use world_io::Sink;
 
 /// Judges a proof against the `at`-th check of a script, counted from 1, by the fronts of their texts.
 ///
-/// `Fault` has the first fault of the proof. `Memory` comes where an allocation was refused. Source: own.
+/// `Fault` has the first fault of the proof. `Memory` comes where an allocation was refused.
 pub(crate) fn judge(alloc: Global, texts: &Texts, at: u64) -> Result<(), ProofStop>
     ensures { (script proof : List ℕ) → texts.now.script ≡ front script → texts.now.proof ≡ front proof → Judges script at proof result }
 {
@@ -26,7 +26,7 @@ pub(crate) fn judge(alloc: Global, texts: &Texts, at: u64) -> Result<(), ProofSt
 
 /// Writes a verdict, and tells how the run ends by it.
 ///
-/// Where memory was wanting nothing is written. Source: own.
+/// Where memory was wanting nothing is written.
 pub(crate) fn report<K: Sink>(verdict: Result<(), ProofStop>, out: &mut K) -> Status
     ensures reports { (script : List ℕ) (at : ℕ) (proof : List ℕ) → Judges script at proof verdict → Reports result script at proof (record { old = K.written out.old; new = K.written out.new; faults_old = K.faults out.old; faults_new = K.faults out.new }) }
     ensures count { K.faults out.old ≤ K.faults out.new }

@@ -23,8 +23,6 @@ const USUAL_CONFLICTS: u64 = 1_000_000;
 const USUAL_PIVOTS: u64 = 10_000_000;
 
 /// Holds the names of the two texts.
-///
-/// Source: own.
 #[derive(Clone, Copy)]
 pub(crate) struct Names<'a> {
     /// The script's name.
@@ -34,8 +32,6 @@ pub(crate) struct Names<'a> {
 }
 
 /// Holds what the words of `check` ask for.
-///
-/// Source: own.
 #[derive(Clone, Copy)]
 pub(crate) struct CheckRequest<'a> {
     /// The names of the two texts.
@@ -45,8 +41,6 @@ pub(crate) struct CheckRequest<'a> {
 }
 
 /// Holds what the words of `solve` and of `certify` ask for.
-///
-/// Source: own.
 #[derive(Clone, Copy)]
 pub(crate) struct RunRequest<'a> {
     /// How much is written.
@@ -60,8 +54,6 @@ pub(crate) struct RunRequest<'a> {
 }
 
 /// Holds what the words of a run ask for.
-///
-/// Source: own.
 #[derive(Clone, Copy)]
 pub(crate) enum Request<'a> {
     /// A script is to be run.
@@ -71,8 +63,6 @@ pub(crate) enum Request<'a> {
 }
 
 /// Tells why words give no request.
-///
-/// Source: own.
 #[derive(Clone, Copy, Debug, PartialEq, Eq)]
 pub(crate) enum WordsStop {
     /// The words are not those of a run.
@@ -86,7 +76,7 @@ pub(crate) enum WordsStop {
 ///
 /// N and K are from 1 to 1,000,000,000, in decimal digits. Where they are not given, a check may learn from 1,000,000 conflicts and
 /// make 10,000,000 pivots, K is 1, and NAME is empty. `Wrong` comes for all other words. `Memory` comes only where an allocation
-/// was refused, whatever the words are. Source: own.
+/// was refused, whatever the words are.
 pub(crate) fn words_of<'a>(alloc: Global, words: &'a [String]) -> Result<Request<'a>, WordsStop>
     ensures { Asks (asked words.entry.now) result }
 {
@@ -98,8 +88,6 @@ pub(crate) fn words_of<'a>(alloc: Global, words: &'a [String]) -> Result<Request
 }
 
 /// Tells why words give no request, by the fault that was found in them.
-///
-/// Source: own.
 fn stop_of(error: &Error) -> WordsStop
     ensures { (result ≡ WordsStop.Memory) ↔ (kind_of error.now ≡ ErrorKind.OutOfMemory) }
 {
@@ -110,8 +98,6 @@ fn stop_of(error: &Error) -> WordsStop
 }
 
 /// Makes an option of this name, with any word as its value.
-///
-/// Source: own.
 fn option_named<'a>(alloc: Global, id: &'a str) -> Arg<'a>
     ensures rule { rule_of result ≡ option_named id.entry.now }
     ensures own { result.global ≡ false }
@@ -120,8 +106,6 @@ fn option_named<'a>(alloc: Global, id: &'a str) -> Arg<'a>
 }
 
 /// Makes a word that must be there.
-///
-/// Source: own.
 fn needed_word<'a>(alloc: Global, id: &'a str) -> Arg<'a>
     ensures rule { rule_of result ≡ needed_word id.entry.now }
     ensures own { result.global ≡ false }
@@ -131,7 +115,7 @@ fn needed_word<'a>(alloc: Global, id: &'a str) -> Arg<'a>
 
 /// Makes a command that runs a script, `solve` or `certify`.
 ///
-/// `AllocError` comes where an allocation was refused. Source: own.
+/// `AllocError` comes where an allocation was refused.
 fn run_command<'a>(alloc: Global, name: &'a str) -> Result<Command<'a>, AllocError>
     ensures app { IfOk result (λ c. app_of c ≡ run_app name.entry.now) }
     ensures own { IfOk result (λ c. (out-Command c).has_globals ≡ false) }
@@ -144,7 +128,7 @@ fn run_command<'a>(alloc: Global, name: &'a str) -> Result<Command<'a>, AllocErr
 
 /// Makes the command `check`.
 ///
-/// `AllocError` comes where an allocation was refused. Source: own.
+/// `AllocError` comes where an allocation was refused.
 fn check_command<'a>(alloc: Global) -> Result<Command<'a>, AllocError>
     ensures app { IfOk result (λ c. app_of c ≡ check_app) }
     ensures own { IfOk result (λ c. (out-Command c).has_globals ≡ false) }
@@ -156,8 +140,6 @@ fn check_command<'a>(alloc: Global) -> Result<Command<'a>, AllocError>
 }
 
 /// Makes the program's command without those below it.
-///
-/// Source: own.
 fn bare_command<'a>(alloc: Global) -> Command<'a>
     ensures { app_of result ≡ bare_app }
 {
@@ -170,7 +152,7 @@ fn bare_command<'a>(alloc: Global) -> Command<'a>
 
 /// Makes the program's command, with `solve`, `certify` and `check` below it.
 ///
-/// `AllocError` comes where an allocation was refused. Source: own.
+/// `AllocError` comes where an allocation was refused.
 fn whole_command<'a>(alloc: Global) -> Result<Command<'a>, AllocError>
     ensures { IfOk result (λ c. app_of c ≡ smt_app) }
 {
@@ -186,7 +168,7 @@ fn whole_command<'a>(alloc: Global) -> Result<Command<'a>, AllocError>
 /// Reads the words by the program's command.
 ///
 /// An error of the kind `OutOfMemory` comes where an allocation was refused, one of another kind where the words have such
-/// a fault. Source: own.
+/// a fault.
 fn matches_of<'a>(alloc: Global, words: &'a [String]) -> Result<ArgMatches<'a>, Error>
     ensures matches { IfOk result (λ m. subcommand_rows_of m ≡ subcommand_of smt_app (map string_bytes words.entry.now)) }
     ensures kinds { FailsBy (fault_of smt_app (map string_bytes words.entry.now)) result }
@@ -196,8 +178,6 @@ fn matches_of<'a>(alloc: Global, words: &'a [String]) -> Result<ArgMatches<'a>, 
 }
 
 /// Gives what the matches ask for, and `None` where they have no command with all its values.
-///
-/// Source: own.
 fn request_of<'a>(matches: &ArgMatches<'a>) -> Option<Request<'a>>
     ensures { option_map asked_by result ≡ option_and_then asked_in (subcommand_rows_of matches.now) }
 {
@@ -207,8 +187,6 @@ fn request_of<'a>(matches: &ArgMatches<'a>) -> Option<Request<'a>>
 
 /// Gives what a command of this name asks for by its matches, and `None` where it is none of the three, or a value is wanting or
 /// is no number.
-///
-/// Source: own.
 fn request_in<'a>(name: &str, found: &ArgMatches<'a>) -> Option<Request<'a>>
     ensures { option_map asked_by result ≡ asked_in (name.now, rows_of (found_of found.now)) }
 {
@@ -221,8 +199,6 @@ fn request_in<'a>(name: &str, found: &ArgMatches<'a>) -> Option<Request<'a>>
 }
 
 /// Gives what the matches of `solve` or `certify` ask for, and `None` where the value of an option is no number.
-///
-/// Source: own.
 fn run_in<'a>(mode: Mode, found: &ArgMatches<'a>) -> Option<RunRequest<'a>>
     ensures { option_map (λ r. asked_by (Request.Run r)) result ≡ run_in (mode_meant mode) (rows_of (found_of found.now)) }
 {
@@ -237,8 +213,6 @@ fn run_in<'a>(mode: Mode, found: &ArgMatches<'a>) -> Option<RunRequest<'a>>
 
 /// Gives how many conflicts and how many pivots each check may have, by the values of `--conflicts` and `--pivots`, and `None`
 /// where one of them is no number.
-///
-/// Source: own.
 fn budgets_in(found: &ArgMatches<'_>) -> Option<(u64, u64)>
     ensures { option_map (λ b. b.0) result ≡ conflicts_in (rows_of (found_of found.now)) }
 {
@@ -248,8 +222,6 @@ fn budgets_in(found: &ArgMatches<'_>) -> Option<(u64, u64)>
 }
 
 /// Gives what the matches of `check` ask for, and `None` where a name is wanting or the value of `--at` is no number.
-///
-/// Source: own.
 fn check_in<'a>(found: &ArgMatches<'a>) -> Option<CheckRequest<'a>>
     ensures { option_map names_of result ≡ names_in (rows_of (found_of found.now)) }
 {
@@ -263,8 +235,6 @@ fn check_in<'a>(found: &ArgMatches<'a>) -> Option<CheckRequest<'a>>
 }
 
 /// Gives the value of an argument, where it has one.
-///
-/// Source: own.
 fn value_of<'a>(found: &ArgMatches<'a>, id: &str) -> Option<&'a str>
     ensures { option_map (λ s. s.now) result ≡ first_of id.now (rows_of (found_of found.now)) }
 {
@@ -272,8 +242,6 @@ fn value_of<'a>(found: &ArgMatches<'a>, id: &str) -> Option<&'a str>
 }
 
 /// Gives the name that a value is: the empty one where there is no value.
-///
-/// Source: own.
 fn name_or_empty<'a>(value: Option<&'a str>) -> &'a str
     ensures { result.now ≡ unwrap_or (option_map (λ s. s.now) value.entry) [] }
 {
@@ -285,8 +253,6 @@ fn name_or_empty<'a>(value: Option<&'a str>) -> &'a str
 
 /// Gives the number that the value of an option stands for: the usual one where there is no value, and `None` where it is no
 /// number.
-///
-/// Source: own.
 fn number_or(usual: u64, value: Option<&str>) -> Option<u64>
     ensures { result ≡ number_or usual (option_map (λ s. s.now) value.entry) }
 {
@@ -298,8 +264,6 @@ fn number_or(usual: u64, value: Option<&str>) -> Option<u64>
 
 /// Gives the number from 1 to 1,000,000,000 of which a word is the decimal digits, with no sign and no zero before them, and
 /// `None` where there is none.
-///
-/// Source: own.
 fn number_of(word: &str) -> Option<u64>
     ensures value { result ≡ number_of word.now }
     ensures some { IfSome result (IsNumber word.now) }
@@ -316,8 +280,6 @@ fn number_of(word: &str) -> Option<u64>
 }
 
 /// Tells whether a word is this number in decimal digits, and the number is from 1 to 1,000,000,000.
-///
-/// Source: own.
 fn is_decimal_of(word: &str, n: u64) -> bool
     ensures { IsTrue result ↔ IsNumber word.now n }
 {

@@ -1,4 +1,4 @@
--- What a decision shows. Source: own.
+-- What a decision shows.
 use Rattle.std.specs.Prelude.{◌≡◌, ℕ, List}
 use Rattle.spec_terms.specs.Terms.{Term}
 use Rattle.term_core.specs.Tables.{TableView}

@@ -1,4 +1,4 @@
--- What the rounds of a search keep, and what its answers show. Source: own.
+-- What the rounds of a search keep, and what its answers show.
 use Rattle.std.specs.Prelude.{◌≡◌, ◌⊎◌, ◌+◌, ◌<◌, ℕ, true, List, [], ◌∷◌, ◌++◌, length, map, get_or, All, Contains, Option, Result, Ok, Err}
 use Rattle.spec_terms.specs.Terms.{Term}
 use Rattle.spec_terms.specs.Values.{Interpretation, Interprets, truth}

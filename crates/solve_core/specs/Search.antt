@@ -1,4 +1,4 @@
--- What a search keeps: clauses, and literals that hold with the reasons why. Source: own.
+-- What a search keeps: clauses, and literals that hold with the reasons why.
 use Rattle.std.specs.Prelude.{◌≡◌, ◌≢◌, ◌⊎◌, ◌+◌, ◌<◌, ◌≤◌, ◌||◌, ℕ, Bool, true, false, List, [], ◌∷◌, ◌++◌, length, take, get_or, map, flat_map, Contains, Option, Some, None}
 use Rattle.term_core.specs.declared.ids.TermId.{TermId}
 use Rattle.term_core.specs.declared.ids.Lit.{Lit}

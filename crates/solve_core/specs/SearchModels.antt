@@ -1,4 +1,4 @@
--- Which interpretation a search answers with. Source: own.
+-- Which interpretation a search answers with.
 use Rattle.std.specs.Prelude.{◌≡◌, ◌≢◌, ◌<◌, ℕ, Bool, true, false, ◌&&◌, List, [], length, get_or, slice_index_or, Option, Some, None}
 use Rattle.std.specs.List.{list_any}
 use Rattle.spec_terms.specs.Terms.{Symbol, Term, constant_term, same_term}

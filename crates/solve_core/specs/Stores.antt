@@ -1,4 +1,4 @@
--- Which clauses a store holds. Source: own.
+-- Which clauses a store holds.
 use Rattle.std.specs.Prelude.{◌≡◌, ◌<◌, ℕ, List, [], length, get_or}
 use Rattle.term_core.specs.declared.ids.Lit.{Lit}
 use Rattle.term_core.specs.Tables.{TableView}

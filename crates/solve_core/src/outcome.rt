@@ -28,7 +28,7 @@ pub struct Outcome {
 
 /// Decides whether some interpretation makes all of the terms true, or says why it was not found out.
 ///
-/// The table grows by the terms of the clauses that define them, and stays as it was where memory runs out, the one failure. Source: own.
+/// The table grows by the terms of the clauses that define them, and stays as it was where memory runs out, the one failure.
 pub fn decide(
     alloc: Global,
     table: &mut TermTable,

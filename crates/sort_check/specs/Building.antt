@@ -1,4 +1,4 @@
--- What building terms does to the table. Source: own.
+-- What building terms does to the table.
 use Rattle.std.specs.Prelude.{◌≡◌, ℕ, ◌<◌, ◌≤◌, ◌++◌, List, [], ◌∷◌, length, slice_index_or, Contains, Result, Ok, Err}
 use Rattle.spec_terms.specs.Terms.{Term}
 use Rattle.spec_terms.specs.Subterms.{subterms_of}

@@ -1,4 +1,4 @@
--- Names that stand for terms, and what terms are read under. Source: own.
+-- Names that stand for terms, and what terms are read under.
 use Rattle.std.specs.Prelude.{List, [], ◌∷◌}
 use Rattle.spec_text.specs.Bytes.{Name}
 use Rattle.spec_terms.specs.Terms.{Term}

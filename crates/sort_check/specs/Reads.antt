@@ -1,4 +1,4 @@
--- What reading terms comes to. Source: own.
+-- What reading terms comes to.
 use Rattle.std.specs.Prelude.{◌≡◌, ℕ, ◌+◌, ◌^◌, ◌<◌, ◌≤◌, List, length, Vec, Result, Ok, Err}
 use Rattle.std.specs.declared.alloc.Global.{Global}
 use Rattle.spec_text.specs.Answers.{Answer}

@@ -1,4 +1,4 @@
--- Reading from left to right, one list inside the other: what is left to read, and what it comes to. Source: own.
+-- Reading from left to right, one list inside the other: what is left to read, and what it comes to.
 use Rattle.std.specs.Prelude.{ℕ, List, [], ◌∷◌, ◌++◌, take, drop, Ok}
 use Rattle.spec_text.specs.Bytes.{Name}
 use Rattle.spec_text.specs.Answers.{Answer, ◌>>=◌}

@@ -11,7 +11,7 @@ use std::alloc::{AllocError, AllocFailed, Global};
 use term_core::{Head, Node, TermId, TermTable};
 use world_io::NoMemory;
 
-/// Tells why a term was not built. Source: own.
+/// Tells why a term was not built.
 #[derive(Clone, Copy, Debug, PartialEq, Eq)]
 pub enum BuildStop {
     /// The table has more terms than there is room for.
@@ -45,7 +45,6 @@ impl<T: Drop> From<AllocFailed<T>> for BuildStop {
 }
 
 /// Puts a term of a head before arguments that it takes. `Crowded` comes where the table has more than `most` terms then.
-/// Source: own.
 pub fn put(
     alloc: Global,
     table: &mut TermTable,
@@ -67,7 +66,7 @@ pub fn put(
     Ok(id)
 }
 
-/// Puts a term of a head that takes two arguments. Source: own.
+/// Puts a term of a head that takes two arguments.
 pub fn put_pair(
     alloc: Global,
     table: &mut TermTable,
@@ -85,7 +84,7 @@ pub fn put_pair(
     put(alloc, table, head, &[first, second], most)
 }
 
-/// Puts the negation of an equality. Source: own.
+/// Puts the negation of an equality.
 pub fn put_unequal(
     alloc: Global,
     table: &mut TermTable,
@@ -101,7 +100,7 @@ pub fn put_unequal(
     put(alloc, table, Head::Not, &[equal], most)
 }
 
-/// Puts the conjunction of terms, of which there is one at least, or gives the one that there is. Source: own.
+/// Puts the conjunction of terms, of which there is one at least, or gives the one that there is.
 pub fn conjoin(
     alloc: Global,
     table: &mut TermTable,

@@ -191,7 +191,7 @@ fn build_core(
 }
 
 /// Builds the term of a function before arguments that it takes. `Crowded` comes as soon as the table has more than `most`
-/// terms; whatever was put is a subterm of the term that there would be. Source: own.
+/// terms; whatever was put is a subterm of the term that there would be.
 pub fn build(
     alloc: Global,
     table: &mut TermTable,

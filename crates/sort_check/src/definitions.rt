@@ -34,8 +34,6 @@ impl Model for Definitions {
 
 impl Definitions {
     /// Makes the list of no definitions, which takes no memory before the first of them.
-    ///
-    /// Source: own.
     pub fn new(alloc: Global) -> Definitions
         ensures { result ≡ no_definitions }
     {
@@ -46,8 +44,6 @@ impl Definitions {
     }
 
     /// Counts the definitions.
-    ///
-    /// Source: own.
     pub fn len(&self) -> u64
         ensures { result ≡ length self.now.names }
     {
@@ -55,8 +51,6 @@ impl Definitions {
     }
 
     /// States that each name has its term.
-    ///
-    /// Source: own.
     pub fn each_name_has_a_term(&self)
         ensures { length self.now.names ≡ length self.now.terms }
     {
@@ -64,8 +58,6 @@ impl Definitions {
     }
 
     /// Tells whether a name is defined.
-    ///
-    /// Source: own.
     pub fn has_name(&self, name: &[u8]) -> bool
         ensures { result ≡ among self.now.names name.now }
     {

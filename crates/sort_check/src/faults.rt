@@ -8,7 +8,7 @@ use std::alloc::{AllocError, AllocFailed};
 use thiserror::Error;
 use world_io::NoMemory;
 
-/// Tells a fault of a text, and where it stands. Source: own.
+/// Tells a fault of a text, and where it stands.
 #[derive(Clone, Copy, Debug, PartialEq, Eq)]
 pub struct TermFault {
     /// The offset in the text, in bytes.
@@ -17,7 +17,7 @@ pub struct TermFault {
     pub fault: Fault,
 }
 
-/// Tells why terms were not read. Source: own.
+/// Tells why terms were not read.
 #[derive(Clone, Copy, Debug, Error, PartialEq, Eq)]
 pub enum TermStop {
     /// The first fault of the text.
@@ -60,7 +60,7 @@ impl<T: Drop> From<AllocFailed<T>> for TermStop {
     }
 }
 
-/// Makes a fault at an offset. Source: own.
+/// Makes a fault at an offset.
 pub fn fault_at(offset: u64, fault: Fault) -> TermFault
     ensures { result ≡ record { offset = offset; fault = fault } }
 {

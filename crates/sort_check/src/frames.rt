@@ -7,7 +7,7 @@ use crate::faults::{TermFault, fault_at};
 use smt_sexpr::{Item, View, look, split};
 use spec_text::{Fault, Kind};
 
-/// Holds a list whose arguments are being read. Source: own.
+/// Holds a list whose arguments are being read.
 #[derive(Clone, Copy, Debug)]
 pub struct Frame<'a> {
     /// The offset of its opening parenthesis.

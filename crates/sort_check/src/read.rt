@@ -15,7 +15,7 @@ use std::alloc::Global;
 use term_core::{TermId, TermTable};
 
 /// Reads the trees of items as terms under the table's symbols and the definitions, or says the first fault. As soon as the table has more than `most` terms, no
-/// more are built, while the search for a fault goes on; the numbers mean nothing then. Source: own.
+/// more are built, while the search for a fault goes on; the numbers mean nothing then.
 pub fn read_terms<'a>(
     alloc: Global,
     table: &mut TermTable,

@@ -39,7 +39,7 @@ fn value(
 /// Puts the term of a function in the place of its arguments, which are the values from one on, and says whether the
 /// table is crowded then.
 ///
-/// Where the table is crowded, no term is built, and the value is any number. Source: own.
+/// Where the table is crowded, no term is built, and the value is any number.
 pub fn replace(
     alloc: Global,
     table: &mut TermTable,

@@ -1,4 +1,4 @@
--- A refutation as it is printed, and what its lines say. Source: own.
+-- A refutation as it is printed, and what its lines say.
 use Rattle.std.specs.Prelude.{◌≡◌, refl, true, false, List, [], ◌∷◌, codes}
 use Rattle.std.specs.Fmt.{digits}
 use Rattle.spec_terms.specs.Terms.{True, Not, And, Or, Term, of, constant, constant_term, negated, Truth, same_term}

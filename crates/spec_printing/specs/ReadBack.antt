@@ -1,4 +1,4 @@
--- What is read back of a printed proof. Source: own.
+-- What is read back of a printed proof.
 use Rattle.std.specs.Prelude.{ℕ, suc, List, [], ◌∷◌, length, All}
 use Rattle.spec_text.specs.Bytes.{Name, is_in_bars}
 use Rattle.spec_text.specs.Lexemes.{lexemes}

@@ -8,7 +8,6 @@ ghost use Rattle.spec_printing.specs.Lines.{proof_text};
 ghost use Rattle.spec_printing.specs.Examples.{refutation};
 
 /// States that the printed refutation is an accepted proof of the check of `contradiction`, alone and behind the answer.
-/// Source: own.
 pub fn refutation_is_accepted()
     ensures alone { IsAccepted contradiction 1 (proof_text refutation) }
     ensures answered { IsAccepted contradiction 1 (codes "unsat\n" ++ proof_text refutation) }

@@ -17,7 +17,6 @@ ghost use Rattle.spec_printing.specs.Plans.{Plan, lines_of, IsPlan};
 ghost use Rattle.spec_printing.specs.Printable.{ArePrintable, AreOver};
 
 /// States that the lines of an inference that is derived from terms and has the empty clause are a proof from these terms.
-/// Source: own.
 pub fn planned_lines_are_right()
     ensures { (symbols : List Symbol) (terms asserted : List Term) (d : Derivation) (n : ℕ) (plan : Plan)
         → ArePrintable symbols terms → AreOver terms d → IsDerivation d
@@ -27,7 +26,6 @@ pub fn planned_lines_are_right()
 
 /// States that the text of lines is read back, the whole of it, as commands in one list and nothing else, which are the
 /// lines but for offsets and the bars of symbols.
-/// Source: own.
 pub fn printed_proofs_are_read()
     ensures { (lines : List Line) → All IsWritableLine lines
         → (commands : Trees) × AreCommandsOf (proof_text lines) commands × SameTrees (row (map line_tree lines)) commands }
@@ -35,7 +33,6 @@ pub fn printed_proofs_are_read()
 
 /// States that lines which are right under declared symbols are read back, the whole of their text, as good commands, where
 /// there is room for the truth values, the symbols and the terms that are defined, all together.
-/// Source: own.
 pub fn printed_proofs_are_good()
     ensures { (symbols : List Symbol) (asserted : List Term) (lines : List Line) → AreDeclared symbols → AreWritable symbols
         → AreRightLines symbols asserted lines → length symbols + definitions_in lines + 2 ≤ term_limit → length lines < 2 ^ 64
@@ -44,7 +41,6 @@ pub fn printed_proofs_are_good()
 
 /// States that the names which are declared at a check of a script can be printed, and that they are no more than a fifth
 /// of the bytes that may be read.
-/// Source: own.
 pub fn declared_names_can_be_written()
     ensures { (script : List ℕ) (k : ℕ) (s : Stack) → IsCurrent script k s
         → AreWritable s.symbols × (5 * length s.symbols ≤ text_limit) }
@@ -52,7 +48,6 @@ pub fn declared_names_can_be_written()
 
 /// States that lines which are right under what is current at a check of a script are an accepted proof of that check, alone
 /// and behind the answer `unsat`, where the text is no longer than it may be.
-/// Source: own.
 pub fn printed_proofs_are_accepted()
     ensures alone { (script : List ℕ) (k : ℕ) (s : Stack) (lines : List Line) → IsCurrent script k s
         → AreRightLines s.symbols (map (λ (a : Assertion). a.term) s.assertions) lines → is_long (proof_text lines) ≡ false

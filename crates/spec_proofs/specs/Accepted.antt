@@ -1,4 +1,4 @@
--- Accepted proofs, and the verdict on a script and a proof. Source: own.
+-- Accepted proofs, and the verdict on a script and a proof.
 use Rattle.std.specs.Prelude.{◌≡◌, ℕ, false, ◌⊎◌, List, length, Option, Some}
 use Rattle.spec_text.specs.Trees.{Trees}
 use Rattle.spec_text.specs.Readings.{is_long}

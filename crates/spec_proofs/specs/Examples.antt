@@ -1,4 +1,4 @@
--- Proofs as they are read, and the places of their faults. Where nothing else is said, the script is `contradiction`: a constant p, and p and (not p) asserted. Source: own.
+-- Proofs as they are read, and the places of their faults. Where nothing else is said, the script is `contradiction`: a constant p, and p and (not p) asserted.
 use Rattle.std.specs.Prelude.{◌≡◌, refl, ℕ, ◌+◌, ◌≤◌, true, List, [], ◌∷◌, ◌++◌, length, Option, Some, None, Ok, Err, codes}
 use Rattle.std.proofs.Common.{arith, inl}
 use Rattle.spec_text.specs.declared.Fault.TheVariants as faults

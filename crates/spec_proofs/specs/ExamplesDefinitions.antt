@@ -1,4 +1,4 @@
--- Definitions of proofs that are read, and the first faults of those that are not, with line and column. Source: own.
+-- Definitions of proofs that are read, and the first faults of those that are not, with line and column.
 use Rattle.std.specs.Prelude.{◌≡◌, refl, ℕ, List, [], ◌∷◌, Some, None, codes}
 use Rattle.std.proofs.Common.{arith}
 use Rattle.spec_text.specs.declared.Fault.TheVariants as faults

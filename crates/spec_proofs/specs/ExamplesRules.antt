@@ -1,4 +1,4 @@
--- Steps, with the one rule of the table that takes them, or that none does. Source: own.
+-- Steps, with the one rule of the table that takes them, or that none does.
 use Rattle.std.specs.Prelude.{◌≡◌, Bool, true, false, List, [], ◌∷◌, Some, codes}
 use Rattle.spec_text.specs.Bytes.{Name}
 use Rattle.spec_terms.specs.Terms.{Truth, Declared, And, Or, Xor, Implies, Equal, Ite, Term, of, constant, constant_term}

@@ -1,4 +1,4 @@
--- Commands of proofs that are read, and the first faults of those that are not, with line and column. Source: own.
+-- Commands of proofs that are read, and the first faults of those that are not, with line and column.
 use Rattle.std.specs.Prelude.{◌≡◌, refl, ℕ, List, Option, Some, None, option_map, codes}
 use Rattle.spec_text.specs.declared.Fault.TheVariants as faults
 use Rattle.spec_text.specs.Lexemes.{lexemes, first_piece}

@@ -1,4 +1,4 @@
--- Why a proof is not accepted, with places. Source: own.
+-- Why a proof is not accepted, with places.
 use Rattle.std.specs.Prelude.{ℕ, List, Result, Err, codes}
 use Rattle.spec_text.specs.declared.Fault.{Fault as TextFault}
 use Rattle.spec_text.specs.declared.Fault.TheVariants as faults

@@ -11,7 +11,6 @@ ghost use Rattle.spec_proofs.specs.Examples.{refutation, listed, behind_list, un
 ghost use Rattle.spec_proofs.specs.ExamplesDefinitions.{definitions};
 
 /// States that a refutation has no fault, and is accepted: a row of commands, or a list of them behind `unsat`.
-/// Source: own.
 pub fn refutation_is_accepted()
     ensures row { IsVerdict contradiction 1 refutation None }
     ensures list { IsVerdict contradiction 1 listed None }
@@ -21,19 +20,18 @@ pub fn refutation_is_accepted()
 }
 
 /// States that a disjunction is opened, that literals which stand twice are left out, and that two negations in front of a
-/// term count for nothing. Source: own.
+/// term count for nothing.
 pub fn rules_are_taken()
     ensures opened { IsVerdict disjunction 1 opened None }
     ensures double { IsVerdict contradiction 1 double_negation None }
 {}
 
 /// States that a proof may use names that it defines, also in further definitions, and beside commands of the same names.
-/// Source: own.
 pub fn definitions_are_taken()
     ensures { IsVerdict contradiction 1 definitions None }
 {}
 
-/// States where a name, a term, a rule or a premise is told that cannot be read. Source: own.
+/// States where a name, a term, a rule or a premise is told that cannot be read.
 pub fn commands_are_read()
     ensures name { IsVerdict contradiction 1 same_name (Some (fault_at 22 TwiceName)) × IsAt same_name 22 2 9 }
     ensures term { IsVerdict contradiction 1 unknown_symbol (Some (fault_at 30 (Term faults.UnknownSymbol)))
@@ -43,7 +41,7 @@ pub fn commands_are_read()
         × IsAt unknown_premise 79 3 46 }
 {}
 
-/// States where a command is told that is read, but not right. Source: own.
+/// States where a command is told that is read, but not right.
 pub fn commands_are_judged()
     ensures assumed { IsVerdict contradiction 1 not_asserted (Some (fault_at 25 NotAsserted)) × IsAt not_asserted 25 2 12 }
     ensures resolved { IsVerdict contradiction 1 one_premise (Some (fault_at 34 RuleFails)) × IsAt one_premise 34 3 1 }
@@ -51,21 +49,20 @@ pub fn commands_are_judged()
 {}
 
 /// States that a proof without an empty clause is none, though its commands are right, and even where there are none.
-/// Source: own.
 pub fn empty_clause_is_wanted()
     ensures assumption { IsVerdict contradiction 1 assumption (Some (fault_at 14 NoEmptyClause)) × IsAt assumption 14 2 1 }
     ensures tautology { IsVerdict contradiction 1 tautology (Some (fault_at 41 NoEmptyClause)) × IsAt tautology 41 1 42 }
     ensures nothing { IsVerdict contradiction 1 nothing (Some (fault_at 0 NoEmptyClause)) }
 {}
 
-/// States that a proof's text is commands to its end, and where it is told that it is not. Source: own.
+/// States that a proof's text is commands to its end, and where it is told that it is not.
 pub fn texts_end_with_their_commands()
     ensures unclosed { IsVerdict contradiction 1 unclosed (Some (fault_at 26 (Lexical faults.UnclosedList)))
         × IsAt unclosed 26 2 13 }
     ensures behind_list { IsVerdict contradiction 1 behind_list (Some (fault_at 16 BadShape)) × IsAt behind_list 16 2 1 }
 {}
 
-/// States that a proof of a check which the script does not have has that fault, at its start, whatever it is. Source: own.
+/// States that a proof of a check which the script does not have has that fault, at its start, whatever it is.
 pub fn checks_are_there()
     ensures { IsVerdict contradiction 2 refutation (Some (fault_at 0 NoSuchCheck)) }
 {}

@@ -30,7 +30,7 @@ pub fn rules_are_sound()
 {}
 
 /// States that each chain of binary resolutions passes, where each resolves the clause so far with a premise: premises
-/// may be used in any order and as often as wanted, and so in the order in which they stand. Source: own.
+/// may be used in any order and as often as wanted, and so in the order in which they stand.
 pub fn chains_are_resolvents()
     ensures any { (premises : List Clause) (first : Clause) (rest : List Clause) (clause : Clause)
         → IsWithin (first ∷ rest) premises
@@ -42,12 +42,12 @@ pub fn chains_are_resolvents()
 {}
 
 /// States that commands are good exactly where they have no first fault, wherever the text ends: the two are stated apart,
-/// goodness of the whole list, the first fault by going through it. Source: own.
+/// goodness of the whole list, the first fault by going through it.
 pub fn good_proofs_have_no_fault()
     ensures { (k : Known) (end : ℕ) (ts : Trees) → IsGood k ts ↔ FirstFault k end None ts None }
 {}
 
-/// States that the verdict has no fault exactly where the proof is accepted. Source: own.
+/// States that the verdict has no fault exactly where the proof is accepted.
 pub fn accepted_proofs_have_no_fault()
     ensures { (script proof : List ℕ) (k : ℕ) → IsVerdict script k proof None ↔ IsAccepted script k proof }
 {
@@ -55,7 +55,6 @@ pub fn accepted_proofs_have_no_fault()
 }
 
 /// States that no interpretation makes true what is current at a check of which a proof is accepted.
-/// Source: own.
 pub fn acceptance_is_sound()
     ensures { (script proof : List ℕ) (k : ℕ) → IsAccepted script k proof → HasNoModel script k }
 {
@@ -65,20 +64,20 @@ pub fn acceptance_is_sound()
     spec_scripts::laws::assertions_have_their_texts_value();
 }
 
-/// States that commands have at most one first fault. Source: own.
+/// States that commands have at most one first fault.
 pub fn first_fault_is_one()
     ensures { (k : Known) (end : ℕ) (ending : Option Fault) (ts : Trees) (a b : Option Fault) → FirstFault k end ending ts a
         → FirstFault k end ending ts b → a ≡ b }
 {}
 
-/// States that a proof's text is one row of commands with one ending. Source: own.
+/// States that a proof's text is one row of commands with one ending.
 pub fn proofs_have_one_reading()
     ensures { (text : List ℕ) (ts us : Trees) (e f : Ending) → IsProofText text ts e → IsProofText text us f → (ts ≡ us) × (e ≡ f) }
 {
     spec_text::laws::lexemes_are_read_up_to_one_end();
 }
 
-/// States that a script and a proof have at most one verdict at a check. Source: own.
+/// States that a script and a proof have at most one verdict at a check.
 pub fn verdict_is_one()
     ensures { (script proof : List ℕ) (k : ℕ) (a b : Option Fault) → IsVerdict script k proof a → IsVerdict script k proof b → a ≡ b }
 {
@@ -88,7 +87,6 @@ pub fn verdict_is_one()
 }
 
 /// States that a verdict on the fronts of two texts, of 2^26 + 1 bytes each at the most, is the verdict on the whole texts.
-/// Source: own.
 pub fn verdicts_need_a_front_alone()
     ensures { (script proof : List ℕ) (k : ℕ) (found : Option Fault) → IsVerdict (front script) k (front proof) found
         → IsVerdict script k proof found }
@@ -96,7 +94,7 @@ pub fn verdicts_need_a_front_alone()
 
 /// States that the definition of models is met where it should be: whatever truths names have, some interpretation of the
 /// current symbols gives them to its constants, and where under it the terms of all current assertions have the value
-/// true, it makes the current expressions true. Source: own.
+/// true, it makes the current expressions true.
 pub fn satisfied_scripts_have_a_model()
     ensures { (script : List ℕ) (k : ℕ) (s : Stack) (v : Name → Bool) → IsCurrent script k s
         → (i : Interpretation) × Interprets i s.symbols × ((n : Name) → table_value i n [] ≡ truth (v n))
@@ -108,7 +106,6 @@ pub fn satisfied_scripts_have_a_model()
 
 /// States that goodness is not asked in vain: where at a check no truths of the terms below negations make all current
 /// assertions true, there is a good proof. It is given by its trees: its text may be longer than a text may be.
-/// Source: own.
 pub fn unsatisfiable_scripts_have_a_proof()
     ensures truths { (script : List ℕ) (k : ℕ) (s : Stack) → IsCurrent script k s
         → ((v : Truths) → All (λ (a : Assertion). term_true_by v a.term ≡ true) s.assertions → ⊥)
@@ -118,7 +115,7 @@ pub fn unsatisfiable_scripts_have_a_proof()
 }
 
 /// States that the fault of a command of a proof stands at the offset of one of its atoms or lists: that of reading it,
-/// and that of a command that is read and isn't right. Source: own.
+/// and that of a command that is read and isn't right.
 pub fn faults_stand_in_their_command()
     ensures reading { (k : Known) (t : Tree) (f : Fault) → command_of k t ≡ Err f → HasOffset t f.offset }
     ensures judging { (k : Known) (t : Tree) (c : Command) → command_of k t ≡ Ok c → HasOffset t (fault_of c).offset }
@@ -126,7 +123,7 @@ pub fn faults_stand_in_their_command()
     spec_terms::faults_stand_in_their_text();
 }
 
-/// States that the fault of a verdict lies in the proof, or at its end. Source: own.
+/// States that the fault of a verdict lies in the proof, or at its end.
 pub fn faults_stand_in_their_proof()
     ensures { (script proof : List ℕ) (k : ℕ) (f : Fault) → IsVerdict script k proof (Some f) → f.offset ≤ length proof }
 {

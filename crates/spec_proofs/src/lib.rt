@@ -108,7 +108,7 @@ pub enum Rule {
     NotIte2,
 }
 
-/// Names a literal by an argument of a term: the argument as it stands, or its negation. Source: own.
+/// Names a literal by an argument of a term: the argument as it stands, or its negation.
 #[derive(Clone, Copy, Debug, PartialEq, Eq)]
 pub struct Side {
     /// The place of the argument, from 0.
@@ -136,7 +136,7 @@ pub enum Rest {
 }
 
 /// Tells why a proof is not accepted: P1 to P8, P10 and P11. Of several faults the first in the text counts, but for
-/// `NoSuchCheck`, which counts before all others, and `NoEmptyClause`, which counts behind all others. Source: own.
+/// `NoSuchCheck`, which counts before all others, and `NoEmptyClause`, which counts behind all others.
 #[derive(Clone, Copy, Debug, PartialEq, Eq)]
 pub enum ProofKind {
     /// P1: the text cannot be read on, by a fault E1 to E7: at the fault's place.
@@ -164,7 +164,7 @@ pub enum ProofKind {
 }
 
 impl ProofKind {
-    /// Gives the name that is printed: the variant's, or that of the fault of reading. Source: own.
+    /// Gives the name that is printed: the variant's, or that of the fault of reading.
     pub fn name(self) -> &'static str
         ensures { result.now ≡ fault_name self }
     {
@@ -182,7 +182,7 @@ impl ProofKind {
         }
     }
 
-    /// Gives the number of the fault: 1 to 8, 10 or 11. Source: own.
+    /// Gives the number of the fault: 1 to 8, 10 or 11.
     pub fn number(self) -> u8
         ensures { result ≡ fault_number self }
     {

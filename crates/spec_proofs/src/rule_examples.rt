@@ -68,7 +68,7 @@ pub fn other_heads_have_their_rules()
 
 /// States that a step which is near to a right one is by none of the rules: with a literal that is another term, has the other
 /// sign or is not there; with literals in another order; with a term whose arguments are not of sort Bool, or too few; and of
-/// two negations. Source: own.
+/// two negations.
 pub fn near_clauses_have_no_rule()
     ensures other_term { IsByNone [] (negated (of And (p ∷ q ∷ [])) ∷ r ∷ []) }
     ensures other_sign { IsByNone [] (conjunction ∷ negated p ∷ q ∷ negated r ∷ []) }
@@ -85,7 +85,7 @@ pub fn near_clauses_have_no_rule()
 {}
 
 /// States that a premise stands where one is wanted, and nowhere else: it is one, of one literal, with the sign that the rule
-/// takes; and that a word which is none of the rules' names no rule. Source: own.
+/// takes; and that a word which is none of the rules' names no rule.
 pub fn near_premises_and_words_have_no_rule()
     ensures not_wanted { IsByNone ((p ∷ []) ∷ []) (negated equal ∷ p ∷ negated q ∷ []) }
     ensures missing { IsByNone [] (negated p ∷ q ∷ []) }

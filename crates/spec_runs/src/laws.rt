@@ -11,7 +11,7 @@ ghost use Rattle.spec_runs.specs.Meaning.{Says, AllSay};
 /// States what the answer of a check means: where something is current at a check of a text, and what was found shows of it
 /// what it should, a model makes true what is asserted there, and so does each interpretation with the values that its printed
 /// text defines; and a proof is accepted of the check, if its text is not too long, and no interpretation makes true what is
-/// asserted there, however long it is. Source: own.
+/// asserted there, however long it is.
 pub fn what_is_shown_is_so()
     ensures { (limits : Limits) (text : List ℕ) (k : ℕ) (c : Checked) → IsCurrent text k c.stack → Justifies limits c.stack c.found
         → Says limits text k c }
@@ -27,7 +27,6 @@ pub fn what_is_shown_is_so()
 
 /// States that the checks which a transcript answers are those of the text, the first of them the first, and that each answer
 /// says what is so of its check, under the limit on terms under which proofs are checked; and the same of what was begun.
-/// Source: own.
 pub fn answers_say_what_is_so()
     ensures whole { (limits : Limits) (mode : Mode) (text out : List ℕ) (refused : Bool) (t : IsTranscript limits mode text out refused)
         → limits.terms ≡ term_limit → AllSay limits text 0 (checks_in t.answers) }
@@ -38,7 +37,6 @@ pub fn answers_say_what_is_so()
 }
 
 /// States that a transcript, or a front of one, of the front of a text, of 2^26 + 1 bytes at most, is one of the whole text.
-/// Source: own.
 pub fn transcripts_need_a_front_alone()
     ensures whole { (limits : Limits) (mode : Mode) (text out : List ℕ) (refused : Bool) → IsTranscript limits mode (front text) out refused
         → IsTranscript limits mode text out refused }

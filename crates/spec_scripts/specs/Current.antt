@@ -1,4 +1,4 @@
--- What holds of the symbols and assertions that are current. Source: own.
+-- What holds of the symbols and assertions that are current.
 use Rattle.std.specs.Prelude.{◌≡◌, ℕ, true, false, List, [], ◌∷◌, All, Ok}
 use Rattle.spec_text.specs.Bytes.{among}
 use Rattle.spec_terms.specs.Terms.{Symbol, constant, Truth}

@@ -1,4 +1,4 @@
--- Scripts with what is current at their checks, and the first faults of their commands, with line and column. Source: own.
+-- Scripts with what is current at their checks, and the first faults of their commands, with line and column.
 use Rattle.std.specs.Prelude.{◌≡◌, refl, ℕ, Bool, true, false, List, [], ◌∷◌, map, Option, Some, None, option_map, Ok, Err, codes}
 use Rattle.std.proofs.Common.{arith}
 use Rattle.spec_text.specs.declared.Kind.TheVariants.{Simple}

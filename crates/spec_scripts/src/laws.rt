@@ -12,7 +12,7 @@ ghost use Rattle.spec_scripts.specs.Stack.{Stack, Assertion, Taken, empty_stack,
 ghost use Rattle.spec_scripts.specs.Current.{IsReadStack, IsKeptStack};
 
 /// States that what is current at a check is determined by the text and the check's number, and that a text which ends
-/// before the check has nothing current there. Source: own.
+/// before the check has nothing current there.
 pub fn checks_have_one_stack()
     ensures one { (text : List ℕ) (k : ℕ) (s t : Stack) → IsCurrent text k s → IsCurrent text k t → s ≡ t }
     ensures other { (text : List ℕ) (k : ℕ) (s : Stack) → IsCurrent text k s → HasNoCheck text k → ⊥ }
@@ -21,7 +21,7 @@ pub fn checks_have_one_stack()
 }
 
 /// States that the current symbols are declared constants, that the term of each current assertion is that of its text
-/// under all of them, and that there is room for it. Source: own.
+/// under all of them, and that there is room for it.
 pub fn assertions_are_read()
     ensures read { (text : List ℕ) (k : ℕ) (s : Stack) → IsCurrent text k s → IsReadStack s }
     ensures room { (text : List ℕ) (k : ℕ) (s : Stack) → IsCurrent text k s
@@ -30,7 +30,7 @@ pub fn assertions_are_read()
 {}
 
 /// States that commands leave what they should, under any limit: nothing is declared or asserted at first, and behind a
-/// command that is taken the terms of the assertions are again those of their texts, and fit in. Source: own.
+/// command that is taken the terms of the assertions are again those of their texts, and fit in.
 pub fn commands_keep_stacks()
     ensures first { (limit : ℕ) → IsKeptStack limit empty_stack }
     ensures next { (limit : ℕ) (s : Stack) (t : Tree) (d : Taken) → step limit s t ≡ Ok d → IsKeptStack limit s → IsKeptStack limit d.stack }
@@ -50,7 +50,7 @@ pub fn assertions_have_their_texts_value()
     assertions_are_read();
 }
 
-/// States that the fault of a command of a script stands at the offset of one of its atoms or lists. Source: own.
+/// States that the fault of a command of a script stands at the offset of one of its atoms or lists.
 pub fn faults_stand_in_their_command()
     ensures { (limit : ℕ) (s : Stack) (t : Tree) (f : Located) → step limit s t ≡ Err f → HasOffset t f.offset }
 {

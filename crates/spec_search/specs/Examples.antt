@@ -1,4 +1,4 @@
--- The eight disjunctions of three constants or their negations, of which no truths make all true, and the clause that a search learns first. Source: own.
+-- The eight disjunctions of three constants or their negations, of which no truths make all true, and the clause that a search learns first.
 use Rattle.std.specs.Prelude.{Bool, true, false, List, [], ◌∷◌, codes}
 use Rattle.spec_terms.specs.Terms.{Or, Ite, Truth, Term, of, negated, constant, constant_term}
 use Rattle.spec_terms.specs.Literals.{Clause}

@@ -1,4 +1,4 @@
--- When a budget of conflicts is spent: as many clauses were learned as it allows, and each of them was worth it. Source: own.
+-- When a budget of conflicts is spent: as many clauses were learned as it allows, and each of them was worth it.
 use Rattle.std.specs.Prelude.{◌≡◌, ◌≢◌, ◌++◌, ℕ, List, [], length, map, All, Contains}
 use Rattle.spec_terms.specs.Terms.{True, False, Truth, Term, of, sort_of}
 use Rattle.spec_terms.specs.Subterms.{subterms_of}

@@ -7,7 +7,7 @@ ghost use Rattle.spec_search.specs.Base.{base_clauses};
 ghost use Rattle.spec_search.specs.Examples.{a, b, c, a_or_not_b, a_then_b_else_c, not_not_not_a};
 
 /// States the base clauses of a disjunction, of a choice, and of three negations: the term alone, and what its rules without
-/// premises state. A constant has none of its own, and a single negation has none. Source: own.
+/// premises state. A constant has none of its own, and a single negation has none.
 pub fn base_clauses_are_stated()
     ensures disjunction { base_clauses (a_or_not_b ∷ [])
         ≡ (a_or_not_b ∷ [])

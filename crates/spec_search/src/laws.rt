@@ -17,7 +17,7 @@ ghost use Rattle.spec_search.specs.Spent.{AreLearned, IsConflictBudgetSpent};
 ghost use Rattle.spec_search.specs.Examples.{eight, not_both, not_both_derived};
 
 /// States that where propagation is quiet and consistent, a clause whose literals but one are false, and whose one literal
-/// does not hold, is new. Source: own.
+/// does not hold, is new.
 pub fn quiet_clause_is_new()
     ensures { (premises : List (List Literal)) (held clause : List Literal) (l : Literal)
         → IsQuiet complement premises held → IsConsistent complement held
@@ -25,21 +25,21 @@ pub fn quiet_clause_is_new()
         → IsOpenIn premises clause l }
 {}
 
-/// States that a clause which has all literals of a premise is not new, a premise itself among them. Source: own.
+/// States that a clause which has all literals of a premise is not new, a premise itself among them.
 pub fn new_clauses_contain_none()
     ensures { (premises : List (List Literal)) (clause premise : List Literal) → Contains premises premise
         → ((m : Literal) → Contains premise m → Contains clause m) → IsNew premises clause → ⊥ }
 {}
 
 /// States that propagation stays quiet with one clause more, where that clause is settled. `settled_keeps` of
-/// `proofs/Learned.antt` says it of literals of any kind. Source: own.
+/// `proofs/Learned.antt` says it of literals of any kind.
 pub fn settled_clauses_keep_quiet()
     ensures { (premises : List (List Literal)) (held clause : List Literal) → IsQuiet complement premises held
         → IsSettled complement held clause → IsQuiet complement (premises ++ clause ∷ []) held }
 {}
 
 /// States that propagation that is quiet over more clauses is quiet over fewer. `quiet_fewer` of `proofs/Learned.antt` says
-/// it of literals of any kind. Source: own.
+/// it of literals of any kind.
 pub fn quiet_over_fewer()
     ensures { (more fewer : List (List Literal)) (held : List Literal)
         → ((c : List Literal) → Contains fewer c → Contains more c)
@@ -47,14 +47,14 @@ pub fn quiet_over_fewer()
 {}
 
 /// States that of the eight disjunctions of three constants or their negations a search may learn `(cl (not a) (not b))`:
-/// it is new over all their base clauses. Source: own.
+/// it is new over all their base clauses.
 pub fn first_of_eight_is_new()
     ensures { IsNew (map literals_of (base_clauses eight)) (literals_of not_both) }
 {}
 
 /// States that a spent budget is no empty word, and not every claim of one: of the eight disjunctions of three constants or
 /// their negations a search learns `(cl (not a) (not b))`, which spends a budget of one. It spends none of two or of nothing,
-/// the reason carries no other number than one, and in its place no tautology spends the budget. Source: own.
+/// the reason carries no other number than one, and in its place no tautology spends the budget.
 pub fn eight_clauses_spend_a_budget_of_one()
     ensures spent { IsConflictBudgetSpent eight not_both_derived 1 1 (literals_of not_both ∷ []) }
     ensures no_other_limit { (limit carried : ℕ) → limit ≢ 1
@@ -68,7 +68,7 @@ pub fn eight_clauses_spend_a_budget_of_one()
 }
 
 /// States that learned clauses say something: none has a literal with its complement, none has a literal of `true` or `false`,
-/// none is empty, and none has all literals of a base clause, or of a clause that was learned before it. Source: own.
+/// none is empty, and none has all literals of a base clause, or of a clause that was learned before it.
 pub fn learned_clauses_say_something()
     ensures no_tautology { (terms : List Term) (d : Derivation) (learned : List (List Literal)) → AreLearned terms d learned
         → (c : List Literal) (l : Literal) → Contains learned c → Contains c l → Contains c (complement l) → ⊥ }
@@ -85,7 +85,7 @@ pub fn learned_clauses_say_something()
 {}
 
 /// States that in a derivation a clause is true under an interpretation where the assumptions that it rests on are, if the
-/// interpretation gives each term of the derivation's clauses a truth value. Source: own.
+/// interpretation gives each term of the derivation's clauses a truth value.
 pub fn derivations_are_sound()
     ensures { (d : Derivation) (i : Interpretation) → IsDerivation d → All (λ x. All (HasTruth i) (conclusion x)) d
         → (n : ℕ) → n < length d
@@ -96,7 +96,7 @@ pub fn derivations_are_sound()
 }
 
 /// States that learned clauses follow from their terms: each has the literals of a clause that is true under an interpretation
-/// which makes the terms true, if it gives each term of the derivation's clauses a truth value. Source: own.
+/// which makes the terms true, if it gives each term of the derivation's clauses a truth value.
 pub fn learned_clauses_are_true()
     ensures { (terms : List Term) (d : Derivation) (learned : List (List Literal)) (i : Interpretation) → AreLearned terms d learned
         → All (λ x. All (HasTruth i) (conclusion x)) d → All (λ t. term_true i t ≡ true) terms
@@ -128,7 +128,7 @@ pub fn base_clauses_hold_in_models()
     spec_terms::subterms::subterms_are_least();
 }
 
-/// States that the literals of base clauses are over subterms of their terms. Source: own.
+/// States that the literals of base clauses are over subterms of their terms.
 pub fn base_clauses_are_over_subterms()
     ensures { (terms : List Term) (c : Clause) (l : Literal) → Contains (base_clauses terms) c → Contains (literals_of c) l
         → Contains (subterms_of terms) l.atom }

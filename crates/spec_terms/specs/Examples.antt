@@ -1,4 +1,4 @@
--- Texts with the terms that they are read as, or their first faults. Source: own.
+-- Texts with the terms that they are read as, or their first faults.
 use Rattle.std.specs.Prelude.{◌≡◌, refl, ℕ, List, [], ◌∷◌, Ok, codes}
 use Rattle.spec_text.specs.declared.Fault.TheVariants.{BadShape, UnknownSymbol, Reserved, WrongCount}
 use Rattle.spec_text.specs.Lexemes.{Lexeme, opens, closes, word, lexemes, first_piece, string_body, after_quote}

@@ -1,4 +1,4 @@
--- Lists of terms that hold the subterms of others. Source: own.
+-- Lists of terms that hold the subterms of others.
 use Rattle.std.specs.Prelude.{◌≢◌, List, Contains}
 use Rattle.std.specs.List.{AllPairs}
 use Rattle.spec_terms.specs.Terms.{Term, app, list_of}

@@ -1,4 +1,4 @@
--- The different subterms of terms. Source: own.
+-- The different subterms of terms.
 use Rattle.std.specs.Prelude.{ℕ, Bool, false, ◌||◌, List, [], ◌∷◌, length, Ok, nat_le, if◌then◌else◌}
 use Rattle.spec_text.specs.declared.Fault.TheVariants.{Full}
 use Rattle.spec_text.specs.Trees.{Trees}

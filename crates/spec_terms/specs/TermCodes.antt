@@ -1,4 +1,4 @@
--- Codes by which a proof tells terms apart: trees of numbers, each of one term. Source: own.
+-- Codes by which a proof tells terms apart: trees of numbers, each of one term.
 use Rattle.std.specs.Prelude.{◌≡◌, ◌⊎◌, ℕ, zero, suc, List, refl}
 use Rattle.std.proofs.Common.{inl, inr, sym, ap, subst}
 use Rattle.std.specs.Coded.{Coded, code_by, coded_ℕ, coded_list, coded×, coded⊎}

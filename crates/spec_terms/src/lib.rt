@@ -31,7 +31,7 @@ pub fn defined_names_have_their_terms_value()
 {}
 
 /// States that the first fault of a text that is no term, or of several texts, stands at the offset of one of their atoms
-/// or lists. Source: own.
+/// or lists.
 pub fn faults_stand_in_their_text()
     ensures one { (scope : Scope) (t : Tree) (f : Located) → term_in scope t ≡ Err f → HasOffset t f.offset }
     ensures all { (scope : Scope) (ts : Trees) (f : Located) → terms_in scope ts ≡ Err f → HaveOffset ts f.offset }

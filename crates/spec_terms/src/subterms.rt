@@ -7,13 +7,11 @@ ghost use Rattle.spec_terms.specs.Subterms.{subterms_of, fit_in};
 ghost use Rattle.spec_terms.specs.Subsets.{AreAmong, IsClosed, AreOnce};
 
 /// States that the test of terms tells whether they are one.
-/// Source: own.
 pub fn same_terms_are_one()
     ensures { (t u : Term) → Decides (same_term t u) (t ≡ u) }
 {}
 
 /// States that the subterms of terms are these terms, with each of them its arguments, and no others, each once.
-/// Source: own.
 pub fn subterms_are_least()
     ensures once { (ts : List Term) → AreOnce (subterms_of ts) }
     ensures there { (ts : List Term) → AreAmong ts (subterms_of ts) }
@@ -22,7 +20,6 @@ pub fn subterms_are_least()
 {}
 
 /// States that terms with more subterms than there is room for do not fit in, and that those whose subterms have room do.
-/// Source: own.
 pub fn subterms_are_counted()
     ensures more { (room : ℕ) (ts us : List Term) → AreOnce us → AreAmong us (subterms_of ts) → room < length us → fit_in room ts ≡ false }
     ensures room { (room : ℕ) (ts us : List Term) → AreAmong ts us → IsClosed us → length us ≤ room → fit_in room ts ≡ true }

@@ -1,4 +1,4 @@
--- Answers of reading: what was read, or the first fault with its offset. Source: own.
+-- Answers of reading: what was read, or the first fault with its offset.
 use Rattle.std.specs.Prelude.{ℕ, Bool, true, false, Result, Ok, Err}
 use Rattle.spec_text.specs.declared.Fault.{Fault}
 use Rattle.spec_text.specs.Faults.{Located}

@@ -1,4 +1,4 @@
--- The first lexical fault of a text: a property of its lexemes, apart from the trees. Source: own.
+-- The first lexical fault of a text: a property of its lexemes, apart from the trees.
 use Rattle.std.specs.Prelude.{ℕ, zero, suc, List, [], ◌∷◌, length, Option, Some, None, nat_lt, if◌then◌else◌}
 use Rattle.spec_text.specs.declared.Fault.{Fault}
 use Rattle.spec_text.specs.declared.Fault.TheVariants.{UnclosedList, StrayClose, TooDeep}

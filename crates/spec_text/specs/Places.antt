@@ -1,4 +1,4 @@
--- Lines and columns, and the numbers and names of faults. Source: own.
+-- Lines and columns, and the numbers and names of faults.
 use Rattle.std.specs.Prelude.{◌≡◌, ℕ, ◌+◌, ◌≤◌, List, [], ◌∷◌, length, take, count_by, codes, ◌==◌, if◌then◌else◌}
 use Rattle.spec_text.specs.declared.Place.{Place}
 use Rattle.spec_text.specs.declared.Fault.{Fault}

@@ -15,18 +15,17 @@ pub fn trees_are_unique()
     ensures { (text : List ℕ) (ts us : Trees) → IsRead text ts → IsRead text us → ts ≡ us }
 {}
 
-/// Says that a text without a lexical fault has a reading. Source: own.
+/// Says that a text without a lexical fault has a reading.
 pub fn a_text_without_fault_is_read()
     ensures { (text : List ℕ) → lexical_fault text ≡ None → (ts : Trees) × IsRead text ts }
 {}
 
-/// Says that a text with a reading has no lexical fault but lists nested too deep. Source: own.
+/// Says that a text with a reading has no lexical fault but lists nested too deep.
 pub fn a_read_text_has_no_fault_but_depth()
     ensures { (text : List ℕ) (ts : Trees) → IsRead text ts → IfSome (lexical_fault text) (λ f. f.fault ≡ TooDeep) }
 {}
 
 /// Says that an s-expression of a text is read back from how it is printed, but for offsets and the bars of symbols.
-/// Source: own.
 pub fn printed_trees_read_back()
     ensures { (text : List ℕ) (at : ℕ) (t : Tree) (rest : List (ℕ × Lexeme)) → lexemes_from text at ≡ spelled t ++ rest → (u : Tree) × IsRead (printed t) (more u none) × SameTree t u }
 {}
@@ -42,14 +41,14 @@ pub fn spelling_is_unique()
     ensures { (bytes : List ℕ) (x y : Lexeme) → Spells bytes x → Spells bytes y → x ≡ y }
 {}
 
-/// Says that a text is s-expressions up to one end, and which these are. Source: own.
+/// Says that a text is s-expressions up to one end, and which these are.
 pub fn a_text_is_read_up_to_one_end()
     ensures { (text : List ℕ) (ts us : Trees) (f g : Option Located) → IsReadUpTo text ts f → IsReadUpTo text us g
         → (ts ≡ us) × (f ≡ g) }
 {}
 
 /// Says that behind so many open lists lexemes are trees up to one end: where what is behind the trees begins with no
-/// tree, but for one nested too deep, the trees and what is behind them are one. Source: own.
+/// tree, but for one nested too deep, the trees and what is behind them are one.
 pub fn lexemes_are_read_up_to_one_end()
     ensures { (n : ℕ) (xs rest others : List (ℕ × Lexeme)) (ts us : Trees) → AreTrees n xs ts rest → AreTrees n xs us others
         → ((t : Tree) (ys : List (ℕ × Lexeme)) → rest ≡ spelled t ++ ys → nesting_limit < n + depth t)
@@ -58,14 +57,13 @@ pub fn lexemes_are_read_up_to_one_end()
 {}
 
 /// Says that each text is s-expressions, from each offset on and behind so many open lists, up to what stops their reading.
-/// Source: own.
 pub fn each_text_is_read()
     ensures { (text : List ℕ) (at n : ℕ) → n ≤ nesting_limit
         → (ts : Trees) × (rest : List (ℕ × Lexeme)) × AreTrees n (lexemes_from text at) ts rest × StopsAt (length text) n rest }
 {}
 
 /// Says that the offsets of trees lie in the text that they stand in, from the offset on from which it was read: that of
-/// one tree in front, and of trees behind other lexemes. Source: own.
+/// one tree in front, and of trees behind other lexemes.
 pub fn trees_stand_in_their_text()
     ensures first { (text : List ℕ) (at : ℕ) (t : Tree) (rest : List (ℕ × Lexeme)) → lexemes_from text at ≡ spelled t ++ rest
         → AllOffsets (λ n. (at ≤ n) × (n < length text)) t }
@@ -74,7 +72,7 @@ pub fn trees_stand_in_their_text()
 {}
 
 /// Says that the first fault of lexemes of a text lies in the text or at its end, behind whatever other lexemes and
-/// however many open lists. Source: own.
+/// however many open lists.
 pub fn lexical_faults_stand_in_their_text()
     ensures { (text : List ℕ) (at n : ℕ) (earlier rest : List (ℕ × Lexeme)) (f : Located) → lexemes_from text at ≡ earlier ++ rest
         → first_fault nesting_limit (length text) n rest ≡ Some f → f.offset ≤ length text }

@@ -29,7 +29,7 @@ pub enum Kind {
     Keyword,
 }
 
-/// The place of a byte, or of the end of a text. Source: own.
+/// The place of a byte, or of the end of a text.
 #[derive(Clone, Copy, Debug, PartialEq, Eq)]
 pub struct Place {
     /// How many bytes stand before it: 0 at the first byte.
@@ -40,7 +40,7 @@ pub struct Place {
     pub col: u64,
 }
 
-/// Why a text or a script is refused. The numbers E1 to E25 and the names are part of the product. Source: own.
+/// Why a text or a script is refused. The numbers E1 to E25 and the names are part of the product.
 #[derive(Clone, Copy, Debug, PartialEq, Eq)]
 pub enum Fault {
     /// A byte that begins no token, or may not stand where it does.
@@ -96,7 +96,7 @@ pub enum Fault {
 }
 
 impl Fault {
-    /// Gives the number of the fault, from 1 to 25: E1 is 1. Source: own.
+    /// Gives the number of the fault, from 1 to 25: E1 is 1.
     pub fn number(self) -> u8
         ensures { result ≡ number_of self }
     {
@@ -129,7 +129,7 @@ impl Fault {
         }
     }
 
-    /// Gives the name that is printed: the variant's, letter by letter. Source: own.
+    /// Gives the name that is printed: the variant's, letter by letter.
     pub fn name(self) -> &'static str
         ensures { result.now ≡ name_of self }
     {

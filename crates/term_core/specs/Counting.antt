@@ -1,4 +1,4 @@
--- Numbers that are counted. Source: own.
+-- Numbers that are counted.
 use Rattle.std.specs.Prelude.{◌≡◌, ◌⊎◌, ◌++◌, List, Contains}
 use Rattle.term_core.specs.declared.ids.TermId.{TermId}
 use Rattle.term_core.specs.NameLists.{AreApart}

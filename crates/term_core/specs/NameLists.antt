@@ -1,4 +1,4 @@
--- Lists of different things, and lists of names. Source: own.
+-- Lists of different things, and lists of names.
 use Rattle.std.specs.Prelude.{◌≡◌, ℕ, ◌<◌, List, [], length, slice_index_or}
 use Rattle.spec_text.specs.Bytes.{Name}
 

@@ -1,4 +1,4 @@
--- What a table of terms holds. Source: own.
+-- What a table of terms holds.
 use Rattle.std.specs.Prelude.{◌≡◌, ℕ, ◌<◌, Bool, true, false, ◌++◌, ◌∷◌, List, [], length, map, All, slice_index_or, refl}
 use Rattle.std.specs.Coded.{Coded, code_by, coded×, coded_list}
 use Rattle.spec_text.specs.Bytes.{Name}

@@ -1,4 +1,4 @@
--- The values of a table's terms. Source: own.
+-- The values of a table's terms.
 use Rattle.std.specs.Prelude.{◌≡◌, ℕ, ◌<◌, ◌≤◌, false, List, [], length, map, slice_index_or}
 use Rattle.spec_terms.specs.Terms.{Symbol}
 use Rattle.spec_terms.specs.Values.{Value, truth, Row, Table, Interpretation}

@@ -32,8 +32,6 @@ impl From<Vec<TermId>> for Clause {
 
 impl Clause {
     /// Gives the terms back as a `Vec`. It takes no memory.
-    ///
-    /// Source: own.
     pub fn into_vec(self) -> Vec<TermId>
         ensures { result.items ≡ self }
     {
@@ -41,8 +39,6 @@ impl Clause {
     }
 
     /// Lends the terms. It takes no memory.
-    ///
-    /// Source: own.
     pub fn as_slice(&self) -> &[TermId]
         ensures { result.now ≡ self.now }
     {
@@ -50,8 +46,6 @@ impl Clause {
     }
 
     /// Counts the terms. It takes no memory.
-    ///
-    /// Source: own.
     pub fn len(&self) -> usize
         ensures { result ≡ length self.now }
     {

@@ -16,7 +16,7 @@ use world_io::NoMemory;
 ///
 /// Where the table has no more terms it answers at once, and else as soon as more were seen; its time and memory go with
 /// the number of these subterms and their arguments. `NoMemory` comes where they find no memory, and says nothing of
-/// their number. Source: own.
+/// their number.
 pub fn fit_in(alloc: Global, table: &TermTable, ids: &[TermId], room: u64) -> Result<bool, NoMemory>
     requires { AreIn table.now ids.now }
     ensures { IfOk result (λ yes. yes ≡ fit_in room (clause_at table.now ids.now)) }

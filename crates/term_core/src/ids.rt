@@ -1,20 +1,14 @@
 //! Numbers of terms and symbols, and literals.
 
 /// Names a term of a table by its number, from 0.
-///
-/// Source: own.
 #[derive(Clone, Copy, Debug, Default, PartialEq, Eq, Hash)]
 pub struct TermId(pub u64);
 
 /// Names a declared symbol of a table by its number, from 0.
-///
-/// Source: own.
 #[derive(Clone, Copy, Debug, Default, PartialEq, Eq, Hash)]
 pub struct SymbolId(pub u64);
 
 /// Means a term as it stands, or its negation.
-///
-/// Source: own.
 #[derive(Clone, Copy, Debug, Default, PartialEq, Eq, Hash)]
 pub struct Lit {
     /// The term.

@@ -11,7 +11,7 @@ use world_io::NoMemory;
 
 /// Holds names in the order in which they came, no two the same.
 ///
-/// A look-up is by hash and takes no memory. Source: own.
+/// A look-up is by hash and takes no memory.
 #[derive(Drop)]
 pub struct Names {
     alloc: Global,
@@ -32,8 +32,6 @@ impl Model for Names {
 
 impl Names {
     /// Makes an empty list of names, which takes no memory before the first name.
-    ///
-    /// Source: own.
     pub fn new(alloc: Global) -> Names
         ensures { result ≡ [] }
     {
@@ -44,8 +42,6 @@ impl Names {
     }
 
     /// Counts the names.
-    ///
-    /// Source: own.
     pub fn len(&self) -> u64
         ensures { result ≡ length self.now }
     {
@@ -53,8 +49,6 @@ impl Names {
     }
 
     /// Finds the number of a name, from 0; `None` where it is none of these.
-    ///
-    /// Source: own.
     pub fn find(&self, name: &[u8]) -> Option<u64>
         ensures { MatchOption result (among self.now name.now ≡ false) (λ k. (k < length self.now) × (slice_index_or self.now k [] ≡ name.now)) }
     {
@@ -63,8 +57,6 @@ impl Names {
     }
 
     /// Says the name of a number.
-    ///
-    /// Source: own.
     pub fn name(&self, number: u64) -> &[u8]
         requires { number < length self.now }
         ensures { result.now ≡ slice_index_or self.now number [] }
@@ -73,8 +65,6 @@ impl Names {
     }
 
     /// States that no name stands twice.
-    ///
-    /// Source: own.
     pub fn no_name_twice(&self)
         ensures { HaveNoTwice self.now }
     {
@@ -84,7 +74,6 @@ impl Names {
     /// Puts a new name last, by a copy of its bytes.
     ///
     /// `NoMemory` comes where the copy or its place find no memory; then the names are as they were.
-    /// Source: own.
     pub fn add(&mut self, name: &[u8]) -> Result<(), NoMemory>
         requires { among self.old name.now ≡ false }
         ensures added { OnOk result (self.new ≡ self.old ++ name.now ∷ []) }

@@ -58,13 +58,9 @@ impl Head {
 }
 
 /// Lists the arguments of a term by their numbers: up to two of them take no memory of their own.
-///
-/// Source: own.
 pub type Arguments = SmallVec<TermId, 2>;
 
 /// Holds a term by its head, with arguments of the same table.
-///
-/// Source: own.
 #[derive(Drop, Debug, PartialEq, Eq, Hash)]
 pub struct Node {
     /// What stands before the arguments.
@@ -76,7 +72,7 @@ pub struct Node {
 impl Node {
     /// Makes a node by a copy of its arguments.
     ///
-    /// `NoMemory` comes where more than two arguments find no memory. Source: own.
+    /// `NoMemory` comes where more than two arguments find no memory.
     pub fn new(alloc: Global, head: Head, arguments: &[TermId]) -> Result<Node, NoMemory>
         ensures { IfOk result (λ n. (n.head ≡ head) × (n.arguments.items ≡ arguments.now)) }
     {

@@ -37,8 +37,6 @@ impl Model for Symbols {
 
 impl Symbols {
     /// Makes an empty list of symbols, which takes no memory before the first of them.
-    ///
-    /// Source: own.
     pub fn new(alloc: Global) -> Symbols
         ensures { result ≡ [] }
     {
@@ -48,8 +46,6 @@ impl Symbols {
     }
 
     /// Counts the symbols.
-    ///
-    /// Source: own.
     pub fn len(&self) -> u64
         ensures { result ≡ length self.now }
     {
@@ -92,8 +88,6 @@ impl Symbols {
     }
 
     /// States that no name stands twice, and that each symbol is a constant of sort Bool.
-    ///
-    /// Source: own.
     pub fn are_declared(&self)
         ensures { AreDeclared self.now }
     {

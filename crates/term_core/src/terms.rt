@@ -19,7 +19,7 @@ use world_io::NoMemory;
 
 /// Holds the terms so far, each once and after its arguments, and the symbols of which they are made.
 ///
-/// Terms and symbols keep their numbers while the table grows. Source: own.
+/// Terms and symbols keep their numbers while the table grows.
 #[derive(Drop)]
 pub struct TermTable {
     symbols: Symbols,
@@ -40,8 +40,6 @@ impl Model for TermTable {
 
 impl TermTable {
     /// Makes a table without symbols and terms, which takes no memory before the first of them.
-    ///
-    /// Source: own.
     pub fn new(alloc: Global) -> TermTable
         ensures { result ≡ record { symbols = []; terms = [] } }
     {
@@ -52,8 +50,6 @@ impl TermTable {
     }
 
     /// Counts the terms. It takes no memory.
-    ///
-    /// Source: own.
     pub fn len(&self) -> u64
         ensures { result ≡ length self.now.terms }
     {
@@ -61,8 +57,6 @@ impl TermTable {
     }
 
     /// Lends the declared symbols.
-    ///
-    /// Source: own.
     pub fn symbols(&self) -> &Symbols
         ensures { result.now ≡ self.now.symbols }
     {
@@ -86,7 +80,6 @@ impl TermTable {
     ///
     /// What the node names must be there, and of sorts that its head takes.
     /// `NoMemory` comes where a new node finds no memory; then the table is as it was.
-    /// Source: own.
     pub fn put(&mut self, node: Node) -> Result<TermId, NoMemory>
         requires { IsPlaced self.old node }
         ensures there { IfOk result (λ id. IsIn self.new id × (term_at self.new id ≡ node_term self.old node)) }
@@ -101,8 +94,6 @@ impl TermTable {
     }
 
     /// Says a term by its node, whose arguments have smaller numbers. It takes no memory.
-    ///
-    /// Source: own.
     pub fn node(&self, id: TermId) -> &Node
         requires { IsIn self.now id }
         ensures means { term_at self.now id ≡ node_term self.now result.now }
@@ -124,8 +115,6 @@ impl TermTable {
     }
 
     /// Takes away all terms but the first `len`, and keeps the symbols. It takes no memory.
-    ///
-    /// Source: own.
     pub fn cut(&mut self, len: u64)
         requires { len ≤ length self.old.terms }
         ensures terms { self.new.terms ≡ take len self.old.terms }
@@ -164,8 +153,6 @@ impl TermTable {
     }
 
     /// States that different numbers mean different terms.
-    ///
-    /// Source: own.
     pub fn numbers_tell_terms(&self)
         ensures { AreDifferent self.now.terms }
     {
@@ -173,8 +160,6 @@ impl TermTable {
     }
 
     /// States that the arguments of the table's terms are among them.
-    ///
-    /// Source: own.
     pub fn terms_are_closed(&self)
         ensures { IsClosed self.now.terms }
     {
@@ -182,8 +167,6 @@ impl TermTable {
     }
 
     /// States that the arguments of each of the table's terms stand before it.
-    ///
-    /// Source: own.
     pub fn arguments_come_first(&self)
         ensures { (before after : List Term) (t : Term) → self.now.terms ≡ before ++ t ∷ after → AreAmong (arguments_of t) before }
     {
@@ -191,8 +174,6 @@ impl TermTable {
     }
 
     /// States that each term has the sort Bool, as long as each symbol has.
-    ///
-    /// Source: own.
     pub fn terms_are_truths(&self)
         ensures { (id : Number) → IsIn self.now id → sort_of (term_at self.now id) ≡ Truth }
     {
@@ -218,8 +199,6 @@ impl TermTable {
     }
 
     /// States that the number of arguments alone decides whether a head takes them, as long as each symbol has the sort Bool.
-    ///
-    /// Source: own.
     pub fn counts_decide(&self)
         ensures { (s : Shape) → HasHead self.now.symbols s.head → AreIn self.now s.arguments
             → head_takes (head_meant self.now.symbols s.head) (map sort_of (clause_at self.now s.arguments)) ≡ takes_so_many s.head s.arguments }
@@ -229,8 +208,6 @@ impl TermTable {
     }
 
     /// Tells whether what a node names is there, and of sorts that its head takes. It takes no memory.
-    ///
-    /// Source: own.
     pub fn takes(&self, node: &Node) -> bool
         ensures { MatchBool result (IsPlaced self.now node.now) (IsPlaced self.now node.now → ⊥) }
     {
@@ -256,8 +233,6 @@ impl TermTable {
     }
 
     /// Tells whether each number is one of the table's. It takes no memory.
-    ///
-    /// Source: own.
     pub fn has_terms(&self, ids: &[TermId]) -> bool
         ensures { MatchBool result (AreIn self.now ids.now) (AreIn self.now ids.now → ⊥) }
     {

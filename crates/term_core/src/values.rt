@@ -16,8 +16,6 @@ pub enum Value {
 }
 
 /// Says the value of a symbol at arguments.
-///
-/// Source: own.
 #[derive(Drop, Debug)]
 pub struct Row {
     /// The arguments' values, in their order.
@@ -28,7 +26,7 @@ pub struct Row {
 
 /// Says the value of a symbol at all arguments: by its rows, of which the first that fits counts, or else by the default.
 ///
-/// A symbol without parameters has no rows. Source: own.
+/// A symbol without parameters has no rows.
 #[derive(Drop, Debug)]
 pub struct Table {
     /// The rows.
@@ -47,8 +45,6 @@ pub struct Interp {
 }
 
 /// Says why a value is not found.
-///
-/// Source: own.
 #[derive(Clone, Copy, Debug, PartialEq, Eq)]
 pub enum ValueStop {
     /// Out of memory, which says nothing of the value.
@@ -77,8 +73,6 @@ impl<T: Drop> From<AllocFailed<T>> for ValueStop {
 
 impl Value {
     /// Tells whether it is the truth value true.
-    ///
-    /// Source: own.
     pub fn is_true(self) -> bool
         ensures { result ≡ is_true (value_meant self) }
     {
@@ -88,8 +82,6 @@ impl Value {
     }
 
     /// Tells whether two values are the same.
-    ///
-    /// Source: own.
     pub fn is_same(self, other: Value) -> bool
         ensures { result ≡ same_value (value_meant self) (value_meant other) }
     {
@@ -118,8 +110,6 @@ impl Row {
 
 impl Table {
     /// Says the value at arguments. It takes no memory.
-    ///
-    /// Source: own.
     pub fn value_at(&self, arguments: &[Value]) -> Value
         ensures { value_meant result ≡ first_fit (table_meant self.now).rows (table_meant self.now).default (values_meant arguments.now) }
     {

@@ -1,4 +1,4 @@
--- How much of a text was read. Source: own.
+-- How much of a text was read.
 use Rattle.std.specs.Prelude.{◌≡◌, ℕ, ◌<◌, ◌≤◌, List, length, take, Option, ⊤}
 use Rattle.std.specs.Io.KnownBytes.{Consumes}
 use Rattle.world_io.specs.declared.read.ReadEnd.{ReadEnd}

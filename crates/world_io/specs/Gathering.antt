@@ -1,4 +1,4 @@
--- A buffer in front of a sink. Source: own.
+-- A buffer in front of a sink.
 use Rattle.std.specs.Prelude.{ℕ, List, ◌++◌, drop, Option, Some, None}
 use Rattle.world_io.specs.declared.gathered.Gathered.{Gathered}
 

@@ -1,4 +1,4 @@
--- What a shelf and a sink in memory hold. Source: own.
+-- What a shelf and a sink in memory hold.
 use Rattle.std.specs.Prelude.{◌≡◌, ℕ, zero, suc, ◌+◌, ◌-◌, ◌^◌, ◌<◌, ◌⊎◌, List, [], ◌∷◌, ◌++◌, length, take, drop, min, Contains, Option, Some, None, Result, Ok, Err, if◌then◌else◌, string_bytes, String}
 use Rattle.std.specs.Str.{bytes_eq}
 use Rattle.world_io.specs.declared.bytes.Bytes.{Bytes}

@@ -1,4 +1,4 @@
--- What reading and writing do to the bytes that are told, and how faults are counted. Source: own.
+-- What reading and writing do to the bytes that are told, and how faults are counted.
 use Rattle.std.specs.Prelude.{◌≡◌, ℕ, ◌-◌, ◌^◌, ◌<◌, ◌≤◌, ◌⊎◌, List, ◌++◌, length, take, Option, Some, None, ⊤}
 
 -- the count rose; at the greatest number of 64 bits it stays

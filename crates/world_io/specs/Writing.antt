@@ -1,4 +1,4 @@
--- What a call that writes a text does to a sink, by its result. Source: own.
+-- What a call that writes a text does to a sink, by its result.
 use Rattle.std.specs.Prelude.{ℕ, ◌-◌, ◌≤◌, List, length, Option, Result, Ok, Err, IsOk}
 use Rattle.std.specs.Io.KnownBytes.{Appends}
 use Rattle.world_io.specs.Outside.{Rose, AppendsFront}

@@ -9,7 +9,6 @@ use thiserror::Error;
 /// Says that an allocation was refused.
 ///
 /// It may come at any allocation, and what was to be changed means what it meant before, unless the call says otherwise.
-/// Source: own.
 #[derive(Clone, Copy, Debug, PartialEq, Eq, Error)]
 #[error("out of memory")]
 pub struct NoMemory;
@@ -27,8 +26,6 @@ impl<T: Drop> From<AllocFailed<T>> for NoMemory {
 }
 
 /// Owns a list of bytes, which contracts see as the list.
-///
-/// Source: own.
 #[derive(Drop)]
 pub struct Bytes {
     items: Vec<u8>,
@@ -52,8 +49,6 @@ impl From<Vec<u8>> for Bytes {
 
 impl Bytes {
     /// Gives the bytes back as a `Vec`. It takes no memory.
-    ///
-    /// Source: own.
     pub fn into_vec(self) -> Vec<u8>
         ensures { result.items ≡ self }
     {
@@ -61,8 +56,6 @@ impl Bytes {
     }
 
     /// Lends the bytes. It takes no memory.
-    ///
-    /// Source: own.
     pub fn as_slice(&self) -> &[u8]
         ensures { result.now ≡ self.now }
     {
@@ -70,8 +63,6 @@ impl Bytes {
     }
 
     /// Counts the bytes. It takes no memory.
-    ///
-    /// Source: own.
     pub fn len(&self) -> usize
         ensures { result ≡ length self.now }
     {

@@ -9,14 +9,11 @@ use thiserror::Error;
 /// Says that the outside refused a read or a write.
 ///
 /// A call answers it only where the count of faults of the object handed in rose in that call.
-/// Source: own.
 #[derive(Clone, Copy, Debug, PartialEq, Eq, Error)]
 #[error("the outside failed")]
 pub struct Failed;
 
 /// Gives the next number. The greatest number stays.
-///
-/// Source: own.
 pub(crate) fn one_more(number: u64) -> u64
     ensures rose { Rose number result }
     ensures next { result ≡ next_number number }
@@ -25,8 +22,6 @@ pub(crate) fn one_more(number: u64) -> u64
 }
 
 /// Counts a fault.
-///
-/// Source: own.
 pub(crate) fn counted(faults: &mut u64) -> Failed
     ensures rose { Rose faults.old faults.new }
     ensures next { faults.new ≡ next_number faults.old }

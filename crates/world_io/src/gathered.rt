@@ -15,7 +15,7 @@ const SIZE: usize = 4096;
 /// Gathers short pieces in front of a sink, so that the sink takes few long ones.
 ///
 /// What was written to it is what was written to the sink, and behind that the bytes that wait. They are handed on where 4096 of
-/// them wait, and by `flush`. Those that wait when it is dropped are lost. Source: own.
+/// them wait, and by `flush`. Those that wait when it is dropped are lost.
 #[derive(Drop)]
 pub struct Gathered<K> {
     sink: K,
@@ -30,7 +30,7 @@ impl<K: Sink + Drop> Gathered<K> {
 
     /// Puts a buffer in front of a sink. Nothing waits.
     ///
-    /// `NoMemory` comes where the buffer finds no memory; no other call takes any. Source: own.
+    /// `NoMemory` comes where the buffer finds no memory; no other call takes any.
     pub fn new(alloc: Global, sink: K) -> Result<Gathered<K>, NoMemory>
         ensures { IfOk result (λ g. (sink_of g ≡ sink) × (waiting g ≡ [])) }
     {
@@ -42,8 +42,6 @@ impl<K: Sink + Drop> Gathered<K> {
     }
 
     /// Lends the sink, to which the bytes that wait were not yet written. It takes no memory.
-    ///
-    /// Source: own.
     pub fn sink(&self) -> &K
         ensures { result.now ≡ sink_of self.now }
     {

@@ -9,7 +9,7 @@ use std::io::{self, Read, Write};
 use std::marker::Model;
 use std::rt::Files;
 
-/// Tells what is being read. Source: own.
+/// Tells what is being read.
 #[derive(Drop)]
 enum Source<F> {
     /// No text was begun.
@@ -22,7 +22,7 @@ enum Source<F> {
 
 /// Reads real files by their paths; the empty name is standard input.
 ///
-/// Contracts see the count of faults alone. An absent file fails at `begin`, a folder at the first `read`. Source: own.
+/// Contracts see the count of faults alone. An absent file fails at `begin`, a folder at the first `read`.
 #[derive(Drop)]
 pub struct HostShelf<'a, R: Files + Input> {
     rt: &'a R,
@@ -40,8 +40,6 @@ impl<'a, R: Files + Input> Model for HostShelf<'a, R> {
 
 impl<'a, R: Files + Input> HostShelf<'a, R> {
     /// Makes a shelf of the files of `rt`. No text is begun.
-    ///
-    /// Source: own.
     pub fn new(rt: &'a R) -> Self
         ensures { result ≡ 0 }
     {
@@ -91,7 +89,7 @@ impl<'a, R: Files + Input> Shelf for HostShelf<'a, R> {
 
 /// Writes to standard output.
 ///
-/// Contracts see the count of faults alone. Source: own.
+/// Contracts see the count of faults alone.
 #[derive(Drop)]
 pub struct HostSink<'a, R: Print> {
     rt: &'a R,
@@ -108,8 +106,6 @@ impl<'a, R: Print> Model for HostSink<'a, R> {
 
 impl<'a, R: Print> HostSink<'a, R> {
     /// Makes a sink of the standard output of `rt`.
-    ///
-    /// Source: own.
     pub fn new(rt: &'a R) -> Self
         ensures { result ≡ 0 }
     {

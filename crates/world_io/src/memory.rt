@@ -10,7 +10,7 @@ use std::marker::Model;
 
 /// Holds texts under names in memory, and fails the calls that it is told to fail.
 ///
-/// The calls of `begin` and `read` are numbered from 0 together. Source: own.
+/// The calls of `begin` and `read` are numbered from 0 together.
 #[derive(Drop)]
 pub struct MemShelf {
     texts: Vec<(String, Bytes)>,
@@ -43,7 +43,7 @@ impl MemShelf {
     /// Makes a shelf that holds the texts under their names; of two with one name it gives the first.
     ///
     /// A read gives at most `most` bytes. The calls with the numbers in `failing` fail. No text is begun, so nothing is left.
-    /// It never answers `NoMemory`, since it keeps what it is given. Source: own.
+    /// It never answers `NoMemory`, since it keeps what it is given.
     pub fn new(
         _alloc: Global,
         texts: Vec<(String, Bytes)>,
@@ -105,7 +105,7 @@ impl Shelf for MemShelf {
 
 /// Keeps in memory what is written, and fails the writes that it is told to fail.
 ///
-/// The writes are numbered from 0. Source: own.
+/// The writes are numbered from 0.
 #[derive(Drop)]
 pub struct MemSink {
     bytes: Vec<u8>,
@@ -138,7 +138,7 @@ impl MemSink {
     /// Makes a sink with room for `room` bytes in all, and takes the memory for them.
     ///
     /// A write takes at most `most` bytes. The writes with the numbers in `failing` fail.
-    /// `NoMemory` comes where the memory for the room was refused. Source: own.
+    /// `NoMemory` comes where the memory for the room was refused.
     pub fn new(alloc: Global, room: u64, most: u64, failing: Vec<u64>) -> Result<MemSink, NoMemory>
         ensures state { IfOk result (λ s. s ≡ record { written = []; room = room; most = most; failing = failing.items; calls = 0; faults = 0 }) }
         ensures made { room ≡ 0 → IsOk result }
@@ -155,8 +155,6 @@ impl MemSink {
     }
 
     /// Lends the bytes written so far. It takes no memory.
-    ///
-    /// Source: own.
     pub fn written(&self) -> &[u8]
         ensures { result.now ≡ self.now.written }
     {
@@ -188,8 +186,6 @@ impl Sink for MemSink {
 }
 
 /// Numbers a call, and tells whether it is one of those that are to fail.
-///
-/// Source: own.
 fn is_to_fail(failing: &[u64], calls: &mut u64) -> bool
     ensures among { MatchBool result (Contains failing.now calls.old) (Contains failing.now calls.old → ⊥) }
     ensures next { calls.new ≡ next_number calls.old }
@@ -200,8 +196,6 @@ fn is_to_fail(failing: &[u64], calls: &mut u64) -> bool
 }
 
 /// Finds the index of the first text of a name.
-///
-/// Source: own.
 fn place_of(texts: &[(String, Bytes)], name: &str) -> Option<usize>
     ensures { MatchOption result (text_named (map text_of texts.now) name.now ≡ None) (λ k. (k < length texts.now) × (text_named (map text_of texts.now) name.now ≡ Some (text_at (map text_of texts.now) k))) }
 {
@@ -214,8 +208,6 @@ fn place_of(texts: &[(String, Bytes)], name: &str) -> Option<usize>
 }
 
 /// Lends the text at an index, empty where there is none.
-///
-/// Source: own.
 fn bytes_at(texts: &[(String, Bytes)], k: usize) -> &[u8]
     ensures { result.now ≡ text_at (map text_of texts.now) k }
 {
@@ -226,8 +218,6 @@ fn bytes_at(texts: &[(String, Bytes)], k: usize) -> &[u8]
 }
 
 /// Lends the text from an offset on, empty past its end.
-///
-/// Source: own.
 fn rest_of(text: &[u8], offset: usize) -> &[u8]
     ensures { result.now ≡ drop offset text.now }
 {
@@ -235,8 +225,6 @@ fn rest_of(text: &[u8], offset: usize) -> &[u8]
 }
 
 /// Copies a front of the text from an offset on, as much as the buffer and `most` allow, and answers its length.
-///
-/// Source: own.
 fn copy_from(text: &[u8], offset: usize, most: usize, buf: &mut [u8]) -> usize
     requires { 0 < length buf.old }
     ensures length { result ≤ length buf.old }
@@ -252,8 +240,6 @@ fn copy_from(text: &[u8], offset: usize, most: usize, buf: &mut [u8]) -> usize
 }
 
 /// Appends bytes for which there is room. It takes no memory.
-///
-/// Source: own.
 pub(crate) fn append_reserved(bytes: &mut Vec<u8>, piece: &[u8])
     requires { vec_len bytes.old + length piece.now ≤ vec_capacity bytes.old }
     ensures items { bytes.new.items ≡ bytes.old.items ++ piece.now }

@@ -13,8 +13,6 @@ use thiserror::Error;
 const PIECE: usize = 1 << 16;
 
 /// Holds a text as far as the limit allows.
-///
-/// Source: own.
 #[derive(Drop)]
 pub enum ReadEnd {
     /// The whole text. It has at most as many bytes as the limit says.
@@ -24,8 +22,6 @@ pub enum ReadEnd {
 }
 
 /// Says why reading stopped.
-///
-/// Source: own.
 #[derive(Clone, Copy, Debug, PartialEq, Eq, Error)]
 pub enum ReadStop {
     /// The shelf failed.
@@ -57,7 +53,7 @@ impl From<Failed> for ReadStop {
 /// `Whole` comes where at most `limit` bytes were left, with all of them; then nothing is left.
 /// `Cut` comes where more were left, with the first `limit` of them; then some of the others may be taken too.
 /// `Failed` comes only where the shelf's count of faults rose in this call, `Memory` where an allocation was refused;
-/// a front of what was left may then be taken. Source: own.
+/// a front of what was left may then be taken.
 pub fn read_all<F: Shelf>(alloc: Global, shelf: &mut F, limit: u64) -> Result<ReadEnd, ReadStop>
     ensures end { IfOk result (λ end. (text : List ℕ) × IsReadTo limit end text × IfSome (F.left shelf.old) (λ t. t ≡ text)) }
     ensures front { TakesFront (F.left shelf.old) (F.left shelf.new) }

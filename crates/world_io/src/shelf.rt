@@ -9,7 +9,7 @@ use crate::Failed;
 /// Holds texts under names, and gives one of them bit by bit.
 ///
 /// Contracts see what each name holds and what is left of the text that was begun, where these are told,
-/// and how many calls failed. Source: own.
+/// and how many calls failed.
 pub trait Shelf {
     /// What a name holds, where that is told.
     ghost holds: { Self → List ℕ → Option (List ℕ) };
@@ -26,7 +26,6 @@ pub trait Shelf {
     /// Begins the text of a name, so that all of it is left.
     ///
     /// `Failed` comes only where the count of faults rose in this call; what is left is then as before.
-    /// Source: own.
     fn begin(&mut self, name: &str) -> Result<(), Failed>
         ensures begun { OnOk result (left self.new ≡ holds self.old name.now) }
         ensures kept { OnErr result (Keeps (left self.old) (left self.new)) }
@@ -39,7 +38,7 @@ pub trait Shelf {
     /// Moves a front of what is left into the buffer, from index 0 on, and answers its length in bytes.
     ///
     /// The buffer is not empty. The length is 0 at the end alone, where nothing is left.
-    /// `Failed` comes only where the count of faults rose in this call; what is left is then as before. Source: own.
+    /// `Failed` comes only where the count of faults rose in this call; what is left is then as before.
     fn read(&mut self, buf: &mut [u8]) -> Result<usize, Failed>
         requires { 0 < length buf.old }
         ensures length { IfOk result (λ n. n ≤ length buf.old) }

@@ -9,7 +9,7 @@ use crate::Failed;
 
 /// Takes bytes, piece by piece.
 ///
-/// Contracts see what was written, where that is told, and how many calls failed. Source: own.
+/// Contracts see what was written, where that is told, and how many calls failed.
 pub trait Sink {
     /// What was written, where that is told.
     ghost written: { Self → Option (List ℕ) };
@@ -23,7 +23,7 @@ pub trait Sink {
     /// Appends a front of the piece, and answers its length in bytes.
     ///
     /// Of a piece that is not empty it takes at least 1 byte.
-    /// `Failed` comes only where the count of faults rose in this call; nothing was then appended. Source: own.
+    /// `Failed` comes only where the count of faults rose in this call; nothing was then appended.
     fn write(&mut self, buf: &[u8]) -> Result<usize, Failed>
         ensures length { IfOk result (λ n. n ≤ length buf.now) }
         ensures some { 0 < length buf.now → IfOk result (λ n. 0 < n) }
@@ -35,7 +35,7 @@ pub trait Sink {
 
     /// Hands on what was written and waits in a buffer, if there is one. What was written stays the same.
     ///
-    /// `Failed` comes only where the count of faults rose in this call. Source: own.
+    /// `Failed` comes only where the count of faults rose in this call.
     fn flush(&mut self) -> Result<(), Failed>
         ensures same { Keeps (written self.old) (written self.new) }
         ensures count { faults self.old ≤ faults self.new }
@@ -48,7 +48,7 @@ pub trait Sink {
 
 /// Writes as many of the bytes as the sink takes, and says how many. It takes no memory.
 ///
-/// All are written but where the sink's count of faults rose in this call. Source: own.
+/// All are written but where the sink's count of faults rose in this call.
 pub(crate) fn write_front<K: Sink>(out: &mut K, bytes: &[u8]) -> usize
     ensures within { result ≤ length bytes.now }
     ensures front { Appends (K.written out.old) (K.written out.new) (take result bytes.now) }
@@ -69,7 +69,6 @@ pub(crate) fn write_front<K: Sink>(out: &mut K, bytes: &[u8]) -> usize
 /// Writes all of the bytes. It takes no memory.
 ///
 /// `Failed` comes only where the sink's count of faults rose in this call; a front of the bytes was then appended.
-/// Source: own.
 pub fn write_all<K: Sink>(out: &mut K, bytes: &[u8]) -> Result<(), Failed>
     ensures sends { Sends bytes.now result (K.written out.old) (K.written out.new) (K.faults out.old) (K.faults out.new) }
     ensures all { OnOk result (Appends (K.written out.old) (K.written out.new) bytes.now) }
@@ -88,7 +87,7 @@ pub fn write_all<K: Sink>(out: &mut K, bytes: &[u8]) -> Result<(), Failed>
 /// Writes pieces one after the other, so that their concatenation is appended. It takes no memory.
 ///
 /// `Failed` comes only where the sink's count of faults rose in this call; a front of the concatenation was then
-/// appended. Source: own.
+/// appended.
 pub fn write_pieces<K: Sink>(out: &mut K, pieces: &[&[u8]]) -> Result<(), Failed>
     ensures sends { Sends (flat_map (λ p. p.now) pieces.now) result (K.written out.old) (K.written out.new) (K.faults out.old) (K.faults out.new) }
     ensures all { OnOk result (Appends (K.written out.old) (K.written out.new) (flat_map (λ p. p.now) pieces.now)) }
