@@ -2,7 +2,7 @@
 use Rattle.std.proofs.Common.{◌≡◌, ◌≤◌, ℕ, inl, inr, List, [], length, map, Option, Some, None, refl, sym, ap, ◌∙◌, subst, arith}
 use Rattle.std.specs.Prelude.{Result, Ok, Err, OnOk}
 use Rattle.spec_terms.specs.Reading.{scope_of}
-use Rattle.spec_scripts.specs.Stack.{Stack, IsCurrent, HasNoCheck}
+use Rattle.spec_scripts.specs.Stack.{Stack, term_limit, IsCurrent, HasNoCheck}
 use Rattle.spec_proofs.specs.declared.ProofKind.TheVariants.{NoSuchCheck}
 use Rattle.spec_proofs.specs.Commands.{Known, known_at}
 use Rattle.spec_proofs.specs.Faults.{Fault}
@@ -33,10 +33,10 @@ module _ (script : List ℕ) (k : ℕ) (proof : List ℕ) where
   answered f stops.Memory v s = absurd s
 
   -- there is no such check
-  pub no_check : (r : ProofStop) → HasNoCheck script k → Refuses proof 0 NoSuchCheck r → Answers script k proof (Err r)
+  pub no_check : (r : ProofStop) → HasNoCheck term_limit script k → Refuses proof 0 NoSuchCheck r → Answers script k proof (Err r)
   no_check r h s = answered record { offset = 0; kind = NoSuchCheck } r (inr (h, refl)) s
 
-  module _ (x : Script) (s : Stack) (current : IsCurrent script k s) (stated : IsStack x s) (h : Held) (table : h.table ≡ x.table) (definitions : h.definitions ≡ no_definitions) (asserted : h.asserted ≡ x.asserted) (names : h.names ≡ []) (clauses : h.clauses.items ≡ []) where
+  module _ (x : Script) (s : Stack) (current : IsCurrent term_limit script k s) (stated : IsStack x s) (h : Held) (table : h.table ≡ x.table) (definitions : h.definitions ≡ no_definitions) (asserted : h.asserted ≡ x.asserted) (names : h.names ≡ []) (clauses : h.clauses.items ≡ []) where
     -- what is known at the check
     known : known_view h ≡ known_at s
     known =

@@ -78,16 +78,16 @@ one_less (suc (suc k)) next other e s rest = let n : next ≡ suc k = omega (ari
 
 module _ (text bytes : List ℕ) (k : ℕ) (x : Script) (from : Place) (left : ℕ) (e : bytes ≡ kept text) (l : Loading bytes k x from.offset left) where
   -- the script ends here
-  script_ends : (stop : Option Located) → Stops (length bytes) (lexemes_from bytes from.offset) stop → HasNoCheck text k
+  script_ends : (stop : Option Located) → Stops (length bytes) (lexemes_from bytes from.offset) stop → HasNoCheck term_limit text k
   script_ends stop s =
       let rest = lexemes_from bytes from.offset in
       let o = l.onward none rest (nothing_first 0 rest (omega arith)) in
       record { commands = o.0; end = limited (is_long text) stop; read = read_whole text bytes o.0 rest stop e o.1 s; none_here = o.2 ∙ nothing_at l.stack left }
 
-  pub script_finishes : lexemes_from bytes from.offset ≡ [] → HasNoCheck text k
+  pub script_finishes : lexemes_from bytes from.offset ≡ [] → HasNoCheck term_limit text k
   script_finishes h = script_ends None h
 
-  pub script_breaks : (r : Refusal) → Breaks bytes 0 (lexemes_from bytes from.offset) r → HasNoCheck text k
+  pub script_breaks : (r : Refusal) → Breaks bytes 0 (lexemes_from bytes from.offset) r → HasNoCheck term_limit text k
   script_breaks r b = script_ends (Some record { offset = r.place.offset; fault = r.fault }) b.0
 
   module _ (s : Sexpr) (after : Place) (r : Reads bytes from 0 s after) where
@@ -104,7 +104,7 @@ module _ (text bytes : List ℕ) (k : ℕ) (x : Script) (from : Place) (left : �
         let here = taken_is l.stack (tree_of s) b.0 left d.0 (Some d.0.stack) d.1 (behind_by check d.0.effect d.0.stack left _ d.2 ∙ ap (λ n. behind check d.0.stack n (λ next m. stack_at term_limit next m b.0)) one) in
         (d.0.stack, record { commands = o.0; end = limited (is_long text) stop.0; read = read_whole text bytes o.0 b.1 stop.0 e o.1 stop.1; here = o.2 ∙ here }, d.3)
 
-    pub leaves_here : (new : Script) → Steps term_limit l.stack s (Ok took.Exit) new → EachIsRead bytes after.offset → HasNoCheck text k
+    pub leaves_here : (new : Script) → Steps term_limit l.stack s (Ok took.Exit) new → EachIsRead bytes after.offset → HasNoCheck term_limit text k
     leaves_here new d b =
         let o = next_tree b.0 b.1 b.2 in
         let stop = stop_of (length bytes) b.1 b.3 in

@@ -2,7 +2,7 @@
 #![tactic(auto)]
 
 ghost use Rattle.std.specs.Prelude.{◌≡◌, ℕ, ◌≤◌, List, length, Some, OnOk};
-ghost use Rattle.spec_scripts.specs.Stack.{HasNoModel};
+ghost use Rattle.spec_scripts.specs.Stack.{HasNoModel, term_limit};
 ghost use Rattle.spec_proofs.specs.Accepted.{IsAccepted};
 ghost use Rattle.alethe_check.specs.Verdicts.{Answers, Refuses};
 
@@ -73,7 +73,7 @@ pub enum ProofStop {
 pub fn check(alloc: Global, script: &[u8], at: u64, proof: &[u8]) -> Result<(), ProofStop>
     ensures verdict { Answers script.now at proof.now result }
     ensures accepted { OnOk result (IsAccepted script.now at proof.now) }
-    ensures sound { OnOk result (HasNoModel script.now at) }
+    ensures sound { OnOk result (HasNoModel term_limit script.now at) }
 {
     spec_proofs::laws::accepted_proofs_have_no_fault();
     spec_proofs::laws::acceptance_is_sound();

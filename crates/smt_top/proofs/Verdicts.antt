@@ -5,7 +5,7 @@ use Rattle.std.proofs.lemmas.List.{take-take, take_all}
 use Rattle.spec_text.specs.declared.Place.{Place}
 use Rattle.spec_text.specs.Places.{since_break, IsPlaceOf}
 use Rattle.spec_text.specs.Readings.{text_limit, front}
-use Rattle.spec_scripts.specs.Stack.{HasNoModel}
+use Rattle.spec_scripts.specs.Stack.{HasNoModel, term_limit}
 use Rattle.spec_proofs.specs.Faults.{Fault}
 use Rattle.spec_proofs.specs.Accepted.{IsAccepted, IsVerdict}
 use Rattle.world_io.specs.Ends.{IsReadTo}
@@ -25,7 +25,7 @@ abbrev pub AcceptedLaw : Type 0
 AcceptedLaw = (script proof : List ℕ) (k : ℕ) → (IsVerdict script k proof None → IsAccepted script k proof) × (IsAccepted script k proof → IsVerdict script k proof None)
 
 abbrev pub SoundLaw : Type 0
-SoundLaw = (script proof : List ℕ) (k : ℕ) → IsAccepted script k proof → HasNoModel script k
+SoundLaw = (script proof : List ℕ) (k : ℕ) → IsAccepted script k proof → HasNoModel term_limit script k
 
 -- within a front each byte stands where it stands in the text
 same_front : (n at : ℕ) (text : List ℕ) → at ≤ length (take n text) → take at (take n text) ≡ take at text

@@ -2,7 +2,7 @@
 use Rattle.std.specs.Prelude.{◌≡◌, ℕ, Bool, true, false, List, Option, Some, None, IsSome, IfSome, ⊤, ◌⊎◌}
 use Rattle.std.specs.Io.KnownBytes.{Appends, Keeps}
 use Rattle.world_io.specs.Outside.{Rose, TakesFront, AppendsFront}
-use Rattle.spec_scripts.specs.Stack.{HasNoModel}
+use Rattle.spec_scripts.specs.Stack.{HasNoModel, term_limit}
 use Rattle.spec_proofs.specs.Faults.{Fault}
 use Rattle.spec_proofs.specs.Accepted.{IsAccepted, IsVerdict}
 use Rattle.smt_session.specs.declared.status.Status.{Status}
@@ -33,7 +33,7 @@ pub record IsValid (script : List ℕ) (at : ℕ) (proof : List ℕ) : Type 0 wh
   -- the proof is accepted, of that check
   pub accepted : IsAccepted script at proof
   -- no interpretation makes true what is asserted there
-  pub no_model : HasNoModel script at
+  pub no_model : HasNoModel term_limit script at
 
 -- the words are taken, and P is true of the check that is meant, and of a script and a proof that are those of the two names, where
 -- these are told

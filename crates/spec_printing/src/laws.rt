@@ -42,17 +42,17 @@ pub fn printed_proofs_are_good()
 /// States that the names which are declared at a check of a script can be printed, and that they are no more than a fifth
 /// of the bytes that may be read.
 pub fn declared_names_can_be_written()
-    ensures { (script : List ℕ) (k : ℕ) (s : Stack) → IsCurrent script k s
+    ensures { (limit : ℕ) (script : List ℕ) (k : ℕ) (s : Stack) → IsCurrent limit script k s
         → AreWritable s.symbols × (5 * length s.symbols ≤ text_limit) }
 {}
 
 /// States that lines which are right under what is current at a check of a script are an accepted proof of that check, alone
 /// and behind the answer `unsat`, where the text is no longer than it may be.
 pub fn printed_proofs_are_accepted()
-    ensures alone { (script : List ℕ) (k : ℕ) (s : Stack) (lines : List Line) → IsCurrent script k s
+    ensures alone { (script : List ℕ) (k : ℕ) (s : Stack) (lines : List Line) → IsCurrent term_limit script k s
         → AreRightLines s.symbols (map (λ (a : Assertion). a.term) s.assertions) lines → is_long (proof_text lines) ≡ false
         → IsAccepted script k (proof_text lines) }
-    ensures answered { (script : List ℕ) (k : ℕ) (s : Stack) (lines : List Line) → IsCurrent script k s
+    ensures answered { (script : List ℕ) (k : ℕ) (s : Stack) (lines : List Line) → IsCurrent term_limit script k s
         → AreRightLines s.symbols (map (λ (a : Assertion). a.term) s.assertions) lines
         → is_long (codes "unsat\n" ++ proof_text lines) ≡ false
         → IsAccepted script k (codes "unsat\n" ++ proof_text lines) }

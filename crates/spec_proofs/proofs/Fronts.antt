@@ -6,7 +6,7 @@ use Rattle.spec_text.specs.Lexemes.{lexemes}
 use Rattle.spec_text.specs.Trees.{Trees, none, more}
 use Rattle.spec_text.specs.Faults.{Located}
 use Rattle.spec_text.specs.Readings.{AreTrees, Stops, text_limit, front, is_long, too_long, at_limit, limited, IsReadUpTo}
-use Rattle.spec_scripts.specs.Stack.{Stack, IsCurrent, HasNoCheck}
+use Rattle.spec_scripts.specs.Stack.{Stack, term_limit, IsCurrent, HasNoCheck}
 use Rattle.spec_proofs.specs.declared.ProofKind.TheVariants.{BadShape}
 use Rattle.spec_proofs.specs.Faults.{Fault, Read, fault_at, text_fault}
 use Rattle.spec_proofs.specs.Commands.{Known, Command, known_at}
@@ -37,11 +37,11 @@ read_by text ts found r = record {
   is = subst (λ long. found ≡ limited long r.stop) (same_long text_limit text) r.is;
 }
 
-current_by : (text : List ℕ) (k : ℕ) (s : Stack) → IsCurrent (front text) k s → IsCurrent text k s
-current_by text k s c = record { commands = c.commands; end = c.end; read = read_by text c.commands c.end c.read; here = c.here }
+current_by : (limit : ℕ) (text : List ℕ) (k : ℕ) (s : Stack) → IsCurrent limit (front text) k s → IsCurrent limit text k s
+current_by limit text k s c = record { commands = c.commands; end = c.end; read = read_by text c.commands c.end c.read; here = c.here }
 
-no_check_by : (text : List ℕ) (k : ℕ) → HasNoCheck (front text) k → HasNoCheck text k
-no_check_by text k c = record { commands = c.commands; end = c.end; read = read_by text c.commands c.end c.read; none_here = c.none_here }
+no_check_by : (limit : ℕ) (text : List ℕ) (k : ℕ) → HasNoCheck limit (front text) k → HasNoCheck limit text k
+no_check_by limit text k c = record { commands = c.commands; end = c.end; read = read_by text c.commands c.end c.read; none_here = c.none_here }
 
 -- so is a proof
 commands_by : (text : List ℕ) (ts : Trees) (e : Ending) → IsProofText (front text) ts e → IsProofText text ts e
@@ -84,5 +84,5 @@ judged_by s proof found j = record {
 }
 
 pub verdict_of_fronts : (script proof : List ℕ) (k : ℕ) (found : Option Fault) → IsVerdict (front script) k (front proof) found → IsVerdict script k proof found
-verdict_of_fronts script proof k found (inl x) = inl (x.0, current_by script k x.0 x.1, judged_by x.0 proof found x.2)
-verdict_of_fronts script proof k found (inr x) = inr (no_check_by script k x.0, x.1)
+verdict_of_fronts script proof k found (inl x) = inl (x.0, current_by term_limit script k x.0 x.1, judged_by x.0 proof found x.2)
+verdict_of_fronts script proof k found (inr x) = inr (no_check_by term_limit script k x.0, x.1)

@@ -14,7 +14,7 @@ use Rattle.spec_terms.specs.Values.{Interpretation}
 use Rattle.spec_terms.specs.Literals.{Clause, Literal, complement, literal_of}
 use Rattle.spec_terms.specs.Agreement.{value_at, values_at}
 use Rattle.spec_terms.specs.Examples.{built, trees_in, p}
-use Rattle.spec_scripts.specs.Stack.{Stack, IsCurrent}
+use Rattle.spec_scripts.specs.Stack.{Stack, term_limit, IsCurrent}
 use Rattle.spec_scripts.specs.Examples.{contradiction, contradiction_stack, contradiction_is_current, disjunction, disjunction_stack, disjunction_is_current}
 use Rattle.spec_proofs.specs.Resolution.{Derives, given, unit, both_ways}
 use Rattle.spec_proofs.specs.declared.ProofKind.TheVariants.{Lexical, Term as term_fault, BadShape, UnknownPremise, UnknownRule, TwiceName, NotAsserted, RuleFails, NoEmptyClause}
@@ -55,7 +55,7 @@ by_commands : (k : Known) (end : ℕ) (ending : Option Fault) (ts : Trees) (cs :
 by_commands k end ending ts cs unread found e h = fault_in k end ending ts found (subst (λ (x : List Command × Option Fault). FaultIn k end ending x.0 x.1 found) (sym e) h)
 
 -- a verdict by what the proof is read as
-judged : (script : List ℕ) (s : Stack) → IsCurrent script 1 s → (proof : List ℕ) (ts : Trees) (e : Ending) → IsProofText proof ts e → (cs : List Command) (unread found : Option Fault) → read_commands (known_at s) ts ≡ (cs, unread) → FaultIn (known_at s) (length proof) (ending_fault (is_long proof) e) cs unread found → IsVerdict script 1 proof found
+judged : (script : List ℕ) (s : Stack) → IsCurrent term_limit script 1 s → (proof : List ℕ) (ts : Trees) (e : Ending) → IsProofText proof ts e → (cs : List Command) (unread found : Option Fault) → read_commands (known_at s) ts ≡ (cs, unread) → FaultIn (known_at s) (length proof) (ending_fault (is_long proof) e) cs unread found → IsVerdict script 1 proof found
 judged script s current proof ts e read cs unread found are h = inl (s, current, record { commands = ts; ending = e; read = read; fault = by_commands (known_at s) (length proof) (ending_fault (is_long proof) e) ts cs unread found are h })
 
 contradicts : (proof : List ℕ) (ts : Trees) (e : Ending) → IsProofText proof ts e → (cs : List Command) (unread found : Option Fault) → read_commands known ts ≡ (cs, unread) → FaultIn known (length proof) (ending_fault (is_long proof) e) cs unread found → IsVerdict contradiction 1 proof found

@@ -2,7 +2,7 @@
 use Rattle.std.specs.Prelude.{◌≡◌, ℕ, false, ◌⊎◌, List, length, Option, Some}
 use Rattle.spec_text.specs.Trees.{Trees}
 use Rattle.spec_text.specs.Readings.{is_long}
-use Rattle.spec_scripts.specs.Stack.{Stack, IsCurrent, HasNoCheck}
+use Rattle.spec_scripts.specs.Stack.{Stack, term_limit, IsCurrent, HasNoCheck}
 use Rattle.spec_proofs.specs.declared.ProofKind.TheVariants.{NoSuchCheck}
 use Rattle.spec_proofs.specs.Faults.{Fault, fault_at}
 use Rattle.spec_proofs.specs.Commands.{known_at}
@@ -15,7 +15,7 @@ pub record IsAccepted (script : List ℕ) (k : ℕ) (proof : List ℕ) : Type 0 
   -- what is current at the check
   pub stack : Stack
   -- it is current there
-  pub current : IsCurrent script k stack
+  pub current : IsCurrent term_limit script k stack
   -- the proof is no longer than it may be
   pub short : is_long proof ≡ false
   -- the commands of the proof
@@ -42,4 +42,4 @@ no_such_check = fault_at 0 NoSuchCheck
 
 -- the first fault of a proof of the k-th check of a script, or none; that there is no such check comes before all others
 abbrev pub IsVerdict : List ℕ → ℕ → List ℕ → Option Fault → Type 0
-IsVerdict script k proof found = ((s : Stack) × IsCurrent script k s × IsJudged s proof found) ⊎ (HasNoCheck script k × (found ≡ Some no_such_check))
+IsVerdict script k proof found = ((s : Stack) × IsCurrent term_limit script k s × IsJudged s proof found) ⊎ (HasNoCheck term_limit script k × (found ≡ Some no_such_check))

@@ -8,7 +8,7 @@ ghost use Rattle.spec_text.specs.Readings.{front};
 ghost use Rattle.spec_terms.specs.Values.{Interpretation, Interprets, truth, table_value};
 ghost use Rattle.spec_terms.specs.Agreement.{value_at};
 ghost use Rattle.spec_terms.specs.Literals.{Clause, complement, literals_of};
-ghost use Rattle.spec_scripts.specs.Stack.{Stack, Assertion, IsCurrent, MakesTrue, HasNoModel};
+ghost use Rattle.spec_scripts.specs.Stack.{Stack, Assertion, IsCurrent, MakesTrue, HasNoModel, term_limit};
 ghost use Rattle.spec_proofs.specs.declared.Rule.{Rule};
 ghost use Rattle.spec_proofs.specs.Resolution.{IsWithin, IsChain};
 ghost use Rattle.spec_proofs.specs.Clauses.{IsResolvent, clause_true, HasTruth};
@@ -56,7 +56,7 @@ pub fn accepted_proofs_have_no_fault()
 
 /// States that no interpretation makes true what is current at a check of which a proof is accepted.
 pub fn acceptance_is_sound()
-    ensures { (script proof : List ℕ) (k : ℕ) → IsAccepted script k proof → HasNoModel script k }
+    ensures { (script proof : List ℕ) (k : ℕ) → IsAccepted script k proof → HasNoModel term_limit script k }
 {
     rules_are_sound();
     spec_scripts::laws::checks_have_one_stack();
@@ -96,9 +96,9 @@ pub fn verdicts_need_a_front_alone()
 /// current symbols gives them to its constants, and where under it the terms of all current assertions have the value
 /// true, it makes the current expressions true.
 pub fn satisfied_scripts_have_a_model()
-    ensures { (script : List ℕ) (k : ℕ) (s : Stack) (v : Name → Bool) → IsCurrent script k s
+    ensures { (limit : ℕ) (script : List ℕ) (k : ℕ) (s : Stack) (v : Name → Bool) → IsCurrent limit script k s
         → (i : Interpretation) × Interprets i s.symbols × ((n : Name) → table_value i n [] ≡ truth (v n))
-        × (All (λ (a : Assertion). value_at i a.term ≡ truth true) s.assertions → MakesTrue i script k) }
+        × (All (λ (a : Assertion). value_at i a.term ≡ truth true) s.assertions → MakesTrue limit i script k) }
 {
     spec_scripts::laws::assertions_are_read();
     spec_scripts::laws::assertions_have_their_texts_value();
@@ -107,7 +107,7 @@ pub fn satisfied_scripts_have_a_model()
 /// States that goodness is not asked in vain: where at a check no truths of the terms below negations make all current
 /// assertions true, there is a good proof. It is given by its trees: its text may be longer than a text may be.
 pub fn unsatisfiable_scripts_have_a_proof()
-    ensures truths { (script : List ℕ) (k : ℕ) (s : Stack) → IsCurrent script k s
+    ensures truths { (script : List ℕ) (k : ℕ) (s : Stack) → IsCurrent term_limit script k s
         → ((v : Truths) → All (λ (a : Assertion). term_true_by v a.term ≡ true) s.assertions → ⊥)
         → (ts : Trees) × IsGood (known_at s) ts }
 {

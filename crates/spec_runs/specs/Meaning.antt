@@ -3,7 +3,7 @@ use Rattle.std.specs.Prelude.{◌≡◌, ℕ, suc, false, List, [], ◌∷◌, �
 use Rattle.spec_text.specs.Readings.{is_long}
 use Rattle.spec_text.specs.Trees.{Trees, list, none, more, IsRead}
 use Rattle.spec_terms.specs.Values.{Interpretation, Interprets}
-use Rattle.spec_scripts.specs.Stack.{Stack, IsCurrent, MakesTrue, HasNoModel}
+use Rattle.spec_scripts.specs.Stack.{Stack, term_limit, IsCurrent, MakesTrue, HasNoModel}
 use Rattle.spec_proofs.specs.Accepted.{IsAccepted}
 use Rattle.spec_replies.specs.declared.Word.TheVariants.{Unsat}
 use Rattle.spec_replies.specs.Lines.{word_line}
@@ -14,7 +14,7 @@ use Rattle.spec_runs.specs.Transcripts.{Checked}
 -- What a model means of the k-th check of a text, where the symbols of this stack are declared.
 pub record ModelMeans (text : List ℕ) (k : ℕ) (s : Stack) (i : Interpretation) : Type 0 where
   -- it makes true what is asserted there
-  pub makes_true : MakesTrue i text k
+  pub makes_true : MakesTrue term_limit i text k
   -- the definitions in its text
   pub definitions : Trees
   -- where the list of them ends
@@ -24,12 +24,12 @@ pub record ModelMeans (text : List ℕ) (k : ℕ) (s : Stack) (i : Interpretatio
   -- they define each symbol, in their order, as it is in the model
   pub define : DefineAll i s.symbols definitions
   -- so the text alone says enough: whatever tables of the right sorts have the values that it defines, they make true what is asserted there
-  pub each : (j : Interpretation) → Interprets j s.symbols → DefineAll j s.symbols definitions → MakesTrue j text k
+  pub each : (j : Interpretation) → Interprets j s.symbols → DefineAll j s.symbols definitions → MakesTrue term_limit j text k
 
 -- What the text of a proof means of the k-th check of a text.
 pub record ProofMeans (text : List ℕ) (k : ℕ) (p : List ℕ) : Type 0 where
   -- no interpretation makes true what is asserted there, however long the proof is
-  pub no_model : HasNoModel text k
+  pub no_model : HasNoModel term_limit text k
   -- it is accepted of that check, if it is no longer than a text may be
   pub accepted : is_long p ≡ false → IsAccepted text k p
   -- so it is behind the line of the answer
@@ -44,7 +44,7 @@ Means text k s (unknown r d learned) = Unit {0}
 -- What the answer of the k-th check of a text, from 1, says, with all that this means.
 pub record Says (limits : Limits) (text : List ℕ) (k : ℕ) (c : Checked) : Type 0 where
   -- the text has this check, and this is current there
-  pub current : IsCurrent text k c.stack
+  pub current : IsCurrent term_limit text k c.stack
   -- what was found shows of it what it should
   pub shown : Justifies limits c.stack c.found
   -- which means this

@@ -13,7 +13,7 @@ ghost use Rattle.spec_runs.specs.Meaning.{Says, AllSay};
 /// text defines; and a proof is accepted of the check, if its text is not too long, and no interpretation makes true what is
 /// asserted there, however long it is.
 pub fn what_is_shown_is_so()
-    ensures { (limits : Limits) (text : List ℕ) (k : ℕ) (c : Checked) → IsCurrent text k c.stack → Justifies limits c.stack c.found
+    ensures { (limits : Limits) (text : List ℕ) (k : ℕ) (c : Checked) → IsCurrent term_limit text k c.stack → Justifies limits c.stack c.found
         → Says limits text k c }
 {
     spec_scripts::laws::checks_have_one_stack();

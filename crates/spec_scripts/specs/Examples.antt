@@ -70,12 +70,12 @@ contradiction_stack = record { symbols = constant (codes "p") Truth ∷ []; asse
     assertions = record { text = atom 30 Simple (codes "p"); term = p } ∷ record { text = list 40 (more (atom 41 Simple (codes "not")) (more (atom 45 Simple (codes "p")) none)) 46; term = negated p } ∷ []
 
 -- that is current at its check
-pub contradiction_is_current : IsCurrent contradiction 1 contradiction_stack
+pub contradiction_is_current : IsCurrent term_limit contradiction 1 contradiction_stack
 unfolding lexemes first_piece built command_of set_option declare_const term_in terms_in roomy_terms with_subterms with_all_subterms same_term require ◌>>=◌ step stack_at
 contradiction_is_current = record { commands = trees_in contradiction; end = None; read = contradiction_is_read; here = refl }
 
 -- it has no second check
-pub contradiction_has_one_check : HasNoCheck contradiction 2
+pub contradiction_has_one_check : HasNoCheck term_limit contradiction 2
 unfolding lexemes first_piece built command_of set_option declare_const term_in terms_in roomy_terms with_subterms with_all_subterms same_term require ◌>>=◌ step stack_at
 contradiction_has_one_check = record { commands = trees_in contradiction; end = None; read = contradiction_is_read; none_here = refl }
 
@@ -96,7 +96,7 @@ disjunction_stack = record { symbols = constant (codes "p") Truth ∷ []; assert
     assertions = record { text = list 30 (more (atom 31 Simple (codes "or")) (more (atom 34 Simple (codes "p")) (more (atom 36 Simple (codes "p")) none))) 37; term = of Or (p ∷ p ∷ []) } ∷ record { text = list 47 (more (atom 48 Simple (codes "not")) (more (atom 52 Simple (codes "p")) none)) 53; term = negated p } ∷ []
 
 -- that is current at its check
-pub disjunction_is_current : IsCurrent disjunction 1 disjunction_stack
+pub disjunction_is_current : IsCurrent term_limit disjunction 1 disjunction_stack
 unfolding lexemes first_piece built command_of set_option declare_const term_in terms_in roomy_terms with_subterms with_all_subterms same_term require ◌>>=◌ step stack_at
 disjunction_is_current = record { commands = trees_in disjunction; end = None; read = disjunction_is_read; here = refl }
 

@@ -168,12 +168,12 @@ unfoldable pub stack_at : ℕ → Stack → ℕ → Trees → Option Stack
 stack_at limit s k none = None
 stack_at limit s k (more t ts) = at_check s k (step limit s t) (λ next n. stack_at limit next n ts)
 
--- the limit under which proofs are checked
+-- the limit on different subterms, and on names, under which proofs are checked
 abbrev pub term_limit : ℕ
 term_limit = 2 ^ 24
 
--- what is current at the k-th check of a text
-pub record IsCurrent (text : List ℕ) (k : ℕ) (s : Stack) : Type 0 where
+-- what is current at the k-th check of a text, under a limit on terms
+pub record IsCurrent (limit : ℕ) (text : List ℕ) (k : ℕ) (s : Stack) : Type 0 where
   -- the s-expressions of the text
   pub commands : Trees
   -- what ends them
@@ -181,10 +181,10 @@ pub record IsCurrent (text : List ℕ) (k : ℕ) (s : Stack) : Type 0 where
   -- they are those of the text
   pub read : IsReadUpTo text commands end
   -- the commands up to the check leave the stack
-  pub here : stack_at term_limit empty_stack k commands ≡ Some s
+  pub here : stack_at limit empty_stack k commands ≡ Some s
 
 -- the text ends before its k-th check: by its end, by `exit`, or by a fault behind which it cannot be read on
-pub record HasNoCheck (text : List ℕ) (k : ℕ) : Type 0 where
+pub record HasNoCheck (limit : ℕ) (text : List ℕ) (k : ℕ) : Type 0 where
   -- the s-expressions of the text
   pub commands : Trees
   -- what ends them
@@ -192,19 +192,19 @@ pub record HasNoCheck (text : List ℕ) (k : ℕ) : Type 0 where
   -- they are those of the text
   pub read : IsReadUpTo text commands end
   -- no command is that check
-  pub none_here : stack_at term_limit empty_stack k commands ≡ None
+  pub none_here : stack_at limit empty_stack k commands ≡ None
 
 -- tables of the right sorts for the current symbols, under which every current expression has the value true
-pub record MakesTrue (i : Interpretation) (text : List ℕ) (k : ℕ) : Type 0 where
+pub record MakesTrue (limit : ℕ) (i : Interpretation) (text : List ℕ) (k : ℕ) : Type 0 where
   -- what is current
   pub stack : Stack
   -- it is current at that check
-  pub current : IsCurrent text k stack
+  pub current : IsCurrent limit text k stack
   -- each current symbol has its table
   pub interprets : Interprets i stack.symbols
   -- each current expression is true
   pub each : All (λ (a : Assertion). value_under i a.text ≡ truth true) stack.assertions
 
 -- no interpretation makes them true, whatever its tables of the right sorts are; it says nothing where there is no such check
-abbrev pub HasNoModel : List ℕ → ℕ → Type 0
-HasNoModel text k = (i : Interpretation) → MakesTrue i text k → ⊥
+abbrev pub HasNoModel : ℕ → List ℕ → ℕ → Type 0
+HasNoModel limit text k = (i : Interpretation) → MakesTrue limit i text k → ⊥

@@ -8,14 +8,15 @@ ghost use Rattle.spec_terms.specs.Values.{Interpretation};
 ghost use Rattle.spec_terms.specs.Meaning.{value_under};
 ghost use Rattle.spec_terms.specs.Agreement.{value_at, HaveOwnNames};
 ghost use Rattle.spec_terms.specs.Subterms.{fit_in};
-ghost use Rattle.spec_scripts.specs.Stack.{Stack, Assertion, Taken, empty_stack, term_limit, step, IsCurrent, HasNoCheck};
+ghost use Rattle.spec_scripts.specs.Stack.{Stack, Assertion, Taken, empty_stack, step, IsCurrent, HasNoCheck};
 ghost use Rattle.spec_scripts.specs.Current.{IsReadStack, IsKeptStack};
 
-/// States that what is current at a check is determined by the text and the check's number, and that a text which ends
+/// States that what is current at a check is determined by the limit on terms, the text and the
+/// check's number, and that a text which ends
 /// before the check has nothing current there.
 pub fn checks_have_one_stack()
-    ensures one { (text : List ℕ) (k : ℕ) (s t : Stack) → IsCurrent text k s → IsCurrent text k t → s ≡ t }
-    ensures other { (text : List ℕ) (k : ℕ) (s : Stack) → IsCurrent text k s → HasNoCheck text k → ⊥ }
+    ensures one { (limit : ℕ) (text : List ℕ) (k : ℕ) (s t : Stack) → IsCurrent limit text k s → IsCurrent limit text k t → s ≡ t }
+    ensures other { (limit : ℕ) (text : List ℕ) (k : ℕ) (s : Stack) → IsCurrent limit text k s → HasNoCheck limit text k → ⊥ }
 {
     spec_text::laws::a_text_is_read_up_to_one_end();
 }
@@ -23,9 +24,9 @@ pub fn checks_have_one_stack()
 /// States that the current symbols are declared constants, that the term of each current assertion is that of its text
 /// under all of them, and that there is room for it.
 pub fn assertions_are_read()
-    ensures read { (text : List ℕ) (k : ℕ) (s : Stack) → IsCurrent text k s → IsReadStack s }
-    ensures room { (text : List ℕ) (k : ℕ) (s : Stack) → IsCurrent text k s
-        → All (λ (a : Assertion). fit_in term_limit (a.term ∷ []) ≡ true) s.assertions }
+    ensures read { (limit : ℕ) (text : List ℕ) (k : ℕ) (s : Stack) → IsCurrent limit text k s → IsReadStack s }
+    ensures room { (limit : ℕ) (text : List ℕ) (k : ℕ) (s : Stack) → IsCurrent limit text k s
+        → All (λ (a : Assertion). fit_in limit (a.term ∷ []) ≡ true) s.assertions }
     ensures own { (s : Stack) → IsReadStack s → HaveOwnNames s.symbols }
 {}
 
@@ -43,7 +44,7 @@ pub fn commands_keep_stacks()
 /// States that the text and the term of a current assertion have one value, under every interpretation.
 /// Source: SMT-LIB 2.6, section 5.3.
 pub fn assertions_have_their_texts_value()
-    ensures { (text : List ℕ) (k : ℕ) (s : Stack) → IsCurrent text k s
+    ensures { (limit : ℕ) (text : List ℕ) (k : ℕ) (s : Stack) → IsCurrent limit text k s
         → (i : Interpretation) → All (λ (a : Assertion). value_under i a.text ≡ value_at i a.term) s.assertions }
 {
     spec_terms::terms_have_their_texts_value();

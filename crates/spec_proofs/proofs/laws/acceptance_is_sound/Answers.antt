@@ -4,7 +4,7 @@ use Rattle.std.proofs.lemmas.List.Elements.{All-nil, All-map}
 use Rattle.spec_terms.specs.Values.{truth, is_true, Interprets}
 use Rattle.spec_terms.specs.Meaning.{value_under}
 use Rattle.std.specs.Prelude.{true}
-use Rattle.spec_scripts.specs.Stack.{Stack, Assertion}
+use Rattle.spec_scripts.specs.Stack.{Stack, Assertion, term_limit}
 use Rattle.spec_proofs.specs.Commands.{known_at}
 use Rattle.spec_proofs.proofs.Good.{no_fault}
 use Rattle.spec_proofs.proofs.Judging.{sound, EntryTrue, TermTrue, IsTruly}
@@ -14,10 +14,10 @@ use Rattle.spec_proofs.proofs.laws.acceptance_is_sound.Goals as goal
 pub returns : goal.returns
 returns c = λ script proof k accepted i model.
     let s = accepted.stack in
-    let same = c.checks_have_one_stack.ensures.one script k model.stack s model.current accepted.current in
+    let same = c.checks_have_one_stack.ensures.one term_limit script k model.stack s model.current accepted.current in
     let texts = subst (λ (x : Stack). All (λ (a : Assertion). value_under i a.text ≡ truth true) x.assertions) same model.each in
-    let values = c.assertions_have_their_texts_value.ensures script k s accepted.current i in
-    let declared = (c.assertions_are_read.ensures.read script k s accepted.current).symbols in
+    let values = c.assertions_have_their_texts_value.ensures term_limit script k s accepted.current i in
+    let declared = (c.assertions_are_read.ensures.read term_limit script k s accepted.current).symbols in
     let all : IsTruly i (known_at s) = record {
       scope = record {
         symbols = all_truthful i s.symbols declared (subst (λ (x : Stack). Interprets i x.symbols) same model.interprets);

@@ -2,7 +2,7 @@
 use Rattle.std.proofs.Common.{◌≡◌, ℕ, List, length, Option, inl, inr, sym, ◌∙◌, subst}
 use Rattle.spec_text.specs.Trees.{Trees}
 use Rattle.spec_text.specs.Readings.{is_long}
-use Rattle.spec_scripts.specs.Stack.{Stack, IsCurrent, HasNoCheck}
+use Rattle.spec_scripts.specs.Stack.{Stack, term_limit, IsCurrent, HasNoCheck}
 use Rattle.spec_proofs.specs.Commands.{Known, known_at}
 use Rattle.spec_proofs.specs.Faults.{Fault}
 use Rattle.spec_proofs.specs.Texts.{Ending, IsProofText, ending_fault}
@@ -17,11 +17,11 @@ module _ (one_fault : (k : Known) (end : ℕ) (ending : Option Fault) (ts : Tree
       let same = subst (λ e. FirstFault (known_at s) (length proof) (ending_fault (is_long proof) e) y.commands a) row.1 (subst (λ ts. FirstFault (known_at s) (length proof) (ending_fault (is_long proof) x.ending) ts a) row.0 x.fault) in
       one_fault (known_at s) (length proof) (ending_fault (is_long proof) y.ending) y.commands a b same y.fault
 
-  verdict_one : (script proof : List ℕ) (k : ℕ) (a b : Option Fault) → ((s t : Stack) → IsCurrent script k s → IsCurrent script k t → s ≡ t) → ((s : Stack) → IsCurrent script k s → HasNoCheck script k → ⊥) → IsVerdict script k proof a → IsVerdict script k proof b → a ≡ b
+  verdict_one : (script proof : List ℕ) (k : ℕ) (a b : Option Fault) → ((s t : Stack) → IsCurrent term_limit script k s → IsCurrent term_limit script k t → s ≡ t) → ((s : Stack) → IsCurrent term_limit script k s → HasNoCheck term_limit script k → ⊥) → IsVerdict script k proof a → IsVerdict script k proof b → a ≡ b
   verdict_one script proof k a b same other (inl x) (inl y) = judged_one y.0 proof a b (subst (λ s. IsJudged s proof a) (same x.0 y.0 x.1 y.1) x.2) y.2
   verdict_one script proof k a b same other (inl x) (inr y) = absurd (other x.0 x.1 y.0)
   verdict_one script proof k a b same other (inr x) (inl y) = absurd (other y.0 y.1 x.0)
   verdict_one script proof k a b same other (inr x) (inr y) = x.1 ∙ sym y.1
 
 pub returns : goal.returns
-returns c = λ script proof k a b. verdict_one c.first_fault_is_one.ensures c.proofs_have_one_reading.ensures script proof k a b (c.checks_have_one_stack.ensures.one script k) (c.checks_have_one_stack.ensures.other script k)
+returns c = λ script proof k a b. verdict_one c.first_fault_is_one.ensures c.proofs_have_one_reading.ensures script proof k a b (c.checks_have_one_stack.ensures.one term_limit script k) (c.checks_have_one_stack.ensures.other term_limit script k)

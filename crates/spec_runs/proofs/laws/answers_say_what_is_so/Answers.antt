@@ -13,7 +13,7 @@ use Rattle.spec_runs.proofs.Checks.{each_is_its_check, all_say}
 use Rattle.spec_runs.proofs.laws.answers_say_what_is_so.Goals as goal
 
 -- of what the first of the commands are answered
-begun : (limits : Limits) (text : List ℕ) → ((k : ℕ) (c : Checked) → IsCurrent text k c.stack → Justifies limits c.stack c.found → Says limits text k c)
+begun : (limits : Limits) (text : List ℕ) → ((k : ℕ) (c : Checked) → IsCurrent term_limit text k c.stack → Justifies limits c.stack c.found → Says limits text k c)
     → (commands : Trees) (end : Option Located) → IsReadUpTo text commands end → (given : List Answered) → Begins limits empty_stack commands given → limits.terms ≡ term_limit → AllSay limits text 0 (checks_in given)
 begun limits text says commands end read given begins terms = all_say limits text (checks_in given) 0 (λ before c after e.
     let is = each_is_its_check limits commands empty_stack given begins before c after e in

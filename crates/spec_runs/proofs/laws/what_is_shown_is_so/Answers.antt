@@ -4,7 +4,7 @@ use Rattle.std.proofs.lemmas.List.Elements.{All-map}
 use Rattle.spec_text.specs.Readings.{is_long}
 use Rattle.spec_terms.specs.Values.{truth, is_true, Interpretation, Interprets}
 use Rattle.spec_terms.specs.Meaning.{value_under}
-use Rattle.spec_scripts.specs.Stack.{Stack, Assertion, MakesTrue}
+use Rattle.spec_scripts.specs.Stack.{Stack, Assertion, term_limit, MakesTrue}
 use Rattle.spec_proofs.specs.Accepted.{IsAccepted}
 use Rattle.spec_proofs.specs.Clauses.{term_true}
 use Rattle.spec_replies.specs.declared.Word.TheVariants.{Unsat}
@@ -25,15 +25,15 @@ returns c limits text k x current shown = record { current = current; shown = sh
     -- the terms of the assertions are true where their texts are
     terms_true : (i : Interpretation) → All (λ (a : Assertion). value_under i a.text ≡ truth true) s.assertions → All (λ t. term_true i t ≡ true) (terms_of s)
     terms_true i each =
-        let values = c.assertions_have_their_texts_value.ensures text k s current i in
+        let values = c.assertions_have_their_texts_value.ensures term_limit text k s current i in
         All-map (λ t. term_true i t ≡ true) (λ (a : Assertion). a.term) s.assertions (λ n d h. ap is_true (sym (values n d h) ∙ each n d h))
 
-    refuted : (p : List ℕ) → IsProofOf s p → (i : Interpretation) → MakesTrue i text k → ⊥
+    refuted : (p : List ℕ) → IsProofOf s p → (i : Interpretation) → MakesTrue term_limit i text k → ⊥
     refuted p shown i m =
-        let same = c.checks_have_one_stack.ensures.one text k m.stack s m.current current in
+        let same = c.checks_have_one_stack.ensures.one term_limit text k m.stack s m.current current in
         let tables = subst (λ (y : Stack). Interprets i y.symbols) same m.interprets in
         let each = subst (λ (y : Stack). All (λ (a : Assertion). value_under i a.text ≡ truth true) y.assertions) same m.each in
-        lines_refute i (λ rule premises clause. c.rules_are_sound.ensures rule premises clause i) s.symbols (terms_of s) shown.lines (c.assertions_are_read.ensures.read text k s current).symbols tables shown.right (terms_true i each)
+        lines_refute i (λ rule premises clause. c.rules_are_sound.ensures rule premises clause i) s.symbols (terms_of s) shown.lines (c.assertions_are_read.ensures.read term_limit text k s current).symbols tables shown.right (terms_true i each)
 
     of_proof : (p : List ℕ) → IsProofOf s p → ProofMeans text k p
     of_proof p shown = record {
@@ -44,13 +44,13 @@ returns c limits text k x current shown = record { current = current; shown = sh
           subst (IsAccepted text k) (sym whole) (c.printed_proofs_are_accepted.ensures.answered text k s shown.lines current shown.right (sym (ap is_long whole) ∙ short));
     }
 
-    makes_true : (i : Interpretation) → Interprets i s.symbols → All (λ (a : Assertion). value_under i a.text ≡ truth true) s.assertions → MakesTrue i text k
+    makes_true : (i : Interpretation) → Interprets i s.symbols → All (λ (a : Assertion). value_under i a.text ≡ truth true) s.assertions → MakesTrue term_limit i text k
     makes_true i tables each = record { stack = s; current = current; interprets = tables; each = each }
 
     of_model : (i : Interpretation) → IsModelOf s i → ModelMeans text k s i
     of_model i shown =
-        let read = c.assertions_are_read.ensures.read text k s current in
-        let names = (c.declared_names_can_be_written.ensures text k s current).0 in
+        let read = c.assertions_are_read.ensures.read term_limit text k s current in
+        let names = (c.declared_names_can_be_written.ensures term_limit text k s current).0 in
         let printed = c.model_texts_say_their_interpretation.ensures i s.symbols (λ n d h. (names n d h, (read.symbols n d h).sorted)) shown.interprets in
         record {
           makes_true = makes_true i shown.interprets shown.each;
