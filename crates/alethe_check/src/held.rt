@@ -19,7 +19,7 @@ use sort_check::{Definitions, TermFault, TermStop, terms_under};
 use spec_proofs::ProofKind;
 use spec_text::Fault;
 use std::alloc::Global;
-use term_core::{Clause, Names, TermId, TermTable};
+use term_core::{Clause, NameTable, TermId, TermTable};
 
 /// What is known. The clause of a name stands at the name's number.
 #[derive(Drop)]
@@ -31,7 +31,7 @@ pub struct Held {
     /// The current assertions.
     pub asserted: Asserted,
     /// The names of the assumes and steps so far.
-    pub names: Names,
+    pub names: NameTable,
     /// Their clauses.
     pub clauses: Vec<Clause>,
 }
@@ -48,7 +48,7 @@ pub fn at_check(alloc: Global, script: Script) -> Held
         table: script.table,
         definitions: Definitions::new(alloc),
         asserted: script.asserted,
-        names: Names::new(alloc),
+        names: NameTable::new(alloc),
         clauses: Vec::new(alloc),
     }
 }
@@ -198,7 +198,7 @@ pub fn is_asserted(held: &Held, id: TermId) -> bool
     requires there { IsIn held.now.table id }
     ensures { MatchBool result (Contains (known_view held.now).asserted (term_at held.now.table id)) (Contains (known_view held.now).asserted (term_at held.now.table id) → ⊥) }
 {
-    held.table.numbers_tell_terms();
+    held.table.ids_are_unique();
     held.asserted.contains(id)
 }
 

@@ -64,7 +64,7 @@ pub(crate) fn write_argument<K: Sink>(
     requires there { IsIn table.now id }
     ensures { Sends (spaced (argument_for table.now.terms plan.now.terms (term_at table.now id))) result (K.written out.old) (K.written out.new) (K.faults out.old) (K.faults out.new) }
 {
-    table.numbers_tell_terms();
+    table.ids_are_unique();
     if let Some(number) = plan.definition(id) {
         return write_number(b" @p", number, out);
     }

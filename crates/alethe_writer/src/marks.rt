@@ -89,7 +89,7 @@ fn mark_printed(log: &ProofLog, table: &TermTable, rests: &[bool], marks: &mut [
     ensures printed { (n : ℕ) → AreRests (derivation_in table.now log.now) n rests.now → ArePrinted table.now.terms (derivation_in table.now log.now) n marks.new }
     ensures as_many { length marks.new ≡ length marks.old }
 {
-    table.numbers_tell_terms();
+    table.ids_are_unique();
     table.terms_are_closed();
     mark_clauses(log, table, rests, marks);
     mark_arguments(table, marks);
@@ -127,7 +127,7 @@ fn mark_arguments(table: &TermTable, marks: &mut [bool])
     requires { length marks.old ≡ length table.now.terms }
     ensures { Closes table.now marks.old marks.new }
 {
-    table.numbers_tell_terms();
+    table.ids_are_unique();
     'terms: for number in (0..marks.len()).rev() {
         if marks[number] {
             mark_terms(

@@ -12,11 +12,11 @@ pub fn terms_are_printable(table: &TermTable)
     ensures { ArePrintable table.now.symbols table.now.terms }
 {
     table.symbols().are_declared();
-    table.numbers_tell_terms();
+    table.ids_are_unique();
     table.arguments_come_first();
     table.heads_take_their_arguments();
     table.heads_are_declared();
-    table.terms_are_truths();
+    table.all_terms_are_bool();
 }
 
 /// States that what a log says over a table is over the table's terms. It computes nothing.

@@ -61,8 +61,8 @@ fn mark_subterms(table: &TermTable, roots: &[TermId], marks: &mut [bool])
     ensures { AreMarksOf table.now roots.now marks.new }
 {
     subterms_are_least();
-    table.numbers_tell_terms();
-    table.terms_are_truths();
+    table.ids_are_unique();
+    table.all_terms_are_bool();
     mark_each(marks, roots);
     'terms: for number in (0..marks.len()).rev() {
         if marks[number] {

@@ -19,7 +19,7 @@ fn negation(alloc: Global, table: &mut TermTable, id: TermId) -> Result<TermId, 
     ensures wider { Widens table.old table.new }
     ensures means { IfOk result (λ n. IsIn table.new n × (term_at table.new n ≡ negated (term_at table.old id))) }
 {
-    table.terms_are_truths();
+    table.all_terms_are_bool();
     let node = Node::new(alloc, Head::Not, &[id])?;
     table.put(node)
 }

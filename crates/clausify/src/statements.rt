@@ -57,7 +57,7 @@ fn state_scheme(
     ensures tells { OnOk result (Tells table.old table.new log.old log.new steps.old.items steps.new.items (clauses_by (scheme_by (head_of (term_at table.old id)) by) (term_at table.old id))) }
 {
     proof_log::laws::logs_stand_in_grown_tables();
-    table.terms_are_truths();
+    table.all_terms_are_bool();
     let _ = table.node(id);
     match by {
         Stating::Plain(rule, rest) => state_rests(alloc, table, log, steps, id, id, rule, rest),

@@ -73,7 +73,7 @@ pub fn resolution(
 {
     let found = premises_of(alloc, table, premises)?;
     let wanted = literals_of(alloc, table, clause)?;
-    table.numbers_tell_terms();
+    table.ids_are_unique();
     if resolves(alloc, &found, &wanted)? {
         return Ok(());
     }

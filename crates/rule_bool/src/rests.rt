@@ -18,7 +18,7 @@ fn is_side(table: &TermTable, arguments: &[TermId], side: Side, id: TermId) -> b
     requires place { side.place < length arguments.now }
     ensures { MatchBool result (side_of (clause_at table.now arguments.now) side ≡ term_at table.now id) (side_of (clause_at table.now arguments.now) side ≢ term_at table.now id) }
 {
-    table.numbers_tell_terms();
+    table.ids_are_unique();
     match without_sign(table, side.positive, id) {
         Some(argument) => same_number(argument, arguments[side.place]),
         None => false,
@@ -54,7 +54,7 @@ fn is_innermost(table: &TermTable, arguments: &[TermId], ids: &[TermId]) -> bool
     ensures { MatchBool result (Contains (rests_of rests.Innermost (clause_at table.now arguments.now)) (clause_at table.now ids.now))
         (Contains (rests_of rests.Innermost (clause_at table.now arguments.now)) (clause_at table.now ids.now) → ⊥) }
 {
-    table.numbers_tell_terms();
+    table.ids_are_unique();
     let Some(argument) = alone(arguments) else {
         return false;
     };
@@ -112,7 +112,7 @@ fn is_any(table: &TermTable, arguments: &[TermId], positive: bool, ids: &[TermId
     ensures { MatchBool result (Contains (rests_of (rests.AnyOne positive) (clause_at table.now arguments.now)) (clause_at table.now ids.now))
         (Contains (rests_of (rests.AnyOne positive) (clause_at table.now arguments.now)) (clause_at table.now ids.now) → ⊥) }
 {
-    table.numbers_tell_terms();
+    table.ids_are_unique();
     let Some(id) = alone(ids) else {
         return false;
     };

@@ -44,7 +44,7 @@ pub fn rule_or(table: &TermTable, premises: &[Clause], clause: &[TermId]) -> Res
     ensures { MatchResult result (λ _. IsRight rules.Or (map (clause_at table.now) premises.now) (clause_at table.now clause.now))
         (λ _. IsRight rules.Or (map (clause_at table.now) premises.now) (clause_at table.now clause.now) → ⊥) }
 {
-    table.numbers_tell_terms();
+    table.ids_are_unique();
     let Some(node) = disjunction(table, premises) else {
         return Err(RuleFails);
     };
@@ -65,7 +65,7 @@ fn keeps_literals(
     ensures { MatchResult result (λ _. IsWeakening (map (clause_at table.now) premises.now) (clause_at table.now clause.now))
         (λ _. IsWeakening (map (clause_at table.now) premises.now) (clause_at table.now clause.now) → ⊥) }
 {
-    table.numbers_tell_terms();
+    table.ids_are_unique();
     let [premise] = premises else {
         return Err(RuleFails);
     };

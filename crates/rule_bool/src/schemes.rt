@@ -63,7 +63,7 @@ fn gives_rest(table: &TermTable, head: Head, rest: Rest, id: TermId, behind: &[T
     ensures { MatchBool result (GivesRest (head_meant table.now.symbols head) rest (term_at table.now id) (clause_at table.now behind.now))
         (GivesRest (head_meant table.now.symbols head) rest (term_at table.now id) (clause_at table.now behind.now) → ⊥) }
 {
-    table.terms_are_truths();
+    table.all_terms_are_bool();
     let node = table.node(id);
     if !same_head(node.head, head) {
         return false;

@@ -50,8 +50,8 @@ fn handle_conflict(
         (GoesOn table.now log.old log.new (lists store.old.clauses.items) (lists store.new.clauses.items) store.old.steps.items store.new.steps.items trail.new.held trail.new.reasons.items budget.old budget.new)
         (λ a. (budget.new.limit ≡ budget.old.limit) × Shows table.now log.old (lists store.old.clauses.items) store.old.steps.items budget.old log.new budget.new a)) }
 {
-    table.numbers_tell_terms();
-    table.terms_are_truths();
+    table.ids_are_unique();
+    table.all_terms_are_bool();
     let found = analyze(alloc, store, trail, clash)?;
     if found.clause.is_empty() {
         let step = derive(alloc, table, log, store, &found.premises, &found.clause)?;
@@ -82,9 +82,9 @@ pub(crate) fn search(
     ensures limit { IfOk result (λ _. budget.new.limit ≡ budget.old.limit) }
     ensures evidence { IfOk result (λ a. Shows table.now log.old (lists store.old.clauses.items) store.old.steps.items budget.old log.new budget.new a) }
 {
-    table.numbers_tell_terms();
+    table.ids_are_unique();
     table.terms_are_closed();
-    table.terms_are_truths();
+    table.all_terms_are_bool();
     table.heads_take_their_arguments();
     table.heads_are_declared();
     table.symbols().are_declared();

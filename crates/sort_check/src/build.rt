@@ -57,7 +57,7 @@ pub fn put(
     requires takes { takes_so_many head arguments.now ≡ true }
     ensures { Builds most table.old table.new (of (head_meant table.old.symbols head) (clause_at table.old arguments.now)) result }
 {
-    table.counts_decide();
+    table.arity_suffices();
     let node = Node::new(alloc, head, arguments)?;
     let id = table.put(node)?;
     if table.len() > most {

@@ -8,7 +8,7 @@ ghost use Rattle.sort_check.specs.Definitions.{defined_by, no_definitions};
 
 use std::alloc::Global;
 use std::marker::Model;
-use term_core::{Names, TermId};
+use term_core::{NameTable, TermId};
 use world_io::NoMemory;
 
 /// Holds defined names in the order in which they came, no two the same, each with the number of the term that it stands
@@ -17,7 +17,7 @@ use world_io::NoMemory;
 /// A look-up is by hash and takes no memory. Source: SMT-LIB 2.6, section 4.2.3.
 #[derive(Drop)]
 pub struct Definitions {
-    names: Names,
+    names: NameTable,
     terms: Vec<TermId>,
 }
 
@@ -38,7 +38,7 @@ impl Definitions {
         ensures { result ≡ no_definitions }
     {
         Definitions {
-            names: Names::new(alloc),
+            names: NameTable::new(alloc),
             terms: Vec::new(alloc),
         }
     }

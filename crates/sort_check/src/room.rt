@@ -32,7 +32,7 @@ fn have_room(
     ensures room { IfOk result (λ yes. yes ≡ true → HasRoom before room table.now) }
     ensures fits { IfOk result (λ yes. (ts : List Term) → AreSubtermsFrom before ts table.now → (HasRoom before room table.now → AllMean table.now ts ids.now) → yes ≡ fit_in room ts) }
 {
-    table.numbers_tell_terms();
+    table.ids_are_unique();
     if table.len() - before > room {
         return Ok(false);
     }

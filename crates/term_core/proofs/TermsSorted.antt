@@ -77,8 +77,8 @@ count_decides symbols _ (a ∷ b ∷ []) truths here = refl
 count_decides symbols _ (a ∷ b ∷ c ∷ []) truths here = refl
 count_decides symbols _ (a ∷ b ∷ c ∷ d ∷ ids) truths here = refl
 
-pub counts_decide : (t : TableView) (s : Shape) → IsOfTruths t → HasHead t.symbols s.head → AreIn t s.arguments → head_takes (head_meant t.symbols s.head) (map sort_of (clause_at t s.arguments)) ≡ takes_so_many s.head s.arguments
-counts_decide t s of_truths here there = ap (head_takes (head_meant t.symbols s.head)) (sorts_of_truths t s.arguments of_truths there) ∙ count_decides t.symbols s.head s.arguments of_truths.symbols here
+pub arity_suffices : (t : TableView) (s : Shape) → IsOfTruths t → HasHead t.symbols s.head → AreIn t s.arguments → head_takes (head_meant t.symbols s.head) (map sort_of (clause_at t s.arguments)) ≡ takes_so_many s.head s.arguments
+arity_suffices t s of_truths here there = ap (head_takes (head_meant t.symbols s.head)) (sorts_of_truths t s.arguments of_truths there) ∙ count_decides t.symbols s.head s.arguments of_truths.symbols here
 
 -- what is there fits exactly where its head takes so many
 pub fits_by_count : (t : TableView) (s : Shape) (b : Bool) → (head_takes (head_meant t.symbols s.head) (map sort_of (clause_at t s.arguments)) ≡ takes_so_many s.head s.arguments)

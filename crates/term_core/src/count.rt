@@ -44,7 +44,7 @@ fn count(
 {
     subterms_are_least();
     subterms_are_counted();
-    table.numbers_tell_terms();
+    table.ids_are_unique();
     let mut done = 0;
     'seen: while done < seen.len() {
         if seen.len() as u64 > room {

@@ -4,7 +4,7 @@
 mod clauses;
 mod count;
 mod ids;
-mod names;
+mod name_table;
 mod nodes;
 mod rule_fails;
 mod sorts;
@@ -18,7 +18,7 @@ mod values;
 pub use clauses::Clause;
 pub use count::fit_in;
 pub use ids::{Lit, SymbolId, TermId};
-pub use names::Names;
+pub use name_table::NameTable;
 pub use nodes::{Arguments, Head, Node};
 pub use rule_fails::RuleFails;
 pub use sorts::Sort;

@@ -5,7 +5,7 @@ ghost use Rattle.spec_terms.specs.Reading.{symbol_named};
 ghost use Rattle.term_core.specs.Tables.{truth_symbol, symbol_at, IsSymbol, AreDeclared};
 
 use crate::ids::SymbolId;
-use crate::names::Names;
+use crate::name_table::NameTable;
 use std::alloc::Global;
 use std::marker::Model;
 use world_io::NoMemory;
@@ -15,7 +15,7 @@ use world_io::NoMemory;
 /// A look-up is by hash and takes no memory. Source: SMT-LIB 2.6, section 4.2.3.
 #[derive(Drop)]
 pub struct Symbols {
-    names: Names,
+    names: NameTable,
 }
 
 impl Model for Symbols {
@@ -41,7 +41,7 @@ impl Symbols {
         ensures { result ≡ [] }
     {
         Symbols {
-            names: Names::new(alloc),
+            names: NameTable::new(alloc),
         }
     }
 

@@ -1,6 +1,6 @@
 //! The table of terms: each term once, by its number.
 
-ghost use Rattle.std.specs.Prelude.{◌⊎◌, ◌≡◌, List, map, MatchBool, true, false, Contains, ◌<◌, ◌≤◌, [], ◌∷◌, ◌++◌, length, take, None, Some, All, IfOk, OnErr, OnOk, MatchOption, slice_get};
+ghost use Rattle.std.specs.Prelude.{◌⊎◌, ◌≡◌, List, map, MatchBool, true, false, Contains, ◌<◌, ◌≤◌, [], ◌∷◌, ◌++◌, length, take, None, Some, IfOk, OnErr, OnOk, MatchOption};
 ghost use Rattle.spec_terms.specs.Terms.{Symbol, Head as TermHead, Apply, Term, Terms, app, list_of, Truth, sort_of, head_takes, negated};
 ghost use Rattle.spec_terms.specs.Reading.{symbol_named};
 ghost use Rattle.spec_terms.specs.Subsets.{arguments_of, AreAmong, IsClosed};
@@ -110,7 +110,7 @@ impl TermTable {
         requires { IsIn self.now id }
         ensures { sort_meant result ≡ sort_of (term_at self.now id) }
     {
-        self.terms_are_truths();
+        self.all_terms_are_bool();
         Sort::Bool
     }
 
@@ -153,7 +153,7 @@ impl TermTable {
     }
 
     /// States that different numbers mean different terms.
-    pub fn numbers_tell_terms(&self)
+    pub fn ids_are_unique(&self)
         ensures { AreDifferent self.now.terms }
     {
         let _ = &self.symbols;
@@ -174,7 +174,7 @@ impl TermTable {
     }
 
     /// States that each term has the sort Bool, as long as each symbol has.
-    pub fn terms_are_truths(&self)
+    pub fn all_terms_are_bool(&self)
         ensures { (id : Number) → IsIn self.now id → sort_of (term_at self.now id) ≡ Truth }
     {
         let _ = &self.symbols;
@@ -199,11 +199,11 @@ impl TermTable {
     }
 
     /// States that the number of arguments alone decides whether a head takes them, as long as each symbol has the sort Bool.
-    pub fn counts_decide(&self)
+    pub fn arity_suffices(&self)
         ensures { (s : Shape) → HasHead self.now.symbols s.head → AreIn self.now s.arguments
             → head_takes (head_meant self.now.symbols s.head) (map sort_of (clause_at self.now s.arguments)) ≡ takes_so_many s.head s.arguments }
     {
-        self.terms_are_truths();
+        self.all_terms_are_bool();
         self.symbols.are_declared();
     }
 
@@ -211,7 +211,7 @@ impl TermTable {
     pub fn takes(&self, node: &Node) -> bool
         ensures { MatchBool result (IsPlaced self.now node.now) (IsPlaced self.now node.now → ⊥) }
     {
-        self.counts_decide();
+        self.arity_suffices();
         let arguments = node.arguments.as_slice();
         if !self.has_head(node.head) {
             return false;

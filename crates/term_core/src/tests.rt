@@ -1,8 +1,8 @@
 //! Tests of the table: each node once, literals, cuts, and values against truth tables.
 
 use crate::{
-    Arguments, Head, Interp, Lit, Node, Row, Sort, SymbolId, Symbols, Table, TermId, TermTable,
-    Value, fit_in, value,
+    Head, Interp, Lit, Node, Row, Sort, SymbolId, Symbols, Table, TermId, TermTable, Value, fit_in,
+    value,
 };
 use std::alloc::Global;
 use std::test::Fail;

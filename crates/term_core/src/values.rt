@@ -1,6 +1,6 @@
 //! Values, and interpretations of declared symbols.
 
-ghost use Rattle.std.specs.Prelude.{◌≡◌, ◌∷◌, ◌++◌};
+ghost use Rattle.std.specs.Prelude.{◌≡◌};
 ghost use Rattle.spec_terms.specs.Values.{is_true, same_value, same_values, first_fit};
 ghost use Rattle.term_core.specs.Valuations.{value_meant, values_meant, table_meant};
 

@@ -21,7 +21,7 @@ terms-preserved-then-marks-number c =
     let within : n < length t.terms = omega (arith, below, c.terms.invariant.as_many, c.requires) in
     let marks : Marks c.terms.marks (plain_numbers s.arguments) c.mark_terms.new.marks = subst (λ (ids : List TermId). Marks c.terms.marks (plain_numbers ids) c.mark_terms.new.marks) c.as_slice.ensures c.mark_terms.ensures in
     record {
-      so_far = arguments_more t c.args.marks.now n c.terms.marks c.mark_terms.new.marks s c.numbers_tell_terms.ensures within c.node.ensures.means c.node.ensures.before (subst (λ k. IsClosedFrom (IsMarked c.args.marks.now) (IsArgument t) k c.terms.marks) next c.terms.invariant.so_far) c.if-marks-number.true marks;
+      so_far = arguments_more t c.args.marks.now n c.terms.marks c.mark_terms.new.marks s c.ids_are_unique.ensures within c.node.ensures.means c.node.ensures.before (subst (λ k. IsClosedFrom (IsMarked c.args.marks.now) (IsArgument t) k c.terms.marks) next c.terms.invariant.so_far) c.if-marks-number.true marks;
       as_many = marks.same_length ∙ c.terms.invariant.as_many;
     }
 

@@ -27,7 +27,7 @@ terms-preserved-then-marks-number c =
     let before : IsMarkedFrom t roots (suc n) c.terms.marks = subst (λ k. IsMarkedFrom t roots k c.terms.marks) next c.terms.invariant.so_far in
     let marks : Marks c.terms.marks s.arguments c.mark_each-then-marks-number.new.marks = subst (λ (ids : List TermId). Marks c.terms.marks ids c.mark_each-then-marks-number.new.marks) c.as_slice.ensures c.mark_each-then-marks-number.ensures in
     record {
-      so_far = marks_more t roots (c.subterms_are_least.ensures.there (clause_at t roots)) (c.subterms_are_least.ensures.closed (clause_at t roots)) n c.terms.marks c.mark_each-then-marks-number.new.marks s before c.if-marks-number.true c.node.ensures.means (head_formula t s (term_at t (number n)) c.node.ensures.means c.node.ensures.placed c.terms_are_truths.ensures) c.node.ensures.before marks;
+      so_far = marks_more t roots (c.subterms_are_least.ensures.there (clause_at t roots)) (c.subterms_are_least.ensures.closed (clause_at t roots)) n c.terms.marks c.mark_each-then-marks-number.new.marks s before c.if-marks-number.true c.node.ensures.means (head_formula t s (term_at t (number n)) c.node.ensures.means c.node.ensures.placed c.all_terms_are_bool.ensures) c.node.ensures.before marks;
     }
 
 pub terms-preserved : goal.terms-preserved
@@ -46,4 +46,4 @@ returns c =
     let roots = c.args.roots.now in
     let least = c.subterms_are_least.ensures in
     let end : c.terms.number ≡ 0 = omega (arith, c.terms-test.false) in
-    marks_end t roots (least.there (clause_at t roots)) (least.closed (clause_at t roots)) c.terms.marks (subst (λ k. IsMarkedFrom t roots k c.terms.marks) end c.terms.invariant.so_far) c.numbers_tell_terms.ensures (least.least (clause_at t roots))
+    marks_end t roots (least.there (clause_at t roots)) (least.closed (clause_at t roots)) c.terms.marks (subst (λ k. IsMarkedFrom t roots k c.terms.marks) end c.terms.invariant.so_far) c.ids_are_unique.ensures (least.least (clause_at t roots))

@@ -14,7 +14,7 @@ use Rattle.clausify.proofs.statements.state_scheme.Goals as goal
 use Rattle.clausify.proofs.statements.state_scheme.Goals.{After-node}
 
 formula : (c : After-node) → is_formula_of (head_of (term_at c.args.table.now c.args.id)) (term_at c.args.table.now c.args.id) ≡ true
-formula c = is_formula c.args.table.now (shape_of c.node.result.now) (term_at c.args.table.now c.args.id) c.node.ensures.means c.node.ensures.placed c.terms_are_truths.ensures
+formula c = is_formula c.args.table.now (shape_of c.node.result.now) (term_at c.args.table.now c.args.id) c.node.ensures.means c.node.ensures.placed c.all_terms_are_bool.ensures
 
 pub state_rests-requires-clause-right : goal.state_rests-requires-clause-right
 state_rests-requires-clause-right c =

@@ -6,4 +6,4 @@ pub returns-then-has_each : goal.returns-then-has_each
 returns-then-has_each c = opened c.args.table.now c.args.premises.now c.args.clause.now _ c.in-Some.ensures (rw c.as_slice.ensures at c.if-has_each.ensures)
 
 pub returns : goal.returns
-returns c = not_opened c.args.table.now c.args.premises.now c.args.clause.now _ c.in-Some.ensures c.numbers_tell_terms.ensures c.requires.clause (rw c.as_slice.ensures at c.if-has_each.ensures)
+returns c = not_opened c.args.table.now c.args.premises.now c.args.clause.now _ c.in-Some.ensures c.ids_are_unique.ensures c.requires.clause (rw c.as_slice.ensures at c.if-has_each.ensures)

@@ -25,7 +25,7 @@ returns-in-Err-Spent-clause-comes c =
     let h = rw c.in-Err-Spent.field-0-is at c.in-Err-Spent.ensures in (
       ap (λ b. b.limit) h.2,
       λ terms s.
-          let conflict = is_conflict c.args.table.now c.numbers_tell_terms.ensures c.terms_are_truths.ensures c.args.log.now (lists c.args.store.now.clauses.items) c.args.store.now.steps.items c.args.trail.now.held c.args.trail.now.reasons.items c.requires.ready
+          let conflict = is_conflict c.args.table.now c.ids_are_unique.ensures c.all_terms_are_bool.ensures c.args.log.now (lists c.args.store.now.clauses.items) c.args.store.now.steps.items c.args.trail.now.held c.args.trail.now.reasons.items c.requires.ready
           c.args.clash _ _ _ _ c.in_ok-found.ensures terms c.args.budget.now.learned s (some_of _ c.in_ok-found.found.clause.items (ap length (sym c.deref-2.ensures.value) ∙ c.deref-2.ensures.len) (sym c.if-is_empty.ensures)) in
           rw c.in-Err-Spent.n-is (spent_shows c.args.table.now terms c.args.log.now (lists c.args.store.now.clauses.items) c.args.store.now.steps.items c.args.budget.now c.learnt.new.self _ h.0 h.1 h.2 c.requires.ready.log_right s conflict),
     )
@@ -39,7 +39,7 @@ pub returns-clause-comes : goal.returns-clause-comes
 returns-clause-comes c =
     let l = rw c.deref-4.ensures.value at c.in_ok-step-2.ensures in
     let learns = rw c.deref-2.ensures.value at c.in-Ok.ensures in
-    let h = goes_on c.args.table.now c.numbers_tell_terms.ensures c.terms_are_truths.ensures c.args.log.now (lists c.args.store.now.clauses.items) c.args.store.now.steps.items c.args.trail.now.held c.args.trail.now.reasons.items c.requires.ready
+    let h = goes_on c.args.table.now c.ids_are_unique.ensures c.all_terms_are_bool.ensures c.args.log.now (lists c.args.store.now.clauses.items) c.args.store.now.steps.items c.args.trail.now.held c.args.trail.now.reasons.items c.requires.ready
     c.args.clash _ _ _ _ c.in_ok-found.ensures c.derive-2.new.log _ c.in_ok-step-2.step l (some_of _ c.in_ok-found.found.clause.items (ap length (sym c.deref-4.ensures.value) ∙ c.deref-4.ensures.len) (sym c.if-is_empty.ensures)) c.args.budget.now c.learnt.new.self learns.0 learns.1 in
     rw (ap lists c.in_ok-add.ensures.clauses ∙ lists_more c.args.store.now.clauses.items c.in_ok-found.found.clause, c.in_ok-add.ensures.steps, c.truncate.ensures.held, c.truncate.ensures.reasons) h
 

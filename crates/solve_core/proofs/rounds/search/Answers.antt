@@ -57,7 +57,7 @@ returns-in_default-next_open-clause-evidence c = λ terms s.
     let declared = subst AreDeclared c.symbols.ensures c.are_declared.ensures in
     let ready = ready_on t c.rounds.log clauses c.rounds.store.steps.items _ _ _ _ c.rounds.invariant.ready h.0 in
     let search = c.rounds.invariant.search terms s in
-    let shows = sat_shows t c.rounds.log clauses c.rounds.store.steps.items _ _ (ready_on t c.rounds.log clauses c.rounds.store.steps.items _ _ _ _ c.rounds.invariant.ready h.0) c.numbers_tell_terms.ensures c.terms_are_closed.ensures c.terms_are_truths.ensures
+    let shows = sat_shows t c.rounds.log clauses c.rounds.store.steps.items _ _ (ready_on t c.rounds.log clauses c.rounds.store.steps.items _ _ _ _ c.rounds.invariant.ready h.0) c.ids_are_unique.ensures c.terms_are_closed.ensures c.all_terms_are_bool.ensures
     c.heads_take_their_arguments.ensures c.heads_are_declared.ensures declared c.base_clauses_define_their_terms.ensures.model h.1 settled c.in_ok-model_of-in-Quiet.field-0 c.in_ok-model_of-in-Quiet.ensures terms c.rounds.budget.learned (c.rounds.invariant.search terms s) in
     (shows, learning_shows t terms c.rounds.log clauses c.rounds.store.steps.items c.rounds.budget.learned c.rounds.invariant.ready.log_right search)
 

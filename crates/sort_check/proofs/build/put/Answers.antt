@@ -21,7 +21,7 @@ put-requires c =
     record {
       head = has;
       arguments = there;
-      sorts = c.counts_decide.ensures (shape_of c.in_ok-node.node) has there ∙ (λ i. takes_so_many (head i) (is i)) ∙ c.requires.takes;
+      sorts = c.arity_suffices.ensures (shape_of c.in_ok-node.node) has there ∙ (λ i. takes_so_many (head i) (is i)) ∙ c.requires.takes;
     }
 
 pub returns-in_err-id : goal.returns-in_err-id

@@ -13,7 +13,7 @@ seen-init c = record {
 }
 
 pub returns-then-len-room : goal.returns-then-len-room
-returns-then-len-room c = too_many c.args.table.now c.args.ids.now c.seen.seen.keys c.seen.done c.seen.invariant.counted c.subterms_are_counted.ensures.more c.numbers_tell_terms.ensures c.args.room
+returns-then-len-room c = too_many c.args.table.now c.args.ids.now c.seen.seen.keys c.seen.done c.seen.invariant.counted c.subterms_are_counted.ensures.more c.ids_are_unique.ensures c.args.room
     (subst (λ n. c.args.room < n) c.len-in-seen.ensures.len c.if-len-room.true)
 
 pub seen-preserved : goal.seen-preserved
@@ -33,5 +33,5 @@ seen-preserved c =
 pub returns : goal.returns
 returns c =
     ap (λ n. nat_le n c.args.room) c.len-2.ensures.len
-    ∙ all_counted c.args.table.now c.args.ids.now c.seen.seen.keys c.seen.done c.seen.invariant.counted c.subterms_are_counted.ensures.more c.numbers_tell_terms.ensures c.subterms_are_counted.ensures.room c.args.room
+    ∙ all_counted c.args.table.now c.args.ids.now c.seen.seen.keys c.seen.done c.seen.invariant.counted c.subterms_are_counted.ensures.more c.ids_are_unique.ensures c.subterms_are_counted.ensures.room c.args.room
     (subst (λ n. n ≤ c.seen.done) c.len.ensures.len c.seen-test.false)

@@ -10,5 +10,5 @@ there c = subst (AreIn c.args.self.now) c.as_slice-arguments.ensures c.if-not-ha
 pub returns : goal.returns
 returns c =
     let s = shape_of c.args.node.now in
-    fits_by_count c.args.self.now s c.takes_so_many.result (c.counts_decide.ensures s c.if-not-has_head.ensures (there c))
+    fits_by_count c.args.self.now s c.takes_so_many.result (c.arity_suffices.ensures s c.if-not-has_head.ensures (there c))
     c.if-not-has_head.ensures (there c) (c.takes_so_many.ensures ∙ ap (takes_so_many c.args.node.now.head) c.as_slice-arguments.ensures)

@@ -13,12 +13,12 @@ use world_io::NoMemory;
 ///
 /// A look-up is by hash and takes no memory.
 #[derive(Drop)]
-pub struct Names {
+pub struct NameTable {
     alloc: Global,
     set: IndexSet<Vec<u8>>,
 }
 
-impl Model for Names {
+impl Model for NameTable {
     ghost use Rattle.std.specs.Prelude.{List, map};
     ghost use Rattle.spec_text.specs.Bytes.{Name};
     ghost use Rattle.term_core.specs.NameLists.{HaveNoTwice};
@@ -30,12 +30,12 @@ impl Model for Names {
     ghost invariant = { λ n. HaveNoTwice (map (λ v. v.items) n.set.keys) };
 }
 
-impl Names {
+impl NameTable {
     /// Makes an empty list of names, which takes no memory before the first name.
-    pub fn new(alloc: Global) -> Names
+    pub fn new(alloc: Global) -> NameTable
         ensures { result ≡ [] }
     {
-        Names {
+        NameTable {
             alloc,
             set: IndexSet::new(alloc),
         }
@@ -92,7 +92,7 @@ mod tests {
 
     #[test]
     fn finds_names_by_their_numbers(rt: HostRuntime) -> Result<(), Fail> {
-        let mut names = Names::new(rt.alloc());
+        let mut names = NameTable::new(rt.alloc());
         assert!(rt; names.len() == 0);
         assert!(rt; names.find(b"p") == None);
         let all = [

@@ -3,7 +3,7 @@ use Rattle.std.proofs.Common.{◌≡◌, false, ◌++◌, ◌∷◌, [], List, �
 use Rattle.spec_text.specs.Bytes.{among}
 use Rattle.term_core.specs.NameLists.{HaveNoTwice}
 use Rattle.term_core.proofs.NamesApart.{pushed, HaveNoTwice-push}
-use Rattle.term_core.proofs.names.Names.add.Goals as goal
+use Rattle.term_core.proofs.name_table.NameTable.add.Goals as goal
 
 abbrev items : Vec ℕ Global → List ℕ
 items v = v.items

@@ -2,7 +2,7 @@
 use Rattle.std.proofs.Common.{◌≡◌, ℕ, false, ◌<◌, [], List, Vec, Global, length, map, slice_index_or, sym, ap, ◌∙◌, subst}
 use Rattle.spec_text.specs.Bytes.{among}
 use Rattle.term_core.proofs.NamesApart.{among-any, found}
-use Rattle.term_core.proofs.names.Names.find.Goals as goal
+use Rattle.term_core.proofs.name_table.NameTable.find.Goals as goal
 
 abbrev items : Vec ℕ Global → List ℕ
 items v = v.items
