@@ -1,7 +1,8 @@
 -- The terms that are written one after the other, as they grow.
-use Rattle.std.proofs.Common.{◌≡◌, ℕ, zero, suc, ◌+◌, ◌<◌, ◌≤◌, List, [], ◌∷◌, ◌++◌, length, take, drop, get_or, refl, sym, ap, ◌∙◌, subst, arith, append_assoc, length-append}
+use Rattle.std.proofs.Common.{◌≡◌, ℕ, zero, suc, ◌+◌, ◌<◌, ◌≤◌, min, List, [], ◌∷◌, ◌++◌, length, take, drop, get_or, refl, sym, ap, ◌∙◌, subst, arith, append_assoc, length-append}
 use Rattle.std.proofs.lemmas.Grind.{common_steps}
-use Rattle.std.proofs.lemmas.List.{append-nil, take-append-drop, length-map}
+use Rattle.std.proofs.lemmas.List.{append-nil, take-append-drop, take_min, length-map}
+use Rattle.std.proofs.Math.Nat.{min-le_right}
 use Rattle.std.proofs.Math.Seq.{get_or-append_seam, take-append_seam}
 use Rattle.spec_terms.specs.Terms.{Symbol, Term}
 use Rattle.term_core.specs.declared.nodes.Node.{Node}
@@ -51,13 +52,20 @@ module _ (symbols : List Symbol) where
   pub grown-push : (done : List Term) (ss : List Shape) (s : Shape) → grown symbols done (ss ++ s ∷ []) ≡ grown symbols done ss ++ written (grown symbols done ss) s ∷ []
   grown-push done ss s = grown-append done ss (s ∷ [])
 
-  pub grown-take : (ss : List Shape) (k : ℕ) → k ≤ length ss → grown symbols [] (take k ss) ≡ take k (grown symbols [] ss)
-  grown-take ss k le =
+  grown-take-within : (ss : List Shape) (k : ℕ) → k ≤ length ss → grown symbols [] (take k ss) ≡ take k (grown symbols [] ss)
+  grown-take-within ss k le =
       let first = grown symbols [] (take k ss) in
       let more = grown-more first (drop k ss) in
       let whole : grown symbols [] ss ≡ first ++ more.0 = ap (grown symbols []) (sym (take-append-drop k ss)) ∙ grown-append [] (take k ss) (drop k ss) ∙ more.1 in
       let long : length first ≡ k = grown-length [] (take k ss) ∙ grind (arith, common_steps, le) in
       sym (take-append_seam first more.0) ∙ ap (λ m. take m (first ++ more.0)) long ∙ ap (take k) (sym whole)
+
+  -- also where k is more than there are
+  pub grown-take : (ss : List Shape) (k : ℕ) → grown symbols [] (take k ss) ≡ take k (grown symbols [] ss)
+  grown-take ss k =
+      let terms = grown symbols [] ss in
+      let long : length terms ≡ length ss = grown-length [] ss ∙ omega arith in
+      ap (grown symbols []) (sym (take_min k ss)) ∙ grown-take-within ss (min k (length ss)) (min-le_right k (length ss)) ∙ ap (λ m. take (min k m) terms) (sym long) ∙ take_min k terms
 
   -- what stands at a number
   pub grown-at : (done : List Term) (ss : List Shape) (i j : ℕ) → AreBefore symbols done ss → i < length ss → j ≡ length done + i

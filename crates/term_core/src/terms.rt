@@ -1,6 +1,6 @@
 //! The table of terms: each term once, by its number.
 
-ghost use Rattle.std.specs.Prelude.{◌⊎◌, ◌≡◌, List, map, MatchBool, true, false, Contains, ◌<◌, ◌≤◌, [], ◌∷◌, ◌++◌, length, take, None, Some, IfOk, OnErr, OnOk, MatchOption};
+ghost use Rattle.std.specs.Prelude.{◌⊎◌, ◌≡◌, List, map, MatchBool, true, false, Contains, ◌<◌, [], ◌∷◌, ◌++◌, length, take, None, Some, IfOk, OnErr, OnOk, MatchOption};
 ghost use Rattle.spec_terms.specs.Terms.{Symbol, Head as TermHead, Apply, Term, Terms, app, list_of, Truth, sort_of, head_takes, negated};
 ghost use Rattle.spec_terms.specs.Reading.{symbol_named};
 ghost use Rattle.spec_terms.specs.Subsets.{arguments_of, AreAmong, IsClosed};
@@ -114,9 +114,8 @@ impl TermTable {
         Sort::Bool
     }
 
-    /// Takes away all terms but the first `len`, and keeps the symbols. It takes no memory.
+    /// Takes away all terms after the first `len`, none where there are no more than that, and keeps the symbols. It takes no memory.
     pub fn cut(&mut self, len: u64)
-        requires { len ≤ length self.old.terms }
         ensures terms { self.new.terms ≡ take len self.old.terms }
         ensures symbols { self.new.symbols ≡ self.old.symbols }
     {

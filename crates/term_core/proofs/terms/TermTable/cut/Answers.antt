@@ -1,10 +1,10 @@
 -- The first terms are those of the first nodes.
-use Rattle.std.proofs.Common.{◌≡◌, ◌≤◌, [], length, take, sym, ap, ◌∙◌, subst, arith}
-use Rattle.std.proofs.lemmas.List.{length-map, take-map}
+use Rattle.std.proofs.Common.{◌≡◌, [], take, sym, ap, ◌∙◌, subst}
+use Rattle.std.proofs.lemmas.List.{take-map}
 use Rattle.term_core.specs.Tables.{shape_of, shapes_of, no_shape, AreBefore, grown}
 use Rattle.term_core.specs.NameLists.{AreApart}
 use Rattle.term_core.proofs.NamesApart.{AreApart-take}
-use Rattle.term_core.proofs.ShapesGrown.{terms-length, grown-take, AreBefore-take}
+use Rattle.term_core.proofs.ShapesGrown.{grown-take, AreBefore-take}
 use Rattle.term_core.proofs.terms.TermTable.cut.Goals as goal
 
 fewer : (c : goal.After-truncate) → shapes_of c.truncate.new.self.keys ≡ take c.args.len (shapes_of c.self.inside.nodes.keys)
@@ -19,6 +19,4 @@ invariant_of-self c = record {
 
 pub returns-clause-terms : goal.returns-clause-terms
 returns-clause-terms c =
-    let long = ap (λ t. length t.terms) (sym c.self.view_is) ∙ terms-length c.self.inside.symbols c.self.inside.nodes.keys in
-    let within : c.args.len ≤ length (shapes_of c.self.inside.nodes.keys) = omega (arith, c.requires, long, length-map c.self.inside.nodes.keys shape_of) in
-    ap (grown c.self.inside.symbols []) (fewer c) ∙ grown-take c.self.inside.symbols _ c.args.len within ∙ ap (λ t. take c.args.len t.terms) c.self.view_is
+    ap (grown c.self.inside.symbols []) (fewer c) ∙ grown-take c.self.inside.symbols _ c.args.len ∙ ap (λ t. take c.args.len t.terms) c.self.view_is
