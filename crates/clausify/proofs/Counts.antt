@@ -5,9 +5,9 @@ use Rattle.std.specs.List.{sum_by}
 use Rattle.std.proofs.lemmas.List.Concat.{length-flat_map}
 use Rattle.std.proofs.lemmas.List.Sums.{sum_by-append}
 use Rattle.std.proofs.lemmas.List.Elements.{Contains-append_left, Contains-append_right, Contains-append_cases}
+use Rattle.spec_text.proofs.Members.{first, later, cases, none}
 use Rattle.spec_terms.specs.Terms.{Term}
 use Rattle.spec_terms.specs.Subsets.{AreAmong, AreOnce}
-use Rattle.spec_terms.proofs.Members.{first, later, cases, none}
 
 -- none stands twice
 abbrev IsOnce : List Term → Type 0

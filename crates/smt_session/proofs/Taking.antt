@@ -3,10 +3,10 @@ use Rattle.std.proofs.Common.{◌≡◌, ℕ, Bool, true, false, cond, List, [],
 use Rattle.std.specs.Prelude.{Result, Ok, Err}
 use Rattle.std.proofs.Math.Seq.{take-append_seam}
 use Rattle.spec_text.specs.Trees.{Tree, offset_of}
+use Rattle.spec_text.proofs.AnswerLaws.{answer, went}
 use Rattle.spec_scripts.specs.Commands.{Command, SetOption, DeclareConst, Assert, CheckSat, Exit, command_of}
 use Rattle.spec_scripts.specs.Stack.{Stack, Effect, check, done, unsupported, Taken, step, performed, effect_of, is_known_option}
 use Rattle.spec_scripts.specs.Current.{IsKeptStack}
-use Rattle.spec_scripts.proofs.Later.{answer, went}
 use Rattle.spec_runs.specs.Evidence.{Limits}
 use Rattle.spec_runs.specs.Responses.{Response, answered, rejected, Answered, Responds, AnswersBy, Answers}
 use Rattle.term_core.specs.Tables.{TableView, Extends}

@@ -6,6 +6,7 @@ use Rattle.std.proofs.lemmas.Bool.{false≢true, and_parts}
 use Rattle.std.proofs.lemmas.List.{get_or_default}
 use Rattle.std.proofs.lemmas.List.Elements.{All-contains, Contains-get_or}
 use Rattle.std.proofs.lemmas.List.Folds.{Any-from_list_any, list_any_at}
+use Rattle.spec_text.proofs.Members.{first, later}
 use Rattle.spec_terms.specs.Terms.{Truth, Symbol, Head, Apply, Term, Terms, app, nil, cons, list_of, sort_of, same_term, same_sort, same_sorts, all_same, head_takes, constant_term}
 use Rattle.spec_terms.specs.Values.{Table, truth, Interpretation, first_fit, Interprets, IsTableOf}
 use Rattle.spec_terms.specs.Agreement.{value_at, values_at}
@@ -14,7 +15,6 @@ use Rattle.spec_terms.specs.Subterms.{subterms_of}
 use Rattle.spec_terms.specs.Subsets.{AreAmong, IsClosed}
 use Rattle.spec_terms.proofs.SameTerms.{terms_decide}
 use Rattle.spec_terms.proofs.LeastSubterms.{least_of}
-use Rattle.spec_terms.proofs.Members.{first, later}
 use Rattle.spec_proofs.specs.Truths.{Truths, literal_true, term_true_by}
 use Rattle.spec_search.specs.Base.{base_clauses}
 use Rattle.spec_search.specs.Models.{Meets, is_formula, AreFormulas, Realizes}

@@ -3,6 +3,7 @@ use Rattle.std.proofs.Common.{◌≡◌, ℕ, ◌≤◌, ◌⊎◌, inl, inr, Li
 use Rattle.std.specs.Prelude.{Result, Err}
 use Rattle.std.proofs.lemmas.Bool.{cases_lt}
 use Rattle.std.proofs.Math.Seq.{get_or-append_seam}
+use Rattle.spec_text.proofs.Members.{first}
 use Rattle.spec_terms.specs.Terms.{Term, of}
 use Rattle.spec_terms.specs.Subterms.{subterms_of}
 use Rattle.term_core.specs.declared.ids.TermId.{TermId}
@@ -13,7 +14,6 @@ use Rattle.term_core.proofs.TermsExtend.{Extends-self, IsIn-kept, term_at-kept, 
 use Rattle.sort_check.specs.declared.build.BuildStop.{BuildStop}
 use Rattle.sort_check.specs.declared.build.BuildStop.TheVariants.{Crowded, Memory}
 use Rattle.sort_check.specs.Building.{AreSubtermsFrom, Keeps, Grows, Means, AllMean, Builds}
-use Rattle.spec_terms.proofs.Members.{first}
 use Rattle.sort_check.proofs.Subterms.{AreSubterms, self_subterms, least_subterms}
 
 pub extends_along : (a b c : TableView) → Extends a b → Extends b c → Extends a c

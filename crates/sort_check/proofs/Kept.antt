@@ -3,6 +3,7 @@ use Rattle.std.proofs.Common.{◌≡◌, ◌<◌, Bool, true, false, Option, Som
 use Rattle.std.specs.Str.{bytes_eq}
 use Rattle.std.proofs.lemmas.Bool.Decides.{nat_tests}
 use Rattle.spec_text.specs.Bytes.{Name}
+use Rattle.spec_text.proofs.Members.{first, later, none}
 use Rattle.spec_terms.specs.Terms.{Head, True, False, Not, And, Or, Xor, Implies, Equal, Ite, Term, of, list_of, terms_of}
 use Rattle.spec_terms.specs.Lists.{left, right, neighbours, all_pairs}
 use Rattle.spec_terms.specs.Theory.{Rule, takes, look_up, theory, pair, unequal, conjunction, no_term}
@@ -11,7 +12,6 @@ use Rattle.sort_check.specs.declared.functions.Function.{Function}
 use Rattle.sort_check.specs.declared.functions.Function.TheVariants.{Core, Declared, Defined}
 use Rattle.sort_check.specs.Heads.{rule_there, name_of, rule_of}
 use Rattle.sort_check.specs.Functions.{function_term, Takes}
-use Rattle.spec_terms.proofs.Members.{first, later, none}
 use Rattle.sort_check.proofs.Members.{only, each_of}
 use Rattle.sort_check.proofs.Subterms.{AreSubterms, self_subterms, argument_subterm, subterms_along, member_subterms, subterms_cons, subterms_behind, subterms_first}
 

@@ -1,6 +1,6 @@
 -- Members of lists of one item and of more.
 use Rattle.std.proofs.Common.{◌≡◌, inl, inr, List, [], ◌∷◌, Contains, subst}
-use Rattle.spec_terms.proofs.Members.{cases, none}
+use Rattle.spec_text.proofs.Members.{cases, none}
 
 -- a list of one item has no other
 pub only : {X : Type 0} (x y : X) → Contains (x ∷ []) y → x ≡ y

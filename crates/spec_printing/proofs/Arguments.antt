@@ -16,7 +16,7 @@ use Rattle.spec_terms.specs.Terms.{Sort, Symbol, True, False, Apply, Term, of, t
 use Rattle.spec_terms.specs.Theory.{Rule, look_up, theory}
 use Rattle.spec_terms.specs.Reading.{Scope, symbol_named, applied, applied_as, atom_term, term_in, terms_in}
 use Rattle.spec_terms.specs.Subsets.{arguments_of, AreAmong, IsClosed}
-use Rattle.spec_terms.proofs.Members.{first, later, cases, none as no_member}
+use Rattle.spec_text.proofs.Members.{first, later, cases, none as no_member}
 use Rattle.spec_scripts.specs.Stack.{theory_names, is_kept_name}
 use Rattle.spec_scripts.specs.Current.{IsDeclared, AreDeclared}
 use Rattle.spec_proofs.proofs.Chains.{mapped}

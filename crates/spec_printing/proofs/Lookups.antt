@@ -8,11 +8,11 @@ use Rattle.std.proofs.lemmas.Fmt.{decimal_injective}
 use Rattle.std.proofs.lemmas.Option.{slice_get_within, get_or_from_slice_get}
 use Rattle.std.proofs.lemmas.Slice.Eq.{bytes_eq-Decides}
 use Rattle.spec_text.specs.Bytes.{Name, among}
+use Rattle.spec_text.proofs.Members.{first, later}
 use Rattle.spec_terms.specs.Terms.{Symbol, Term}
 use Rattle.spec_terms.specs.Theory.{look_up}
 use Rattle.spec_terms.specs.Reading.{symbol_named}
 use Rattle.spec_terms.specs.Literals.{Clause}
-use Rattle.spec_terms.proofs.Members.{first, later}
 use Rattle.spec_scripts.specs.Stack.{names_of}
 use Rattle.spec_proofs.specs.Commands.{Entry}
 use Rattle.spec_proofs.specs.Known.{clause_of, entry_names}

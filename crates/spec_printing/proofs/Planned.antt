@@ -4,9 +4,9 @@ use Rattle.std.specs.List.{slice_get}
 use Rattle.std.proofs.lemmas.Bool.{false≢true}
 use Rattle.std.proofs.lemmas.Option.{slice_get_within, get_or_from_slice_get, slice_get-get_or}
 use Rattle.std.proofs.lemmas.List.Elements.{All-contains}
+use Rattle.spec_text.proofs.Members.{first}
 use Rattle.spec_terms.specs.Terms.{Symbol, Term, Terms, app, nil, cons, list_of, terms_of}
 use Rattle.spec_proofs.specs.declared.Rule.{Rule}
-use Rattle.spec_terms.proofs.Members.{first}
 use Rattle.spec_search.specs.Derivations.{Inference, «assumption», by_rule, Derivation, conclusion, conclusion_at, inference_at, no_inference, premises_of, IsDerivation, IsDerivedFrom, RestsOn, itself, by_premise, AssumesAmong}
 use Rattle.spec_printing.specs.Lines.{Argument, Reference, Line, defines, assumes, steps}
 use Rattle.spec_printing.specs.Meaning.{Told, nothing_told, with_assume, with_step, term_told, clause_told, IsLineAfter, AreLinesAfter, AreRightLines}

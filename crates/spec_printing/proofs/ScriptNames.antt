@@ -14,13 +14,13 @@ use Rattle.spec_text.specs.Shapes.{◌>>=◌, Word, passes, first_word, only_tre
 use Rattle.spec_text.specs.Trees.{Tree, Trees, atom, list, none, more, spelled, spelled_all, offset_of}
 use Rattle.spec_text.proofs.Tests.{other_byte}
 use Rattle.spec_text.proofs.Words.{IsWord, HasWords, HaveWords}
+use Rattle.spec_text.proofs.AnswerLaws.{answer, went, require_true}
+use Rattle.spec_text.proofs.ShapeLaws.{Holds}
 use Rattle.spec_terms.specs.Terms.{Symbol, constant, Sort}
 use Rattle.spec_terms.specs.Reading.{scope_of}
 use Rattle.spec_terms.specs.Subterms.{roomy_terms}
 use Rattle.spec_scripts.specs.Commands.{Command, SetOption, DeclareConst, Assert, CheckSat, Exit, Verb, sets_option, declares_const, asserts, checks, exits, is_name, set_option, declare_const, alone, command_by, shaped, verb_of, command_as, command_of}
 use Rattle.spec_scripts.specs.Stack.{Stack, is_barred, is_taken, new_name, sort_in, truth_in, with_success, is_known_option, with_symbol, with_assertions, performed, Effect, done, unsupported, check, leave, Taken, step, behind, at_check, stack_at}
-use Rattle.spec_scripts.proofs.Later.{answer, went, require_true}
-use Rattle.spec_scripts.proofs.Parts.{Holds}
 use Rattle.spec_printing.specs.ReadBack.{IsWritable, AreWritable}
 
 -- a byte of symbols may stand between bars

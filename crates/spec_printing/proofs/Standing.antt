@@ -12,7 +12,7 @@ use Rattle.spec_terms.specs.Literals.{Clause}
 use Rattle.spec_terms.specs.Subterms.{fit_in}
 use Rattle.spec_terms.specs.Subsets.{arguments_of, AreAmong, IsClosed}
 use Rattle.spec_terms.proofs.LeastSubterms.{has_room}
-use Rattle.spec_terms.proofs.Members.{cases, none as no_member}
+use Rattle.spec_text.proofs.Members.{cases, none as no_member}
 use Rattle.spec_scripts.specs.Stack.{term_limit}
 use Rattle.spec_scripts.specs.Current.{AreDeclared}
 use Rattle.spec_proofs.specs.Commands.{Known, Entry, all_symbols}

@@ -3,9 +3,9 @@ use Rattle.std.proofs.Common.{◌≡◌, ℕ, suc, ◌+◌, Bool, false, List, [
 use Rattle.std.specs.List.{slice_get}
 use Rattle.std.specs.Option.{option_map}
 use Rattle.std.proofs.lemmas.Bool.{false≢true}
+use Rattle.spec_text.proofs.Members.{first, later}
 use Rattle.spec_terms.specs.Terms.{Symbol, True, False, Not, And, Or, Xor, Implies, Equal, Ite, Apply, Term, app, nil, cons, constant_term}
 use Rattle.spec_terms.specs.Literals.{Clause}
-use Rattle.spec_terms.proofs.Members.{first, later}
 use Rattle.spec_search.specs.Derivations.{Inference, «assumption», by_rule, conclusion}
 use Rattle.spec_printing.specs.Lines.{Argument, Reference}
 use Rattle.spec_printing.specs.Meaning.{Told, term_told, AreTold, clause_told, ArePremises, numbered}

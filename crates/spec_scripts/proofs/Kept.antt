@@ -10,13 +10,14 @@ use Rattle.spec_text.specs.Bytes.{Name, among}
 use Rattle.spec_text.specs.Shapes.{Word}
 use Rattle.spec_text.specs.Answers.{Answer, refused, require}
 use Rattle.spec_text.specs.Trees.{Tree, Trees, atom, list, none, more, offset_of}
+use Rattle.spec_text.proofs.AnswerLaws.{answer, went, require_true}
 use Rattle.spec_terms.specs.Terms.{Sort, Symbol, constant, Truth, Term}
 use Rattle.spec_terms.specs.Reading.{Scope, scope_of, term_in, terms_in}
 use Rattle.spec_terms.specs.Subterms.{fit_in, roomy_terms}
 use Rattle.spec_scripts.specs.Commands.{Command, SetOption, DeclareConst, Assert, CheckSat, Exit, command_of}
 use Rattle.spec_scripts.specs.Stack.{Stack, Assertion, empty_stack, theory_names, is_kept_name, is_barred, is_taken, new_name, sort_named, sort_in, truth_in, with_success, is_known_option, with_symbol, with_assertion, with_assertions, performed, Effect, done, unsupported, check, leave, Taken, step, behind, at_check, stack_at}
 use Rattle.spec_scripts.specs.Current.{IsDeclared, IsReadUnder, HasRoom, IsKeptStack}
-use Rattle.spec_scripts.proofs.Later.{answer, went, require_true, read_later}
+use Rattle.spec_scripts.proofs.Later.{read_later}
 
 -- texts that are read are read the same under more symbols
 all_later : (ss new : List Symbol) (xs : List Assertion) → All (IsReadUnder ss) xs → All (IsReadUnder (ss ++ new)) xs

@@ -1,42 +1,18 @@
 -- What is read under some symbols is read the same under more of them.
-use Rattle.std.proofs.Common.{◌≡◌, ℕ, Bool, true, false, List, [], ◌∷◌, ◌++◌, Option, Some, None, cond, refl, sym, ap, ◌∙◌, subst}
-use Rattle.std.specs.Prelude.{Ok, Err}
+use Rattle.std.proofs.Common.{◌≡◌, ℕ, Bool, true, false, List, [], ◌∷◌, ◌++◌, Option, Some, None, cond, refl, ap, ◌∙◌}
+use Rattle.std.specs.Prelude.{Ok}
 use Rattle.std.specs.Str.{bytes_eq}
 use Rattle.spec_text.specs.declared.Kind.{Kind}
 use Rattle.spec_text.specs.declared.Kind.TheVariants.{Numeral, Decimal, Text, Simple, Quoted, Reserved as word_kind, Keyword}
-use Rattle.spec_text.specs.declared.Fault.{Fault}
 use Rattle.spec_text.specs.declared.Fault.TheVariants.{UnknownSymbol}
 use Rattle.spec_text.specs.Bytes.{Name}
-use Rattle.spec_text.specs.Answers.{Answer, ◌>>=◌, refused, require}
+use Rattle.spec_text.specs.Answers.{Answer, ◌>>=◌, refused}
 use Rattle.spec_text.specs.Trees.{Tree, Trees, atom, list, none, more}
+use Rattle.spec_text.proofs.AnswerLaws.{answer, went}
 use Rattle.spec_terms.specs.Terms.{Symbol, Term}
 use Rattle.spec_terms.specs.Theory.{Rule, look_up, theory}
 use Rattle.spec_terms.specs.Forms.{Form, malformed, reserved, applies, form}
 use Rattle.spec_terms.specs.Reading.{scope_of, symbol_named, applied, applied_as, atom_term, by_form, term_in, terms_in}
-
--- What an answer through two steps says of each.
-pub record Went {A B : Type 0} (a : Answer A) (f : A → Answer B) (b : B) : Type 0 where
-  pub first : A
-  pub was : a ≡ Ok first
-  pub then : f first ≡ Ok b
-
--- the answer is this
-abbrev pub IsAnswer : {A : Type 0} → Answer A → A → Type 0
-IsAnswer (Ok x) y = x ≡ y
-IsAnswer (Err e) y = ⊥
-
-pub answer : {A : Type 0} (a : Answer A) (y : A) → a ≡ Ok y → IsAnswer a y
-answer a y e = subst (λ b. IsAnswer b y) (sym e) refl
-
-pub went : {A B : Type 0} (a : Answer A) (f : A → Answer B) (b : B) → (a >>= f) ≡ Ok b → Went a f b
-unfolding ◌>>=◌
-went (Ok x) f b e = record { first = x; was = refl; then = e }
-went (Err x) f b e = absurd (answer (Err x) b e)
-
-pub require_true : (b : Bool) (at : ℕ) (f : Fault) (u : Unit {0}) → require b at f ≡ Ok u → b ≡ true
-unfolding require
-require_true true at f u e = refl
-require_true false at f u e = absurd (answer (require false at f) u e)
 
 -- both steps answer
 joined : {A B : Type 0} (a : Answer A) (f : A → Answer B) (x : A) (y : B) → a ≡ Ok x → f x ≡ Ok y → (a >>= f) ≡ Ok y

@@ -1,19 +1,10 @@
 -- The parts of a command stand in its text.
-use Rattle.std.proofs.Common.{ℕ, Bool, true, false, Option, Some, None}
-use Rattle.spec_text.specs.Shapes.{◌>>=◌, Word, passes, first_word, only_tree, is_keyword}
+use Rattle.std.proofs.Common.{ℕ, Bool, true, false}
+use Rattle.spec_text.specs.Shapes.{Word, passes, first_word, only_tree, is_keyword}
 use Rattle.spec_text.specs.Trees.{Trees, atom, list, none, more}
 use Rattle.spec_text.specs.Offsets.{AllOffsets, AllOffsetsOf}
+use Rattle.spec_text.proofs.ShapeLaws.{Holds, holds_in_turn, tree_stands}
 use Rattle.spec_scripts.specs.Commands.{Command, SetOption, DeclareConst, Assert, CheckSat, Exit, Verb, sets_option, declares_const, asserts, checks, exits, is_name, set_option, declare_const, alone, command_by}
-
--- what there is has a property
-abbrev pub Holds : {A : Type 0} → (A → Type 0) → Option A → Type 0
-Holds Q None = Unit {0}
-Holds Q (Some a) = Q a
-
--- and so it is in two steps, where it is in each
-holds_in_turn : {A B : Type 0} (Q : A → Type 0) (R : B → Type 0) (o : Option A) (f : A → Option B) → Holds Q o → ((a : A) → Q a → Holds R (f a)) → Holds R (o >>= f)
-holds_in_turn Q R None f h g = tt
-holds_in_turn Q R (Some a) f h g = g a h
 
 -- a test says nothing of what follows
 passes_holds : (b : Bool) → Holds (λ _. Unit {0}) (passes b)
@@ -30,11 +21,6 @@ module _ (P : ℕ → Type 0) where
   word_stands (more (atom at k bytes) ts) h = h
   word_stands (more (list at us end) ts) h = tt
 
-  tree_stands : (ts : Trees) → AllOffsetsOf P ts → Holds (AllOffsets P) (only_tree ts)
-  tree_stands none h = tt
-  tree_stands (more t none) h = h.0
-  tree_stands (more t (more u us)) h = tt
-
   -- the parts of a command stand at offsets with the property
   abbrev pub PartsStand : Command → Type 0
   PartsStand (SetOption k v) = Unit {0}
@@ -48,14 +34,14 @@ module _ (P : ℕ → Type 0) where
   option_stands ts h =
       holds_in_turn WordStands PartsStand (first_word ts) _ (word_stands ts h) λ key k.
       holds_in_turn (λ _. Unit {0}) PartsStand (passes (is_keyword key.0.kind)) _ (passes_holds _) λ is_key _.
-      holds_in_turn (AllOffsets P) PartsStand (only_tree key.1) _ (tree_stands key.1 k.1) λ value v. tt
+      holds_in_turn (AllOffsets P) PartsStand (only_tree key.1) _ (tree_stands P key.1 k.1) λ value v. tt
 
   constant_stands : (ts : Trees) → AllOffsetsOf P ts → Holds PartsStand (declare_const ts)
   unfolding declare_const
   constant_stands ts h =
       holds_in_turn WordStands PartsStand (first_word ts) _ (word_stands ts h) λ c k.
       holds_in_turn (λ _. Unit {0}) PartsStand (passes (is_name c.0.kind)) _ (passes_holds _) λ named _.
-      holds_in_turn (AllOffsets P) PartsStand (only_tree c.1) _ (tree_stands c.1 k.1) λ sort v. (k.0, v)
+      holds_in_turn (AllOffsets P) PartsStand (only_tree c.1) _ (tree_stands P c.1 k.1) λ sort v. (k.0, v)
 
   alone_stands : (c : Command) (ts : Trees) → PartsStand c → Holds PartsStand (alone c ts)
   alone_stands c none s = s
@@ -64,6 +50,6 @@ module _ (P : ℕ → Type 0) where
   pub parts_stand : (v : Verb) (ts : Trees) → AllOffsetsOf P ts → Holds PartsStand (command_by v ts)
   parts_stand sets_option ts h = option_stands ts h
   parts_stand declares_const ts h = constant_stands ts h
-  parts_stand asserts ts h = holds_in_turn (AllOffsets P) PartsStand (only_tree ts) _ (tree_stands ts h) λ t v. v
+  parts_stand asserts ts h = holds_in_turn (AllOffsets P) PartsStand (only_tree ts) _ (tree_stands P ts h) λ t v. v
   parts_stand checks ts h = alone_stands CheckSat ts tt
   parts_stand exits ts h = alone_stands Exit ts tt

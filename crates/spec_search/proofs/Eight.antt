@@ -4,10 +4,10 @@ use Rattle.std.specs.List.{list_any, AllByRecursion}
 use Rattle.std.proofs.lemmas.Bool.{false≢true}
 use Rattle.std.proofs.lemmas.List.Folds.{Any-from_list_any, list_any_at}
 use Rattle.std.proofs.lemmas.List.Elements.{All-contains, All-from_recursion}
+use Rattle.spec_text.proofs.Members.{first, later}
 use Rattle.spec_terms.specs.Terms.{same_term, sort_of}
 use Rattle.spec_terms.specs.Literals.{Literal, complement, literals_of, literal_of}
 use Rattle.spec_terms.specs.Subterms.{with_subterms, with_all_subterms}
-use Rattle.spec_terms.proofs.Members.{first, later}
 use Rattle.spec_search.specs.Base.{base_clauses}
 use Rattle.spec_search.specs.Learned.{same_literal, IsSettled, IsQuiet, IsConsistent, IsNew}
 use Rattle.spec_search.specs.Examples.{a, b, eight, not_both}

@@ -2,6 +2,7 @@
 use Rattle.std.proofs.Common.{◌≡◌, ℕ, zero, suc, Bool, true, false, not, ◌||◌, List, [], ◌∷◌, map, get_or, All, Contains, inl, inr, refl, sym, ap, subst, if◌then◌else◌}
 use Rattle.std.specs.Prelude.{flat_map, slice_index_or}
 use Rattle.std.proofs.lemmas.List.Elements.{All-nil, All-cons, All-head, All-tail, All-contains, All-map, Contains-get_or, Contains-append_cases}
+use Rattle.spec_text.proofs.Members.{first, later, cases, none}
 use Rattle.spec_terms.specs.Terms.{Not, Term, app, nil, cons}
 use Rattle.spec_terms.specs.Theory.{no_term}
 use Rattle.spec_terms.specs.Values.{Interpretation, truth, is_true, all_true}
@@ -9,7 +10,6 @@ use Rattle.spec_terms.specs.Literals.{Clause}
 use Rattle.spec_terms.specs.Agreement.{value_at, values_at}
 use Rattle.spec_terms.specs.Subterms.{subterms_of}
 use Rattle.spec_terms.specs.Subsets.{arguments_of, IsClosed}
-use Rattle.spec_terms.proofs.Members.{first, later, cases, none}
 use Rattle.spec_proofs.specs.declared.Rule.{Rule}
 use Rattle.spec_proofs.specs.declared.Rule.TheVariants as rules
 use Rattle.spec_proofs.specs.declared.Side.{Side}

@@ -6,10 +6,10 @@ use Rattle.std.proofs.lemmas.Bool.{false≢true}
 use Rattle.std.proofs.lemmas.Bool.Decides.{Decides-and, Decides-like}
 use Rattle.std.specs.Cmp.{booleans_Decides}
 use Rattle.std.proofs.lemmas.List.Elements.{All-contains, All-from_recursion, Contains-push_cases}
+use Rattle.spec_text.proofs.Members.{first, later, none}
 use Rattle.spec_terms.specs.Terms.{same_term}
 use Rattle.spec_terms.specs.Literals.{Literal, complement}
 use Rattle.spec_terms.proofs.SameTerms.{terms_decide}
-use Rattle.spec_terms.proofs.Members.{first, later, none}
 use Rattle.spec_proofs.specs.Resolution.{Derives, given, unit, Conflicts, false_clause, both_ways}
 use Rattle.spec_search.specs.Learned.{same_literal, others, IsOpenIn, IsNew, IsSettled, IsQuiet, IsConsistent, OthersFail}
 

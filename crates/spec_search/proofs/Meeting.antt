@@ -3,12 +3,12 @@ use Rattle.std.proofs.Common.{◌≡◌, Bool, true, false, not, ◌&&◌, ◌||
 use Rattle.std.specs.Prelude.{flat_map, slice_index_or}
 use Rattle.std.specs.List.{list_any}
 use Rattle.std.proofs.lemmas.List.Elements.{Contains-append_left, Contains-append_right}
+use Rattle.spec_text.proofs.Members.{first, later, cases, none}
 use Rattle.spec_terms.specs.Terms.{Head, Term, negated}
 use Rattle.spec_terms.specs.Theory.{no_term}
 use Rattle.spec_terms.specs.Values.{truth, all_true, any_true, different, same_value}
 use Rattle.spec_terms.specs.Literals.{Clause, literal_of}
 use Rattle.spec_terms.specs.Subsets.{arguments_of}
-use Rattle.spec_terms.proofs.Members.{first, later, cases, none}
 use Rattle.spec_proofs.specs.declared.Side.{Side}
 use Rattle.spec_proofs.specs.declared.Rest.TheVariants.{Nothing, One, Two, AnyOne, Each}
 use Rattle.spec_proofs.specs.Schemes.{Scheme, schemes, signed, side_of, rests_of, is_formula_of, clauses_by}

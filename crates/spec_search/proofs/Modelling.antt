@@ -3,13 +3,13 @@ use Rattle.std.proofs.Common.{◌≡◌, Bool, true, false, ◌||◌, List, [], 
 use Rattle.std.specs.Prelude.{flat_map}
 use Rattle.std.specs.List.{list_any}
 use Rattle.std.proofs.lemmas.List.Elements.{All-contains, Contains-append_left, Contains-append_right, Contains-get_or}
+use Rattle.spec_text.proofs.Members.{first, later}
 use Rattle.spec_terms.specs.Terms.{Head, Apply, Term, Terms, app, nil, cons, list_of}
 use Rattle.spec_terms.specs.Values.{Value, truth, Interpretation}
 use Rattle.spec_terms.specs.Literals.{Clause, literal_of}
 use Rattle.spec_terms.specs.Agreement.{head_value, value_at, values_at}
 use Rattle.spec_terms.specs.Subterms.{subterms_of}
 use Rattle.spec_terms.specs.Subsets.{AreAmong, IsClosed}
-use Rattle.spec_terms.proofs.Members.{first, later}
 use Rattle.spec_proofs.specs.Truths.{Truths, term_true_by}
 use Rattle.spec_proofs.proofs.Chains.{mapped}
 use Rattle.spec_search.specs.Base.{clauses_of, base_clauses}

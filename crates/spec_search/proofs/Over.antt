@@ -5,12 +5,12 @@ use Rattle.std.specs.List.{AllByRecursion}
 use Rattle.std.proofs.lemmas.Bool.{false≢true}
 use Rattle.std.proofs.lemmas.List.{length-map}
 use Rattle.std.proofs.lemmas.List.Elements.{All-contains, All-from_recursion, Contains-append_cases, Contains-get_or}
+use Rattle.spec_text.proofs.Members.{first, cases, none}
 use Rattle.spec_terms.specs.Terms.{Head, Not, Xor, Implies, Equal, Ite, Sort, Truth, Term, app, nil, cons, list_of, sort_of, all_same, same_head, head_takes}
 use Rattle.spec_terms.specs.Theory.{no_term}
 use Rattle.spec_terms.specs.Subterms.{subterms_of}
 use Rattle.spec_terms.specs.Subsets.{AreAmong, IsClosed}
 use Rattle.spec_terms.specs.Literals.{Clause, Literal, literal_of, literals_of}
-use Rattle.spec_terms.proofs.Members.{first, cases, none}
 use Rattle.spec_proofs.specs.declared.Side.{Side}
 use Rattle.spec_proofs.specs.declared.Rest.{Rest}
 use Rattle.spec_proofs.specs.declared.Rest.TheVariants.{Nothing, One, Two, AnyOne, Each, Innermost}

@@ -1,8 +1,8 @@
 -- What a new clause says, and each of a list of new ones.
 use Rattle.std.proofs.Common.{◌≡◌, ◌≢◌, Bool, true, false, not, List, [], ◌∷◌, ◌++◌, Contains, inl, inr, refl, sym, ap, ◌∙◌, subst}
 use Rattle.std.proofs.lemmas.List.{append_assoc, append-nil}
+use Rattle.spec_text.proofs.Members.{cases, none}
 use Rattle.spec_terms.specs.Literals.{Literal, complement}
-use Rattle.spec_terms.proofs.Members.{cases, none}
 use Rattle.spec_proofs.specs.Resolution.{given, both_ways}
 use Rattle.spec_search.specs.Learned.{others, IsNew, AreNew}
 use Rattle.spec_search.proofs.Learned.{decide_literals, others_there}

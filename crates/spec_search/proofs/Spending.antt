@@ -3,10 +3,11 @@ use Rattle.std.proofs.Common.{◌≡◌, ◌≢◌, ℕ, ◌<◌, true, List, []
 use Rattle.std.specs.List.{AllByRecursion}
 use Rattle.std.proofs.lemmas.List.{append-nil, append_assoc, length-take-le}
 use Rattle.std.proofs.lemmas.List.Elements.{All-contains, All-from_recursion}
+use Rattle.spec_text.proofs.Members.{none}
 use Rattle.spec_terms.specs.Terms.{Truth, Term, same_term, sort_of}
 use Rattle.spec_terms.specs.Subterms.{has_term, subterms_of, with_subterms, with_all_subterms}
 use Rattle.spec_terms.specs.Literals.{Literal, complement, literal_of, literals_of}
-use Rattle.spec_terms.proofs.Members.{none, has_term-Decides}
+use Rattle.spec_terms.proofs.Members.{has_term-Decides}
 use Rattle.spec_proofs.specs.Resolution.{Derives, given, unit, Conflicts, false_clause}
 use Rattle.spec_search.specs.Derivations.{Inference, assumption, by_rule, Derivation, premises_of, no_inference, inference_at, FollowsFrom, IsDerivation, RestsOn, itself, by_premise, AssumesAmong}
 use Rattle.spec_search.specs.Spent.{IsAtomOf, IsLearnedFrom, IsConflictBudgetSpent}

@@ -3,11 +3,12 @@ use Rattle.std.proofs.Common.{◌≡◌, ℕ, ◌<◌, ◌≤◌, true, false, i
 use Rattle.std.specs.List.{IsDistinct}
 use Rattle.std.proofs.lemmas.Bool.Decides.{nat_tests}
 use Rattle.std.proofs.lemmas.Map.Made.{is_member-Decides, length-le_from_is_member, AllPairs-from_IsDistinct, IsDistinct-from_AllPairs}
+use Rattle.spec_text.proofs.Members.{first, later, cases, none}
 use Rattle.spec_terms.specs.Terms.{Term, Terms, app, nil, cons, list_of, same_term}
 use Rattle.spec_terms.specs.Subterms.{with_term, with_subterms, with_all_subterms, subterms_of, fit_in}
 use Rattle.spec_terms.specs.Subsets.{arguments_of, AreAmong, IsClosed, AreOnce}
 use Rattle.spec_terms.proofs.SameTerms.{terms_decide, terms_equivalence}
-use Rattle.spec_terms.proofs.Members.{first, later, cases, none, IsWith, with_one}
+use Rattle.spec_terms.proofs.Members.{IsWith, with_one}
 
 -- What a list has after the subterms of terms came into it.
 record Grows (seen new ts : List Term) : Type 0 where

@@ -1,30 +1,13 @@
 -- Members of lists of terms.
-use Rattle.std.proofs.Common.{◌≡◌, ℕ, zero, suc, ◌<◌, Bool, true, false, ◌||◌, if◌then◌else◌, ◌⊎◌, inl, inr, List, [], ◌∷◌, length, get_or, Contains, refl, sym, ap, ◌∙◌, subst, true≢false, arith}
+use Rattle.std.proofs.Common.{◌≡◌, Bool, true, false, ◌||◌, if◌then◌else◌, ◌⊎◌, inr, List, [], ◌∷◌, Contains, refl, sym, ap, ◌∙◌, subst, true≢false}
 use Rattle.std.specs.Bool.{Decides}
 use Rattle.std.specs.List.{list_any, AllByRecursion, IsDistinct}
-use Rattle.std.proofs.lemmas.List.Elements.{Contains-append_right}
 use Rattle.std.proofs.lemmas.Map.Keys.{IsDistinct-cons}
 use Rattle.std.proofs.lemmas.Map.Made.{is_member-Decides}
+use Rattle.spec_text.proofs.Members.{first, later, cases}
 use Rattle.spec_terms.specs.Terms.{Term, same_term}
 use Rattle.spec_terms.specs.Subterms.{has_term, with_term}
 use Rattle.spec_terms.proofs.SameTerms.{terms_decide, terms_equivalence}
-
-module _ {A : Type 0} where
-  pub first : (x : A) (xs : List A) → Contains (x ∷ xs) x
-  first x xs = (0, omega arith, refl)
-
-  pub later : (x : A) (xs : List A) (y : A) → Contains xs y → Contains (x ∷ xs) y
-  later x xs y c = Contains-append_right (x ∷ []) xs y c
-
-  pub cases : (x : A) (xs : List A) (y : A) → Contains (x ∷ xs) y → (x ≡ y) ⊎ Contains xs y
-  cases x xs y c = go c.0 c.1 c.2
-    where
-      go : (k : ℕ) → k < length (x ∷ xs) → get_or (x ∷ xs) k y ≡ y → (x ≡ y) ⊎ Contains xs y
-      go zero lt e = inl e
-      go (suc k) lt e = inr (k, omega (arith, lt), e)
-
-  pub none : (y : A) → Contains [] y → ⊥
-  none y c = omega (arith, c.1)
 
 -- the words of the test
 has_term-any : (us : List Term) (t : Term) → has_term us t ≡ list_any (same_term t) us

@@ -1,15 +1,15 @@
 -- The term that a text is read as has the text's value.
-use Rattle.std.proofs.Common.{◌≡◌, ℕ, Bool, true, false, List, [], ◌∷◌, map, Option, Some, None, cond, refl, sym, ap, ap₂, ◌∙◌, subst}
-use Rattle.std.specs.Prelude.{Ok, Err}
+use Rattle.std.proofs.Common.{◌≡◌, ℕ, Bool, true, false, List, [], ◌∷◌, map, Option, Some, None, cond, refl, sym, ap, ap₂, ◌∙◌}
+use Rattle.std.specs.Prelude.{Ok}
 use Rattle.std.specs.Str.{bytes_eq}
 use Rattle.std.proofs.lemmas.Slice.Eq.{bytes_eq-Decides}
 use Rattle.spec_text.specs.declared.Kind.{Kind}
 use Rattle.spec_text.specs.declared.Kind.TheVariants.{Numeral, Decimal, Text, Simple, Quoted, Reserved as word_kind, Keyword}
-use Rattle.spec_text.specs.declared.Fault.{Fault}
 use Rattle.spec_text.specs.declared.Fault.TheVariants.{BadShape, UnknownSymbol, Reserved}
 use Rattle.spec_text.specs.Bytes.{Name}
-use Rattle.spec_text.specs.Answers.{Answer, ◌>>=◌, refused, require}
+use Rattle.spec_text.specs.Answers.{refused}
 use Rattle.spec_text.specs.Trees.{Tree, Trees, atom, list, none, more}
+use Rattle.spec_text.proofs.AnswerLaws.{answer, went}
 use Rattle.spec_terms.specs.Terms.{Symbol, Apply, Term, of}
 use Rattle.spec_terms.specs.Values.{Value, Interpretation, table_value}
 use Rattle.spec_terms.specs.Theory.{Rule, look_up, theory}
@@ -18,30 +18,6 @@ use Rattle.spec_terms.specs.Meaning.{Meaning, theory_values, name_value, value_b
 use Rattle.spec_terms.specs.Reading.{Scope, scope_of, symbol_named, by_rule, by_symbol, by_definition, applied, applied_as, atom_term, by_form, term_in, terms_in}
 use Rattle.spec_terms.specs.Agreement.{value_at, named_value, meaning_under}
 use Rattle.spec_terms.proofs.Heads.{MeansAt, theory_at, theory_means, values_of_list}
-
--- What an answer through two steps says of each.
-pub record Went {A B : Type 0} (a : Answer A) (f : A → Answer B) (b : B) : Type 0 where
-  pub first : A
-  pub was : a ≡ Ok first
-  pub then : f first ≡ Ok b
-
--- the answer is this
-abbrev pub IsAnswer : {A : Type 0} → Answer A → A → Type 0
-IsAnswer (Ok x) y = x ≡ y
-IsAnswer (Err e) y = ⊥
-
-pub answer : {A : Type 0} (a : Answer A) (y : A) → a ≡ Ok y → IsAnswer a y
-answer a y e = subst (λ b. IsAnswer b y) (sym e) refl
-
-pub went : {A B : Type 0} (a : Answer A) (f : A → Answer B) (b : B) → (a >>= f) ≡ Ok b → Went a f b
-unfolding ◌>>=◌
-went (Ok x) f b e = record { first = x; was = refl; then = e }
-went (Err x) f b e = absurd (answer (Err x) b e)
-
-pub require_true : (b : Bool) (at : ℕ) (f : Fault) (u : Unit {0}) → require b at f ≡ Ok u → b ≡ true
-unfolding require
-require_true true at f u e = refl
-require_true false at f u e = absurd (answer (require false at f) u e)
 
 -- a symbol that is found has the name
 found_name : (ss : List Symbol) (n : Name) (s : Symbol) → symbol_named ss n ≡ Some s → s.name ≡ n

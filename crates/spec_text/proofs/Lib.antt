@@ -10,3 +10,7 @@ pub mod Parsing
 pub mod Offsets
 pub mod Words
 pub mod Printing
+pub mod Members
+pub mod General
+pub mod AnswerLaws
+pub mod ShapeLaws

@@ -33,7 +33,7 @@ decimal_fits size digits [] rest h = omega (arith, h)
 decimal_fits size digits (d ∷ ds) rest h = ended_fits size rest (length digits + 1 + length (d ∷ ds)) Decimal _ h
 
 -- a front is no longer than the whole
-front_within : (test : ℕ → Bool) (bs : List ℕ) → length (front test bs) ≤ length bs
+pub front_within : (test : ℕ → Bool) (bs : List ℕ) → length (front test bs) ≤ length bs
 front_within test bs = omega (arith, ap length (front_then_rest test bs), length-append (front test bs) (drop (length (front test bs)) bs))
 
 number_fits : (size : ℕ) (digits rest : List ℕ) → length digits + length rest ≤ size → Fits size (number digits rest)
@@ -81,10 +81,11 @@ abbrev Stand : ℕ → ℕ → List (ℕ × Lexeme) → Type 0
 Stand low high [] = Unit {0}
 Stand low high (x ∷ xs) = StandsBy low high x.0 x.1 × Stand low high xs
 
-module _ (text : List ℕ) (low : ℕ) where
-  next_here : (at b : ℕ) (bs : List ℕ) → drop at text ≡ b ∷ bs → drop (at + 1) text ≡ bs
-  next_here at b bs e = sym (drop-drop 1 at text) ∙ ap (drop 1) e
+-- what stands behind a byte
+pub next_here : (text : List ℕ) (at b : ℕ) (bs : List ℕ) → drop at text ≡ b ∷ bs → drop (at + 1) text ≡ bs
+next_here text at b bs e = sym (drop-drop 1 at text) ∙ ap (drop 1) e
 
+module _ (text : List ℕ) (low : ℕ) where
   stands_before : (at : ℕ) (p : Piece) (rest : List (ℕ × Lexeme)) → low ≤ at → at < length text → Fits (length text - at) p → Stand low (length text) rest → Stand low (length text) (before at p rest)
   stands_before at p rest from within fits behind = go p.lexeme fits
     where
@@ -98,11 +99,11 @@ module _ (text : List ℕ) (low : ℕ) where
   stands_from : (n at : ℕ) (bs : List ℕ) → low ≤ at → drop at text ≡ bs → Stand low (length text) (lexemes n at bs)
   unfolding lexemes
   stands_from n at [] from e = tt
-  stands_from (suc n) at (b ∷ bs) from e = stands_from n (at + 1) bs (omega (arith, from)) (next_here at b bs e)
+  stands_from (suc n) at (b ∷ bs) from e = stands_from n (at + 1) bs (omega (arith, from)) (next_here text at b bs e)
   stands_from zero at (b ∷ bs) from e =
       let size : 1 + length bs ≡ length text - at = omega (arith, ap length e, length-drop at text) in
       stands_before at (first_piece b bs) _ from (omega (arith, size)) (subst (λ n. Fits n (first_piece b bs)) size (first_fits b bs))
-      (stands_from ((first_piece b bs).size - 1) (at + 1) bs (omega (arith, from)) (next_here at b bs e))
+      (stands_from ((first_piece b bs).size - 1) (at + 1) bs (omega (arith, from)) (next_here text at b bs e))
 
 lexemes_stand : (text : List ℕ) (at : ℕ) → Stand at (length text) (lexemes_from text at)
 lexemes_stand text at = stands_from text at 0 at (drop at text) (omega arith) refl

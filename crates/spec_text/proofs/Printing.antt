@@ -1,6 +1,7 @@
 -- What is printed of a tree is read back.
 use Rattle.std.proofs.Common.{◌≡◌, ℕ, zero, suc, ◌+◌, ◌-◌, ◌<◌, Bool, true, false, cond, List, [], ◌∷◌, ◌++◌, length, drop, sym, ap, ◌∙◌, refl, append_assoc, append-nil, add-zero, length-append, arith}
-use Rattle.std.specs.Prelude.{◌==◌, ◌&&◌, not, ⊤}
+use Rattle.std.specs.Prelude.{◌==◌, not, ⊤}
+use Rattle.std.proofs.lemmas.Bool.{not-true}
 use Rattle.std.proofs.lemmas.List.{drop_at}
 use Rattle.spec_text.specs.declared.Kind.{Kind}
 use Rattle.spec_text.specs.declared.Kind.TheVariants.{Numeral, Decimal, Text, Simple, Quoted, Reserved, Keyword}
@@ -9,11 +10,13 @@ use Rattle.spec_text.specs.Lexemes.{opens, closes, word, Piece, piece, first_pie
 use Rattle.spec_text.specs.Lexicon.{only_zero, digits, numeral, decimal, string, simple_symbol, reserved_word, quoted_symbol, keyword, BeginsWithout}
 use Rattle.spec_text.specs.Trees.{Tree, Trees, atom, list, none, more, spelled, spelled_all, IsRead}
 use Rattle.spec_text.specs.Printed.{all_pass, is_bare, printed_word, printed, printed_all, without_bars, SameTree, SameTrees}
+use Rattle.spec_text.proofs.General.{three_parts}
 use Rattle.spec_text.proofs.Tests.{no_front, passes_consists, IsSymbolic, reserved_is_symbolic}
 use Rattle.spec_text.proofs.Spelling.{piece_of, numeral_piece, number_piece, point_piece, string_piece, quoted_piece, symbol_piece, keyword_piece, no_digits}
 use Rattle.spec_text.proofs.Words.{IsWord, HasWords, HaveWords}
 
-lexemes_skip : (n at : ℕ) (bs : List ℕ) → lexemes n at bs ≡ lexemes 0 (at + n) (drop n bs)
+-- bytes that are passed over
+pub lexemes_skip : (n at : ℕ) (bs : List ℕ) → lexemes n at bs ≡ lexemes 0 (at + n) (drop n bs)
 unfolding lexemes
 lexemes_skip zero at bs = ap (λ k. lexemes 0 k bs) (sym (add-zero at))
 lexemes_skip (suc n) at [] = refl
@@ -47,21 +50,11 @@ module _ (rest : List ℕ) (h : Ends rest) where
       let none_more : bs ++ _ ≡ bs = ap (λ ys. bs ++ ys) (no_front is_symbol_byte rest (ends_word rest h)) ∙ append-nil bs in
       symbol_piece b bs rest s ∙ rw (none_more, e) refl
 
-  bare_parts : (a b c : Bool) → (a && b && c) ≡ true → (a ≡ true) × (b ≡ true) × (c ≡ true)
-  bare_parts true true true e = (refl, refl, refl)
-  bare_parts true true false e = cc
-  bare_parts true false c e = cc
-  bare_parts false b c e = cc
-
-  opposite : (t : Bool) → not t ≡ true → t ≡ false
-  opposite true k = cc
-  opposite false k = refl
-
   bare_read : (w : Name) → is_bare w ≡ true → ReadsAs w rest Simple w
   bare_read [] e = cc
   bare_read (b ∷ bs) e =
-      let p = bare_parts (not (is_digit b)) (all_pass is_symbol_byte (b ∷ bs)) (not (among reserved_words (b ∷ bs))) e in
-      symbol_read b bs false (record { no_number = opposite (is_digit b) p.0; run = passes_consists is_symbol_byte (b ∷ bs) p.1 }) (opposite (among reserved_words (b ∷ bs)) p.2)
+      let p = three_parts (not (is_digit b)) (all_pass is_symbol_byte (b ∷ bs)) (not (among reserved_words (b ∷ bs))) e in
+      symbol_read b bs false (record { no_number = not-true (is_digit b) p.0; run = passes_consists is_symbol_byte (b ∷ bs) p.1 }) (not-true (among reserved_words (b ∷ bs)) p.2)
 
   word_read : (k : Kind) (w : List ℕ) → IsWord k w → ReadsAs (printed_word k w) rest (kind_of k w) w
   word_read _ _ (_, numeral ds n) = numeral_piece ds n rest (no_digits rest (ends_word rest h)) ∙ number_piece ds rest (ends_word rest h)

@@ -4,7 +4,7 @@ use Rattle.spec_text.specs.Lexemes.{Lexeme, closes}
 use Rattle.spec_text.specs.Trees.{Tree, Trees, atom, list, none, more, spelled, spelled_all}
 
 -- equal lists begin alike
-heads : {a b : ℕ} {x y : Lexeme} {xs ys : List (ℕ × Lexeme)} → (a, x) ∷ xs ≡ (b, y) ∷ ys → (a ≡ b) × (x ≡ y) × (xs ≡ ys)
+pub heads : {a b : ℕ} {x y : Lexeme} {xs ys : List (ℕ × Lexeme)} → (a, x) ∷ xs ≡ (b, y) ∷ ys → (a ≡ b) × (x ≡ y) × (xs ≡ ys)
 heads {a} {b} {x} {y} {xs} {ys} e =
     let p : (let z : ℕ × Lexeme = (a, x) in z) ≡ (b, y) = cc in
     (ap (λ (z : ℕ × Lexeme). z.0) p, ap (λ (z : ℕ × Lexeme). z.1) p, cc)

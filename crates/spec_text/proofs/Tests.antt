@@ -2,6 +2,7 @@
 use Rattle.std.proofs.Common.{◌≡◌, ℕ, Bool, true, false, cond, List, [], ◌∷◌, ◌++◌, length, drop, sym, ap, ◌∙◌, refl, arith}
 use Rattle.std.specs.Prelude.{◌==◌, ◌&&◌, ◌||◌, not, codes}
 use Rattle.std.specs.Str.{bytes_eq}
+use Rattle.std.proofs.lemmas.Bool.{and_parts, not-true}
 use Rattle.std.proofs.lemmas.Bool.Decides.{nat_tests}
 use Rattle.std.proofs.lemmas.Slice.Eq.{bytes_eq-Decides}
 use Rattle.spec_text.specs.Bytes.{Name, one_of, is_blank, is_digit, is_letter, is_symbol_byte, front, among, reserved_words}
@@ -66,14 +67,10 @@ abbrev are_symbolic : List Name → Bool
 are_symbolic [] = true
 are_symbolic (m ∷ ms) = is_symbolic m && are_symbolic ms
 
-both : (a b : Bool) → (a && b) ≡ true → (a ≡ true) × (b ≡ true)
-both true b e = (refl, e)
-both false b e = cc
-
 among_symbolic : (ms : List Name) (n : Name) → are_symbolic ms ≡ true → among ms n ≡ true → is_symbolic n ≡ true
 among_symbolic [] n a e = cc
 among_symbolic (m ∷ ms) n a e =
-    let parts = both (is_symbolic m) (are_symbolic ms) a in
+    let parts = and_parts (is_symbolic m) (are_symbolic ms) a in
     go (bytes_eq m n) (bytes_eq-Decides m n).0 parts.0 (among_symbolic ms n parts.1) e
   where
     go : (t : Bool) → (t ≡ true → m ≡ n) → is_symbolic m ≡ true → (among ms n ≡ true → is_symbolic n ≡ true) → (t || among ms n) ≡ true → is_symbolic n ≡ true
@@ -83,7 +80,7 @@ among_symbolic (m ∷ ms) n a e =
 pub passes_consists : (test : ℕ → Bool) (bs : List ℕ) → all_pass test bs ≡ true → Consists test bs
 passes_consists test [] e = tt
 passes_consists test (b ∷ bs) e =
-    let parts = both (test b) (all_pass test bs) e in
+    let parts = and_parts (test b) (all_pass test bs) e in
     (parts.0, passes_consists test bs parts.1)
 
 -- a byte of symbols that is no digit, and bytes of symbols behind it
@@ -95,15 +92,11 @@ abbrev pub IsSymbolicName : Name → Type 0
 IsSymbolicName [] = ⊥
 IsSymbolicName (b ∷ bs) = IsSymbolic b bs
 
-opposite : (t : Bool) → not t ≡ true → t ≡ false
-opposite true k = cc
-opposite false k = refl
-
 pub reserved_is_symbolic : (n : Name) → among reserved_words n ≡ true → IsSymbolicName n
 reserved_is_symbolic n e = go n (among_symbolic reserved_words n refl e)
   where
     go : (n : Name) → is_symbolic n ≡ true → IsSymbolicName n
     go [] k = cc
     go (b ∷ bs) k =
-        let parts = both (not (is_digit b)) (all_pass is_symbol_byte (b ∷ bs)) k in
-        record { no_number = opposite (is_digit b) parts.0; run = passes_consists is_symbol_byte (b ∷ bs) parts.1 }
+        let parts = and_parts (not (is_digit b)) (all_pass is_symbol_byte (b ∷ bs)) k in
+        record { no_number = not-true (is_digit b) parts.0; run = passes_consists is_symbol_byte (b ∷ bs) parts.1 }

@@ -3,10 +3,10 @@ use Rattle.std.proofs.Common.{◌≡◌, List, [], ◌∷◌, Contains, refl}
 use Rattle.std.specs.Prelude.{codes}
 use Rattle.std.specs.Fmt.{digits}
 use Rattle.std.proofs.lemmas.List.Elements.{All-contains, All-cons, All-nil}
+use Rattle.spec_text.proofs.Members.{first, later}
 use Rattle.spec_terms.specs.Terms.{Not, Truth, constant, negated, sort_of}
 use Rattle.spec_terms.specs.Literals.{Literal, literal_of, complement}
 use Rattle.spec_terms.specs.Examples.{p}
-use Rattle.spec_terms.proofs.Members.{first, later}
 use Rattle.spec_scripts.specs.Examples.{contradiction, contradiction_stack, contradiction_is_current}
 use Rattle.spec_proofs.specs.declared.Rule.TheVariants as rules
 use Rattle.spec_proofs.specs.Resolution.{Derives, unit, both_ways}

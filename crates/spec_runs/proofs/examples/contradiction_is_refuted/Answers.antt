@@ -7,12 +7,12 @@ use Rattle.spec_text.specs.Lexemes.{lexemes, first_piece}
 use Rattle.spec_text.specs.Answers.{require, ◌>>=◌}
 use Rattle.spec_text.specs.declared.Kind.TheVariants.{Simple}
 use Rattle.spec_text.specs.Trees.{atom}
+use Rattle.spec_text.proofs.Members.{first, later}
 use Rattle.spec_terms.specs.Terms.{Not, Truth, constant, negated, sort_of, same_term}
 use Rattle.spec_terms.specs.Literals.{Literal, literal_of, complement}
 use Rattle.spec_terms.specs.Reading.{term_in, terms_in}
 use Rattle.spec_terms.specs.Subterms.{with_subterms, with_all_subterms, roomy_terms}
 use Rattle.spec_terms.specs.Examples.{built, trees_in, p}
-use Rattle.spec_terms.proofs.Members.{first, later}
 use Rattle.spec_scripts.specs.Commands.{set_option, declare_const, command_of}
 use Rattle.spec_scripts.specs.Stack.{Stack, with_assertion, step}
 use Rattle.spec_scripts.specs.Examples.{contradiction, contradiction_stack, contradiction_is_read}

@@ -1,7 +1,7 @@
 -- The budget of one, and what is none.
 use Rattle.std.proofs.Common.{[], ◌∷◌, refl, sym}
+use Rattle.spec_text.proofs.Members.{first, later}
 use Rattle.spec_terms.specs.Literals.{complement, literals_of}
-use Rattle.spec_terms.proofs.Members.{first, later}
 use Rattle.spec_search.specs.Examples.{eight, not_both, not_both_derived}
 use Rattle.spec_search.proofs.Spending.{spent}
 use Rattle.spec_search.proofs.laws.eight_clauses_spend_a_budget_of_one.Goals as goal

@@ -1,0 +1,60 @@
+-- What an answer through two steps says of each, and where its fault stands.
+use Rattle.std.proofs.Common.{◌≡◌, ℕ, Bool, true, false, refl, sym, subst}
+use Rattle.std.specs.Prelude.{Ok, Err}
+use Rattle.spec_text.specs.declared.Fault.{Fault}
+use Rattle.spec_text.specs.Answers.{Answer, ◌>>=◌, require}
+use Rattle.spec_text.specs.Trees.{Tree, atom, list, offset_of}
+use Rattle.spec_text.specs.Offsets.{AllOffsets}
+
+-- both steps, and what the first one answers
+pub record Went {A B : Type 0} (a : Answer A) (f : A → Answer B) (b : B) : Type 0 where
+  pub first : A
+  pub was : a ≡ Ok first
+  pub then : f first ≡ Ok b
+
+-- the answer is this
+abbrev pub IsAnswer : {A : Type 0} → Answer A → A → Type 0
+IsAnswer (Ok x) y = x ≡ y
+IsAnswer (Err e) y = ⊥
+
+pub answer : {A : Type 0} (a : Answer A) (y : A) → a ≡ Ok y → IsAnswer a y
+answer a y e = subst (λ b. IsAnswer b y) (sym e) refl
+
+pub went : {A B : Type 0} (a : Answer A) (f : A → Answer B) (b : B) → (a >>= f) ≡ Ok b → Went a f b
+unfolding ◌>>=◌
+went (Ok x) f b e = record { first = x; was = refl; then = e }
+went (Err x) f b e = absurd (answer (Err x) b e)
+
+pub require_true : (b : Bool) (at : ℕ) (f : Fault) (u : Unit {0}) → require b at f ≡ Ok u → b ≡ true
+unfolding require
+require_true true at f u e = refl
+require_true false at f u e = absurd (answer (require false at f) u e)
+
+-- a tree's own offset is one of all
+pub own_offset : (P : ℕ → Type 0) (t : Tree) → AllOffsets P t → P (offset_of t)
+own_offset P (atom at k bytes) h = h
+own_offset P (list at ts end) h = h.0
+
+module _ (P : ℕ → Type 0) where
+  -- what is answered has a property, and a fault an offset with the other
+  abbrev pub Gives : {A : Type 0} → (A → Type 0) → Answer A → Type 0
+  Gives Q (Ok a) = Q a
+  Gives Q (Err f) = P f.offset
+
+  -- and so it is in two steps, where it is in each
+  pub gives_in_turn : {A B : Type 0} (Q : A → Type 0) (R : B → Type 0) (a : Answer A) (f : A → Answer B) → Gives Q a → ((x : A) → Q x → Gives R (f x)) → Gives R (a >>= f)
+  unfolding ◌>>=◌
+  gives_in_turn Q R (Ok x) f h g = g x h
+  gives_in_turn Q R (Err e) f h g = h
+
+  -- the offset of a fault, where there is one, has the property
+  abbrev pub Stands : {A : Type 0} → Answer A → Type 0
+  Stands a = Gives (λ _. Unit {0}) a
+
+  pub stands_in_turn : {A B : Type 0} (a : Answer A) (f : A → Answer B) → Stands a → ((x : A) → Stands (f x)) → Stands (a >>= f)
+  stands_in_turn a f h g = gives_in_turn (λ _. Unit {0}) (λ _. Unit {0}) a f h (λ x _. g x)
+
+  pub require_stands : (b : Bool) (at : ℕ) (f : Fault) → P at → Stands (require b at f)
+  unfolding require
+  require_stands true at f h = tt
+  require_stands false at f h = h
