@@ -17,7 +17,7 @@ use Rattle.spec_terms.specs.Theory.{Rule, look_up, theory}
 use Rattle.spec_terms.specs.Reading.{Scope, symbol_named, applied, applied_as, atom_term, term_in, terms_in}
 use Rattle.spec_terms.specs.Subsets.{arguments_of, AreAmong, IsClosed}
 use Rattle.spec_text.proofs.Members.{first, later, cases, none as no_member}
-use Rattle.spec_scripts.specs.Stack.{theory_names, is_kept_name}
+use Rattle.spec_scripts.specs.Stack.{reals_names, theory_names, is_kept_name}
 use Rattle.spec_scripts.specs.Current.{IsDeclared, AreDeclared}
 use Rattle.spec_proofs.proofs.Chains.{mapped}
 use Rattle.spec_proofs.proofs.Steps.{joined}
@@ -41,7 +41,7 @@ unruled (r ∷ rules) others n e =
     ap (λ b. cond b (Some r.1) (look_up rules n)) parts.0 ∙ unruled rules others n parts.1
 
 own_name : (n : Name) → among theory_names n ≡ false → look_up theory n ≡ None
-own_name n e = unruled theory (codes "-" ∷ codes "+" ∷ codes "*" ∷ codes "/" ∷ codes "<" ∷ codes "<=" ∷ codes ">" ∷ codes ">=" ∷ []) n e
+own_name n e = unruled theory reals_names n e
 
 -- truth values and constants
 abbrev pub ground : List Symbol → List Term

@@ -11,6 +11,7 @@ use Rattle.spec_text.specs.Shapes.{Word, is_symbol, is_reserved}
 use Rattle.spec_text.specs.Answers.{Answer, ◌>>=◌, refused, require}
 use Rattle.spec_text.specs.Trees.{Tree, Trees, atom, list, none, more, offset_of}
 use Rattle.spec_terms.specs.Terms.{Sort, Truth, Symbol, constant, Term}
+use Rattle.spec_terms.specs.Theory.{Rule, theory}
 use Rattle.spec_terms.specs.Values.{truth, Interpretation, Interprets}
 use Rattle.spec_terms.specs.Meaning.{value_under}
 use Rattle.spec_terms.specs.Reading.{scope_of}
@@ -41,9 +42,13 @@ empty_stack = record { symbols = []; assertions = []; print_success = true }
 abbrev pub names_of : List Symbol → List Name
 names_of ss = map (λ (s : Symbol). s.name) ss
 
+-- the names of theory Reals that Core does not have: they may not be declared, though no term has them so far
+abbrev pub reals_names : List Name
+reals_names = codes "-" ∷ codes "+" ∷ codes "*" ∷ codes "/" ∷ codes "<" ∷ codes "<=" ∷ codes ">" ∷ codes ">=" ∷ []
+
 -- the names that the theories Core and Reals have
 abbrev pub theory_names : List Name
-theory_names = codes "true" ∷ codes "false" ∷ codes "not" ∷ codes "and" ∷ codes "or" ∷ codes "xor" ∷ codes "=>" ∷ codes "=" ∷ codes "distinct" ∷ codes "ite" ∷ codes "-" ∷ codes "+" ∷ codes "*" ∷ codes "/" ∷ codes "<" ∷ codes "<=" ∷ codes ">" ∷ codes ">=" ∷ []
+theory_names = map (λ (e : Name × Rule). e.0) theory ++ reals_names
 
 -- names that begin so are kept for solvers
 abbrev pub is_kept_name : Name → Bool
