@@ -3,7 +3,7 @@ use Rattle.std.proofs.Common.{◌≡◌, ℕ, ◌≤◌, List, [], ◌++◌, Opt
 use Rattle.std.proofs.lemmas.Bool.{false≢true}
 use Rattle.std.specs.Prelude.{Result, Ok, Err, IsErr}
 use Rattle.std.specs.Io.KnownBytes.{Appends}
-use Rattle.world_io.specs.Outside.{Rose, AppendsFront}
+use Rattle.world_io.specs.Outside.{Rose, AppendsPrefix}
 use Rattle.world_io.specs.declared.fault.Failed.{Failed}
 use Rattle.world_io.proofs.Pieces.{appends_both, front_after, front_within}
 use Rattle.world_io.specs.Writing.{Sends}
@@ -35,10 +35,10 @@ sent whole rest piece later o m n f g h e s k = record {
 rose_after : (f g h : ℕ) → f ≤ g → Rose g h → Rose f h
 rose_after f g h l r = grind arith
 
-front_of_whole : (whole rest piece later : List ℕ) (o m n : Option (List ℕ)) (f g : ℕ) → rest ≡ piece ++ later → IsSending whole rest o m f g → AppendsFront m n piece → AppendsFront o n whole
+front_of_whole : (whole rest piece later : List ℕ) (o m n : Option (List ℕ)) (f g : ℕ) → rest ≡ piece ++ later → IsSending whole rest o m f g → AppendsPrefix m n piece → AppendsPrefix o n whole
 front_of_whole whole rest piece later o m n f g e s k =
     let all : (s.done ++ piece) ++ later ≡ whole = append_assoc s.done piece later ∙ ap (λ r. s.done ++ r) (sym e) ∙ s.joined in
-    subst (AppendsFront o n) all (front_within o n (s.done ++ piece) later (front_after o m n s.done piece s.written k))
+    subst (AppendsPrefix o n) all (front_within o n (s.done ++ piece) later (front_after o m n s.done piece s.written k))
 
 -- a piece that failed
 pub failed : (whole rest piece later : List ℕ) (o m n : Option (List ℕ)) (f g h : ℕ) (e : Failed) (r : Result (Unit {0}) Failed) → rest ≡ piece ++ later → IsSending whole rest o m f g → Sends piece (Err e) m n g h → IsErr r → Sends whole r o n f h

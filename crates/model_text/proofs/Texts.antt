@@ -7,7 +7,7 @@ use Rattle.std.proofs.lemmas.List.Elements.{All-get_or}
 use Rattle.spec_text.specs.Bytes.{Name}
 use Rattle.spec_terms.specs.Terms.{Symbol}
 use Rattle.spec_terms.specs.Values.{Value, Table, Interpretation, IsTableOf, Interprets}
-use Rattle.world_io.specs.Outside.{Rose, AppendsFront}
+use Rattle.world_io.specs.Outside.{Rose, AppendsPrefix}
 use Rattle.world_io.specs.Writing.{Sends, SendsWithin}
 use Rattle.world_io.specs.declared.fault.Failed.{Failed}
 use Rattle.world_io.proofs.Pieces.{pieces_split, pieces_up_to}
@@ -47,7 +47,7 @@ module _ {X : Type 0} (text : X → List ℕ) (xs : List X) (k : ℕ) (d : X) (l
   up_to = pieces_up_to text xs k d l ∙ ap (λ ys. flat_map text (take k xs) ++ ys) e
 
   -- one more text failed
-  pub texts_fail : (r : Result (Unit {0}) Failed) (a b c : Option (List ℕ)) (f g h : ℕ) → Sends (flat_map text (take k xs)) (Ok tt) a b f g → IsErr r → AppendsFront b c line × Rose g h → Sends (flat_map text xs) r a c f h
+  pub texts_fail : (r : Result (Unit {0}) Failed) (a b c : Option (List ℕ)) (f g h : ℕ) → Sends (flat_map text (take k xs)) (Ok tt) a b f g → IsErr r → AppendsPrefix b c line × Rose g h → Sends (flat_map text xs) r a c f h
   texts_fail r a b c f g h before err one =
       let P : List ℕ → Type 0 = λ t. Sends t r a c f h in
       subst P (sym split_at) (first_then (flat_map text (take k xs)) (line ++ flat_map text (drop (k + 1) xs)) r a b c f g h before (first_fails line (flat_map text (drop (k + 1) xs)) r b c g h err one))

@@ -9,7 +9,7 @@ use std::env;
 use std::io::ErrorKind;
 use std::process::ExitCode;
 use std::rt::{Env, Files};
-use world_io::{Gathered, HostShelf, HostSink};
+use world_io::{BufferedSink, HostShelf, HostSink};
 
 /// Ends with the status of the run: 0 to 5.
 fn main(rt: HostRuntime) -> ExitCode {
@@ -22,7 +22,7 @@ fn main(rt: HostRuntime) -> ExitCode {
 /// wanting the answer is `Memory`.
 fn status_of<R: Files + Input + Print + Env + AllocGlobal>(rt: &R) -> Status {
     let mut shelf = HostShelf::new(rt);
-    let Ok(mut out) = Gathered::new(rt.alloc(), HostSink::new(rt)) else {
+    let Ok(mut out) = BufferedSink::new(rt.alloc(), HostSink::new(rt)) else {
         return Status::Memory;
     };
     match words_of(rt) {

@@ -2,7 +2,7 @@
 use Rattle.std.proofs.Common.{ℕ, ◌≤◌, List, [], Option, Some, None, sym, ◌∙◌, subst, append-nil, arith}
 use Rattle.std.specs.Prelude.{Result, Ok, Err, OnErr}
 use Rattle.std.specs.Io.KnownBytes.{Appends, Keeps}
-use Rattle.world_io.specs.Outside.{Rose, AppendsFront}
+use Rattle.world_io.specs.Outside.{Rose, AppendsPrefix}
 use Rattle.world_io.specs.declared.fault.Failed.{Failed}
 use Rattle.world_io.specs.Writing.{Sends}
 use Rattle.world_io.proofs.Sending.{first_then}
@@ -12,7 +12,7 @@ nothing_appended None c k = tt
 nothing_appended (Some x) None k = absurd k
 nothing_appended (Some x) (Some y) k = k ∙ sym (append-nil x)
 
-no_front : (b c : Option (List ℕ)) → Keeps b c → AppendsFront b c []
+no_front : (b c : Option (List ℕ)) → Keeps b c → AppendsPrefix b c []
 no_front None c k = tt
 no_front (Some x) None k = absurd k
 no_front (Some x) (Some y) k = (0, omega arith, k ∙ sym (append-nil x))

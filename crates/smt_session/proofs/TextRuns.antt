@@ -5,7 +5,7 @@ use Rattle.std.specs.List.{list_any}
 use Rattle.std.proofs.lemmas.Bool.Decides.{nat_tests}
 use Rattle.std.proofs.lemmas.Grind.{flat_map-append}
 use Rattle.std.specs.Io.KnownBytes.{Appends}
-use Rattle.world_io.specs.Outside.{Rose, AppendsFront}
+use Rattle.world_io.specs.Outside.{Rose, AppendsPrefix}
 use Rattle.world_io.proofs.Pieces.{appends_both, front_after}
 use Rattle.world_io.proofs.Sending.{rose_after}
 use Rattle.spec_text.specs.declared.Place.{Place}
@@ -147,7 +147,7 @@ module _ (limits : Limits) (mode : Mode) (text bytes : List ℕ) (whole : bytes 
               (
                 answers_text mode bytes i.given ++ closing_text bytes (limited (is_long text) stop),
                 b,
-                subst (λ y. AppendsFront old new (answers_text mode bytes i.given ++ y)) (sym line) (front_after old now new (answers_text mode bytes i.given) _ i.written d.0),
+                subst (λ y. AppendsPrefix old new (answers_text mode bytes i.given ++ y)) (sym line) (front_after old now new (answers_text mode bytes i.given) _ i.written d.0),
               ),
               rose_after f g h i.count d.1,
             )
@@ -199,12 +199,12 @@ module _ (limits : Limits) (mode : Mode) (text bytes : List ℕ) (whole : bytes 
         by true t w = (_, t, w)
         by false t w = (_, t, w)
 
-    pub write_failed : EachIsRead bytes after.offset → AppendsFront now new (response_text (mode_meant x.mode) (text_of s) a) → Rose g h → RunsText limits mode text statuses.WriteFault (record { old = old; new = new; faults_old = f; faults_new = h })
+    pub write_failed : EachIsRead bytes after.offset → AppendsPrefix now new (response_text (mode_meant x.mode) (text_of s) a) → Rose g h → RunsText limits mode text statuses.WriteFault (record { old = old; new = new; faults_old = f; faults_new = h })
     write_failed each wrote rose = (
       (
         answers_text mode bytes i.given ++ response_text mode bytes a,
         begun_next limits mode text bytes whole from.offset after.offset (tree_of s) r.is.first (omega (arith, r.is.within)) i.stack i.given i.going a answers_so each,
-        front_after old now new (answers_text mode bytes i.given) (response_text mode bytes a) i.written (subst (AppendsFront now new) response wrote),
+        front_after old now new (answers_text mode bytes i.given) (response_text mode bytes a) i.written (subst (AppendsPrefix now new) response wrote),
       ),
       rose_after f g h i.count rose,
     )

@@ -1,7 +1,7 @@
 -- How the run of a script's text ends.
 use Rattle.std.specs.Prelude.{◌≡◌, ℕ, Bool, true, false, List}
 use Rattle.std.specs.Io.KnownBytes.{Appends}
-use Rattle.world_io.specs.Outside.{Rose, AppendsFront}
+use Rattle.world_io.specs.Outside.{Rose, AppendsPrefix}
 use Rattle.spec_text.specs.Faults.{Located}
 use Rattle.spec_text.specs.Places.{IsPlaceOf, name_of}
 use Rattle.spec_replies.specs.Lines.{error_text}
@@ -39,7 +39,7 @@ HasStopped limits mode text out = (begun : List ℕ) × IsBegun limits mode text
 
 -- a front of it was written
 abbrev pub HasBegun : Limits → Mode → List ℕ → Writes → Type 0
-HasBegun limits mode text out = (begun : List ℕ) × IsBegun limits mode text begun × AppendsFront out.old out.new begun
+HasBegun limits mode text out = (begun : List ℕ) × IsBegun limits mode text begun × AppendsPrefix out.old out.new begun
 
 -- the same without what the answers say
 abbrev pub RunsText : Limits → Mode → List ℕ → Status → Writes → Type 0
@@ -66,7 +66,7 @@ abbrev pub EndsText : Limits → Mode → List ℕ → Status → Writes → Typ
 EndsText limits mode text statuses.Done out = OnTranscript limits mode text false (Appends out.old out.new)
 EndsText limits mode text statuses.Refused out = OnTranscript limits mode text true (Appends out.old out.new)
 EndsText limits mode text statuses.Memory out = OnBegun limits mode text (Appends out.old out.new)
-EndsText limits mode text statuses.WriteFault out = OnBegun limits mode text (AppendsFront out.old out.new) × Rose out.faults_old out.faults_new
+EndsText limits mode text statuses.WriteFault out = OnBegun limits mode text (AppendsPrefix out.old out.new) × Rose out.faults_old out.faults_new
 EndsText limits mode text _ out = ⊥
 
 -- a command ended its script
@@ -91,7 +91,7 @@ IsAtLimit bytes long f r = (record { offset = r.place.offset; fault = r.fault } 
 -- the line of a refusal was written, or a front of it
 abbrev pub Ended : Refusal → Status → Writes → Type 0
 Ended r statuses.Refused out = Appends out.old out.new (error_text r.place.line r.place.col (name_of r.fault))
-Ended r statuses.WriteFault out = AppendsFront out.old out.new (error_text r.place.line r.place.col (name_of r.fault)) × Rose out.faults_old out.faults_new
+Ended r statuses.WriteFault out = AppendsPrefix out.old out.new (error_text r.place.line r.place.col (name_of r.fault)) × Rose out.faults_old out.faults_new
 Ended r _ out = ⊥
 
 -- the line of what could not be read was written, as one of the whole text, or a front of it; or memory ran out, and nothing was

@@ -1,7 +1,7 @@
 -- Sessions: what one stands for, and what a command comes to. Source: SMT-LIB 2.6, section 4.2.
 use Rattle.std.specs.Prelude.{◌≡◌, ℕ, List, map, Option, Result, Ok, Err, IsErr}
 use Rattle.std.specs.Io.KnownBytes.{Appends}
-use Rattle.world_io.specs.Outside.{Rose, AppendsFront}
+use Rattle.world_io.specs.Outside.{Rose, AppendsPrefix}
 use Rattle.world_io.specs.declared.bytes.NoMemory.{NoMemory}
 use Rattle.spec_text.specs.Places.{IsPlaceOf}
 use Rattle.spec_terms.specs.Values.{Interpretation, Interprets}
@@ -147,4 +147,4 @@ pub record IsAnswered (s : Stack) (x : Sexpr) (old new : SessionView) (a : Answe
 abbrev pub Stepped : Stack → Sexpr → SessionView → SessionView → Result After Halt → Writes → Type 0
 Stepped s x old new (Ok after) out = (a : Answered) × IsAnswered s x old new a × (after ≡ after_meant a.response) × Appends out.old out.new (response_text (mode_meant old.mode) (text_of x) a)
 Stepped s x old new (Err halts.Memory) out = IsSession new s × (new.budget ≡ old.budget) × (out.new ≡ out.old)
-Stepped s x old new (Err halts.Sink) out = (a : Answered) × IsAnswered s x old new a × AppendsFront out.old out.new (response_text (mode_meant old.mode) (text_of x) a) × Rose out.faults_old out.faults_new
+Stepped s x old new (Err halts.Sink) out = (a : Answered) × IsAnswered s x old new a × AppendsPrefix out.old out.new (response_text (mode_meant old.mode) (text_of x) a) × Rose out.faults_old out.faults_new

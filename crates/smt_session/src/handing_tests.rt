@@ -8,7 +8,7 @@ use smt_lexer::start;
 use smt_sexpr::read_one;
 use std::alloc::Global;
 use std::test::Fail;
-use world_io::{Gathered, MemSink, NoMemory};
+use world_io::{BufferedSink, MemSink, NoMemory};
 
 const LIMITS: Limits = Limits {
     conflicts: 1000,
@@ -49,8 +49,8 @@ const TEXTS: &[(&str, Status, &str)] = &[
 ];
 
 /// Makes a buffer in front of a sink with ample room.
-fn buffer(alloc: Global) -> Result<Gathered<MemSink>, NoMemory> {
-    Gathered::new(alloc, MemSink::new(alloc, 4096, 4096, Vec::new(alloc))?)
+fn buffer(alloc: Global) -> Result<BufferedSink<MemSink>, NoMemory> {
+    BufferedSink::new(alloc, MemSink::new(alloc, 4096, 4096, Vec::new(alloc))?)
 }
 
 #[test]

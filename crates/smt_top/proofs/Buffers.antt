@@ -2,7 +2,7 @@
 use Rattle.std.proofs.Common.{◌≡◌, ◌∙◌, inr, ℕ, ◌≤◌, Bool, true, false, List, ◌++◌, length, Option, Some, None, sym, ap, arith}
 use Rattle.std.proofs.lemmas.List.{take_all}
 use Rattle.std.specs.Io.KnownBytes.{Appends, Keeps}
-use Rattle.world_io.specs.Outside.{Rose, AppendsFront}
+use Rattle.world_io.specs.Outside.{Rose, AppendsPrefix}
 use Rattle.world_io.proofs.Sending.{rose_after}
 use Rattle.spec_runs.specs.Evidence.{Limits}
 use Rattle.spec_runs.specs.Responses.{Mode}
@@ -20,7 +20,7 @@ appends_kept (Some o) None c x h k = absurd h
 appends_kept (Some o) (Some n) None x h k = absurd k
 appends_kept (Some o) (Some n) (Some m) x h k = k ∙ h
 
-all_front : (a b : Option (List ℕ)) (x : List ℕ) → Appends a b x → AppendsFront a b x
+all_front : (a b : Option (List ℕ)) (x : List ℕ) → Appends a b x → AppendsPrefix a b x
 all_front None b x h = tt
 all_front (Some o) None x h = absurd h
 all_front (Some o) (Some n) x h = (length x, omega arith, h ∙ ap (λ r. o ++ r) (sym (take_all (length x) x (omega arith))))
@@ -40,7 +40,7 @@ module _ (holds : Holdings) (reads : Reads) (old mid new : Option (List ℕ)) (f
   kept : (x : List ℕ) → Appends old mid x → Appends old new x
   kept x w = appends_kept old mid new x w same
 
-  front : (x : List ℕ) → Appends old mid x → AppendsFront old new x
+  front : (x : List ℕ) → Appends old mid x → AppendsPrefix old new x
   front x w = all_front old new x (kept x w)
 
   -- what waited was handed on, and nothing else is changed

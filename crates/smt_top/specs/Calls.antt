@@ -1,7 +1,7 @@
 -- What the parts of a run promise.
 use Rattle.std.specs.Prelude.{◌≡◌, ℕ, List, Option, Some, None, Result, Ok, Err, ⊤}
 use Rattle.std.specs.Io.KnownBytes.{Appends, Keeps}
-use Rattle.world_io.specs.Outside.{Rose, AppendsFront}
+use Rattle.world_io.specs.Outside.{Rose, AppendsPrefix}
 use Rattle.world_io.specs.declared.fault.Failed.{Failed}
 use Rattle.spec_proofs.specs.Faults.{Fault}
 use Rattle.spec_proofs.specs.Accepted.{IsVerdict}
@@ -27,14 +27,14 @@ Judges script at proof (Err stop) = Answers script at proof (Err stop)
 -- bytes that were written, or a front of them before a fault
 abbrev pub SendsLine : Writes → List ℕ → Result (Unit {0}) Failed → Type 0
 SendsLine out bytes (Ok u) = Appends out.old out.new bytes
-SendsLine out bytes (Err e) = AppendsFront out.old out.new bytes × Rose out.faults_old out.faults_new
+SendsLine out bytes (Err e) = AppendsPrefix out.old out.new bytes × Rose out.faults_old out.faults_new
 
 -- what is written for the texts, by how that ends
 abbrev pub Reports : Status → List ℕ → ℕ → List ℕ → Writes → Type 0
 Reports Done script at proof out = IsValid script at proof × Appends out.old out.new valid
 Reports Refused script at proof out = (f : Fault) × IsVerdict script at proof (Some f) × Appends out.old out.new (error_line proof f)
 Reports Memory script at proof out = Keeps out.old out.new
-Reports WriteFault script at proof out = Rose out.faults_old out.faults_new × ((found : Option Fault) × IsVerdict script at proof found × AppendsFront out.old out.new (output_of proof found))
+Reports WriteFault script at proof out = Rose out.faults_old out.faults_new × ((found : Option Fault) × IsVerdict script at proof found × AppendsPrefix out.old out.new (output_of proof found))
 Reports _ script at proof out = ⊥
 
 -- the texts that a request to judge a proof names

@@ -1,7 +1,7 @@
 -- How a run ends: what it was given, what it judged, and what it wrote.
 use Rattle.std.specs.Prelude.{◌≡◌, ℕ, Bool, true, false, List, Option, Some, None, IsSome, IfSome, ⊤, ◌⊎◌}
 use Rattle.std.specs.Io.KnownBytes.{Appends, Keeps}
-use Rattle.world_io.specs.Outside.{Rose, TakesFront, AppendsFront}
+use Rattle.world_io.specs.Outside.{Rose, TakesPrefix, AppendsPrefix}
 use Rattle.spec_scripts.specs.Stack.{HasNoModel, term_limit}
 use Rattle.spec_proofs.specs.Faults.{Fault}
 use Rattle.spec_proofs.specs.Accepted.{IsAccepted, IsVerdict}
@@ -49,12 +49,12 @@ BothHold (Some n) holds = IsSome (holds n.script) × IsSome (holds n.proof)
 -- the proof was read last: what is left on the shelf is what is left of it, where that is told
 abbrev pub ProofIsLast : Option Names → Holdings → Option (List ℕ) → Type 0
 ProofIsLast None holds left = ⊤
-ProofIsLast (Some n) holds left = TakesFront (holds n.proof) left
+ProofIsLast (Some n) holds left = TakesPrefix (holds n.proof) left
 
 -- a front of a right output was written: of how the words are to be, or of a verdict on the texts
 abbrev pub WritesFront : Option Names → Holdings → Writes → Type 0
-WritesFront None holds out = AppendsFront out.old out.new usage
-WritesFront (Some n) holds out = OnTexts (Some n) holds (λ script at proof. (found : Option Fault) × IsVerdict script at proof found × AppendsFront out.old out.new (output_of proof found))
+WritesFront None holds out = AppendsPrefix out.old out.new usage
+WritesFront (Some n) holds out = OnTexts (Some n) holds (λ script at proof. (found : Option Fault) × IsVerdict script at proof found × AppendsPrefix out.old out.new (output_of proof found))
 
 -- how a run that judges a proof ends, by its status; or one of which the words are not taken
 abbrev pub CheckEnds : Status → Option Names → Holdings → Reads → Writes → Type 0
@@ -78,7 +78,7 @@ ScriptEnds Refused mode name limits holds reads out = OnText name holds (λ text
 ScriptEnds Words mode name limits holds reads out = ⊥
 ScriptEnds Memory mode name limits holds reads out = OnText name holds (λ text. OnBegun limits mode text (Appends out.old out.new)) ⊎ Keeps out.old out.new
 ScriptEnds ReadFault mode name limits holds reads out = Rose reads.old reads.new × Keeps out.old out.new
-ScriptEnds WriteFault mode name limits holds reads out = Rose out.faults_old out.faults_new × OnText name holds (λ text. OnBegun limits mode text (AppendsFront out.old out.new))
+ScriptEnds WriteFault mode name limits holds reads out = Rose out.faults_old out.faults_new × OnText name holds (λ text. OnBegun limits mode text (AppendsPrefix out.old out.new))
 
 -- all that was to be written was written
 abbrev pub is_answered : Status → Bool
@@ -107,7 +107,7 @@ IsUnread status old new = ((status ≡ ReadFault) ⊎ (status ≡ Memory)) × Ke
 abbrev pub LastIsRead : Option Asked → Holdings → Option (List ℕ) → Type 0
 LastIsRead None holds left = ⊤
 LastIsRead (Some (checks n)) holds left = ProofIsLast (Some n) holds left
-LastIsRead (Some (runs mode name conflicts)) holds left = TakesFront (holds name) left
+LastIsRead (Some (runs mode name conflicts)) holds left = TakesPrefix (holds name) left
 
 -- no script is run
 abbrev pub RunsNoScript : Option Asked → Type 0

@@ -1,7 +1,7 @@
 //! The run.
 
 ghost use Rattle.std.specs.Prelude.{◌≡◌, ◌≢◌, ℕ, ◌≤◌, ◌⊎◌, List, Some, None, IsSome};
-ghost use Rattle.world_io.specs.Outside.{TakesFront};
+ghost use Rattle.world_io.specs.Outside.{TakesPrefix};
 ghost use Rattle.smt_session.specs.Sessions.{mode_meant};
 ghost use Rattle.smt_top.specs.Words.{asked, limits_by};
 ghost use Rattle.smt_top.specs.Calls.{names_of};
@@ -57,7 +57,7 @@ fn run_script<F: Shelf, K: Sink>(
         (record { old = F.faults shelf.old; new = F.faults shelf.new })
         (record { old = K.written out.old; new = K.written out.new; faults_old = K.faults out.old; faults_new = K.faults out.new }) }
     ensures read { F.is_sound shelf.old → IsSome (F.holds shelf.old request.entry.name.now) → result ≢ Status.ReadFault }
-    ensures order { (result ≡ Status.Done) ⊎ (result ≡ Status.Refused) → TakesFront (F.holds shelf.old request.entry.name.now) (F.left shelf.new) }
+    ensures order { (result ≡ Status.Done) ⊎ (result ≡ Status.Refused) → TakesPrefix (F.holds shelf.old request.entry.name.now) (F.left shelf.new) }
     ensures found { ((s : F) → IsSome (F.left s)) → IsSome (F.holds shelf.old request.entry.name.now) ⊎ IsUnread result (K.written out.old) (K.written out.new) }
     ensures count { K.faults out.old ≤ K.faults out.new }
 {

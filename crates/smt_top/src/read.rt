@@ -1,7 +1,7 @@
 //! Reads the two texts of a run.
 
 ghost use Rattle.std.specs.Prelude.{◌≡◌, ◌≢◌, ℕ, ◌+◌, ◌≤◌, List, IfOk, IfSome, IsSome, IsOk, IsErrOf};
-ghost use Rattle.world_io.specs.Outside.{Rose, TakesFront};
+ghost use Rattle.world_io.specs.Outside.{Rose, TakesPrefix};
 ghost use Rattle.world_io.specs.Ends.{IsReadTo};
 ghost use Rattle.spec_text.specs.Readings.{front, text_limit};
 
@@ -40,7 +40,7 @@ pub(crate) fn read_text<F: Shelf>(
 ) -> Result<Bytes, ReadStop>
     ensures end { IfOk result (λ bytes. (text : List ℕ) × (bytes ≡ front text) × IfSome (F.holds shelf.old name.now) (λ t. t ≡ text)) }
     ensures found { ((s : F) → IsSome (F.left s)) → IsOk result → IsSome (F.holds shelf.old name.now) }
-    ensures last { IsOk result → TakesFront (F.holds shelf.old name.now) (F.left shelf.new) }
+    ensures last { IsOk result → TakesPrefix (F.holds shelf.old name.now) (F.left shelf.new) }
     ensures same { (n : List ℕ) → F.holds shelf.new n ≡ F.holds shelf.old n }
     ensures count { F.faults shelf.old ≤ F.faults shelf.new }
     ensures failed { IsErrOf result ReadStop.Failed → Rose (F.faults shelf.old) (F.faults shelf.new) }
@@ -61,7 +61,7 @@ pub(crate) fn read_both<F: Shelf>(
 ) -> Result<Texts, ReadStop>
     ensures script { IfOk result (λ texts. (text : List ℕ) × (texts.script ≡ front text) × IfSome (F.holds shelf.old names.entry.script.now) (λ t. t ≡ text)) }
     ensures proof { IfOk result (λ texts. (text : List ℕ) × (texts.proof ≡ front text) × IfSome (F.holds shelf.old names.entry.proof.now) (λ t. t ≡ text)) }
-    ensures last { IsOk result → TakesFront (F.holds shelf.old names.entry.proof.now) (F.left shelf.new) }
+    ensures last { IsOk result → TakesPrefix (F.holds shelf.old names.entry.proof.now) (F.left shelf.new) }
     ensures found { ((s : F) → IsSome (F.left s)) → IsOk result → IsSome (F.holds shelf.old names.entry.script.now) × IsSome (F.holds shelf.old names.entry.proof.now) }
     ensures failed { IsErrOf result ReadStop.Failed → Rose (F.faults shelf.old) (F.faults shelf.new) }
     ensures sound { F.is_sound shelf.old → IsSome (F.holds shelf.old names.entry.script.now) → IsSome (F.holds shelf.old names.entry.proof.now) → result ≢ Err ReadStop.Failed }

@@ -1,5 +1,5 @@
 -- Lemmas on bytes that come and go.
 pub mod Pieces
 pub mod Sending
-pub mod Gathering
+pub mod Buffering
 pub mod Places

@@ -3,4 +3,4 @@ pub mod Outside
 pub mod Ends
 pub mod Memory
 pub mod Writing
-pub mod Gathering
+pub mod Buffering

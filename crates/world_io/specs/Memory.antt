@@ -3,6 +3,7 @@ use Rattle.std.specs.Prelude.{◌≡◌, ℕ, zero, suc, ◌+◌, ◌-◌, ◌^�
 use Rattle.std.specs.Str.{bytes_eq}
 use Rattle.world_io.specs.declared.bytes.Bytes.{Bytes}
 use Rattle.world_io.specs.Outside.{Rose}
+use Rattle.world_io.specs.Writing.{SinkView}
 use Rattle.world_io.specs.declared.fault.Failed.{Failed}
 use Rattle.std.specs.Global.{Global}
 
@@ -60,6 +61,16 @@ pub record SinkState : Type 0 where
   pub calls : ℕ
   -- how many of them failed
   pub faults : ℕ
+
+-- the room that a sink promises: all that is left, where no write is to fail and each takes a byte
+abbrev pub promised : List ℕ → ℕ → ℕ → Option ℕ
+promised [] zero room = None
+promised [] (suc most) room = Some room
+promised (k ∷ ks) most room = None
+
+-- a sink in memory as contracts over all sinks see it: nothing waits
+abbrev pub seen_sink : SinkState → SinkView
+seen_sink s = record { known = Some s.written; faults = s.faults; pending = []; room = promised s.failing s.most s.room }
 
 -- one more; at the greatest number of 64 bits it stays
 abbrev pub next_number : ℕ → ℕ

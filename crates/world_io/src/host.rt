@@ -1,6 +1,6 @@
 //! The trusted edge: real files, standard input and standard output. Nothing is told of what they hold.
 
-ghost use Rattle.std.specs.Prelude.{◌≡◌, None};
+ghost use Rattle.std.specs.Prelude.{◌≡◌, [], None};
 
 use crate::fault::counted;
 use crate::{Failed, Shelf, Sink};
@@ -114,11 +114,7 @@ impl<'a, R: Print> HostSink<'a, R> {
 }
 
 impl<'a, R: Print> Sink for HostSink<'a, R> {
-    ghost written = { λ _. None };
-
-    ghost faults = { λ s. s };
-
-    ghost has_room = { λ _ _. ⊥ };
+    ghost state = { λ s. record { known = None; faults = s; pending = []; room = None } };
 
     fn write(&mut self, buf: &[u8]) -> Result<usize, Failed> {
         if let Ok(n) = io::writer(self.rt).write(buf) {
@@ -127,5 +123,9 @@ impl<'a, R: Print> Sink for HostSink<'a, R> {
             }
         }
         Err(counted(&mut self.faults))
+    }
+
+    fn flush(&mut self) -> Result<(), Failed> {
+        Ok(())
     }
 }

@@ -1,14 +1,14 @@
-//! The outside: bytes come in from a shelf of named texts and go out to a sink.
+//! I/O: bytes come in from a shelf of named texts and go out to a sink.
 //!
 //! Both are traits, so that what reads and writes is proved over any of them, also over those that fail.
 //! A fault is counted where it happens, and a call answers `Failed` only where the count rose in that call.
 #![tactic(auto)]
 
+mod buffered_sink;
+#[cfg(test)]
+mod buffered_sink_tests;
 mod bytes;
 mod fault;
-mod gathered;
-#[cfg(test)]
-mod gathered_tests;
 mod host;
 mod memory;
 mod read;
@@ -17,9 +17,9 @@ mod sink;
 #[cfg(test)]
 mod tests;
 
+pub use buffered_sink::BufferedSink;
 pub use bytes::{Bytes, NoMemory};
 pub use fault::Failed;
-pub use gathered::Gathered;
 pub use host::{HostShelf, HostSink};
 pub use memory::{MemShelf, MemSink};
 pub use read::{ReadEnd, ReadStop, read_all};

@@ -1,7 +1,7 @@
 //! A shelf and a sink in memory, which can be told to fail.
 
 ghost use Rattle.std.specs.Prelude.{◌≡◌, ◌≢◌, ℕ, ◌+◌, ◌-◌, ◌^◌, ◌≤◌, ◌<◌, ◌++◌, ◌⊎◌, List, [], length, map, min, take, drop, Some, None, MatchBool, MatchOption, Contains, IfOk, IsOk, vec_len, vec_capacity};
-ghost use Rattle.world_io.specs.Memory.{text_of, text_named, text_at, ShelfState, SinkState, next_number, Begins, Reads, Writes};
+ghost use Rattle.world_io.specs.Memory.{text_of, text_named, text_at, ShelfState, SinkState, next_number, seen_sink, Begins, Reads, Writes};
 
 use crate::fault::{counted, one_more};
 use crate::{Bytes, Failed, NoMemory, Shelf, Sink};
@@ -163,11 +163,7 @@ impl MemSink {
 }
 
 impl Sink for MemSink {
-    ghost written = { λ s. Some s.written };
-
-    ghost faults = { λ s. s.faults };
-
-    ghost has_room = { λ s n. (s.failing ≡ []) × (0 < s.most) × (n ≤ s.room) };
+    ghost state = { seen_sink };
 
     fn write(&mut self, buf: &[u8]) -> Result<usize, Failed>
         ensures exact { Writes self.old buf.now result self.new }
@@ -182,6 +178,12 @@ impl Sink for MemSink {
         append_reserved(&mut self.bytes, &buf[..n]);
         self.room -= n;
         Ok(n)
+    }
+
+    fn flush(&mut self) -> Result<(), Failed>
+        ensures exact { IsOk result × (self.new ≡ self.old) }
+    {
+        Ok(())
     }
 }
 

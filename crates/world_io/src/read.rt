@@ -1,7 +1,7 @@
 //! Reads a whole text, as far as a limit allows.
 
 ghost use Rattle.std.specs.Prelude.{◌≡◌, ◌≢◌, ℕ, ◌≤◌, List, IfOk, IfSome, IsErrOf};
-ghost use Rattle.world_io.specs.Outside.{Rose, TakesFront};
+ghost use Rattle.world_io.specs.Outside.{Rose, TakesPrefix};
 ghost use Rattle.world_io.specs.Ends.{IsReadTo, IsTakenWhole};
 ghost use Rattle.world_io.specs.declared.read.ReadStop.TheVariants as stops;
 
@@ -56,7 +56,7 @@ impl From<Failed> for ReadStop {
 /// a front of what was left may then be taken.
 pub fn read_all<F: Shelf>(alloc: Global, shelf: &mut F, limit: u64) -> Result<ReadEnd, ReadStop>
     ensures end { IfOk result (λ end. (text : List ℕ) × IsReadTo limit end text × IfSome (F.left shelf.old) (λ t. t ≡ text)) }
-    ensures front { TakesFront (F.left shelf.old) (F.left shelf.new) }
+    ensures prefix { TakesPrefix (F.left shelf.old) (F.left shelf.new) }
     ensures whole { IfOk result (λ end. IsTakenWhole end (F.left shelf.old) (F.left shelf.new)) }
     ensures same { (n : List ℕ) → F.holds shelf.new n ≡ F.holds shelf.old n }
     ensures count { F.faults shelf.old ≤ F.faults shelf.new }

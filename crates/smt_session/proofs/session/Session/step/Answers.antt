@@ -1,6 +1,6 @@
 -- A front of the response is written.
 use Rattle.std.proofs.Common.{subst}
-use Rattle.world_io.specs.Outside.{AppendsFront}
+use Rattle.world_io.specs.Outside.{AppendsPrefix}
 use Rattle.spec_runs.specs.Responses.{Answers, response_text}
 use Rattle.smt_sexpr.specs.Items.{text_of, tree_of}
 use Rattle.smt_session.specs.Sessions.{limits_meant, mode_meant, IsHeld, SessionView, ChangesBudget}
@@ -20,6 +20,6 @@ returns-clause-stepped g c = λ s h.
         stands = k.3;
         lists = keeps_lists (text_of x) c.in_ok-response.response k.0.response k.0.stack c.args.self.now new k.2 (subst (λ (v : SessionView). ChangesBudget new.script.table k.0.stack c.in_ok-response.response v.budget c.take.new.budget) c.self.view_is k.4);
       },
-      subst (λ (v : SessionView). AppendsFront (g.K.Sink.written c.args.out.now) (g.K.Sink.written c.send_response.new.out) (response_text (mode_meant v.mode) (text_of x) k.0)) c.self.view_is w.0,
+      subst (λ (v : SessionView). AppendsPrefix (g.K.Sink.written c.args.out.now) (g.K.Sink.written c.send_response.new.out) (response_text (mode_meant v.mode) (text_of x) k.0)) c.self.view_is w.0,
       w.1,
     )

@@ -1,18 +1,18 @@
 //! Tests of the buffer: what the sink has got, and in how many writes.
 
-use crate::{Failed, Gathered, MemSink, NoMemory, Sink, write_all};
+use crate::{BufferedSink, Failed, MemSink, NoMemory, Sink, write_all};
 use std::alloc::Global;
 use std::test::Fail;
 
-/// Puts a buffer in front of a sink with ample room, which takes at most `most` bytes in a write and fails the write `failing`.
-fn gathered_of(alloc: Global, most: u64, failing: u64) -> Result<Gathered<MemSink>, NoMemory> {
+/// Puts a buffer before a sink with ample room, which takes at most `most` bytes in a write and fails the write `failing`.
+fn buffered_of(alloc: Global, most: u64, failing: u64) -> Result<BufferedSink<MemSink>, NoMemory> {
     let failing = Vec::from_slice(alloc, &[failing])?;
-    Gathered::new(alloc, MemSink::new(alloc, 20000, most, failing)?)
+    BufferedSink::new(alloc, MemSink::new(alloc, 20000, most, failing)?)
 }
 
 #[test]
 fn short_pieces_wait_until_they_are_flushed(rt: HostRuntime) -> Result<(), Fail> {
-    let mut out = gathered_of(rt.alloc(), 20000, 1)?;
+    let mut out = buffered_of(rt.alloc(), 20000, 1)?;
     for piece in [b"sat".as_slice(), b"", b"\n", b"unsat\n"] {
         assert_eq!(rt; write_all(&mut out, piece), Ok(()));
         assert_eq!(rt; out.sink().written(), b"".as_slice());
@@ -24,9 +24,9 @@ fn short_pieces_wait_until_they_are_flushed(rt: HostRuntime) -> Result<(), Fail>
 }
 
 #[test]
-fn a_full_buffer_is_handed_on_as_one_piece(rt: HostRuntime) -> Result<(), Fail> {
+fn a_full_buffer_is_passed_on_as_one_piece(rt: HostRuntime) -> Result<(), Fail> {
     let bytes = [b'a'; 3000];
-    let mut out = gathered_of(rt.alloc(), 20000, 2)?;
+    let mut out = buffered_of(rt.alloc(), 20000, 2)?;
     for want in [0usize, 4096, 8192] {
         assert_eq!(rt; write_all(&mut out, &bytes), Ok(()), "{want}");
         assert_eq!(rt; out.sink().written().len(), want);
@@ -42,7 +42,7 @@ fn a_full_buffer_is_handed_on_as_one_piece(rt: HostRuntime) -> Result<(), Fail> 
 fn what_was_not_taken_waits(rt: HostRuntime) -> Result<(), Fail> {
     let bytes = b"0123456789";
     for k in 0..10u64 {
-        let mut out = gathered_of(rt.alloc(), 1, k)?;
+        let mut out = buffered_of(rt.alloc(), 1, k)?;
         assert_eq!(rt; write_all(&mut out, bytes), Ok(()));
         assert_eq!(rt; out.flush(), Err(Failed), "write {k}");
         assert_eq!(rt; out.sink().written(), &bytes[..k as usize], "write {k}");
