@@ -1,13 +1,12 @@
 -- What is written of a tree, token by token.
-use Rattle.std.proofs.Common.{◌≡◌, ℕ, ◌+◌, ◌-◌, ◌<◌, ◌≤◌, Bool, true, false, List, [], ◌∷◌, ◌++◌, length, drop, Option, Some, None, sym, ap, ◌∙◌, refl, subst, inl, inr, append_assoc, append-nil, length-append, arith}
+use Rattle.std.proofs.Common.{◌≡◌, ℕ, ◌+◌, ◌<◌, ◌≤◌, Bool, true, false, List, [], ◌∷◌, ◌++◌, length, drop, sym, ap, ◌∙◌, refl, subst, inl, inr, append_assoc, append-nil, arith}
 use Rattle.std.specs.Prelude.{⊤}
-use Rattle.std.specs.Io.KnownBytes.{Appends}
 use Rattle.spec_text.specs.declared.Place.{Place}
 use Rattle.spec_text.specs.Lexemes.{Lexeme, blank, opens, closes, word, wrong, lexemes_from}
 use Rattle.spec_text.specs.Trees.{Tree, Trees, atom, list, none, more, spelled, spelled_all}
 use Rattle.spec_text.specs.Printed.{printed_word, printed, printed_all}
-use Rattle.world_io.specs.Outside.{AppendsFront}
-use Rattle.world_io.proofs.Pieces.{front_after, front_within}
+use Rattle.world_io.specs.Writing.{SinkView, Sent, NotSent}
+use Rattle.world_io.proofs.Sending.{first_fails, second_fails}
 use Rattle.smt_lexer.specs.declared.TokenKind.{TokenKind}
 use Rattle.smt_lexer.specs.declared.TokenKind.TheVariants as kinds
 use Rattle.smt_lexer.specs.Tokens as lexer
@@ -197,20 +196,9 @@ module _ (text : List ℕ) (t : Tree) (last : ℕ) (wanted : Bool) (place : ℕ)
   taken at after (kinds.Word k bytes) s = step at.offset after.offset (word k bytes.now) (kinds.Word k bytes) (λ zs. refl) s.first s.longer
   taken at after kinds.End s = first_left _ (λ b x rest here up_to bytes. absurd (let e : [] ≡ (b, x) ∷ rest ++ l.post = sym s.nothing ∙ here in cc))
 
--- a front of a token is a front of the tree
-pub front_taken : (old now new : Option (List ℕ)) (all done bytes later : List ℕ) → all ≡ done ++ (bytes ++ later) → Appends old now done → AppendsFront now new bytes → AppendsFront old new all
-front_taken old now new all done bytes later e h k = subst (AppendsFront old new) (sym e) (front_after old now new done (bytes ++ later) h (front_within now new bytes later k))
-
--- room for the tree is room for a token more
-pub room_taken : (all done bytes later : List ℕ) (most : ℕ) → all ≡ done ++ (bytes ++ later) → length all ≤ most → (length bytes ≤ most - length done) × (most - length done - length bytes ≡ most - length (done ++ bytes))
-room_taken all done bytes later most e h =
-    let size : length all ≡ length done + (length bytes + length later) = ap length e ∙ length-append done (bytes ++ later) ∙ ap (λ n. length done + n) (length-append bytes later) in
-    (omega arith, omega (arith, length-append done bytes))
-
--- nothing more is appended
-pub nothing_appended : (o : Option (List ℕ)) → Appends o o []
-nothing_appended None = tt
-nothing_appended (Some x) = sym (append-nil x)
+-- a token that failed, after those that were written, is a tree that failed
+pub token_fails : (all done bytes later : List ℕ) (a b c : SinkView) → all ≡ done ++ (bytes ++ later) → Sent done a b → NotSent bytes b c → NotSent all a c
+token_fails all done bytes later a b c e h k = subst (λ text. NotSent text a c) (sym e) (second_fails done (bytes ++ later) a b c h (first_fails bytes later b c k))
 
 -- a token has one byte at least
 pub token_longer : (text : List ℕ) (from : ℕ) (at after : Place) (k : TokenKind) → (k ≡ kinds.End → ⊥) → lexer.IsToken text from at after k → from < after.offset

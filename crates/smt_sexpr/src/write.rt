@@ -1,11 +1,10 @@
 //! Writes s-expressions.
 
-ghost use Rattle.std.specs.Prelude.{◌≡◌, ℕ, ◌-◌, ◌<◌, ◌≤◌, ◌++◌, length, drop, IsOk, OnOk, OnErr};
-ghost use Rattle.std.specs.Io.KnownBytes.{Appends};
+ghost use Rattle.std.specs.Prelude.{◌≡◌, ◌<◌, ◌++◌, length, drop};
 ghost use Rattle.spec_text.specs.Places.{IsPlaceOf};
 ghost use Rattle.spec_text.specs.Trees.{Tree};
 ghost use Rattle.spec_text.specs.Printed.{printed_word, printed};
-ghost use Rattle.world_io.specs.Outside.{Rose, AppendsFront};
+ghost use Rattle.world_io.specs.Writing.{Sends};
 ghost use Rattle.smt_sexpr.specs.Items.{tree_in, text_of, items_of};
 ghost use Rattle.smt_sexpr.specs.Printing.{gap, token_bytes, wants_space, ends_of, IsTokenAt, IsTreeFrom};
 
@@ -44,22 +43,14 @@ fn write_word<'a, K: Sink>(
     behind: &'a [u8],
     out: &mut K,
 ) -> Result<(), Failed>
-    ensures all { OnOk result (Appends (K.written out.old) (K.written out.new) (space.now ++ (before.now ++ (bytes.now ++ behind.now)))) }
-    ensures front { OnErr result (AppendsFront (K.written out.old) (K.written out.new) (space.now ++ (before.now ++ (bytes.now ++ behind.now)))) }
-    ensures count { K.faults out.old ≤ K.faults out.new }
-    ensures failed { OnErr result (Rose (K.faults out.old) (K.faults out.new)) }
-    ensures room { (most : ℕ) → K.has_room out.old most → length (space.now ++ (before.now ++ (bytes.now ++ behind.now))) ≤ most → IsOk result × K.has_room out.new (most - length (space.now ++ (before.now ++ (bytes.now ++ behind.now)))) }
+    ensures { Sends (space.now ++ (before.now ++ (bytes.now ++ behind.now))) result (K.state out.old) (K.state out.new) }
 {
     write_pieces(out, &[space, before, bytes, behind])
 }
 
 /// Writes a token, with a space before it where one is wanted.
 fn write_token<K: Sink>(token: TokenKind<'_>, wanted: bool, out: &mut K) -> Result<(), Failed>
-    ensures all { OnOk result (Appends (K.written out.old) (K.written out.new) (token_bytes wanted token.entry)) }
-    ensures front { OnErr result (AppendsFront (K.written out.old) (K.written out.new) (token_bytes wanted token.entry)) }
-    ensures count { K.faults out.old ≤ K.faults out.new }
-    ensures failed { OnErr result (Rose (K.faults out.old) (K.faults out.new)) }
-    ensures room { (most : ℕ) → K.has_room out.old most → length (token_bytes wanted token.entry) ≤ most → IsOk result × K.has_room out.new (most - length (token_bytes wanted token.entry)) }
+    ensures { Sends (token_bytes wanted token.entry) result (K.state out.old) (K.state out.new) }
 {
     match token {
         TokenKind::Open => write_word(gap(wanted), b"", b"(", b"", out),
@@ -99,11 +90,7 @@ fn token_at<'a>(text: &'a [u8], place: Place) -> Option<(TokenKind<'a>, Place)>
 /// Writes the tokens of a text from a place on up to the one at an offset.
 fn write_tokens<K: Sink>(text: &[u8], first: Place, last: u64, out: &mut K) -> Result<(), Failed>
     requires { IsPlaceOf text.now first }
-    ensures all { OnOk result ((t : Tree) → IsTreeFrom text.now first.offset last t → Appends (K.written out.old) (K.written out.new) (printed t)) }
-    ensures front { OnErr result ((t : Tree) → IsTreeFrom text.now first.offset last t → AppendsFront (K.written out.old) (K.written out.new) (printed t)) }
-    ensures count { K.faults out.old ≤ K.faults out.new }
-    ensures failed { OnErr result (Rose (K.faults out.old) (K.faults out.new)) }
-    ensures room { (t : Tree) (most : ℕ) → IsTreeFrom text.now first.offset last t → K.has_room out.old most → length (printed t) ≤ most → IsOk result × K.has_room out.new (most - length (printed t)) }
+    ensures { (t : Tree) → IsTreeFrom text.now first.offset last t → Sends (printed t) result (K.state out.old) (K.state out.new) }
 {
     let mut place = first;
     let mut wanted = false;
@@ -132,15 +119,11 @@ fn ends_of(item: Item) -> (u64, u64)
 /// two trees of a list and none inside its parentheses; white space and comments of the text are left out. A word is
 /// printed as it is written, a string with its quotes and a keyword with its colon, but a symbol in bars by its name: with
 /// bars only where it is no symbol without them. It takes no memory, and time linear in the s-expression. `Failed` comes only
-/// where the sink's count of faults rose in this call; a front of the printed bytes was then appended.
+/// where the sink's count of faults rose in this call; a prefix of the printed bytes was then appended.
 /// Source: SMT-LIB 2.6, sections 3.1 and 3.2; the white space is own.
 pub fn print<K: Sink>(s: &Sexpr<'_>, item: u64, out: &mut K) -> Result<(), Failed>
     requires { item < length (items_of s.now) }
-    ensures all { OnOk result (Appends (K.written out.old) (K.written out.new) (printed (tree_in (text_of s.now) (drop item (items_of s.now))))) }
-    ensures front { OnErr result (AppendsFront (K.written out.old) (K.written out.new) (printed (tree_in (text_of s.now) (drop item (items_of s.now))))) }
-    ensures count { K.faults out.old ≤ K.faults out.new }
-    ensures failed { OnErr result (Rose (K.faults out.old) (K.faults out.new)) }
-    ensures room { (most : ℕ) → K.has_room out.old most → length (printed (tree_in (text_of s.now) (drop item (items_of s.now)))) ≤ most → IsOk result × K.has_room out.new (most - length (printed (tree_in (text_of s.now) (drop item (items_of s.now))))) }
+    ensures { Sends (printed (tree_in (text_of s.now) (drop item (items_of s.now)))) result (K.state out.old) (K.state out.new) }
 {
     let (first, last) = ends_of(s.items()[item as usize]);
     write_tokens(s.text(), s.place(first), last, out)
