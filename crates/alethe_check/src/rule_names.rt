@@ -2,7 +2,7 @@
 
 ghost use Rattle.std.specs.Prelude.{◌≡◌};
 ghost use Rattle.spec_terms.specs.Theory.{look_up};
-ghost use Rattle.spec_proofs.specs.Rules.{rule_named};
+ghost use Rattle.spec_proofs.specs.RuleNames.{rule_named};
 ghost use Rattle.alethe_check.specs.Views.{rules_of};
 
 use smt_sexpr::same_bytes;

@@ -5,7 +5,7 @@ use Rattle.spec_text.specs.Trees.{Tree, atom}
 use Rattle.spec_text.specs.Printed.{printed, printed_all, printed_symbol}
 use Rattle.spec_terms.specs.Terms.{Head}
 use Rattle.spec_proofs.specs.declared.Rule.{Rule}
-use Rattle.spec_printing.specs.RuleNames.{rule_name}
+use Rattle.spec_proofs.specs.RuleNames.{rule_name}
 use Rattle.spec_printing.specs.Lines.{Argument, Reference, defines, assumes, steps, head_name, reference_name, defined_name, step_name, row, word_tree, symbol_tree, keyword_tree, list_tree, argument_tree, reference_tree, premise_trees, line_text}
 use Rattle.alethe_writer.specs.Printing.{spaced, all_spaced, references_spaced, premises_text}
 

@@ -8,7 +8,6 @@ mod marks;
 mod plans;
 pub mod printable;
 mod proof;
-mod rule_names;
 #[cfg(test)]
 mod tests;
 

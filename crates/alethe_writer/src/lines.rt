@@ -3,7 +3,7 @@
 ghost use Rattle.std.specs.Prelude.{◌≡◌, ◌<◌, ◌≤◌, ◌++◌, [], map, length, flat_map, get_or, None, Some, codes, decimal};
 ghost use Rattle.spec_text.specs.Printed.{printed, printed_symbol};
 ghost use Rattle.spec_terms.specs.Terms.{Term};
-ghost use Rattle.spec_printing.specs.RuleNames.{rule_name};
+ghost use Rattle.spec_proofs.specs.RuleNames.{rule_name};
 ghost use Rattle.spec_printing.specs.Lines.{assumes, steps, line_text, head_name, reference_name};
 ghost use Rattle.spec_printing.specs.Plans.{argument_for, definition_by, inference_by, reference_for};
 ghost use Rattle.term_core.specs.Tables.{IsIn, AreIn, HasHead, head_meant, term_at, clause_at};
@@ -15,7 +15,6 @@ use crate::arguments::{
     write_argument, write_arguments, write_name, write_number, write_text, write_words,
 };
 use crate::plans::Plan;
-use crate::rule_names::name_of_rule;
 use itoa::Buffer;
 use proof_log::{ProofLog, Rule, Step, StepId};
 use term_core::{Head, TermId, TermTable};
@@ -125,7 +124,7 @@ fn write_step<K: Sink>(
 fn write_rule<K: Sink>(rule: Rule, out: &mut K) -> Result<(), Failed>
     ensures { Sends (codes ") :rule " ++ rule_name rule) result (K.written out.old) (K.written out.new) (K.faults out.old) (K.faults out.new) }
 {
-    write_words(b") :rule ", name_of_rule(rule), out)
+    write_words(b") :rule ", rule.name(), out)
 }
 
 /// Writes the premises of a step, or nothing where there are none.

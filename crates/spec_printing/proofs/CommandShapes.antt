@@ -15,7 +15,7 @@ use Rattle.spec_scripts.specs.Stack.{term_limit}
 use Rattle.spec_proofs.specs.declared.Rule.{Rule}
 use Rattle.spec_proofs.specs.declared.ProofKind.TheVariants.{TwiceName, UnknownRule}
 use Rattle.spec_proofs.specs.Faults.{Read, wrong}
-use Rattle.spec_proofs.specs.Rules.{rule_named}
+use Rattle.spec_proofs.specs.RuleNames.{rule_named}
 use Rattle.spec_proofs.specs.Commands.{Known, Assume, Step, Define, steps, all_symbols, assume_shape, step_shape, define_shape, parts_of, shape_of}
 use Rattle.spec_proofs.specs.Known.{entry_names, fresh_name, is_term_name, new_term_name, in_proof, clause_in, known_rule, premises_of, term_alone, name_room, read_shape, shaped, command_of}
 use Rattle.spec_proofs.proofs.Steps.{joined}

@@ -19,7 +19,7 @@ use Rattle.spec_proofs.specs.Commands.{Known, Entry, Command, Assume, Step, Defi
 use Rattle.spec_proofs.specs.Known.{entry_names, command_of}
 use Rattle.spec_proofs.specs.Judging.{with_command, IsRightAfter}
 use Rattle.spec_proofs.proofs.Steps.{joined}
-use Rattle.spec_printing.specs.RuleNames.{rule_name}
+use Rattle.spec_proofs.specs.RuleNames.{rule_name}
 use Rattle.spec_printing.specs.Lines.{Argument, Reference, Line, defines, assumes, steps, defined_name, assume_name, step_name, head_name, row, word_tree, symbol_tree, list_tree, argument_tree, line_tree}
 use Rattle.spec_printing.specs.Meaning.{Told, with_definition, with_assume, with_step, AreTold, ArePremises, IsDefinition, IsAssume, IsStep}
 use Rattle.spec_printing.specs.ReadBack.{definitions_in}

@@ -13,8 +13,8 @@ use Rattle.spec_text.proofs.Words.{IsWord, HasWords, HaveWords}
 use Rattle.spec_terms.specs.Terms.{Head, True, False, Not, And, Or, Xor, Implies, Equal, Ite, Apply}
 use Rattle.spec_proofs.specs.declared.Rule.{Rule}
 use Rattle.spec_proofs.specs.declared.Rule.TheVariants as rules
-use Rattle.spec_proofs.specs.Rules.{rule_named}
-use Rattle.spec_printing.specs.RuleNames.{rule_name}
+use Rattle.spec_proofs.specs.RuleNames.{rule_named}
+use Rattle.spec_proofs.specs.RuleNames.{rule_name}
 use Rattle.spec_printing.specs.Lines.{Argument, truth, symbol, defined, Reference, assumed, stepped, Line, defines, assumes, steps, head_name, truth_name, defined_name, reference_name, row, argument_tree, reference_tree, premise_trees, line_tree}
 use Rattle.spec_printing.specs.ReadBack.{IsWritable, IsWritableHead, IsWritableArgument, IsWritableLine}
 

@@ -1,5 +1,4 @@
 -- How proofs are printed, and what they say.
-pub mod RuleNames
 pub mod Lines
 pub mod Meaning
 pub mod Plans

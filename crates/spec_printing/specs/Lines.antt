@@ -6,7 +6,7 @@ use Rattle.spec_text.specs.Trees.{Tree, Trees, atom, list, none, more}
 use Rattle.spec_text.specs.Printed.{printed}
 use Rattle.spec_terms.specs.Terms.{Head, True, False, Not, And, Or, Xor, Implies, Equal, Ite, Apply}
 use Rattle.spec_proofs.specs.declared.Rule.{Rule}
-use Rattle.spec_printing.specs.RuleNames.{rule_name}
+use Rattle.spec_proofs.specs.RuleNames.{rule_name}
 
 -- A term as it is printed in place.
 pub data Argument : Type 0 where

@@ -11,8 +11,10 @@ use Rattle.spec_terms.specs.Subsets.{arguments_of}
 use Rattle.spec_terms.specs.Literals.{Clause}
 use Rattle.spec_proofs.specs.declared.Rule.{Rule}
 use Rattle.spec_proofs.specs.declared.Rule.TheVariants as rules
-use Rattle.spec_proofs.specs.Schemes.{Scheme, signed, rests_of, is_formula_of, clauses_by, Kind, states, turns, kind_of, rule_names}
-use Rattle.spec_proofs.specs.Rules.{rule_named, flipped, IsGiven, IsBy, IsRight}
+use Rattle.spec_proofs.specs.RuleNames.{every_rule}
+use Rattle.spec_proofs.specs.Schemes.{Scheme, signed, rests_of, is_formula_of, clauses_by, Kind, states, turns, kind_of}
+use Rattle.spec_proofs.specs.RuleNames.{rule_named}
+use Rattle.spec_proofs.specs.Rules.{flipped, IsGiven, IsBy, IsRight}
 use Rattle.spec_proofs.specs.ExamplesRules.{has_scheme, IsOnlyBy, IsByNone}
 use Rattle.spec_proofs.proofs.Same.{both, one_term, term_itself}
 
@@ -83,10 +85,6 @@ test_by (states s) _ c e h = absurd h
 test_by (turns s) ((u ∷ []) ∷ []) c e h = test_given s (flipped u ∷ c) h
 test_by (turns s) _ c e h = absurd h
 test_by _ _ _ e h = absurd (false≢true e)
-
--- all rules
-abbrev pub every_rule : List Rule
-every_rule = map (λ x. x.1) rule_names
 
 -- those with a scheme that take the step
 abbrev pub takers : List Clause → Clause → List Rule

@@ -18,7 +18,7 @@ use Rattle.spec_terms.specs.Subterms.{fit_in, roomy_terms}
 use Rattle.spec_scripts.specs.Stack.{term_limit, sort_named, sort_in}
 use Rattle.spec_proofs.specs.declared.Rule.{Rule}
 use Rattle.spec_proofs.specs.declared.ProofKind.TheVariants.{TwiceName, UnknownRule, Term as in_term}
-use Rattle.spec_proofs.specs.Rules.{rule_named}
+use Rattle.spec_proofs.specs.RuleNames.{rule_named}
 use Rattle.spec_proofs.specs.Faults.{Fault, Read, wrong}
 use Rattle.spec_proofs.specs.Commands.{Known, Command, Shape, assumes, steps, defines, shape_of}
 use Rattle.spec_proofs.specs.Known.{clause_of, entry_names, fresh_name, is_term_name, new_term_name, in_proof, clause_in, known_rule, premise_of, premises_of, term_alone, name_room, read_shape, shaped, command_of}

@@ -6,7 +6,8 @@ use Rattle.spec_terms.specs.Literals.{Clause}
 use Rattle.spec_terms.specs.Examples.{p, q}
 use Rattle.spec_proofs.specs.declared.Rule.{Rule}
 use Rattle.spec_proofs.specs.Schemes.{Kind, states, turns, kind_of}
-use Rattle.spec_proofs.specs.Rules.{rule_named, IsRight}
+use Rattle.spec_proofs.specs.RuleNames.{rule_named}
+use Rattle.spec_proofs.specs.Rules.{IsRight}
 
 -- the clauses of such a rule are those of a scheme
 abbrev pub has_scheme : Kind → Bool

@@ -13,7 +13,7 @@ use Rattle.spec_terms.specs.Subterms.{roomy_terms}
 use Rattle.spec_scripts.specs.Stack.{term_limit, is_taken, sort_in}
 use Rattle.spec_proofs.specs.declared.Rule.{Rule}
 use Rattle.spec_proofs.specs.declared.ProofKind.TheVariants.{BadShape, TwiceName, UnknownPremise, UnknownRule, Term as in_term}
-use Rattle.spec_proofs.specs.Rules.{rule_named}
+use Rattle.spec_proofs.specs.RuleNames.{rule_named}
 use Rattle.spec_proofs.specs.Faults.{Read, wrong, term_fault}
 use Rattle.spec_proofs.specs.Commands.{Entry, Known, Command, Assume, Step, Define, Shape, assumes, steps, defines, shape_of}
 

@@ -2,6 +2,7 @@
 pub mod Resolution
 pub mod Clauses
 pub mod Truths
+pub mod RuleNames
 pub mod Schemes
 pub mod Rules
 pub mod Faults

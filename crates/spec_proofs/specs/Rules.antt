@@ -1,17 +1,11 @@
 -- The rules by which a step follows from earlier clauses. Source: Alethe specification, rules; where a rule takes more than is written there, own.
-use Rattle.std.specs.Prelude.{List, [], ◌∷◌, Option, Contains}
-use Rattle.spec_text.specs.Bytes.{Name}
+use Rattle.std.specs.Prelude.{List, [], ◌∷◌, Contains}
 use Rattle.spec_terms.specs.Terms.{Or, Not, Term, app, nil, cons, list_of, negated}
-use Rattle.spec_terms.specs.Theory.{look_up}
 use Rattle.spec_terms.specs.Literals.{Clause}
 use Rattle.spec_proofs.specs.declared.Rule.{Rule}
 use Rattle.spec_proofs.specs.Resolution.{IsWithin}
 use Rattle.spec_proofs.specs.Clauses.{IsResolvent}
-use Rattle.spec_proofs.specs.Schemes.{Scheme, Kind, opens, keeps, resolves, states, turns, clauses_by, kind_of, rule_names}
-
--- the rule of a name
-abbrev pub rule_named : Name → Option Rule
-rule_named n = look_up rule_names n
+use Rattle.spec_proofs.specs.Schemes.{Scheme, Kind, opens, keeps, resolves, states, turns, clauses_by, kind_of}
 
 -- one premise, whose one literal is a disjunction; each of its arguments is a literal of the clause
 abbrev pub IsOr : List Clause → Clause → Type 0

@@ -1,6 +1,5 @@
 -- The rules as a table: what a rule asks of a step, and the clauses that terms give. Source: Alethe specification, rules.
-use Rattle.std.specs.Prelude.{ℕ, Bool, true, false, ◌&&◌, List, [], ◌∷◌, map, slice_index_or, if◌then◌else◌, codes}
-use Rattle.spec_text.specs.Bytes.{Name}
+use Rattle.std.specs.Prelude.{ℕ, Bool, true, false, ◌&&◌, List, [], ◌∷◌, map, slice_index_or, if◌then◌else◌}
 use Rattle.spec_terms.specs.Terms.{Head, True, False, Not, And, Or, Xor, Implies, Equal, Ite, Truth, Term, app, nil, cons, list_of, negated, sort_of, all_same, head_takes, same_head}
 use Rattle.spec_terms.specs.Theory.{no_term}
 use Rattle.spec_terms.specs.Subsets.{arguments_of}
@@ -207,53 +206,3 @@ kind_of rules.Ite1 = turns ite_pos1
 kind_of rules.Ite2 = turns ite_pos2
 kind_of rules.NotIte1 = turns ite_neg1
 kind_of rules.NotIte2 = turns ite_neg2
-
--- the names of the rules
-abbrev pub rule_names : List (Name × Rule)
-rule_names =
-    (codes "or", rules.Or) ∷
-    (codes "contraction", rules.Contraction) ∷
-    (codes "reordering", rules.Reordering) ∷
-    (codes "weakening", rules.Weakening) ∷
-    (codes "resolution", rules.Resolution) ∷
-    (codes "th_resolution", rules.ThResolution) ∷
-    (codes "true", rules.True) ∷
-    (codes "false", rules.False) ∷
-    (codes "and_pos", rules.AndPos) ∷
-    (codes "and_neg", rules.AndNeg) ∷
-    (codes "or_pos", rules.OrPos) ∷
-    (codes "or_neg", rules.OrNeg) ∷
-    (codes "implies_pos", rules.ImpliesPos) ∷
-    (codes "implies_neg1", rules.ImpliesNeg1) ∷
-    (codes "implies_neg2", rules.ImpliesNeg2) ∷
-    (codes "equiv_pos1", rules.EquivPos1) ∷
-    (codes "equiv_pos2", rules.EquivPos2) ∷
-    (codes "equiv_neg1", rules.EquivNeg1) ∷
-    (codes "equiv_neg2", rules.EquivNeg2) ∷
-    (codes "xor_pos1", rules.XorPos1) ∷
-    (codes "xor_pos2", rules.XorPos2) ∷
-    (codes "xor_neg1", rules.XorNeg1) ∷
-    (codes "xor_neg2", rules.XorNeg2) ∷
-    (codes "ite_pos1", rules.ItePos1) ∷
-    (codes "ite_pos2", rules.ItePos2) ∷
-    (codes "ite_neg1", rules.IteNeg1) ∷
-    (codes "ite_neg2", rules.IteNeg2) ∷
-    (codes "not_not", rules.NotNot) ∷
-    (codes "and", rules.And) ∷
-    (codes "not_and", rules.NotAnd) ∷
-    (codes "not_or", rules.NotOr) ∷
-    (codes "implies", rules.Implies) ∷
-    (codes "not_implies1", rules.NotImplies1) ∷
-    (codes "not_implies2", rules.NotImplies2) ∷
-    (codes "equiv1", rules.Equiv1) ∷
-    (codes "equiv2", rules.Equiv2) ∷
-    (codes "not_equiv1", rules.NotEquiv1) ∷
-    (codes "not_equiv2", rules.NotEquiv2) ∷
-    (codes "xor1", rules.Xor1) ∷
-    (codes "xor2", rules.Xor2) ∷
-    (codes "not_xor1", rules.NotXor1) ∷
-    (codes "not_xor2", rules.NotXor2) ∷
-    (codes "ite1", rules.Ite1) ∷
-    (codes "ite2", rules.Ite2) ∷
-    (codes "not_ite1", rules.NotIte1) ∷
-    (codes "not_ite2", rules.NotIte2) ∷ []

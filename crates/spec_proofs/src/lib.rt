@@ -9,6 +9,7 @@ use spec_text::Fault;
 pub mod examples;
 pub mod laws;
 pub mod rule_examples;
+mod rule_names;
 
 /// Names a rule by which a step follows from earlier clauses. Which steps it takes says the table `kind_of` of
 /// `specs/Schemes.antt`. Source: Alethe specification, rules.

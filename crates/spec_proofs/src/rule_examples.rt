@@ -4,7 +4,7 @@
 ghost use Rattle.std.specs.Prelude.{◌≡◌, [], ◌∷◌, None, codes};
 ghost use Rattle.spec_terms.specs.Terms.{True, False, And, Equal, Ite, Implies, of, negated};
 ghost use Rattle.spec_terms.specs.Examples.{p, q};
-ghost use Rattle.spec_proofs.specs.Rules.{rule_named};
+ghost use Rattle.spec_proofs.specs.RuleNames.{rule_named};
 ghost use Rattle.spec_proofs.specs.ExamplesRules.{IsOnlyBy, IsByNone, r, x, y, equal, exclusive, choice, implication, conjunction, disjunction};
 
 /// States which rule takes each step from and to `(= p q)`. Source: Alethe specification, rules.

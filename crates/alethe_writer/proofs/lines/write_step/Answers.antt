@@ -1,7 +1,7 @@
 -- The name, the clause, the rule, the premises, and the end of the line.
 use Rattle.std.proofs.Common.{◌++◌, map, codes, decimal, refl}
 use Rattle.spec_printing.specs.Lines.{steps, line_text}
-use Rattle.spec_printing.specs.RuleNames.{rule_name}
+use Rattle.spec_proofs.specs.RuleNames.{rule_name}
 use Rattle.spec_printing.specs.Plans.{argument_for}
 use Rattle.term_core.specs.Tables.{clause_at}
 use Rattle.alethe_writer.specs.Printing.{all_spaced, premises_text, logged_reference}

@@ -1,6 +1,7 @@
--- The name under which each rule is printed. Source: Alethe specification, rules.
-use Rattle.std.specs.Prelude.{codes}
+-- The names of the rules, in printed proofs and in those that are read. Source: Alethe specification, rules.
+use Rattle.std.specs.Prelude.{List, [], ◌∷◌, Option, map, codes}
 use Rattle.spec_text.specs.Bytes.{Name}
+use Rattle.spec_terms.specs.Theory.{look_up}
 use Rattle.spec_proofs.specs.declared.Rule.{Rule}
 use Rattle.spec_proofs.specs.declared.Rule.TheVariants as rules
 
@@ -52,3 +53,19 @@ rule_name rules.Ite1 = codes "ite1"
 rule_name rules.Ite2 = codes "ite2"
 rule_name rules.NotIte1 = codes "not_ite1"
 rule_name rules.NotIte2 = codes "not_ite2"
+
+-- all rules
+abbrev pub every_rule : List Rule
+every_rule = rules.Or ∷ rules.Contraction ∷ rules.Reordering ∷ rules.Weakening ∷ rules.Resolution ∷ rules.ThResolution ∷ rules.True ∷ rules.False ∷ rules.AndPos ∷ rules.AndNeg ∷ rules.OrPos ∷ rules.OrNeg ∷ rules.ImpliesPos ∷ rules.ImpliesNeg1 ∷ rules.ImpliesNeg2 ∷ rules.EquivPos1 ∷ rules.EquivPos2 ∷ rules.EquivNeg1 ∷ rules.EquivNeg2 ∷ rules.XorPos1 ∷ rules.XorPos2 ∷ rules.XorNeg1 ∷ rules.XorNeg2 ∷ rules.ItePos1 ∷ rules.ItePos2 ∷ rules.IteNeg1 ∷ rules.IteNeg2 ∷ rules.NotNot ∷ rules.And ∷ rules.NotAnd ∷ rules.NotOr ∷ rules.Implies ∷ rules.NotImplies1 ∷ rules.NotImplies2 ∷ rules.Equiv1 ∷ rules.Equiv2 ∷ rules.NotEquiv1 ∷ rules.NotEquiv2 ∷ rules.Xor1 ∷ rules.Xor2 ∷ rules.NotXor1 ∷ rules.NotXor2 ∷ rules.Ite1 ∷ rules.Ite2 ∷ rules.NotIte1 ∷ rules.NotIte2 ∷ []
+
+-- the rows of a table of names for these rules
+abbrev pub named_rows : List Rule → List (Name × Rule)
+named_rows rs = map (λ r. (rule_name r, r)) rs
+
+-- the names of the rules
+abbrev pub rule_names : List (Name × Rule)
+rule_names = named_rows every_rule
+
+-- the rule of a name
+abbrev pub rule_named : Name → Option Rule
+rule_named n = look_up rule_names n
