@@ -208,7 +208,7 @@ fn behind_unsat(text: &[u8]) -> Place
     ensures lexemes { lexemes_from text.now result.offset ≡ behind_unsat (lexemes 0 0 text.now) }
 {
     match next(text, start()) {
-        Ok((token, after)) => match token.lexeme {
+        Ok((token, after)) => match token.kind {
             TokenKind::Word(kind, bytes) => {
                 if is_symbol(kind) && same_bytes(bytes, b"unsat") {
                     return after;
@@ -227,7 +227,7 @@ fn is_parenthesis(text: &[u8], at: Place) -> bool
     ensures { result ≡ begins_parenthesis (lexemes_from text.now at.offset) }
 {
     match next(text, at) {
-        Ok((token, _)) => match token.lexeme {
+        Ok((token, _)) => match token.kind {
             TokenKind::Open | TokenKind::Close => true,
             _ => false,
         },
@@ -242,7 +242,7 @@ fn list_of_commands(text: &[u8], at: Place) -> Option<Place>
         (λ inside. (begins_listed (lexemes_from text.now at.offset) ≡ true) × ((begin : ℕ) × (lexemes_from text.now at.offset ≡ (begin, opens) ∷ lexemes_from text.now inside.offset)) × IsPlaceOf text.now inside) }
 {
     match next(text, at) {
-        Ok((token, after)) => match token.lexeme {
+        Ok((token, after)) => match token.kind {
             TokenKind::Open => {
                 if is_parenthesis(text, after) {
                     return Some(after);

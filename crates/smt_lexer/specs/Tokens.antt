@@ -40,5 +40,5 @@ IsToken text from place after End = Ends text from place after
 
 -- the next token from a place on with the place behind it, or the fault that stands there before any token
 abbrev pub IsNext : List ℕ → Place → Result (Token × Place) Refusal → Type 0
-IsNext text at (Ok r) = IsToken text at.offset r.0.place r.1 r.0.lexeme × IsPlaceOf text r.0.place × IsPlaceOf text r.1
+IsNext text at (Ok r) = IsToken text at.offset r.0.place r.1 r.0.kind × IsPlaceOf text r.0.place × IsPlaceOf text r.1
 IsNext text at (Err r) = (lexemes_from text at.offset ≡ (r.place.offset, wrong r.fault) ∷ []) × IsPlaceOf text r.place

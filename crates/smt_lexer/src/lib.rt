@@ -89,16 +89,16 @@ pub struct Token<'a> {
     /// The place of its first byte, be it a quote, a bar or a colon; of `End`, the end of the text.
     pub place: Place,
     /// What it is.
-    pub lexeme: TokenKind<'a>,
+    pub kind: TokenKind<'a>,
 }
 
 /// Reads the next token at a place of the bytes, past white space and comments, and gives it with the place right
-/// behind its last byte: what white space or comments follow stand behind that place. At the end of the bytes it gives
+/// after its last byte: what white space or comments follow stand after that place. At the end of the bytes it gives
 /// `End` with that place, again and again. The place that it reads from may be any of the bytes, also one inside a
-/// token: then the rest of it is read as if it began there. An `Err` has the first lexical fault behind the place,
+/// token: then the rest of it is read as if it began there. An `Err` has the first lexical fault after the place,
 /// where no token stands before it: a byte that begins no token or cannot follow one (`BadChar`), a string
 /// (`UnclosedString`) or a quoted symbol (`UnclosedQuote`) that does not end.
-/// Source: SMT-LIB 2.6, section 3.1; the faults are own.
+/// Source: SMT-LIB 2.6, section 3.1.
 pub fn next<'a>(bytes: &'a [u8], at: Place) -> Result<(Token<'a>, Place), Refusal>
     requires { IsPlaceOf bytes.now at }
     ensures { IsNext bytes.now at result }
@@ -107,7 +107,7 @@ pub fn next<'a>(bytes: &'a [u8], at: Place) -> Result<(Token<'a>, Place), Refusa
     while place.offset < bytes.len() as u64 {
         let found = piece_at(bytes, place.offset as usize);
         let after = place_after(bytes, place, found.size);
-        let lexeme = match found.what {
+        let kind = match found.what {
             What::Blank => {
                 place = after;
                 continue;
@@ -120,10 +120,10 @@ pub fn next<'a>(bytes: &'a [u8], at: Place) -> Result<(Token<'a>, Place), Refusa
             }
             What::Open => TokenKind::Open,
             What::Close => TokenKind::Close,
-            What::Word(kind, name) => TokenKind::Word(kind, name),
+            What::Word(word, name) => TokenKind::Word(word, name),
         };
-        return Ok((Token { place, lexeme }, after));
+        return Ok((Token { place, kind }, after));
     }
-    let lexeme = TokenKind::End;
-    Ok((Token { place, lexeme }, place))
+    let kind = TokenKind::End;
+    Ok((Token { place, kind }, place))
 }

@@ -64,7 +64,7 @@ fn fits(row: &Row) -> bool {
             b"",
             refusal.place.offset,
         ),
-        Ok((token, after)) => match token.lexeme {
+        Ok((token, after)) => match token.kind {
             TokenKind::Open => (b'(', token.place, b"", after.offset),
             TokenKind::Close => (b')', token.place, b"", after.offset),
             TokenKind::Word(kind, name) => { (letter_of(kind), token.place, name, after.offset) }

@@ -103,7 +103,7 @@ fn read_list(
             Ok(read) => read,
             Err(refusal) => return Err(Refused::Fault(refusal)),
         };
-        match token.lexeme {
+        match token.kind {
             TokenKind::End => return Err(refused(token.place, Fault::UnclosedList)),
             TokenKind::Open => {
                 if open_lists + outer.len() + 1 >= NESTING_LIMIT {
@@ -157,7 +157,7 @@ pub fn read_next<'a>(
         Ok(read) => read,
         Err(refusal) => return Err(Refused::Fault(refusal)),
     };
-    match token.lexeme {
+    match token.kind {
         TokenKind::End => {
             if open_lists > 0 {
                 return Err(refused(token.place, Fault::UnclosedList));

@@ -80,9 +80,9 @@ fn token_at<'a>(text: &'a [u8], place: Place) -> Option<(TokenKind<'a>, Place)>
 {
     match next(text, place) {
         Err(_) => None,
-        Ok((token, after)) => match token.lexeme {
+        Ok((token, after)) => match token.kind {
             TokenKind::End => None,
-            lexeme => Some((lexeme, after)),
+            kind => Some((kind, after)),
         },
     }
 }

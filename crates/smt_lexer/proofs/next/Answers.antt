@@ -18,9 +18,9 @@ returns-in-Wrong c = (c.loop-place.invariant.passed ∙ fault_here c.args.bytes.
 pub returns-in-loop-place : goal.returns-in-loop-place
 returns-in-loop-place c = (
   elim c.match-found.branch [
-    | in-Open w ↦ open_here c.args.bytes.now c.loop-place.place.offset c.loop-place-test.true _ _ c.piece_at-found.ensures.within c.piece_at-found.ensures.piece _ _ _ c.loop-place.invariant.behind c.loop-place.invariant.passed refl c.place_after-after.ensures.offset w.in-Open.is _ w.lexeme-is
-    | in-Close w ↦ close_here c.args.bytes.now c.loop-place.place.offset c.loop-place-test.true _ _ c.piece_at-found.ensures.within c.piece_at-found.ensures.piece _ _ _ c.loop-place.invariant.behind c.loop-place.invariant.passed refl c.place_after-after.ensures.offset w.in-Close.is _ w.lexeme-is
-    | in-Word w ↦ word_here c.args.bytes.now c.loop-place.place.offset c.loop-place-test.true _ _ c.piece_at-found.ensures.within c.piece_at-found.ensures.piece _ _ _ c.loop-place.invariant.behind c.loop-place.invariant.passed refl c.place_after-after.ensures.offset _ _ w.in-Word.is _ w.lexeme-is
+    | in-Open w ↦ open_here c.args.bytes.now c.loop-place.place.offset c.loop-place-test.true _ _ c.piece_at-found.ensures.within c.piece_at-found.ensures.piece _ _ _ c.loop-place.invariant.behind c.loop-place.invariant.passed refl c.place_after-after.ensures.offset w.in-Open.is _ w.kind-is
+    | in-Close w ↦ close_here c.args.bytes.now c.loop-place.place.offset c.loop-place-test.true _ _ c.piece_at-found.ensures.within c.piece_at-found.ensures.piece _ _ _ c.loop-place.invariant.behind c.loop-place.invariant.passed refl c.place_after-after.ensures.offset w.in-Close.is _ w.kind-is
+    | in-Word w ↦ word_here c.args.bytes.now c.loop-place.place.offset c.loop-place-test.true _ _ c.piece_at-found.ensures.within c.piece_at-found.ensures.piece _ _ _ c.loop-place.invariant.behind c.loop-place.invariant.passed refl c.place_after-after.ensures.offset _ _ w.in-Word.is _ w.kind-is
   ],
   c.loop-place.invariant.place,
   c.place_after-after.ensures.place,
