@@ -1,16 +1,28 @@
 -- What an s-expression, and a list of items, are in the words of trees.
 use Rattle.std.specs.Prelude.{ℕ, ◌+◌, ◌<◌, ◌≤◌, min, List, [], ◌∷◌, length, Option, Some, None, ⊤}
-use Rattle.std.specs.Borrow.{Bor}
 use Rattle.spec_text.specs.Trees.{Tree, Trees, atom, list, none, more}
 use Rattle.smt_sexpr.specs.declared.items.Item.{Item}
 use Rattle.smt_sexpr.specs.declared.items.Item.TheVariants as items
+use Rattle.smt_sexpr.specs.declared.items.Trees.{Trees as Cursor}
 use Rattle.smt_sexpr.specs.declared.items.View.{View}
 use Rattle.smt_sexpr.specs.declared.items.View.TheVariants as views
 use Rattle.smt_sexpr.specs.declared.sexpr.Sexpr.{Sexpr}
 pub use Rattle.smt_sexpr.specs.Means.{marks, bytes_at, first_of, tree_in}
 unfoldable pub use Rattle.smt_sexpr.specs.Means.{trees_in}
 
--- the first tree, and those behind it
+-- the trees that a cursor means
+abbrev pub trees_meant : Cursor → Trees
+trees_meant c = trees_in c.text.now c.items.now
+
+-- the first of them
+abbrev pub tree_meant : Cursor → Tree
+tree_meant c = tree_in c.text.now c.items.now
+
+-- how many items they have, at any depth
+abbrev pub size_of : Cursor → ℕ
+size_of c = length c.items.now
+
+-- the first tree, and those after it
 abbrev pub split_first : Trees → Option (Tree × Trees)
 split_first none = None
 split_first (more t ts) = Some (t, ts)
@@ -21,19 +33,19 @@ count_first [] = 0
 count_first (items.Atom k at size ∷ is) = 1
 count_first (items.List at end count ∷ is) = min count (length is) + 1
 
--- the first tree's items, and those behind it
-abbrev pub two : List ℕ → Bor (List Item) × Bor (List Item) → Tree × Trees
-two text x = (tree_in text x.0.now, trees_in text x.1.now)
+-- a tree alone, and those after it
+abbrev pub two : Cursor × Cursor → Tree × Trees
+two x = (tree_meant x.0, trees_meant x.1)
 
--- what was seen at the front
-abbrev pub seen : List ℕ → View → Tree
-seen text (views.Atom at k bytes) = atom at k bytes.now
-seen text (views.List at inside end) = list at (trees_in text inside.now) end
+-- the tree that was seen
+abbrev pub seen : View → Tree
+seen (views.Atom at k bytes) = atom at k bytes.now
+seen (views.List at inside end) = list at (trees_meant inside) end
 
--- what stands in a list has less than so many items
+-- the trees in a list have fewer items than so many
 abbrev pub IsShorter : View → ℕ → Type 0
 IsShorter (views.Atom at k bytes) n = Unit {0}
-IsShorter (views.List at inside end) n = length inside.now < n
+IsShorter (views.List at inside end) n = size_of inside < n
 
 -- each offset stands from one on, and before another
 abbrev mutual

@@ -1,9 +1,9 @@
 //! S-expressions as a flat list of items.
 
-ghost use Rattle.std.specs.Prelude.{◌≡◌, ℕ, ◌+◌, ◌<◌, ◌≤◌, List, length, take, drop, option_map, IfSome};
-ghost use Rattle.smt_sexpr.specs.Means.{marks, bytes_at, trees_in, tree_in};
+ghost use Rattle.std.specs.Prelude.{◌≡◌, ◌+◌, ◌<◌, ◌≤◌, length, take, drop, option_map, IfSome};
+ghost use Rattle.smt_sexpr.specs.Means.{marks, bytes_at};
 ghost use Rattle.spec_text.specs.Trees.{more, none};
-ghost use Rattle.smt_sexpr.specs.Items.{split_first, two, seen, count_first, IsShorter};
+ghost use Rattle.smt_sexpr.specs.Items.{trees_meant, tree_meant, size_of, split_first, two, seen, count_first, IsShorter};
 
 use smt_lexer::Kind;
 
@@ -16,13 +16,24 @@ pub enum Item {
     List(u32, u32, u32),
 }
 
-/// A tree at the front of a list of items.
+/// Trees of a text, one after the other: a cursor, which the functions of this crate take apart from its front.
+///
+/// Contracts see it as the trees that it means (`trees_meant`), or as the first of them (`tree_meant`).
+#[derive(Clone, Copy, Debug)]
+pub struct Trees<'a> {
+    /// The whole text that they stand in.
+    pub(crate) text: &'a [u8],
+    /// Their items, in the order of the text.
+    pub(crate) items: &'a [Item],
+}
+
+/// The first of trees.
 #[derive(Clone, Copy, Debug)]
 pub enum View<'a> {
     /// An atom's offset, kind and own bytes.
     Atom(u32, Kind, &'a [u8]),
-    /// A list's offset, the items in it, and the offset of its end.
-    List(u32, &'a [Item], u32),
+    /// A list's offset, the trees in it, and the offset of its end.
+    List(u32, Trees<'a>, u32),
 }
 
 /// How many items the first tree has.
@@ -40,18 +51,27 @@ fn first_len(items: &[Item]) -> usize
     }
 }
 
-/// Splits items behind the first tree: that tree's items, and those of the trees behind it; `None` where there is no item.
-pub fn split(items: &[Item]) -> Option<(&[Item], &[Item])>
-    ensures first { (text : List ℕ) → option_map (two text) result ≡ split_first (trees_in text items.now) }
-    ensures alone { (text : List ℕ) → IfSome result (λ x. trees_in text x.0.now ≡ more (tree_in text x.0.now) none) }
-    ensures less { IfSome result (λ x. length x.1.now < length items.now) }
-    ensures within { IfSome result (λ x. length x.0.now ≤ length items.now) }
+/// Splits trees after the first: that tree alone, and the others; `None` where there is none.
+pub fn split(trees: Trees<'_>) -> Option<(Trees<'_>, Trees<'_>)>
+    ensures first { option_map two result ≡ split_first (trees_meant trees.entry) }
+    ensures alone { IfSome result (λ x. trees_meant x.0 ≡ more (tree_meant x.0) none) }
+    ensures less { IfSome result (λ x. size_of x.1 < size_of trees.entry) }
+    ensures within { IfSome result (λ x. size_of x.0 ≤ size_of trees.entry) }
 {
+    let Trees { text, items } = trees;
     if items.is_empty() {
         return None;
     }
     let n = first_len(items);
-    Some((&items[..n], &items[n..]))
+    let first = Trees {
+        text,
+        items: &items[..n],
+    };
+    let rest = Trees {
+        text,
+        items: &items[n..],
+    };
+    Some((first, rest))
 }
 
 /// A part of a text, as far as it is there.
@@ -82,18 +102,20 @@ fn word_bytes(text: &[u8], kind: Kind, at: u32, size: u32) -> &[u8]
     part(text, at as usize + marks_of(kind), size as usize)
 }
 
-/// Looks at the first tree: an atom, or a list with the items in it. Where there is no item it gives the numeral at offset 0
+/// Looks at the first tree: an atom, or a list with the trees in it. Where there is none it gives the numeral at offset 0
 /// that has no bytes, which no text has.
-pub fn look<'a>(text: &'a [u8], items: &'a [Item]) -> View<'a>
-    ensures seen { seen text.now result ≡ tree_in text.now items.now }
-    ensures less { IsShorter result (length items.now) }
+pub fn look(trees: Trees<'_>) -> View<'_>
+    ensures seen { seen result ≡ tree_meant trees.entry }
+    ensures less { IsShorter result (size_of trees.entry) }
 {
+    let Trees { text, items } = trees;
     match items.split_first() {
         None => View::Atom(0, Kind::Numeral, &[]),
         Some((first, rest)) => match *first {
             Item::Atom(kind, at, size) => View::Atom(at, kind, word_bytes(text, kind, at, size)),
             Item::List(at, end, count) => {
-                View::List(at, &rest[..(count as usize).min(rest.len())], end)
+                let items = &rest[..(count as usize).min(rest.len())];
+                View::List(at, Trees { text, items }, end)
             }
         },
     }

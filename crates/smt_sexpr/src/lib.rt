@@ -12,7 +12,7 @@ mod shapes;
 mod tests;
 mod write;
 
-pub use items::{Item, View, look, split};
+pub use items::{Item, Trees, View, look, split};
 pub use reader::{Next, read_next, read_one};
 pub use sexpr::Sexpr;
 pub use shapes::{

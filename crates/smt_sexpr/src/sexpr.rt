@@ -4,7 +4,7 @@ ghost use Rattle.spec_text.specs.Places.{IsPlaceOf};
 ghost use Rattle.smt_sexpr.specs.Means.{AreRead};
 ghost use Rattle.std.proofs.Props.{props};
 
-use crate::items::Item;
+use crate::items::{Item, Trees};
 use smt_lexer::{Place, place_after};
 use spec_text::laws::trees_stand_in_their_text;
 
@@ -27,7 +27,8 @@ pub struct Sexpr<'a> {
 impl<'a> Sexpr<'a> {
     ghost use Rattle.std.specs.Prelude.{◌≡◌, ◌≤◌, ◌<◌, length};
     ghost use Rattle.spec_text.specs.Offsets.{AllOffsets};
-    ghost use Rattle.smt_sexpr.specs.Items.{text_of, items_of, start_of, tree_of};
+    ghost use Rattle.spec_text.specs.Trees.{more, none};
+    ghost use Rattle.smt_sexpr.specs.Items.{text_of, items_of, start_of, tree_of, trees_meant, tree_meant};
 
     /// Lends the whole text that it was read from.
     pub fn text(&self) -> &'a [u8]
@@ -41,6 +42,17 @@ impl<'a> Sexpr<'a> {
         ensures { result.now ≡ items_of self.now }
     {
         self.items.as_slice()
+    }
+
+    /// Gives the one tree that it is.
+    pub fn trees(&self) -> Trees<'_>
+        ensures tree { tree_meant result ≡ tree_of self.now }
+        ensures alone { trees_meant result ≡ more (tree_of self.now) none }
+    {
+        Trees {
+            text: self.text,
+            items: self.items.as_slice(),
+        }
     }
 
     /// Gives the place of its first byte.

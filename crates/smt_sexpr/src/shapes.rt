@@ -1,13 +1,13 @@
-//! The steps in which an s-expression is taken apart: each gives what the trees of items begin with, or `None`.
+//! The steps in which trees are taken apart: each gives what they begin with, or `None`.
 
-ghost use Rattle.std.specs.Prelude.{◌≡◌, ℕ, ◌<◌, ◌≤◌, List, length, option_map, IfSome};
+ghost use Rattle.std.specs.Prelude.{◌≡◌, ◌<◌, ◌≤◌, option_map, IfSome};
 ghost use Rattle.std.specs.Str.{bytes_eq};
 ghost use Rattle.spec_text.specs.Shapes.{passes, first_word, first_list, only_tree, no_tree, inside_of, is_word, is_keyword, is_reserved, is_simple, is_symbol, wanted, wanted_keyword};
 ghost use Rattle.spec_text.specs.Trees.{offset_of};
-ghost use Rattle.smt_sexpr.specs.Means.{trees_in, tree_in};
-ghost use Rattle.smt_sexpr.specs.Views.{word_view, word_rest, list_rest, tree_view, inside_view};
+ghost use Rattle.smt_sexpr.specs.Items.{trees_meant, tree_meant, size_of};
+ghost use Rattle.smt_sexpr.specs.Views.{word_view, word_rest, list_rest, inside_view};
 
-use crate::items::{Item, View, look, split};
+use crate::items::{Item, Trees, View, look, split};
 use smt_lexer::Kind;
 
 /// An atom by its offset, its kind and its own bytes. Source: SMT-LIB 2.6, section 3.1.
@@ -105,13 +105,13 @@ pub fn want_keyword(name: &[u8], word: Word<'_>) -> Option<()>
     None
 }
 
-/// Takes the atom in front, and gives the items behind it too: `None` where there is no item, or a list in front.
-pub fn word_first<'a>(text: &'a [u8], items: &'a [Item]) -> Option<(Word<'a>, &'a [Item])>
-    ensures gives { option_map (word_rest text.now) result ≡ first_word (trees_in text.now items.now) }
-    ensures less { IfSome result (λ x. length x.1.now < length items.now) }
+/// Takes the atom in front, and gives the trees after it too: `None` where there is no tree, or a list in front.
+pub fn word_first(trees: Trees<'_>) -> Option<(Word<'_>, Trees<'_>)>
+    ensures gives { option_map word_rest result ≡ first_word (trees_meant trees.entry) }
+    ensures less { IfSome result (λ x. size_of x.1 < size_of trees.entry) }
 {
-    let (first, rest) = split(items)?;
-    match look(text, first) {
+    let (first, rest) = split(trees)?;
+    match look(first) {
         View::Atom(at, kind, bytes) => Some((
             Word {
                 at: u64::from(at),
@@ -124,58 +124,58 @@ pub fn word_first<'a>(text: &'a [u8], items: &'a [Item]) -> Option<(Word<'a>, &'
     }
 }
 
-/// Takes the list in front, and gives the items in it and those behind it: `None` where there is no item, or an atom in
+/// Takes the list in front, and gives the trees in it and those after it: `None` where there is no tree, or an atom in
 /// front.
-pub fn list_first<'a>(text: &'a [u8], items: &'a [Item]) -> Option<(&'a [Item], &'a [Item])>
-    ensures gives { option_map (list_rest text.now) result ≡ first_list (trees_in text.now items.now) }
-    ensures inside { IfSome result (λ x. length x.0.now < length items.now) }
-    ensures less { IfSome result (λ x. length x.1.now < length items.now) }
+pub fn list_first(trees: Trees<'_>) -> Option<(Trees<'_>, Trees<'_>)>
+    ensures gives { option_map list_rest result ≡ first_list (trees_meant trees.entry) }
+    ensures inside { IfSome result (λ x. size_of x.0 < size_of trees.entry) }
+    ensures less { IfSome result (λ x. size_of x.1 < size_of trees.entry) }
 {
-    let (first, rest) = split(items)?;
-    match look(text, first) {
+    let (first, rest) = split(trees)?;
+    match look(first) {
         View::Atom(_, _, _) => None,
         View::List(_, inside, _) => Some((inside, rest)),
     }
 }
 
-/// Gives the items of the one tree that there is: `None` where there is none, or more than one.
-pub fn tree_alone(items: &[Item]) -> Option<&[Item]>
-    ensures gives { (text : List ℕ) → option_map (tree_view text) result ≡ only_tree (trees_in text items.now) }
-    ensures less { IfSome result (λ x. length x.now ≤ length items.now) }
+/// Gives the one tree that there is: `None` where there is none, or more than one.
+pub fn tree_alone(trees: Trees<'_>) -> Option<Trees<'_>>
+    ensures gives { option_map tree_meant result ≡ only_tree (trees_meant trees.entry) }
+    ensures less { IfSome result (λ x. size_of x ≤ size_of trees.entry) }
 {
-    let (first, rest) = split(items)?;
+    let (first, rest) = split(trees)?;
     match split(rest) {
         Some(_) => None,
         None => Some(first),
     }
 }
 
-/// Asks that there is nothing more: `None` where there is an item.
-pub fn want_end(items: &[Item]) -> Option<()>
-    ensures { (text : List ℕ) → result ≡ no_tree (trees_in text items.now) }
+/// Asks that there is nothing more: `None` where there is a tree.
+pub fn want_end(trees: Trees<'_>) -> Option<()>
+    ensures { result ≡ no_tree (trees_meant trees.entry) }
 {
-    match split(items) {
+    match split(trees) {
         Some(_) => None,
         None => Some(()),
     }
 }
 
-/// Gives the offset of the list in front and the items in it: `None` where there is no item, or an atom in front.
-pub fn list_inside<'a>(text: &'a [u8], items: &'a [Item]) -> Option<(u64, &'a [Item])>
-    ensures gives { option_map (inside_view text.now) result ≡ inside_of (tree_in text.now items.now) }
-    ensures inside { IfSome result (λ x. length x.1.now < length items.now) }
+/// Gives the offset of the list in front and the trees in it: `None` where there is no tree, or an atom in front.
+pub fn list_inside(trees: Trees<'_>) -> Option<(u64, Trees<'_>)>
+    ensures gives { option_map inside_view result ≡ inside_of (tree_meant trees.entry) }
+    ensures inside { IfSome result (λ x. size_of x.1 < size_of trees.entry) }
 {
-    match look(text, items) {
+    match look(trees) {
         View::Atom(_, _, _) => None,
         View::List(at, inside, _) => Some((u64::from(at), inside)),
     }
 }
 
-/// Gives the offset of the first byte of the tree in front; 0 where there is no item.
-pub fn offset(items: &[Item]) -> u64
-    ensures { (text : List ℕ) → result ≡ offset_of (tree_in text items.now) }
+/// Gives the offset of the first byte of the tree in front; 0 where there is none.
+pub fn offset(trees: Trees<'_>) -> u64
+    ensures { result ≡ offset_of (tree_meant trees.entry) }
 {
-    match items.split_first() {
+    match trees.items.split_first() {
         None => 0,
         Some((first, _)) => match *first {
             Item::Atom(_, at, _) => u64::from(at),

@@ -265,17 +265,16 @@ fn stops_where_the_sink_fails(rt: HostRuntime) -> Result<(), Fail> {
 
 /// The parts of `(f :k (|g| "s"))`, by each function that takes an s-expression apart.
 fn is_taken_apart(s: &Sexpr<'_>) -> Option<bool> {
-    let text = s.text();
-    let (at, inside) = list_inside(text, s.items())?;
-    let (f, rest) = word_first(text, inside)?;
+    let (at, inside) = list_inside(s.trees())?;
+    let (f, rest) = word_first(inside)?;
     want(b"f", f)?;
-    let (k, rest) = word_first(text, rest)?;
+    let (k, rest) = word_first(rest)?;
     want_keyword(b"k", k)?;
     let alone = tree_alone(rest)?;
-    let (group, rest) = list_first(text, rest)?;
+    let (group, rest) = list_first(rest)?;
     want_end(rest)?;
-    let (g, rest) = word_first(text, group)?;
-    let (string, rest) = word_first(text, rest)?;
+    let (g, rest) = word_first(group)?;
+    let (string, rest) = word_first(rest)?;
     want_end(rest)?;
     let words = is_word(b"g", g) && is_symbol(g.kind) && !is_simple(g.kind) && is_simple(f.kind);
     let others = is_keyword(k.kind) && !is_reserved(k.kind) && !is_word(b"s", string);
