@@ -5,6 +5,7 @@ pub mod Words
 pub mod Broken
 pub mod Meaning
 pub mod Offsets
+pub mod Limits
 pub mod Inner
 pub mod Tokens
 pub mod Reading

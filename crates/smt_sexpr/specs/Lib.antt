@@ -5,3 +5,4 @@ pub mod Open
 pub mod Reads
 pub mod Views
 pub mod Printing
+pub mod Limited

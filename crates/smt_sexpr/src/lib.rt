@@ -5,6 +5,7 @@
 #![tactic(auto)]
 
 mod items;
+mod limited;
 mod reader;
 mod sexpr;
 mod shapes;
@@ -13,6 +14,7 @@ mod tests;
 mod write;
 
 pub use items::{Item, Trees, View, look, split};
+pub use limited::{LimitedText, TEXT_LIMIT};
 pub use reader::{Next, read_next, read_one};
 pub use sexpr::Sexpr;
 pub use shapes::{

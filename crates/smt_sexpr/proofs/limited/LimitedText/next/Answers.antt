@@ -1,0 +1,7 @@
+-- A fault of the bytes that are read.
+use Rattle.smt_sexpr.specs.Limited.{whole_of}
+use Rattle.smt_sexpr.proofs.Limits.{stopped}
+use Rattle.smt_sexpr.proofs.limited.LimitedText.next.Goals as goal
+
+pub returns-in-Err-Fault : goal.returns-in-Err-Fault
+returns-in-Err-Fault c = stopped (whole_of c.args.self.now) c.bytes.result.now c.args.at.offset c.args.open_lists c.in-Err-Fault.refusal c.cut_off.result c.bytes.ensures (rw c.in-Err-Fault.field-0-is at c.in-Err-Fault.ensures) c.cut_off.ensures
