@@ -4,7 +4,8 @@ use Rattle.spec_text.specs.declared.Kind.TheVariants.{Simple, Quoted, Reserved, 
 use Rattle.spec_text.specs.Bytes.{Name}
 use Rattle.spec_text.specs.Trees.{Tree, Trees, atom, list, none, more}
 use Rattle.spec_text.specs.Printed.{printed}
-use Rattle.spec_terms.specs.Terms.{Head, True, False, Not, And, Or, Xor, Implies, Equal, Ite, Apply}
+use Rattle.spec_terms.specs.Terms.{Head}
+pub use Rattle.spec_terms.specs.HeadNames.{head_name}
 use Rattle.spec_proofs.specs.declared.Rule.{Rule}
 use Rattle.spec_proofs.specs.RuleNames.{rule_name}
 
@@ -30,19 +31,6 @@ pub data Line : Type 0 where
   assumes : ℕ → Argument → Line
   -- a step by its number, its clause, its rule and its premises
   steps : ℕ → List Argument → Rule → List Reference → Line
-
--- what a head is called
-abbrev pub head_name : Head → Name
-head_name True = codes "true"
-head_name False = codes "false"
-head_name Not = codes "not"
-head_name And = codes "and"
-head_name Or = codes "or"
-head_name Xor = codes "xor"
-head_name Implies = codes "=>"
-head_name Equal = codes "="
-head_name Ite = codes "ite"
-head_name (Apply s) = s.name
 
 -- what a truth value is called
 abbrev pub truth_name : Bool → Name

@@ -3,6 +3,7 @@ pub mod Fractions
 pub mod Terms
 pub mod Lists
 pub mod Theory
+pub mod HeadNames
 pub mod Values
 pub mod Forms
 pub mod Meaning

@@ -2,6 +2,7 @@
 #![tactic(auto)]
 
 mod clauses;
+mod core_heads;
 mod count;
 mod ids;
 mod name_table;
@@ -16,6 +17,7 @@ mod valuation;
 mod values;
 
 pub use clauses::Clause;
+pub use core_heads::{CoreHead, head_name};
 pub use count::fit_in;
 pub use ids::{Lit, SymbolId, TermId};
 pub use name_table::NameTable;
