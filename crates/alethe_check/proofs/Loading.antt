@@ -7,6 +7,7 @@ use Rattle.spec_text.specs.Trees.{Tree, Trees, none, more}
 use Rattle.spec_text.specs.Faults.{Located}
 use Rattle.spec_text.specs.Answers.{Answer}
 use Rattle.spec_text.specs.Readings.{AreTrees, StopsAt, Stops, kept, is_long, limited, IsReadUpTo}
+use Rattle.spec_text.proofs.Stopping.{stop_of}
 use Rattle.spec_scripts.specs.Stack.{Stack, Effect, check, leave, Taken, behind, at_check, empty_stack, step, stack_at, term_limit, HasNoCheck}
 use Rattle.smt_lexer.specs.declared.Refusal.{Refusal}
 use Rattle.smt_lexer.specs.declared.Refused.TheVariants as refusals
@@ -33,12 +34,6 @@ pub record Loading (bytes : List ℕ) (k : ℕ) (x : Script) (at left : ℕ) : T
 
 pub loading_begins : (bytes : List ℕ) (k : ℕ) (x : Script) (at : ℕ) → at ≡ 0 → IsStack x empty_stack → Loading bytes k x at k
 loading_begins bytes k x at e h = record { stack = empty_stack; stated = h; onward = λ us rest a. (us, subst (λ n. AreTrees 0 (lexemes_from bytes n) us rest) e a, refl) }
-
--- what stops trees that stand in no list ends the text
-stop_of : (end : ℕ) (rest : List (ℕ × Lexeme)) → StopsAt end 0 rest → (stop : Option Located) × Stops end rest stop
-stop_of end rest (inl x) = (None, x.1)
-stop_of end rest (inr (inl x)) = absurd (x.0 refl)
-stop_of end rest (inr (inr x)) = (Some x.0, x.1)
 
 read_whole : (text bytes : List ℕ) (ts : Trees) (rest : List (ℕ × Lexeme)) (stop : Option Located) → bytes ≡ kept text → AreTrees 0 (lexemes 0 0 bytes) ts rest → Stops (length bytes) rest stop → IsReadUpTo text ts (limited (is_long text) stop)
 read_whole text bytes ts rest stop e a s = record {

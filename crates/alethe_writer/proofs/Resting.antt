@@ -3,6 +3,7 @@ use Rattle.std.proofs.Common.{◌≡◌, ℕ, suc, ◌<◌, ◌≤◌, ◌+◌, 
 use Rattle.std.proofs.lemmas.List.{length-map, get_or-map, take_more, map-append}
 use Rattle.std.proofs.lemmas.List.Elements.{All-contains}
 use Rattle.spec_search.specs.Derivations.{Derivation, Inference, premises_of, inference_at, no_inference, RestsOn, itself, by_premise}
+use Rattle.spec_search.proofs.Spending.{rests_onward}
 use Rattle.spec_printing.specs.Plans.{AreRests}
 use Rattle.term_core.specs.Tables.{TableView}
 use Rattle.term_core.proofs.Images.{from_image}
@@ -47,11 +48,6 @@ pub rests_more : (t : TableView) (log : List Logged) (start n : ℕ) (old new : 
 rests_more t log start n old new before lt h here m =
     let same = premises_there t log n lt in
     closing_more (IsIt start) (IsPremise (derivation_in t log)) n old new (numbers_of (premises_in (get_or log n no_logged))) h here (λ j c. subst (λ ps. Contains ps j) same c) (λ j c. subst (λ ps. Contains ps j) (sym same) c) (earlier log n before lt) m
-
--- what is reached is rested on
-rests_onward : (d : Derivation) (n m k : ℕ) → RestsOn d n m → Contains (premises_of (inference_at d m)) k → RestsOn d n k
-rests_onward d n m k (itself _) p = by_premise n k k p (itself k)
-rests_onward d n m k (by_premise _ j _ first rest) p = by_premise n j k first (rests_onward d j m k rest p)
 
 reached_rests : (d : Derivation) (n k : ℕ) → Reaches (IsIt n) (IsPremise d) k → RestsOn d n k
 reached_rests d n k (root _ e) = subst (RestsOn d n) e (itself n)

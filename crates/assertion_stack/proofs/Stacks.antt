@@ -42,14 +42,6 @@ not_named (s ∷ ss) n e = go (bytes_eq s.name n) (not_named ss n) e
     go true rec e = cc
     go false rec e = rec e
 
-pub none_among : (ss : List Symbol) (n : Name) → symbol_named ss n ≡ None → among (names_of ss) n ≡ false
-none_among [] n e = refl
-none_among (s ∷ ss) n e = go (bytes_eq s.name n) (none_among ss n) e
-  where
-    go : (b : Bool) → (symbol_named ss n ≡ None → among (names_of ss) n ≡ false) → cond b (Some s) (symbol_named ss n) ≡ None → (b || among (names_of ss) n) ≡ false
-    go true rec e = cc
-    go false rec e = rec e
-
 pub some_among : (ss : List Symbol) (n : Name) (x : Symbol) → symbol_named ss n ≡ Some x → among (names_of ss) n ≡ true
 some_among [] n x e = cc
 some_among (s ∷ ss) n x e = go (bytes_eq s.name n) (some_among ss n x) e

@@ -4,6 +4,7 @@ use Rattle.std.proofs.lemmas.List.{length-map, get_or-map, map-append, take_more
 use Rattle.std.proofs.lemmas.List.Elements.{All-push}
 use Rattle.spec_terms.specs.Terms.{Symbol, Not, Term, Terms, app, nil, cons, terms_of, of, negated, head_takes, sort_of}
 use Rattle.spec_terms.specs.Subsets.{arguments_of}
+use Rattle.spec_terms.proofs.General.{not_takes}
 use Rattle.spec_proofs.specs.Schemes.{innermost}
 use Rattle.term_core.specs.declared.ids.TermId.{TermId}
 use Rattle.term_core.specs.declared.nodes.Head.{Head as NodeHead}
@@ -11,7 +12,6 @@ use Rattle.term_core.specs.declared.nodes.Head.TheVariants as heads
 use Rattle.term_core.specs.Tables.{TableView, term_at, IsIn, AreIn, clause_at, head_meant, Shape, Fits, shape_term}
 use Rattle.term_core.proofs.TermsExtend.{Extends-self, Extends-trans, AreIn-kept, clause_at-kept}
 use Rattle.term_core.proofs.TermsApart.{list_back}
-use Rattle.spec_search.proofs.Obeying.{not_takes}
 use Rattle.clausify.specs.Stating.{Widens}
 
 pub Widens-self : (t : TableView) → Widens t t

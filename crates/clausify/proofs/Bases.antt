@@ -4,14 +4,13 @@ use Rattle.std.specs.Prelude.{flat_map}
 use Rattle.std.proofs.lemmas.List.{append-nil, length-append, length-map, map-append, take_more}
 use Rattle.std.proofs.lemmas.List.Elements.{Contains-append_left, Contains-append_right, Contains-append_cases}
 use Rattle.std.proofs.lemmas.Grind.{flat_map-append}
+use Rattle.spec_text.proofs.Members.{from_flat, in_flat}
 use Rattle.spec_terms.specs.Terms.{Term}
 use Rattle.spec_terms.specs.Literals.{Clause}
 use Rattle.spec_terms.specs.Subterms.{subterms_of}
 use Rattle.spec_terms.specs.Subsets.{AreAmong, AreOnce}
 use Rattle.spec_proofs.specs.Resolution.{IsWithin}
 use Rattle.spec_search.specs.Base.{clauses_of}
-use Rattle.spec_search.proofs.Meeting.{in_flat}
-use Rattle.spec_search.proofs.Holding.{from_flat}
 use Rattle.term_core.specs.declared.ids.TermId.{TermId}
 use Rattle.term_core.specs.Tables.{TableView, no_term, term_at, clause_at}
 use Rattle.proof_log.specs.declared.premises.StepId.{StepId}

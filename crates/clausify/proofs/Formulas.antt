@@ -5,19 +5,19 @@ use Rattle.std.specs.List.{AllByRecursion}
 use Rattle.std.proofs.lemmas.Bool.{and_parts}
 use Rattle.std.proofs.lemmas.List.{append-nil, length-map, take_more}
 use Rattle.std.proofs.lemmas.Grind.{flat_map-append}
+use Rattle.spec_text.proofs.Members.{to_image}
 use Rattle.spec_terms.specs.Terms.{Symbol, Sort, Truth, same_sort, same_head, Term, terms_of, app, sort_of, all_same, head_takes, same_term, same_terms}
 use Rattle.spec_terms.specs.Literals.{Clause}
 use Rattle.spec_terms.specs.Subsets.{arguments_of}
 use Rattle.spec_terms.proofs.SameTerms.{terms_decide}
+use Rattle.spec_terms.proofs.General.{not_takes, xor_takes, implies_takes, equal_takes, ite_takes}
 use Rattle.spec_proofs.specs.declared.Rule.{Rule}
 use Rattle.spec_proofs.specs.declared.Rest.{Rest}
 use Rattle.spec_proofs.specs.declared.Rest.TheVariants.{Nothing, One, Two, AnyOne, Each, Innermost}
 use Rattle.spec_proofs.specs.Rules.{IsBy, IsRight}
 use Rattle.spec_proofs.specs.Schemes.{Scheme, states, kind_of, signed, rests_of, is_formula_of, clauses_by}
-use Rattle.spec_proofs.proofs.Chains.{mapped}
 use Rattle.spec_search.specs.Base.{clauses_of}
 use Rattle.spec_search.specs.Models.{is_formula as is_formula_alone}
-use Rattle.spec_search.proofs.Obeying.{not_takes, xor_takes, implies_takes, equal_takes, ite_takes}
 use Rattle.term_core.specs.declared.ids.TermId.{TermId}
 use Rattle.term_core.specs.declared.nodes.Head.{Head as NodeHead}
 use Rattle.term_core.specs.declared.nodes.Head.TheVariants as heads
@@ -73,7 +73,7 @@ module _ (s : Scheme) (term front : Term) (formula : is_formula_of s.head term �
   pub right : (rule : Rule) → kind_of rule ≡ states s → (ls : Clause) → Contains (rests_of s.rest (arguments_of term)) ls → IsRight rule [] (front ∷ ls)
   right rule kind ls ls_in =
       let put : Clause → Clause = λ c. front ∷ c in
-      let here : Contains (clauses_by s term) (front ∷ ls) = subst (λ cs. Contains cs (front ∷ ls)) given (mapped put ls (rests_of s.rest (arguments_of term)) ls_in) in
+      let here : Contains (clauses_by s term) (front ∷ ls) = subst (λ cs. Contains cs (front ∷ ls)) given (to_image put (rests_of s.rest (arguments_of term)) ls ls_in) in
       subst (λ k. IsBy k [] (front ∷ ls)) (sym kind) (term, here)
 
 -- what holds of each by recursion

@@ -6,24 +6,13 @@ use Rattle.spec_terms.specs.Terms.{Term}
 use Rattle.spec_terms.specs.Values.{Interpretation}
 use Rattle.spec_proofs.specs.Clauses.{term_true, clause_true, HasTruth}
 use Rattle.spec_search.specs.Derivations.{Derivation, Inference, «assumption», by_rule, conclusion, premises_of, no_inference, inference_at, conclusion_at, FollowsFrom, IsDerivation, RestsOn, itself, by_premise}
+use Rattle.spec_search.proofs.Spending.{rests_there}
 use Rattle.term_core.specs.declared.ids.TermId.{TermId}
 use Rattle.term_core.specs.Tables.{TableView, no_term, term_at, clause_at}
 use Rattle.proof_log.specs.declared.premises.StepId.{StepId}
 use Rattle.proof_log.specs.Logs.{Logged, assumed, stepped, named, no_logged, logged_at, inference_of, derivation_in, IsLogOf}
 use Rattle.proof_log.proofs.Derivations.{follows_at}
 use Rattle.proof_log.proofs.Logged.{conclusion_of, conclusion_there}
-
--- a premise stands before the clause
-premise_before : (earlier : Derivation) (x : Inference) (m : ℕ) → FollowsFrom earlier x → Contains (premises_of x) m → m < length earlier
-premise_before earlier («assumption» u) m follows here = absurd (All-contains (λ n. ⊥) [] m (λ k d lt. omega (arith, lt)) here)
-premise_before earlier (by_rule r ps c) m follows here = All-contains (λ n. n < length earlier) ps m follows.0 here
-
--- what a clause rests on is there
-rests_within : (d : Derivation) → IsDerivation d → (n m : ℕ) → RestsOn d n m → n < length d → m < length d
-rests_within d h _ _ (itself n) lt = lt
-rests_within d h _ _ (by_premise n m k here rest) lt =
-    let before : m < length (take n d) = premise_before (take n d) (inference_at d n) m (follows_at d h n lt) here in
-    rests_within d h m k rest (omega (arith, before, length-take n d))
 
 -- A term that was assumed under a number.
 record IsAssumedAs (t : TableView) (l : Logged) (u : Term) : Type 0 where
@@ -56,7 +45,7 @@ module _ (t : TableView) (log : List Logged) (i : Interpretation) (h : IsLogOf t
   clause_sound law s lt assumptions =
       let lt_d : s.0 < length (derivation_in t log) = subst (λ n. s.0 < n) (sym (length-map log (inference_of t))) lt in
       ap (clause_true i) (sym (conclusion_there t log s lt)) ∙ law (derivation_in t log) i h.right truths_there s.0 lt_d (λ m u rests is.
-      let m_d : m < length (derivation_in t log) = rests_within (derivation_in t log) h.right s.0 m rests lt_d in
+      let m_d : m < length (derivation_in t log) = rests_there (derivation_in t log) h.right s.0 m lt_d rests in
       let m_lt : m < length log = subst (λ n. m < n) (length-map log (inference_of t)) m_d in
       let a = assumed_as t (get_or log m no_logged) u (sym (get_or-map (inference_of t) log m no_logged no_inference m_lt) ∙ is) in
       ap (term_true i) (sym a.means) ∙ assumptions (record { 0 = m }) a.id rests m_lt a.is)

@@ -7,6 +7,7 @@ use Rattle.spec_terms.specs.Terms.{Term}
 use Rattle.spec_terms.specs.Literals.{Clause, Literal, literals_of}
 use Rattle.spec_search.specs.Derivations.{Inference, «assumption», by_rule, Derivation, premises_of, no_inference, inference_at, conclusion, conclusion_at, FollowsFrom, IsDerivation, RestsOn, itself, by_premise, AssumesAmong, IsDerivedFrom}
 use Rattle.spec_search.specs.Spent.{IsLearnedFrom}
+use Rattle.spec_search.proofs.Spending.{rests_there}
 use Rattle.term_core.specs.declared.ids.Lit.{Lit}
 use Rattle.term_core.specs.Tables.{TableView}
 use Rattle.rule_bool.specs.Resolvents.{Means}
@@ -18,25 +19,9 @@ use Rattle.solve_core.proofs.SearchTrails.{get_early}
 
 -- a derivation whose assumptions are all among terms
 module _ (terms : List Term) (d : Derivation) (right : IsDerivation d) (among : All (AssumesAmong terms) d) where
-  split_at : (n : ℕ) → n < length d → d ≡ take n d ++ inference_at d n ∷ drop (suc n) d
-  split_at n lt = sym (take-append-drop n d) ∙ ap (λ (rest : Derivation). take n d ++ rest) (drop-cons d n no_inference lt)
-
-  -- a premise is one of its numbers
-  premise_within : (n k : ℕ) → n < length d → Contains (premises_of (inference_at d n)) k → k < length d
-  premise_within n k lt i = go (inference_at d n) i (right (take n d) (inference_at d n) (drop (suc n) d) (split_at n lt))
-    where
-      go : (x : Inference) → Contains (premises_of x) k → FollowsFrom (take n d) x → k < length d
-      go («assumption» t) j f = absurd (omega (arith, j.1))
-      go (by_rule r ps c) j f = let small = All-contains (λ (m : ℕ). m < length (take n d)) ps k f.0 j in omega (arith, small, lt, length-take-le n d (omega (arith, lt)))
-
-  -- so is what a number rests on
-  rests_within : (n m : ℕ) → RestsOn d n m → n < length d → m < length d
-  rests_within n _ (itself _) lt = lt
-  rests_within n m (by_premise _ k _ i rest) lt = rests_within k m rest (premise_within n k lt i)
-
-  -- and each of its numbers is derived from the terms
+  -- each of its numbers is derived from the terms
   pub derived_from : (n : ℕ) → n < length d → IsDerivedFrom terms d n
-  derived_from n lt = record { there = lt; assumptions = λ m rests. among m no_inference (rests_within n m rests lt) }
+  derived_from n lt = record { there = lt; assumptions = λ m rests. among m no_inference (rests_there d right n m lt rests) }
 
   -- what was learned before is derived from the terms still
   module _ (earlier : Derivation) (x : Inference) (is : d ≡ earlier ++ x ∷ []) where

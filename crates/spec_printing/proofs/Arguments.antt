@@ -1,6 +1,6 @@
 -- Printed terms are read as what they were printed for.
 use Rattle.std.proofs.Common.{◌≡◌, inl, inr, ℕ, ◌+◌, ◌<◌, ◌^◌, Bool, true, false, true≢false, cond, List, [], ◌∷◌, ◌++◌, length, map, All, Option, Some, None, Contains, refl, sym, ap, ◌∙◌, subst, length-append, arith}
-use Rattle.std.specs.Prelude.{◌⊎◌, ◌||◌, ◌==◌, Ok, codes}
+use Rattle.std.specs.Prelude.{◌⊎◌, ◌||◌, ◌==◌, Ok}
 use Rattle.std.specs.Option.{option_map}
 use Rattle.std.specs.Str.{bytes_eq}
 use Rattle.std.proofs.lemmas.List.{length-map}
@@ -12,15 +12,14 @@ use Rattle.spec_text.specs.Answers.{◌>>=◌, require}
 use Rattle.spec_text.specs.Trees.{none, more}
 use Rattle.spec_text.specs.Printed.{is_bare, printed}
 use Rattle.spec_text.proofs.Printing.{moved, moved_all}
-use Rattle.spec_terms.specs.Terms.{Sort, Symbol, True, False, Apply, Term, of, terms_of, list_of, constant_term}
+use Rattle.spec_terms.specs.Terms.{Sort, Symbol, True, False, Apply, Term, of, constant_term}
 use Rattle.spec_terms.specs.Theory.{Rule, look_up, theory}
 use Rattle.spec_terms.specs.Reading.{Scope, symbol_named, applied, applied_as, atom_term, term_in, terms_in}
 use Rattle.spec_terms.specs.Subsets.{arguments_of, AreAmong, IsClosed}
-use Rattle.spec_text.proofs.Members.{first, later, cases, none as no_member}
+use Rattle.spec_text.proofs.Members.{first, later, cases, none as no_member, to_image}
+use Rattle.spec_text.proofs.AnswerLaws.{joined}
 use Rattle.spec_scripts.specs.Stack.{reals_names, theory_names, is_kept_name}
 use Rattle.spec_scripts.specs.Current.{IsDeclared, AreDeclared}
-use Rattle.spec_proofs.proofs.Chains.{mapped}
-use Rattle.spec_proofs.proofs.Steps.{joined}
 use Rattle.spec_printing.specs.Lines.{Argument, truth, symbol, defined, defined_name, row, argument_tree}
 use Rattle.spec_printing.specs.Meaning.{Told, numbered, term_told, AreTold}
 use Rattle.spec_printing.proofs.Lookups.{numbered_within, numbered_in, symbol_found, head_same, tail_same}
@@ -75,16 +74,12 @@ closed_more us t closed args u h v k = Contains-append_left us (t ∷ []) v (go 
     go (inl c) = closed u c v k
     go (inr c) = by (cases t [] u c)
 
-pub list_same : (ts : List Term) → list_of (terms_of ts) ≡ ts
-list_same [] = refl
-list_same (t ∷ ts) = ap (λ us. t ∷ us) (list_same ts)
-
 pub known_count : (symbols : List Symbol) (terms : List Term) → length (terms_known symbols terms) ≡ length symbols + length terms + 2
 known_count symbols terms = omega (arith, length-append (ground symbols) terms, length-map symbols constant_term)
 
 module _ (symbols : List Symbol) (declared : AreDeclared symbols) where
   symbol_there : (s : Symbol) → Contains symbols s → Contains (ground symbols) (constant_term s)
-  symbol_there s c = later (of True []) (of False [] ∷ map constant_term symbols) (constant_term s) (later (of False []) (map constant_term symbols) (constant_term s) (mapped constant_term s symbols c))
+  symbol_there s c = later (of True []) (of False [] ∷ map constant_term symbols) (constant_term s) (later (of False []) (map constant_term symbols) (constant_term s) (to_image constant_term symbols s c))
 
   -- a symbol that is found is a constant, and no theory has its name
   pub found_constant : (n : Name) (s : Symbol) → symbol_named symbols n ≡ Some s → (look_up theory n ≡ None) × (s.parameters ≡ [])

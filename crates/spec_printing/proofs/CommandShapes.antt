@@ -1,5 +1,5 @@
 -- Lines are read as commands.
-use Rattle.std.proofs.Common.{◌≡◌, ℕ, ◌+◌, true, false, cond, List, [], ◌∷◌, length, Option, Some, None, refl, ap, ◌∙◌}
+use Rattle.std.proofs.Common.{◌≡◌, ℕ, ◌+◌, true, false, cond, List, [], ◌∷◌, length, Some, refl, ap, ◌∙◌}
 use Rattle.std.specs.Prelude.{Ok, codes, nat_lt}
 use Rattle.spec_text.specs.declared.Kind.TheVariants.{Simple, Reserved as word_kind, Keyword}
 use Rattle.spec_text.specs.declared.Fault.TheVariants.{Full}
@@ -7,18 +7,19 @@ use Rattle.spec_text.specs.Bytes.{Name, among}
 use Rattle.spec_text.specs.Answers.{◌>>=◌, require}
 use Rattle.spec_text.specs.Shapes.{Word}
 use Rattle.spec_text.specs.Trees.{Tree, Trees, atom, list, none, more, offset_of}
+use Rattle.spec_text.proofs.AnswerLaws.{joined}
 use Rattle.spec_terms.specs.Terms.{Term}
 use Rattle.spec_terms.specs.Reading.{terms_in}
 use Rattle.spec_terms.specs.Literals.{Clause}
 use Rattle.spec_terms.specs.Subterms.{fit_in, roomy_terms}
 use Rattle.spec_scripts.specs.Stack.{term_limit}
 use Rattle.spec_proofs.specs.declared.Rule.{Rule}
-use Rattle.spec_proofs.specs.declared.ProofKind.TheVariants.{TwiceName, UnknownRule}
-use Rattle.spec_proofs.specs.Faults.{Read, wrong}
+use Rattle.spec_proofs.specs.declared.ProofKind.TheVariants.{TwiceName}
+use Rattle.spec_proofs.specs.Faults.{wrong}
 use Rattle.spec_proofs.specs.RuleNames.{rule_named}
 use Rattle.spec_proofs.specs.Commands.{Known, Assume, Step, Define, steps, all_symbols, assume_shape, step_shape, define_shape, parts_of, shape_of}
 use Rattle.spec_proofs.specs.Known.{entry_names, fresh_name, is_term_name, new_term_name, in_proof, clause_in, known_rule, premises_of, term_alone, name_room, read_shape, shaped, command_of}
-use Rattle.spec_proofs.proofs.Steps.{joined}
+use Rattle.spec_proofs.proofs.Offsets.{rule_by, rule_known}
 
 -- the terms of texts, where there is room
 pub clause_read : (k : Known) (at : ℕ) (ts : Trees) (us : List Term) → terms_in k.scope ts ≡ Ok us → fit_in term_limit us ≡ true → clause_in k at ts ≡ Ok us
@@ -34,15 +35,6 @@ fresh_read k w e = ap (λ b. cond b (wrong w.at TwiceName) (Ok w.bytes)) e
 new_read : (k : Known) (at : ℕ) (n : Name) → is_term_name k.scope n ≡ false → new_term_name k (record { at = at; kind = Simple; bytes = n }) ≡ Ok n
 unfolding new_term_name
 new_read k at n e = ap (λ b. cond b (wrong at TwiceName) (Ok n)) e
-
--- the rule of a name, as an answer
-abbrev rule_by : ℕ → Option Rule → Read Rule
-rule_by at (Some r) = Ok r
-rule_by at None = wrong at UnknownRule
-
-rule_is : (w : Word) → known_rule w ≡ rule_by w.at (rule_named w.bytes)
-unfolding known_rule
-rule_is w = refl
 
 -- a name at an offset
 abbrev word : ℕ → Name → Word
@@ -70,7 +62,7 @@ step_read k at c i end n ls r ps ts us rule cs shape fresh e fits named premises
     ap (λ o. shaped at o >>= λ s. read_shape k at s) shape
     ∙ joined (fresh_name k (word c n)) _ n out (fresh_read k (word c n) fresh)
     (joined (clause_in k at ls) _ us out (clause_read k at ls us e fits)
-    (joined (known_rule (word i r)) _ rule out (rule_is (word i r) ∙ ap (rule_by i) named)
+    (joined (known_rule (word i r)) _ rule out (rule_known (word i r) ∙ ap (rule_by i) named)
     (joined (premises_of k ps) _ cs out premises refl)))
 
 pub bare_step_read : (k : Known) (at b c d e f g i end : ℕ) (n : Name) (ls : Trees) (r : Name) (us : Clause) (rule : Rule)

@@ -7,25 +7,26 @@ use Rattle.spec_text.specs.Bytes.{Name, among}
 use Rattle.spec_text.specs.Trees.{Tree, none, more, offset_of}
 use Rattle.spec_text.specs.Printed.{printed}
 use Rattle.spec_text.proofs.Printing.{moved, moved_all}
+use Rattle.spec_text.proofs.AnswerLaws.{joined}
 use Rattle.spec_terms.specs.Terms.{Symbol, Head, Term}
 use Rattle.spec_terms.specs.Reading.{term_in, terms_in}
 use Rattle.spec_terms.specs.Literals.{Clause}
 use Rattle.spec_terms.specs.Subterms.{fit_in}
 use Rattle.spec_terms.specs.Subsets.{arguments_of, AreAmong}
+use Rattle.spec_terms.proofs.General.{list_of-terms_of}
 use Rattle.spec_scripts.specs.Stack.{term_limit}
 use Rattle.spec_scripts.specs.Current.{AreDeclared}
 use Rattle.spec_proofs.specs.declared.Rule.{Rule}
 use Rattle.spec_proofs.specs.Commands.{Known, Entry, Command, Assume, Step, Define}
 use Rattle.spec_proofs.specs.Known.{entry_names, command_of}
 use Rattle.spec_proofs.specs.Judging.{with_command, IsRightAfter}
-use Rattle.spec_proofs.proofs.Steps.{joined}
 use Rattle.spec_proofs.specs.RuleNames.{rule_name}
 use Rattle.spec_printing.specs.Lines.{Argument, Reference, Line, defines, assumes, steps, defined_name, assume_name, step_name, head_name, row, word_tree, symbol_tree, list_tree, argument_tree, line_tree}
 use Rattle.spec_printing.specs.Meaning.{Told, with_definition, with_assume, with_step, AreTold, ArePremises, IsDefinition, IsAssume, IsStep}
 use Rattle.spec_printing.specs.ReadBack.{definitions_in}
 use Rattle.spec_printing.proofs.Names.{named}
 use Rattle.spec_printing.proofs.Lookups.{entry}
-use Rattle.spec_printing.proofs.Arguments.{terms_known, list_same, arguments_read, single_read}
+use Rattle.spec_printing.proofs.Arguments.{terms_known, arguments_read, single_read}
 use Rattle.spec_printing.proofs.Heads.{compound_read}
 use Rattle.spec_printing.proofs.CommandShapes.{assume_read, bare_step_read, full_step_read, define_read}
 use Rattle.spec_printing.proofs.Standing.{Stands, assume_stands, step_stands, definition_stands, new_assume, new_step, new_definition, known_fits, next_fits, references_read, references_are_symbols}
@@ -143,7 +144,7 @@ module _ (symbols : List Symbol) (asserted : List Term) (declared : AreDeclared 
   define_goes n h items at t d room =
       let few : length told.terms < 2 ^ 64 = omega (arith, room.more_terms) in
       let small : n < 2 ^ 64 = omega (arith, d.number, room.more_terms) in
-      let args : AreAmong (arguments_of t) (terms_known symbols told.terms) = subst (λ u. AreAmong (arguments_of u) (terms_known symbols told.terms)) (sym d.term) (subst (λ us. AreAmong us (terms_known symbols told.terms)) (sym (list_same d.arguments)) (arguments_read symbols declared told names few s.terms items d.arguments d.told 0).1) in
+      let args : AreAmong (arguments_of t) (terms_known symbols told.terms) = subst (λ u. AreAmong (arguments_of u) (terms_known symbols told.terms)) (sym d.term) (subst (λ us. AreAmong us (terms_known symbols told.terms)) (sym (list_of-terms_of d.arguments)) (arguments_read symbols declared told names few s.terms items d.arguments d.told 0).1) in
       let reading : (g : ℕ) → term_in here.scope (moved g (list_tree (symbol_tree (head_name h) ∷ map argument_tree items))) ≡ Ok t = λ g. compound_read symbols declared told names few s.terms h items d.arguments d.head d.told d.some d.takes g ∙ ap Ok (sym d.term) in
       record {
         command = Define at (defined_name n) t;

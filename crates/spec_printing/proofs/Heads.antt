@@ -10,39 +10,16 @@ use Rattle.spec_text.specs.Answers.{◌>>=◌, require}
 use Rattle.spec_text.specs.Trees.{Trees}
 use Rattle.spec_text.specs.Printed.{is_bare, printed}
 use Rattle.spec_text.proofs.Printing.{moved, moved_all}
-use Rattle.spec_terms.specs.Terms.{Sort, Truth, Number, Declared, Symbol, Head, True, False, Not, And, Or, Xor, Implies, Equal, Ite, Apply, Term, of, sort_of, head_takes, same_sorts}
+use Rattle.spec_text.proofs.AnswerLaws.{joined}
+use Rattle.spec_terms.specs.Terms.{Sort, Symbol, Head, True, False, Not, And, Or, Xor, Implies, Equal, Ite, Apply, Term, of, sort_of, head_takes, same_sorts}
 use Rattle.spec_terms.specs.Theory.{look_up}
 use Rattle.spec_terms.specs.Forms.{Form, applies, head_form}
 use Rattle.spec_terms.specs.Reading.{Scope, applied, by_form, term_in, terms_in}
+use Rattle.spec_terms.proofs.General.{not_takes, xor_takes, implies_takes, equal_takes, ite_takes}
 use Rattle.spec_scripts.specs.Current.{AreDeclared}
-use Rattle.spec_proofs.proofs.Steps.{joined}
 use Rattle.spec_printing.specs.Lines.{Argument, head_name, defined_name, row, symbol_tree, list_tree, argument_tree}
 use Rattle.spec_printing.specs.Meaning.{Told, numbered, AreTold, IsDeclaredHead}
 use Rattle.spec_printing.proofs.Arguments.{scope, found_constant, arguments_read}
-
--- how many arguments a head takes
-one_taken : (ss : List Sort) → head_takes Not ss ≡ true → length ss ≡ 1
-one_taken [] e = cc
-one_taken (s ∷ []) e = refl
-one_taken (Truth ∷ t ∷ ss) e = cc
-one_taken (Number ∷ t ∷ ss) e = cc
-one_taken (Declared n ∷ t ∷ ss) e = cc
-
-two_taken : (ss : List Sort) → head_takes Xor ss ≡ true → length ss ≡ 2
-two_taken (Truth ∷ Truth ∷ []) e = refl
-two_taken _ e = cc
-
-two_implied : (ss : List Sort) → head_takes Implies ss ≡ true → length ss ≡ 2
-two_implied (Truth ∷ Truth ∷ []) e = refl
-two_implied _ e = cc
-
-two_equal : (ss : List Sort) → head_takes Equal ss ≡ true → length ss ≡ 2
-two_equal (s ∷ t ∷ []) e = refl
-two_equal _ e = cc
-
-three_taken : (ss : List Sort) → head_takes Ite ss ≡ true → length ss ≡ 3
-three_taken (Truth ∷ s ∷ t ∷ []) e = refl
-three_taken _ e = cc
 
 none_taken : (ss : List Sort) → same_sorts [] ss ≡ true → length ss ≡ 0
 none_taken [] e = refl
@@ -63,7 +40,7 @@ module _ (symbols : List Symbol) (declared : AreDeclared symbols) (told : Told) 
   head_read True (t ∷ ts) takes some known place at = absurd (true≢false (sym takes))
   head_read False (t ∷ ts) takes some known place at = absurd (true≢false (sym takes))
   head_read Not (t ∷ []) takes some known place at = refl
-  head_read Not (t ∷ u ∷ ts) takes some known place at = absurd (omega (arith, one_taken (map sort_of (t ∷ u ∷ ts)) takes, sorts_count (t ∷ u ∷ ts)))
+  head_read Not (t ∷ u ∷ ts) takes some known place at = absurd (omega (arith, not_takes (map sort_of (t ∷ u ∷ ts)) takes, sorts_count (t ∷ u ∷ ts)))
   head_read And (t ∷ ts) takes some known place at =
       let enough : nat_le 1 (length (t ∷ ts)) ≡ true = grind (arith, nat_tests) in
       ap (λ b. require (b && true) at WrongCount >>= λ counted. Ok (of And (t ∷ ts))) enough
@@ -71,18 +48,18 @@ module _ (symbols : List Symbol) (declared : AreDeclared symbols) (told : Told) 
       let enough : nat_le 1 (length (t ∷ ts)) ≡ true = grind (arith, nat_tests) in
       ap (λ b. require (b && true) at WrongCount >>= λ counted. Ok (of Or (t ∷ ts))) enough
   head_read Xor (t ∷ u ∷ []) takes some known place at = refl
-  head_read Xor (t ∷ []) takes some known place at = absurd (omega (arith, two_taken (map sort_of (t ∷ [])) takes, sorts_count (t ∷ [])))
-  head_read Xor (t ∷ u ∷ v ∷ ts) takes some known place at = absurd (omega (arith, two_taken (map sort_of (t ∷ u ∷ v ∷ ts)) takes, sorts_count (t ∷ u ∷ v ∷ ts)))
+  head_read Xor (t ∷ []) takes some known place at = absurd (omega (arith, xor_takes (map sort_of (t ∷ [])) takes, sorts_count (t ∷ [])))
+  head_read Xor (t ∷ u ∷ v ∷ ts) takes some known place at = absurd (omega (arith, xor_takes (map sort_of (t ∷ u ∷ v ∷ ts)) takes, sorts_count (t ∷ u ∷ v ∷ ts)))
   head_read Implies (t ∷ u ∷ []) takes some known place at = refl
-  head_read Implies (t ∷ []) takes some known place at = absurd (omega (arith, two_implied (map sort_of (t ∷ [])) takes, sorts_count (t ∷ [])))
-  head_read Implies (t ∷ u ∷ v ∷ ts) takes some known place at = absurd (omega (arith, two_implied (map sort_of (t ∷ u ∷ v ∷ ts)) takes, sorts_count (t ∷ u ∷ v ∷ ts)))
+  head_read Implies (t ∷ []) takes some known place at = absurd (omega (arith, implies_takes (map sort_of (t ∷ [])) takes, sorts_count (t ∷ [])))
+  head_read Implies (t ∷ u ∷ v ∷ ts) takes some known place at = absurd (omega (arith, implies_takes (map sort_of (t ∷ u ∷ v ∷ ts)) takes, sorts_count (t ∷ u ∷ v ∷ ts)))
   head_read Equal (t ∷ u ∷ []) takes some known place at = refl
-  head_read Equal (t ∷ []) takes some known place at = absurd (omega (arith, two_equal (map sort_of (t ∷ [])) takes, sorts_count (t ∷ [])))
-  head_read Equal (t ∷ u ∷ v ∷ ts) takes some known place at = absurd (omega (arith, two_equal (map sort_of (t ∷ u ∷ v ∷ ts)) takes, sorts_count (t ∷ u ∷ v ∷ ts)))
+  head_read Equal (t ∷ []) takes some known place at = absurd (omega (arith, equal_takes (map sort_of (t ∷ [])) takes, sorts_count (t ∷ [])))
+  head_read Equal (t ∷ u ∷ v ∷ ts) takes some known place at = absurd (omega (arith, equal_takes (map sort_of (t ∷ u ∷ v ∷ ts)) takes, sorts_count (t ∷ u ∷ v ∷ ts)))
   head_read Ite (t ∷ u ∷ v ∷ []) takes some known place at = refl
-  head_read Ite (t ∷ []) takes some known place at = absurd (omega (arith, three_taken (map sort_of (t ∷ [])) takes, sorts_count (t ∷ [])))
-  head_read Ite (t ∷ u ∷ []) takes some known place at = absurd (omega (arith, three_taken (map sort_of (t ∷ u ∷ [])) takes, sorts_count (t ∷ u ∷ [])))
-  head_read Ite (t ∷ u ∷ v ∷ w ∷ ts) takes some known place at = absurd (omega (arith, three_taken (map sort_of (t ∷ u ∷ v ∷ w ∷ ts)) takes, sorts_count (t ∷ u ∷ v ∷ w ∷ ts)))
+  head_read Ite (t ∷ []) takes some known place at = absurd (omega (arith, ite_takes (map sort_of (t ∷ [])) takes, sorts_count (t ∷ [])))
+  head_read Ite (t ∷ u ∷ []) takes some known place at = absurd (omega (arith, ite_takes (map sort_of (t ∷ u ∷ [])) takes, sorts_count (t ∷ u ∷ [])))
+  head_read Ite (t ∷ u ∷ v ∷ w ∷ ts) takes some known place at = absurd (omega (arith, ite_takes (map sort_of (t ∷ u ∷ v ∷ w ∷ ts)) takes, sorts_count (t ∷ u ∷ v ∷ w ∷ ts)))
   head_read (Apply s) (t ∷ ts) takes some known place at =
       let c = found_constant symbols declared s.name s known in
       absurd (omega (arith, none_taken (map sort_of (t ∷ ts)) (subst (λ ps. same_sorts ps (map sort_of (t ∷ ts)) ≡ true) c.1 takes), sorts_count (t ∷ ts)))

@@ -13,3 +13,4 @@ pub mod EachLine
 pub mod Sizes
 pub mod AllLines
 pub mod ScriptNames
+pub mod Refutation

@@ -13,7 +13,6 @@ use Rattle.spec_terms.specs.Terms.{Symbol, Term}
 use Rattle.spec_terms.specs.Theory.{look_up}
 use Rattle.spec_terms.specs.Reading.{symbol_named}
 use Rattle.spec_terms.specs.Literals.{Clause}
-use Rattle.spec_scripts.specs.Stack.{names_of}
 use Rattle.spec_proofs.specs.Commands.{Entry}
 use Rattle.spec_proofs.specs.Known.{clause_of, entry_names}
 use Rattle.spec_printing.specs.Meaning.{numbered}
@@ -111,14 +110,6 @@ name_unfound [] n e = refl
 name_unfound (x ∷ ds) n e = go (bytes_eq x.0 n) (name_unfound ds n) e
   where
     go : (b : Bool) → (look_up ds n ≡ None → among (map (λ (d : Name × Term). d.0) ds) n ≡ false) → cond b (Some x.1) (look_up ds n) ≡ None → (b || among (map (λ (d : Name × Term). d.0) ds) n) ≡ false
-    go true rest e = cc
-    go false rest e = rest e
-
-pub symbol_unfound : (ss : List Symbol) (n : Name) → symbol_named ss n ≡ None → among (names_of ss) n ≡ false
-symbol_unfound [] n e = refl
-symbol_unfound (x ∷ ss) n e = go (bytes_eq x.name n) (symbol_unfound ss n) e
-  where
-    go : (b : Bool) → (symbol_named ss n ≡ None → among (names_of ss) n ≡ false) → cond b (Some x) (symbol_named ss n) ≡ None → (b || among (names_of ss) n) ≡ false
     go true rest e = cc
     go false rest e = rest e
 

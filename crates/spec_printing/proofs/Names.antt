@@ -1,15 +1,17 @@
 -- The words of printed lines.
 use Rattle.std.proofs.Common.{◌≡◌, ℕ, zero, suc, ◌+◌, ◌<◌, ◌/◌, ◌%◌, Bool, true, false, cond, List, [], ◌∷◌, ◌++◌, map, All, Some, refl, ap, arith}
-use Rattle.std.specs.Prelude.{◌==◌, ◌&&◌, ◌||◌, not, codes, decimal, nat_lt}
+use Rattle.std.specs.Prelude.{◌==◌, ◌||◌, not, codes, decimal, nat_lt}
 use Rattle.std.specs.Fmt.{digits, digits_onto, digit_glyph}
 use Rattle.std.proofs.Math.Nat.{mod-lt}
 use Rattle.std.proofs.lemmas.Bool.Decides.{nat_tests}
+use Rattle.std.proofs.lemmas.Bool.{not-true}
 use Rattle.spec_text.specs.declared.Kind.TheVariants.{Simple, Quoted, Keyword}
 use Rattle.spec_text.specs.Bytes.{Name, one_of, is_digit, is_letter, is_symbol_byte, is_in_bars, among, reserved_words}
 use Rattle.spec_text.specs.Lexicon.{Consists, simple_symbol, reserved_word, quoted_symbol, keyword}
 use Rattle.spec_text.specs.Printed.{all_pass, is_bare}
 use Rattle.spec_text.proofs.Tests.{passes_consists}
 use Rattle.spec_text.proofs.Words.{IsWord, HasWords, HaveWords}
+use Rattle.spec_text.proofs.General.{three_parts}
 use Rattle.spec_terms.specs.Terms.{Head, True, False, Not, And, Or, Xor, Implies, Equal, Ite, Apply}
 use Rattle.spec_proofs.specs.declared.Rule.{Rule}
 use Rattle.spec_proofs.specs.declared.Rule.TheVariants as rules
@@ -48,22 +50,11 @@ digits_are_symbol_bytes (b ∷ bs) h = (ap (λ t. t || is_letter b || one_of (co
 decimal_run : (n : ℕ) → Consists is_symbol_byte (decimal n)
 decimal_run n = digits_are_symbol_bytes (decimal n) (decimal_digits n)
 
--- a symbol that needs no bars
-bare_parts : (a b c : Bool) → (a && b && c) ≡ true → (a ≡ true) × (b ≡ true) × (c ≡ true)
-bare_parts true true true e = (refl, refl, refl)
-bare_parts true true false e = cc
-bare_parts true false c e = cc
-bare_parts false b c e = cc
-
-opposite : (t : Bool) → not t ≡ true → t ≡ false
-opposite true k = cc
-opposite false k = refl
-
 bare_word : (w : Name) → is_bare w ≡ true → IsWord Simple w
 bare_word [] e = cc
 bare_word (b ∷ bs) e =
-    let p = bare_parts (not (is_digit b)) (all_pass is_symbol_byte (b ∷ bs)) (not (among reserved_words (b ∷ bs))) e in
-    (b ∷ bs, simple_symbol b bs (opposite (is_digit b) p.0) (passes_consists is_symbol_byte (b ∷ bs) p.1) (opposite (among reserved_words (b ∷ bs)) p.2))
+    let p = three_parts (not (is_digit b)) (all_pass is_symbol_byte (b ∷ bs)) (not (among reserved_words (b ∷ bs))) e in
+    (b ∷ bs, simple_symbol b bs (not-true (is_digit b) p.0) (passes_consists is_symbol_byte (b ∷ bs) p.1) (not-true (among reserved_words (b ∷ bs)) p.2))
 
 quoted_word : (n : Name) → IsWritable n → IsWord Quoted n
 quoted_word n h = (124 ∷ n ++ 124 ∷ [], quoted_symbol n h)

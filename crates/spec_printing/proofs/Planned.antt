@@ -1,13 +1,14 @@
 -- The lines of a plan are right.
 use Rattle.std.proofs.Common.{◌≡◌, ◌≢◌, ℕ, zero, suc, ◌+◌, ◌<◌, ◌≤◌, Bool, true, false, ◌&&◌, List, [], ◌∷◌, ◌++◌, length, map, get_or, Some, None, Contains, refl, sym, ap, ◌∙◌, subst, append_assoc, append-nil, length-append, arith}
 use Rattle.std.specs.List.{slice_get}
-use Rattle.std.proofs.lemmas.Bool.{false≢true}
+use Rattle.std.proofs.lemmas.Bool.{false≢true, and_parts}
 use Rattle.std.proofs.lemmas.Option.{slice_get_within, get_or_from_slice_get, slice_get-get_or}
 use Rattle.std.proofs.lemmas.List.Elements.{All-contains}
 use Rattle.spec_text.proofs.Members.{first}
 use Rattle.spec_terms.specs.Terms.{Symbol, Term, Terms, app, nil, cons, list_of, terms_of}
 use Rattle.spec_proofs.specs.declared.Rule.{Rule}
-use Rattle.spec_search.specs.Derivations.{Inference, «assumption», by_rule, Derivation, conclusion, conclusion_at, inference_at, no_inference, premises_of, IsDerivation, IsDerivedFrom, RestsOn, itself, by_premise, AssumesAmong}
+use Rattle.spec_search.specs.Derivations.{Inference, «assumption», by_rule, Derivation, conclusion, conclusion_at, inference_at, no_inference, premises_of, IsDerivation, IsDerivedFrom, RestsOn, itself, AssumesAmong}
+use Rattle.spec_search.proofs.Spending.{rests_onward}
 use Rattle.spec_printing.specs.Lines.{Argument, Reference, Line, defines, assumes, steps}
 use Rattle.spec_printing.specs.Meaning.{Told, nothing_told, with_assume, with_step, term_told, clause_told, IsLineAfter, AreLinesAfter, AreRightLines}
 use Rattle.spec_printing.specs.Plans.{Plan, number_of, argument_by, argument_for, definition_lines, reference_for, reference_by, number_or_zero, inference_lines, lines_of, is_compound, IsPrinted, in_clause, as_argument, counted, compounds, counted_inferences, AreRests, ArePrinted, IsPlan}
@@ -42,11 +43,6 @@ seam_mark : (xs ys : List Bool) (y : Bool) → get_or (xs ++ y ∷ ys) (length x
 seam_mark [] ys y = refl
 seam_mark (x ∷ xs) ys y = seam_mark xs ys y
 
--- the first premise of a conjunction of tests, and the second
-both : (a b : Bool) → a && b ≡ true → (a ≡ true) × (b ≡ true)
-both true b e = (refl, e)
-both false b e = absurd (false≢true e)
-
 not_second : (a b : Bool) → a ≡ true → a && b ≡ false → b ≡ false
 not_second true b e f = f
 not_second false b e f = absurd (false≢true e)
@@ -54,11 +50,6 @@ not_second false b e f = absurd (false≢true e)
 -- what the definitions so far make known
 abbrev told_terms : List Term → Told
 told_terms ts = record { terms = ts; assumes = []; steps = [] }
-
--- what one of its premises is, an inference rests on
-onward : (d : Derivation) (n m k : ℕ) → RestsOn d n m → Contains (premises_of (inference_at d m)) k → RestsOn d n k
-onward d n m k (itself _) p = by_premise n k k p (itself k)
-onward d n m k (by_premise _ j _ first rest) p = by_premise n j k first (onward d j m k rest p)
 
 module _ (symbols : List Symbol) (terms asserted : List Term) (d : Derivation) (n : ℕ) (printable : ArePrintable symbols terms) (printed : List Bool) (are : ArePrinted terms d n printed) where
   abbrev marks : List Bool
@@ -91,7 +82,7 @@ module _ (symbols : List Symbol) (terms asserted : List Term) (d : Derivation) (
       let j = length front in
       let there : slice_get terms j ≡ Some (app h us) = ap (λ xs. slice_get xs j) (sym ts) ∙ seam front rest (app h us) in
       let mark : get_or marks j false ≡ true = ap (λ bs. get_or bs j false) (sym ms) ∙ ap (λ i. get_or (fm ++ true ∷ rm) i false) (sym as_many) ∙ seam_mark fm rm true in
-      let tests = both (get_or printed j false) (is_compound (app h us)) (sym (compound_at terms printed j (app h us) are.as_many there) ∙ mark) in
+      let tests = and_parts (get_or printed j false) (is_compound (app h us)) (sym (compound_at terms printed j (app h us) are.as_many there) ∙ mark) in
       let is : IsPrinted d n (app h us) = are.only j (app h us) there tests.0 in
       let well = printable.each j (app h us) there in (
         app h us,
@@ -162,7 +153,7 @@ module _ (symbols : List Symbol) (terms asserted : List Term) (d : Derivation) (
     premise_told : (front rest : Derivation) (fm rm : List Bool) (j : ℕ) (p : ℕ) → length fm ≡ length front → front ++ rest ≡ d → fm ++ rm ≡ rests → j ≡ length front → RestsOn d n j → p < j → Contains (premises_of (inference_at d j)) p → clause_told (told_clauses fm front) (refer p) ≡ Some (conclusion_at front p)
     premise_told front rest fm rm j p as_many ds ms place on lt p_in =
         let within : p < length front = omega (arith, lt, place) in
-        let marked : get_or rests p false ≡ true = are_rests.each p (onward d n j p on p_in) in
+        let marked : get_or rests p false ≡ true = are_rests.each p (rests_onward d n j p on p_in) in
         let here : get_or fm p false ≡ true = sym (front_mark fm rm p (omega (arith, as_many, within))) ∙ ap (λ bs. get_or bs p false) ms ∙ marked in
         let x = inference_at front p in
         let at : slice_get front p ≡ Some x = slice_get-get_or front p no_inference within in

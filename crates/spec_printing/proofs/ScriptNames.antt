@@ -1,18 +1,18 @@
 -- The names that a script declares can be printed, and how many they are.
 use Rattle.std.proofs.Common.{◌≡◌, ℕ, zero, suc, ◌+◌, ◌-◌, ◌*◌, Bool, true, false, not, ◌||◌, cond, List, [], ◌∷◌, ◌++◌, length, Option, Some, None, refl, sym, subst, length-append, arith}
-use Rattle.std.specs.Prelude.{◌≤◌, ◌==◌, Ok, Err, nat_lt}
+use Rattle.std.specs.Prelude.{◌≤◌, Ok, Err, nat_lt}
 use Rattle.std.proofs.lemmas.Bool.{false≢true}
 use Rattle.std.proofs.lemmas.List.Elements.{All-push}
 use Rattle.spec_text.specs.declared.Kind.{Kind}
 use Rattle.spec_text.specs.declared.Kind.TheVariants.{Numeral, Decimal, Text, Simple, Quoted, Reserved as word_kind, Keyword}
 use Rattle.spec_text.specs.declared.Fault.TheVariants.{BadShape, UnknownCommand, Twice, Reserved, Full}
-use Rattle.spec_text.specs.Bytes.{Name, is_symbol_byte, is_in_bars}
+use Rattle.spec_text.specs.Bytes.{Name}
 use Rattle.spec_text.specs.Lexemes.{Lexeme, blank, opens, closes, word, wrong, first_piece, before, lexemes}
-use Rattle.spec_text.specs.Lexicon.{Consists, simple_symbol, quoted_symbol}
+use Rattle.spec_text.specs.Lexicon.{simple_symbol, quoted_symbol}
 use Rattle.spec_text.specs.Answers.{Answer, refused, require}
 use Rattle.spec_text.specs.Shapes.{◌>>=◌, Word, passes, first_word, only_tree, is_symbol, is_keyword, is_reserved}
 use Rattle.spec_text.specs.Trees.{Tree, Trees, atom, list, none, more, spelled, spelled_all, offset_of}
-use Rattle.spec_text.proofs.Tests.{other_byte}
+use Rattle.spec_text.proofs.Tests.{symbol_bytes_in_bars}
 use Rattle.spec_text.proofs.Words.{IsWord, HasWords, HaveWords}
 use Rattle.spec_text.proofs.AnswerLaws.{answer, went, require_true}
 use Rattle.spec_text.proofs.ShapeLaws.{Holds}
@@ -22,17 +22,6 @@ use Rattle.spec_terms.specs.Subterms.{roomy_terms}
 use Rattle.spec_scripts.specs.Commands.{Command, SetOption, DeclareConst, Assert, CheckSat, Exit, Verb, sets_option, declares_const, asserts, checks, exits, is_name, set_option, declare_const, alone, command_by, shaped, verb_of, command_as, command_of}
 use Rattle.spec_scripts.specs.Stack.{Stack, is_barred, is_taken, new_name, sort_in, truth_in, with_success, is_known_option, with_symbol, with_assertions, performed, Effect, done, unsupported, check, leave, Taken, step, behind, at_check, stack_at}
 use Rattle.spec_printing.specs.ReadBack.{IsWritable, AreWritable}
-
--- a byte of symbols may stand between bars
-symbol_byte_in_bars : (b : ℕ) → is_symbol_byte b ≡ true → is_in_bars b ≡ true
-symbol_byte_in_bars b h =
-    let no_bar : (b == 124) ≡ false = other_byte is_symbol_byte b 124 h refl in
-    let no_backslash : (b == 92) ≡ false = other_byte is_symbol_byte b 92 h refl in
-    (λ i. not (no_bar i || (no_backslash i || false)))
-
-symbol_bytes_in_bars : (bs : List ℕ) → Consists is_symbol_byte bs → Consists is_in_bars bs
-symbol_bytes_in_bars [] h = tt
-symbol_bytes_in_bars (b ∷ bs) h = (symbol_byte_in_bars b h.0, symbol_bytes_in_bars bs h.1)
 
 -- a symbol's name can be printed
 word_writable : (k : Kind) (n : Name) → IsWord k n → is_symbol k ≡ true → IsWritable n

@@ -13,14 +13,16 @@ use Rattle.spec_terms.specs.Subterms.{fit_in}
 use Rattle.spec_terms.specs.Subsets.{arguments_of, AreAmong, IsClosed}
 use Rattle.spec_terms.proofs.LeastSubterms.{has_room}
 use Rattle.spec_text.proofs.Members.{cases, none as no_member}
+use Rattle.spec_text.proofs.AnswerLaws.{joined}
 use Rattle.spec_scripts.specs.Stack.{term_limit}
 use Rattle.spec_scripts.specs.Current.{AreDeclared}
+use Rattle.spec_scripts.proofs.Later.{none_among}
 use Rattle.spec_proofs.specs.Commands.{Known, Entry, all_symbols}
 use Rattle.spec_proofs.specs.Known.{clause_of, entry_names, is_term_name, premise_of, premises_of}
-use Rattle.spec_proofs.proofs.Steps.{joined, clause_by, known_by}
+use Rattle.spec_proofs.proofs.Steps.{clause_by, known_by}
 use Rattle.spec_printing.specs.Lines.{Reference, assumed, stepped, defined_name, assume_name, step_name, reference_name, row, reference_tree}
 use Rattle.spec_printing.specs.Meaning.{Told, nothing_told, with_definition, with_assume, with_step, numbered, clause_told, ArePremises}
-use Rattle.spec_printing.proofs.Lookups.{extended, not_extended, numbered_push, numbered_within, numbered_next, look_up_push, entry, clause_push, told_apart, entry_unfound, name_unfound, symbol_unfound, head_same, tail_same}
+use Rattle.spec_printing.proofs.Lookups.{extended, not_extended, numbered_push, numbered_within, numbered_next, look_up_push, entry, clause_push, told_apart, entry_unfound, name_unfound, head_same, tail_same}
 use Rattle.spec_printing.proofs.Arguments.{terms_known, ground, ground_closed, closed_more, known_count, kept_unfound}
 
 -- Names with what they stand for, and entries, are those that lines make known.
@@ -82,7 +84,7 @@ module _ (symbols : List Symbol) (told : Told) (names : List (Name × Term)) (en
 
   pub new_definition : AreDeclared symbols → (n : ℕ) → n ≡ length told.terms + 1 → n < 2 ^ 64 → is_term_name (record { symbols = symbols; defined = names }) (defined_name n) ≡ false
   new_definition declared n is small =
-      let free = symbol_unfound symbols (defined_name n) (kept_unfound symbols declared (defined_name n) refl) in
+      let free = none_among symbols (defined_name n) (kept_unfound symbols declared (defined_name n) refl) in
       let new = name_unfound names (defined_name n) (s.terms n small ∙ ap (numbered told.terms) is ∙ numbered_next told.terms) in
       (λ i. free i || new i)
 

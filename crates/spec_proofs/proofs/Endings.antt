@@ -5,6 +5,7 @@ use Rattle.spec_text.specs.Lexemes.{Lexeme, opens, closes}
 use Rattle.spec_text.specs.Trees.{Tree, Trees, atom, list, none, more, spelled, offset_of}
 use Rattle.spec_text.specs.Faults.{Located, nesting_limit, first_fault}
 use Rattle.spec_text.specs.Readings.{depth, IsBroken, AreTrees, kept}
+use Rattle.spec_text.proofs.Stopping.{nothing_begins_no_tree}
 use Rattle.spec_proofs.specs.Texts.{Ending, complete, broken, left_over, EndsRow, EndsBehind, EndsList, AreCommands, begins_listed, proof_lexemes, IsProofText}
 
 -- no tree that may stand behind n open lists is in front
@@ -14,11 +15,6 @@ BeginsNoTree n xs = (t : Tree) (ys : List (ℕ × Lexeme)) → xs ≡ spelled t 
 -- lexemes are read up to one end
 abbrev pub Law : Type 0
 Law = (n : ℕ) (xs rest others : List (ℕ × Lexeme)) (ts us : Trees) → AreTrees n xs ts rest → AreTrees n xs us others → BeginsNoTree n rest → BeginsNoTree n others → (ts ≡ us) × (rest ≡ others)
-
--- no tree stands in front of nothing
-nothing_free : (n : ℕ) → BeginsNoTree n []
-nothing_free n (atom at k bytes) ys e = cc
-nothing_free n (list at ts end) ys e = cc
 
 -- the lexeme in front
 abbrev front_lexeme : List (ℕ × Lexeme) → Lexeme
@@ -50,7 +46,7 @@ one_break : (end n : ℕ) (xs : List (ℕ × Lexeme)) (f g : Located) → IsBrok
 one_break end n xs f g a b = let both : Some f ≡ Some g = sym a.fault ∙ b.fault in cc
 
 row_free : (end : ℕ) (rest : List (ℕ × Lexeme)) (e : Ending) → EndsRow end rest e → BeginsNoTree 0 rest
-row_free end rest complete h = subst (BeginsNoTree 0) (sym h) (nothing_free 0)
+row_free end rest complete h = subst (BeginsNoTree 0) (sym h) (nothing_begins_no_tree 0)
 row_free end rest (broken f) h = h.no_tree
 row_free end rest (left_over at) h = absurd h
 
@@ -71,7 +67,7 @@ left_offset after at h = ap front_offset (h.2.split ∙ append_assoc (spelled h.
 
 left_something : (after : List (ℕ × Lexeme)) (at : ℕ) → IsLeft after at → after ≡ [] → ⊥
 left_something after at h e =
-    let deep = nothing_free 0 h.0 ([] ++ h.1) (sym e ∙ h.2.split ∙ append_assoc (spelled h.0) [] h.1) in
+    let deep = nothing_begins_no_tree 0 h.0 ([] ++ h.1) (sym e ∙ h.2.split ∙ append_assoc (spelled h.0) [] h.1) in
     omega (arith, deep, h.2.within, le-max_left (depth h.0) 0)
 
 left_unbroken : (end : ℕ) (after : List (ℕ × Lexeme)) (at : ℕ) (f : Located) → IsLeft after at → IsBroken end 0 after f → ⊥

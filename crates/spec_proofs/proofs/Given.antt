@@ -2,13 +2,14 @@
 use Rattle.std.proofs.Common.{◌≡◌, suc, Bool, true, false, ◌&&◌, ◌||◌, List, [], ◌∷◌, map, cond, Some, All, Contains, refl, sym, ap, ap₂, ◌∙◌, subst, arith}
 use Rattle.std.specs.Prelude.{filter}
 use Rattle.std.specs.List.{list_any}
-use Rattle.std.proofs.lemmas.Bool.{false≢true}
+use Rattle.std.proofs.lemmas.Bool.{false≢true, and_parts}
 use Rattle.std.proofs.lemmas.List.Elements.{All-head, All-cons, All-nil, All-map, All-contains, filter_passes}
 use Rattle.std.proofs.lemmas.List.Folds.{Any-from_list_any, list_any-from_Any}
 use Rattle.spec_text.specs.Bytes.{Name}
 use Rattle.spec_terms.specs.Terms.{Not, Term, app, nil, cons, same_term}
 use Rattle.spec_terms.specs.Subsets.{arguments_of}
 use Rattle.spec_terms.specs.Literals.{Clause}
+use Rattle.spec_terms.proofs.SameTerms.{one_term, term_itself}
 use Rattle.spec_proofs.specs.declared.Rule.{Rule}
 use Rattle.spec_proofs.specs.declared.Rule.TheVariants as rules
 use Rattle.spec_proofs.specs.RuleNames.{every_rule}
@@ -16,7 +17,6 @@ use Rattle.spec_proofs.specs.Schemes.{Scheme, signed, rests_of, is_formula_of, c
 use Rattle.spec_proofs.specs.RuleNames.{rule_named}
 use Rattle.spec_proofs.specs.Rules.{flipped, IsGiven, IsBy, IsRight}
 use Rattle.spec_proofs.specs.ExamplesRules.{has_scheme, IsOnlyBy, IsByNone}
-use Rattle.spec_proofs.proofs.Same.{both, one_term, term_itself}
 
 -- the clauses have the same terms, in their order
 abbrev pub same_clause : Clause → Clause → Bool
@@ -26,7 +26,7 @@ same_clause _ _ = false
 
 one_clause : (c d : Clause) → same_clause c d ≡ true → c ≡ d
 one_clause [] [] e = refl
-one_clause (t ∷ ts) (u ∷ us) e = let h = both (same_term t u) (same_clause ts us) e in ap₂ (λ (v : Term) (vs : List Term). v ∷ vs) (one_term t u h.0) (one_clause ts us h.1)
+one_clause (t ∷ ts) (u ∷ us) e = let h = and_parts (same_term t u) (same_clause ts us) e in ap₂ (λ (v : Term) (vs : List Term). v ∷ vs) (one_term t u h.0) (one_clause ts us h.1)
 one_clause _ _ e = absurd (false≢true e)
 
 clause_itself : (c : Clause) → same_clause c c ≡ true

@@ -2,12 +2,12 @@
 use Rattle.std.proofs.Common.{◌≡◌, ℕ, List, [], ◌∷◌, ◌++◌, Some, None, inl, inr, refl, sym, ap, subst}
 use Rattle.std.specs.Prelude.{Ok, Err}
 use Rattle.spec_text.specs.Trees.{Tree, Trees, none, more}
+use Rattle.spec_text.proofs.AnswerLaws.{answer, went, joined}
 use Rattle.spec_proofs.specs.Faults.{Fault, Read}
 use Rattle.spec_proofs.specs.Commands.{Known, Command}
 use Rattle.spec_proofs.specs.Known.{command_of}
 use Rattle.spec_proofs.specs.Judging.{with_command, fault_of, IsRightAfter, HasEmptyClause, FaultBy, FirstFault}
 use Rattle.spec_proofs.specs.Good.{commands_in, known_after, AreRight, IsGood}
-use Rattle.spec_proofs.proofs.Steps.{answer, went, joined}
 
 -- the first of a list
 head_is : (c d : Command) (cs ds : List Command) → c ∷ cs ≡ d ∷ ds → c ≡ d

@@ -9,26 +9,21 @@ use Rattle.spec_text.specs.declared.Fault.TheVariants.{BadShape, UnknownSymbol, 
 use Rattle.spec_text.specs.Bytes.{Name}
 use Rattle.spec_text.specs.Answers.{Answer, refused}
 use Rattle.spec_text.specs.Trees.{Tree, Trees, atom, list, none, more}
+use Rattle.spec_text.proofs.AnswerLaws.{answer, went}
 use Rattle.spec_terms.specs.Terms.{Truth, Xor, Implies, Equal, Ite, same_sort, Symbol, Apply, Term, of, terms_of}
-use Rattle.spec_terms.specs.Values.{Value, truth, number, element, is_true, Interpretation, first_fit, table_value, sort_of_value, IsTableOf}
+use Rattle.spec_terms.specs.Values.{Value, truth, is_true, Interpretation, first_fit, table_value, sort_of_value, IsTableOf}
 use Rattle.spec_terms.specs.Lists.{left, right, neighbours, all_pairs}
 use Rattle.spec_terms.specs.Theory.{Rule, look_up, pair, unequal, each_pair, no_term, theory}
 use Rattle.spec_terms.specs.Forms.{Form, malformed, reserved, applies, form}
 use Rattle.spec_terms.specs.Reading.{Scope, symbol_named, applied, applied_as, atom_term, by_form, term_in, terms_in}
 use Rattle.spec_terms.specs.Subterms.{roomy_terms}
 use Rattle.spec_terms.specs.Agreement.{value_at, values_at}
+use Rattle.spec_terms.proofs.General.{truth_of_sort}
 use Rattle.spec_scripts.specs.Stack.{term_limit}
 use Rattle.spec_scripts.specs.Current.{IsDeclared}
 use Rattle.spec_proofs.specs.Clauses.{HasTruth}
 use Rattle.spec_proofs.specs.Commands.{Known}
 use Rattle.spec_proofs.specs.Known.{in_proof, clause_in}
-use Rattle.spec_proofs.proofs.Steps.{answer, went}
-
--- a value of sort Bool is a truth value
-truth_of_sort : (v : Value) → same_sort Truth (sort_of_value v) ≡ true → (b : Bool) × (v ≡ truth b)
-truth_of_sort (truth b) e = (b, refl)
-truth_of_sort (number q) e = let no : false ≡ true = e in cc
-truth_of_sort (element s k) e = let no : false ≡ true = e in cc
 
 module _ (i : Interpretation) where
   -- a symbol has a truth value before any arguments
@@ -70,7 +65,7 @@ module _ (i : Interpretation) where
   each_truth g f (p ∷ q ∷ qs) = (_, refl)
 
   -- one of two terms has a truth value where both have
-  chosen_truth : (c : Bool) (t u : Term) → HasTruth i t → HasTruth i u → (b : Bool) × (cond c (value_at i t) (value_at i u) ≡ truth b)
+  pub chosen_truth : (c : Bool) (t u : Term) → HasTruth i t → HasTruth i u → (b : Bool) × (cond c (value_at i t) (value_at i u) ≡ truth b)
   chosen_truth true t u h k = h
   chosen_truth false t u h k = k
 

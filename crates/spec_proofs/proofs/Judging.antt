@@ -6,6 +6,7 @@ use Rattle.std.proofs.lemmas.Bool.{false≢true}
 use Rattle.std.proofs.lemmas.List.Elements.{All-head, All-tail, All-cons, All-nil, All-push, All-contains}
 use Rattle.spec_text.specs.Bytes.{Name}
 use Rattle.spec_text.specs.Trees.{Tree, Trees, atom, list, none, more}
+use Rattle.spec_text.proofs.AnswerLaws.{answer, went, in_turn}
 use Rattle.spec_terms.specs.Terms.{Term}
 use Rattle.spec_scripts.specs.Stack.{sort_in}
 use Rattle.spec_terms.specs.Values.{Interpretation}
@@ -19,7 +20,7 @@ use Rattle.spec_proofs.specs.Commands.{Known, Entry, Command, Assume, Step, Defi
 use Rattle.spec_proofs.specs.Known.{clause_of, fresh_name, new_term_name, in_proof, clause_in, known_rule, premise_of, premises_of, term_alone, name_room, read_shape, shaped, command_of}
 use Rattle.spec_proofs.specs.Judging.{with_command, fault_of, IsRightAfter, HasEmptyClause, EndsBy, FaultBy, FirstFault}
 use Rattle.spec_proofs.proofs.HasTruths.{IsMeant, GivesTruths, clause_truths}
-use Rattle.spec_proofs.proofs.Steps.{answer, went, in_turn, clause_by, known_by}
+use Rattle.spec_proofs.proofs.Steps.{clause_by, known_by}
 
 module _ (i : Interpretation) where
   abbrev IsTrue : Clause → Type 0

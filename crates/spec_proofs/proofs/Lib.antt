@@ -9,7 +9,6 @@ pub mod HasTruths
 pub mod Judging
 pub mod Endings
 pub mod Models
-pub mod Same
 pub mod Refuting
 pub mod Given
 pub mod Verdicts

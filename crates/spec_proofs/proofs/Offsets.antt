@@ -1,21 +1,21 @@
 -- The fault of a proof's command stands at an offset of its text, and the first fault of commands in theirs.
 use Rattle.std.proofs.Common.{◌≡◌, ℕ, Bool, true, false, cond, List, [], ◌∷◌, Option, Some, None, inl, inr, refl, sym, subst}
-use Rattle.std.specs.Prelude.{Ok, Err, codes, nat_lt, ◌+◌, length}
-use Rattle.std.specs.Str.{bytes_eq}
-use Rattle.spec_text.specs.declared.Fault.{Fault as TextFault}
-use Rattle.spec_text.specs.declared.Fault.TheVariants.{UnknownSort, Reserved, Full}
-use Rattle.spec_text.specs.declared.Kind.TheVariants.{Numeral, Decimal, Text, Simple, Quoted, Reserved as word_kind, Keyword}
-use Rattle.spec_text.specs.Bytes.{Name, among}
+use Rattle.std.specs.Prelude.{Ok, Err, nat_lt, ◌+◌, length}
+use Rattle.spec_text.specs.declared.Fault.TheVariants.{Reserved, Full}
+use Rattle.spec_text.specs.Bytes.{among}
 use Rattle.spec_text.specs.Faults.{Located}
 use Rattle.spec_text.specs.Shapes.{Word, is_reserved}
-use Rattle.spec_text.specs.Answers.{Answer, ◌>>=◌, refused, require}
-use Rattle.spec_text.specs.Trees.{Tree, Trees, atom, list, none, more, offset_of}
+use Rattle.spec_text.specs.Answers.{Answer, ◌>>=◌, require}
+use Rattle.spec_text.specs.Trees.{Tree, Trees, atom, list, none, more}
 use Rattle.spec_text.specs.Offsets.{AllOffsets, AllOffsetsOf, HasOffset, HaveOffset, at_offset_of, own_offsets}
-use Rattle.spec_terms.specs.Terms.{Truth, Term}
+use Rattle.spec_text.proofs.AnswerLaws.{own_offset, Stands as TermsStand, stands as terms_stand, stands_in_turn as terms_in_turn, require_stands}
+use Rattle.spec_text.proofs.ShapeLaws.{Holds}
+use Rattle.spec_terms.specs.Terms.{Term}
 use Rattle.spec_terms.specs.Literals.{Clause}
 use Rattle.spec_terms.specs.Reading.{Scope, terms_in}
 use Rattle.spec_terms.specs.Subterms.{fit_in, roomy_terms}
-use Rattle.spec_scripts.specs.Stack.{term_limit, sort_named, sort_in}
+use Rattle.spec_scripts.specs.Stack.{term_limit, sort_in}
+use Rattle.spec_scripts.proofs.Offsets.{sort_stands}
 use Rattle.spec_proofs.specs.declared.Rule.{Rule}
 use Rattle.spec_proofs.specs.declared.ProofKind.TheVariants.{TwiceName, UnknownRule, Term as in_term}
 use Rattle.spec_proofs.specs.RuleNames.{rule_named}
@@ -24,19 +24,14 @@ use Rattle.spec_proofs.specs.Commands.{Known, Command, Shape, assumes, steps, de
 use Rattle.spec_proofs.specs.Known.{clause_of, entry_names, fresh_name, is_term_name, new_term_name, in_proof, clause_in, known_rule, premise_of, premises_of, term_alone, name_room, read_shape, shaped, command_of}
 use Rattle.spec_proofs.specs.Judging.{with_command, fault_of, FaultBy, FirstFault}
 use Rattle.spec_proofs.proofs.Steps.{clause_by, known_by}
-use Rattle.spec_proofs.proofs.Parts.{Holds, ShapeStands, shape_stands}
-
--- a tree's own offset is one of all
-pub own_offset : (P : ℕ → Type 0) (t : Tree) → AllOffsets P t → P (offset_of t)
-own_offset P (atom at k bytes) h = h
-own_offset P (list at ts end) h = h.0
+use Rattle.spec_proofs.proofs.Parts.{ShapeStands, shape_stands}
 
 -- the rule of a name
-abbrev rule_by : ℕ → Option Rule → Read Rule
+abbrev pub rule_by : ℕ → Option Rule → Read Rule
 rule_by at (Some r) = Ok r
 rule_by at None = wrong at UnknownRule
 
-rule_known : (w : Word) → known_rule w ≡ rule_by w.at (rule_named w.bytes)
+pub rule_known : (w : Word) → known_rule w ≡ rule_by w.at (rule_named w.bytes)
 unfolding known_rule
 rule_known w = refl
 
@@ -63,26 +58,7 @@ module _ (P : ℕ → Type 0) where
   stands_in_turn : {A B : Type 0} (R : B → Type 0) (a : Read A) (f : A → Read B) → Stands a → ((x : A) → Gives R (f x)) → Gives R (a >>= f)
   stands_in_turn R a f h g = gives_in_turn (λ _. Unit {0}) R a f h (λ x _. g x)
 
-  -- the same of what is read of terms
-  abbrev TermsStand : {A : Type 0} → Answer A → Type 0
-  TermsStand (Ok a) = Unit {0}
-  TermsStand (Err f) = P f.offset
-
-  terms_in_turn : {A B : Type 0} (a : Answer A) (f : A → Answer B) → TermsStand a → ((x : A) → TermsStand (f x)) → TermsStand (a >>= f)
-  unfolding ◌>>=◌
-  terms_in_turn (Ok x) f h g = g x
-  terms_in_turn (Err e) f h g = h
-
-  terms_stand : {A : Type 0} (a : Answer A) → ((f : Located) → a ≡ Err f → P f.offset) → TermsStand a
-  terms_stand (Ok x) h = tt
-  terms_stand (Err f) h = h f refl
-
-  require_stands : (b : Bool) (at : ℕ) (f : TextFault) → P at → TermsStand (require b at f)
-  unfolding require
-  require_stands true at f h = tt
-  require_stands false at f h = h
-
-  in_proof_stands : {A : Type 0} (a : Answer A) → TermsStand a → Stands (in_proof a)
+  in_proof_stands : {A : Type 0} (a : Answer A) → TermsStand P a → Stands (in_proof a)
   unfolding in_proof
   in_proof_stands (Ok a) h = tt
   in_proof_stands (Err f) h = h
@@ -104,25 +80,8 @@ module _ (P : ℕ → Type 0) where
       go false true = h
       go false false = tt
 
-  named_sort_stands : (at : ℕ) (n : Name) → P at → TermsStand (sort_named at n)
-  named_sort_stands at n h = go (bytes_eq n (codes "Bool"))
-    where
-      go : (b : Bool) → TermsStand (cond b (Ok Truth) (refused at UnknownSort))
-      go true = tt
-      go false = h
-
-  sort_stands : (t : Tree) → AllOffsets P t → TermsStand (sort_in t)
-  sort_stands (list at ts end) h = h.0
-  sort_stands (atom at Simple n) h = named_sort_stands at n h
-  sort_stands (atom at Quoted n) h = named_sort_stands at n h
-  sort_stands (atom at word_kind n) h = h
-  sort_stands (atom at Numeral n) h = h
-  sort_stands (atom at Decimal n) h = h
-  sort_stands (atom at Text n) h = h
-  sort_stands (atom at Keyword n) h = h
-
   room_stands : (k : Known) (at : ℕ) → P at → Stands (name_room k at)
-  room_stands k at h = in_proof_stands (require (nat_lt (length k.scope.symbols + length k.scope.defined) term_limit) at Full) (require_stands _ at Full h)
+  room_stands k at h = in_proof_stands (require (nat_lt (length k.scope.symbols + length k.scope.defined) term_limit) at Full) (require_stands P _ at Full h)
 
   rule_stands : (w : Word) → P w.at → Stands (known_rule w)
   rule_stands w h = subst Stands (sym (rule_known w)) (go (rule_named w.bytes))
@@ -166,8 +125,8 @@ module _ (P : ℕ → Type 0) where
     clause_stands : (k : Known) (at : ℕ) (ts : Trees) → P at → AllOffsetsOf P ts → Stands (clause_in k at ts)
     unfolding roomy_terms
     clause_stands k at ts here h = in_proof_stands (roomy_terms k.scope term_limit at ts) (
-        terms_in_turn (terms_in k.scope ts) _ (terms_stand (terms_in k.scope ts) λ f e. at_offset_of P ts f.offset h (law k.scope ts f e)) λ us.
-        terms_in_turn (require (fit_in term_limit us) at Full) _ (require_stands _ at Full here) λ fits. tt)
+        terms_in_turn P (terms_in k.scope ts) _ (terms_stand P (terms_in k.scope ts) λ f e. at_offset_of P ts f.offset h (law k.scope ts f e)) λ us.
+        terms_in_turn P (require (fit_in term_limit us) at Full) _ (require_stands P _ at Full here) λ fits. tt)
 
     read_stands : (k : Known) (at : ℕ) (s : Shape) → P at → ShapeStands P s → Gives CommandStands (read_shape k at s)
     unfolding read_shape
@@ -182,7 +141,7 @@ module _ (P : ℕ → Type 0) where
         stands_in_turn CommandStands (premises_of k ps) _ (premises_stand k ps h.3) λ qs. here
     read_stands k at (defines f s t) here h =
         stands_in_turn CommandStands (new_term_name k f) _ (term_name_stands k f h.0) λ n.
-        stands_in_turn CommandStands (in_proof (sort_in s)) _ (in_proof_stands (sort_in s) (sort_stands s h.1)) λ sort.
+        stands_in_turn CommandStands (in_proof (sort_in s)) _ (in_proof_stands (sort_in s) (sort_stands P s h.1)) λ sort.
         stands_in_turn CommandStands (clause_in k at (more t none)) _ (clause_stands k at (more t none) here (h.2, tt)) λ us.
         stands_in_turn CommandStands (term_alone at us) _ (alone_stands at us here) λ u.
         stands_in_turn CommandStands (name_room k at) _ (room_stands k at here) λ room. here

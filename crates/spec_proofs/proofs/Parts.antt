@@ -6,22 +6,13 @@ use Rattle.spec_text.specs.Bytes.{Name}
 use Rattle.spec_text.specs.Shapes.{◌>>=◌, Word, passes, first_word, first_list, only_tree, no_tree, is_symbol, is_keyword, is_word, wanted}
 use Rattle.spec_text.specs.Trees.{Tree, Trees, atom, list, none, more}
 use Rattle.spec_text.specs.Offsets.{AllOffsets, AllOffsetsOf}
+use Rattle.spec_text.proofs.ShapeLaws.{Holds, holds_in_turn, tree_stands, FrontStands, word_stands}
 use Rattle.spec_scripts.specs.Commands.{is_name}
 use Rattle.spec_proofs.specs.Commands.{Shape, assumes, steps, defines, Parts, no_parts, symbol_in, list_in, all_symbols, symbols_in, is_new, with_rule, with_premises, with_args, with_discharge, with_part, parts_of, or_none, assume_shape, step_shape, first_tree, define_shape, is_definition, shape_of}
-
--- what there is has a property
-abbrev pub Holds : {A : Type 0} → (A → Type 0) → Option A → Type 0
-Holds Q None = Unit {0}
-Holds Q (Some a) = Q a
 
 -- anything
 abbrev Anything : {A : Type 0} → A → Type 0
 Anything a = Unit {0}
-
--- and so it is in two steps, where it is in each
-holds_in_turn : {A B : Type 0} (Q : A → Type 0) (R : B → Type 0) (o : Option A) (f : A → Option B) → Holds Q o → ((a : A) → Q a → Holds R (f a)) → Holds R (o >>= f)
-holds_in_turn Q R None f h g = tt
-holds_in_turn Q R (Some a) f h g = g a h
 
 any_holds : {A : Type 0} (o : Option A) → Holds Anything o
 any_holds None = tt
@@ -40,15 +31,6 @@ module _ (P : ℕ → Type 0) where
   abbrev WordStands : Word → Type 0
   WordStands w = P w.at
 
-  -- and so have those of what follows it
-  abbrev FrontStands : Word × Trees → Type 0
-  FrontStands x = P x.0.at × AllOffsetsOf P x.1
-
-  word_stands : (ts : Trees) → AllOffsetsOf P ts → Holds FrontStands (first_word ts)
-  word_stands none h = tt
-  word_stands (more (atom at k bytes) ts) h = h
-  word_stands (more (list at us end) ts) h = tt
-
   -- a list and what follows it
   abbrev ListStands : Trees × Trees → Type 0
   ListStands x = AllOffsetsOf P x.0 × AllOffsetsOf P x.1
@@ -65,11 +47,6 @@ module _ (P : ℕ → Type 0) where
   first_stands : (ts : Trees) → AllOffsetsOf P ts → Holds TreeStands (first_tree ts)
   first_stands none h = tt
   first_stands (more t ts) h = h
-
-  tree_stands : (ts : Trees) → AllOffsetsOf P ts → Holds (AllOffsets P) (only_tree ts)
-  tree_stands none h = tt
-  tree_stands (more t none) h = h.0
-  tree_stands (more t (more u us)) h = tt
 
   -- what the keywords of a step say stands at offsets with the property
   record PartsStand (p : Parts) : Type 0 where
@@ -139,17 +116,17 @@ module _ (P : ℕ → Type 0) where
   assume_stands : (ts : Trees) → AllOffsetsOf P ts → Holds ShapeStands (assume_shape ts)
   unfolding assume_shape
   assume_stands ts h =
-      holds_in_turn FrontStands ShapeStands (first_word ts) _ (word_stands ts h) λ w front.
+      holds_in_turn (FrontStands P) ShapeStands (first_word ts) _ (word_stands P ts h) λ w front.
       tested ShapeStands (is_symbol w.0.kind) _ λ named.
-      holds_in_turn (AllOffsets P) ShapeStands (only_tree w.1) _ (tree_stands w.1 front.1) λ t k. (front.0, k)
+      holds_in_turn (AllOffsets P) ShapeStands (only_tree w.1) _ (tree_stands P w.1 front.1) λ t k. (front.0, k)
 
   step_stands : (ts : Trees) → AllOffsetsOf P ts → Holds ShapeStands (step_shape ts)
   unfolding step_shape
   step_stands ts h =
-      holds_in_turn FrontStands ShapeStands (first_word ts) _ (word_stands ts h) λ i front.
+      holds_in_turn (FrontStands P) ShapeStands (first_word ts) _ (word_stands P ts h) λ i front.
       tested ShapeStands (is_symbol i.0.kind) _ λ named.
       holds_in_turn ListStands ShapeStands (first_list i.1) _ (list_stands i.1 front.1) λ c inside.
-      holds_in_turn FrontStands ShapeStands (first_word c.0) _ (word_stands c.0 inside.0) λ cl literals.
+      holds_in_turn (FrontStands P) ShapeStands (first_word c.0) _ (word_stands P c.0 inside.0) λ cl literals.
       holds_in_turn Anything ShapeStands (wanted (codes "cl") cl.0) _ (any_holds (wanted (codes "cl") cl.0)) λ is_cl _.
       holds_in_turn PartsStand ShapeStands (parts_of no_parts c.1) _ (all_parts_stand no_parts c.1 inside.1 (record { rule = tt; premises = tt })) λ p parts.
       holds_in_turn WordStands ShapeStands p.rule _ parts.rule λ r k. (front.0, literals.1, k, given_stand p.premises parts.premises)
@@ -157,17 +134,17 @@ module _ (P : ℕ → Type 0) where
   define_stands : (ts : Trees) → AllOffsetsOf P ts → Holds ShapeStands (define_shape ts)
   unfolding define_shape
   define_stands ts h =
-      holds_in_turn FrontStands ShapeStands (first_word ts) _ (word_stands ts h) λ f front.
+      holds_in_turn (FrontStands P) ShapeStands (first_word ts) _ (word_stands P ts h) λ f front.
       tested ShapeStands (is_name f.0.kind) _ λ named.
       holds_in_turn ListStands ShapeStands (first_list f.1) _ (list_stands f.1 front.1) λ parameters inside.
       holds_in_turn Anything ShapeStands (no_tree parameters.0) _ (any_holds (no_tree parameters.0)) λ no_parameter _.
       holds_in_turn TreeStands ShapeStands (first_tree parameters.1) _ (first_stands parameters.1 inside.1) λ s sort.
-      holds_in_turn (AllOffsets P) ShapeStands (only_tree s.1) _ (tree_stands s.1 sort.1) λ t k. (front.0, sort.0, k)
+      holds_in_turn (AllOffsets P) ShapeStands (only_tree s.1) _ (tree_stands P s.1 sort.1) λ t k. (front.0, sort.0, k)
 
   pub shape_stands : (ts : Trees) → AllOffsetsOf P ts → Holds ShapeStands (shape_of ts)
   unfolding shape_of
   shape_stands ts h =
-      holds_in_turn FrontStands ShapeStands (first_word ts) _ (word_stands ts h) λ w front.
+      holds_in_turn (FrontStands P) ShapeStands (first_word ts) _ (word_stands P ts h) λ w front.
       either ShapeStands (is_word (codes "assume") w.0) _ _ (assume_stands w.1 front.1) (
       either ShapeStands (is_word (codes "step") w.0) _ _ (step_stands w.1 front.1) (
       either ShapeStands (is_definition w.0) _ _ (define_stands w.1 front.1) tt))

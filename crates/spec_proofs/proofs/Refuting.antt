@@ -2,7 +2,7 @@
 use Rattle.std.proofs.Common.{◌≡◌, ℕ, Bool, true, false, not, ◌&&◌, ◌⊎◌, List, [], ◌∷◌, codes, cond, All, Contains, get_or, inl, inr, refl, sym, ap, ◌∙◌, subst, arith}
 use Rattle.std.specs.Prelude.{Ok}
 use Rattle.std.specs.List.{list_any}
-use Rattle.std.proofs.lemmas.Bool.{false≢true}
+use Rattle.std.proofs.lemmas.Bool.{false≢true, and_parts}
 use Rattle.std.proofs.lemmas.List.Elements.{All-nil, All-cons, All-contains}
 use Rattle.std.proofs.lemmas.List.Folds.{Any-from_list_any, list_any_at}
 use Rattle.spec_text.specs.declared.Kind.TheVariants.{Simple, Keyword}
@@ -11,10 +11,13 @@ use Rattle.spec_text.specs.Bytes.{Name}
 use Rattle.spec_text.specs.Shapes.{Word}
 use Rattle.spec_text.specs.Answers.{◌>>=◌, require}
 use Rattle.spec_text.specs.Trees.{Tree, Trees, atom, list, none, more, offset_of}
+use Rattle.spec_text.proofs.Members.{first, later, to_image}
+use Rattle.spec_text.proofs.AnswerLaws.{joined}
 use Rattle.spec_terms.specs.Terms.{Symbol, Term, same_term}
 use Rattle.spec_terms.specs.Reading.{Scope, scope_of, term_in, terms_in}
 use Rattle.spec_terms.specs.Subterms.{fit_in, roomy_terms}
 use Rattle.spec_terms.specs.Literals.{Literal, complement, literal_of}
+use Rattle.spec_terms.proofs.SameTerms.{one_term, term_itself}
 use Rattle.spec_scripts.specs.Stack.{Stack, Assertion, term_limit}
 use Rattle.spec_scripts.specs.Current.{IsReadUnder, IsReadStack}
 use Rattle.spec_proofs.specs.declared.Rule.TheVariants.{Resolution}
@@ -25,11 +28,8 @@ use Rattle.spec_proofs.specs.Commands.{Known, Assume, Step, known_at, shape_of, 
 use Rattle.spec_proofs.specs.Known.{fresh_name, in_proof, clause_in, known_rule, known_clause, premise_of, premises_of, term_alone, read_shape, shaped, command_of}
 use Rattle.spec_proofs.specs.Judging.{with_command}
 use Rattle.spec_proofs.specs.Good.{IsGood}
-use Rattle.spec_proofs.proofs.Chains.{in_front, behind, mapped}
 use Rattle.spec_proofs.proofs.Good.{good_end, good_step}
 use Rattle.spec_proofs.proofs.Resolution.{sure}
-use Rattle.spec_proofs.proofs.Same.{both, one_term, term_itself}
-use Rattle.spec_proofs.proofs.Steps.{joined}
 
 -- the term of an assertion without its nots, and whether it is meant positively
 abbrev atom_of : Assertion → Term
@@ -89,7 +89,7 @@ opposed xs never =
         absurd (false≢true (sym x.1 ∙ list_any_at (asserts t) xs here.0 a here.1 (ap (asserts t) here.2 ∙ itself)))
     go a here (inr x) =
         let b = Any-from_list_any (asserts (atom_of a)) xs x.1 in
-        let tests = both (sign_of b.1) (same_term (atom_of b.1) (atom_of a)) b.4 in
+        let tests = and_parts (sign_of b.1) (same_term (atom_of b.1) (atom_of a)) b.4 in
         record {
           one = b.1;
           two = a;
@@ -106,7 +106,7 @@ one_literal l m e f = λ i. record { atom = e i; positive = f i }
 
 -- a clause of one literal gives it
 alone : (premises : List (List Literal)) (l : Literal) → Contains premises (l ∷ []) → Derives complement premises [] l
-alone premises l here = unit (l ∷ []) l here (in_front l []) (λ m within differs. absurd (differs (All-contains (λ x. x ≡ l) (l ∷ []) m (All-cons (λ x. x ≡ l) l [] refl (All-nil (λ x. x ≡ l))) within)))
+alone premises l here = unit (l ∷ []) l here (first l []) (λ m within differs. absurd (differs (All-contains (λ x. x ≡ l) (l ∷ []) m (All-cons (λ x. x ≡ l) l [] refl (All-nil (λ x. x ≡ l))) within)))
 
 -- from a literal and its complement the empty clause follows
 empty_follows : (u w : Term) → literal_of w ≡ complement (literal_of u) → IsResolvent ((u ∷ []) ∷ (w ∷ []) ∷ []) []
@@ -114,7 +114,7 @@ empty_follows u w e =
     let l = literal_of u in
     let m = literal_of w in
     let premises = (l ∷ []) ∷ (m ∷ []) ∷ [] in
-    both_ways l (alone premises l (in_front (l ∷ []) ((m ∷ []) ∷ []))) (subst (Derives complement premises []) e (alone premises m (behind (l ∷ []) (m ∷ []) ((m ∷ []) ∷ []) (in_front (m ∷ []) []))))
+    both_ways l (alone premises l (first (l ∷ []) ((m ∷ []) ∷ []))) (subst (Derives complement premises []) e (alone premises m (later (l ∷ []) ((m ∷ []) ∷ []) (m ∷ []) (first (m ∷ []) []))))
 
 -- a symbol at the start
 abbrev named : Name → Word
@@ -169,8 +169,8 @@ opposed_good s read room o =
     let term : Assertion → Term = λ x. x.term in
     let end = good_end (with_command after_two third) (2, record { name = codes "c"; clause = [] }, omega arith, refl, refl) in
     let last = good_step after_two resolved none third (resolved_reads ss k.asserted a.term b.term) (empty_follows a.term b.term opposite) end in
-    let middle = good_step after_one (assumed (codes "b") b.text) (more resolved none) two (assumed_reads after_one (codes "b") b.text b.term refl reads_b room_b) (mapped term b xs o.has_two) last in
-    (more (assumed (codes "a") a.text) (more (assumed (codes "b") b.text) (more resolved none)), good_step k (assumed (codes "a") a.text) (more (assumed (codes "b") b.text) (more resolved none)) one (assumed_reads k (codes "a") a.text a.term refl reads_a room_a) (mapped term a xs o.has_one) middle)
+    let middle = good_step after_one (assumed (codes "b") b.text) (more resolved none) two (assumed_reads after_one (codes "b") b.text b.term refl reads_b room_b) (to_image term xs b o.has_two) last in
+    (more (assumed (codes "a") a.text) (more (assumed (codes "b") b.text) (more resolved none)), good_step k (assumed (codes "a") a.text) (more (assumed (codes "b") b.text) (more resolved none)) one (assumed_reads k (codes "a") a.text a.term refl reads_a room_a) (to_image term xs a o.has_one) middle)
 
 -- where no truths make all assertions true, there is a good proof
 pub refuted : (s : Stack) → IsReadStack s → All HasRoom s.assertions → ((v : Truths) → All (λ (a : Assertion). term_true_by v a.term ≡ true) s.assertions → ⊥) → (ts : Trees) × IsGood (known_at s) ts

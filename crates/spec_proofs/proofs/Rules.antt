@@ -3,6 +3,7 @@ use Rattle.std.proofs.Common.{◌≡◌, Bool, true, false, not, ◌&&◌, ◌||
 use Rattle.std.proofs.lemmas.Bool.{false≢true}
 use Rattle.std.proofs.lemmas.List.Elements.{All-head, All-tail}
 use Rattle.std.proofs.lemmas.List.Folds.{Any-from_list_any, list_any_at}
+use Rattle.std.proofs.Math.Bool.{or-false}
 use Rattle.spec_terms.specs.Terms.{Not, Or, Term, Terms, app, nil, cons, list_of}
 use Rattle.spec_terms.specs.Values.{Interpretation, any_true}
 use Rattle.spec_terms.specs.Literals.{Clause, literal_of}
@@ -19,10 +20,6 @@ use Rattle.spec_proofs.proofs.Schemes.{IsSound, IsSoundKind, kind_sound, given_t
 and_true : (b : Bool) → b && true ≡ b
 and_true true = refl
 and_true false = refl
-
-or_false : (b : Bool) → b || false ≡ b
-or_false true = refl
-or_false false = refl
 
 module _ (i : Interpretation) where
   -- a clause that is true
@@ -57,7 +54,7 @@ module _ (i : Interpretation) where
 
   or_true : (premises : List Clause) (clause : Clause) → All IsTrue premises → IsOr premises clause → IsTrue clause
   unfolding value_at
-  or_true ((app Or ts ∷ []) ∷ []) clause each right = within_true (list_of ts) clause right (sym (one_argument ts) ∙ sym (or_false (any_true (values_at i ts))) ∙ All-head IsTrue (app Or ts ∷ []) [] each)
+  or_true ((app Or ts ∷ []) ∷ []) clause each right = within_true (list_of ts) clause right (sym (one_argument ts) ∙ sym (or-false (any_true (values_at i ts))) ∙ All-head IsTrue (app Or ts ∷ []) [] each)
   or_true _ clause each right = absurd right
 
   pub weakening_true : (premises : List Clause) (clause : Clause) → All IsTrue premises → IsWeakening premises clause → IsTrue clause
@@ -83,7 +80,7 @@ module _ (i : Interpretation) where
   stated_true s sound (_ ∷ _) clause truths right = absurd right
 
   turned_true : (s : Scheme) → IsSound i s → (premises : List Clause) (clause : Clause) → All IsTrue premises → All (HasTruth i) clause → IsTurned s premises clause → IsTrue clause
-  turned_true s sound ((u ∷ []) ∷ []) clause each truths right = remaining (term_true i u) (term_true i (flipped u)) (clause_true i clause) (sym (or_false (term_true i u)) ∙ All-head IsTrue (u ∷ []) [] each) (flipped_true u) (given_true i s sound right.0 (flipped u) clause right.1 truths)
+  turned_true s sound ((u ∷ []) ∷ []) clause each truths right = remaining (term_true i u) (term_true i (flipped u)) (clause_true i clause) (sym (or-false (term_true i u)) ∙ All-head IsTrue (u ∷ []) [] each) (flipped_true u) (given_true i s sound right.0 (flipped u) clause right.1 truths)
     where
       remaining : (x y c : Bool) → x ≡ true → y ≡ not x → y || c ≡ true → c ≡ true
       remaining x true c e f h = absurd (false≢true (sym (f ∙ ap not e)))

@@ -3,6 +3,7 @@ use Rattle.std.proofs.Common.{◌≡◌, Bool, true, false, not, ◌&&◌, ◌||
 use Rattle.std.specs.Prelude.{Contains}
 use Rattle.std.proofs.lemmas.Bool.{false≢true, and_parts}
 use Rattle.std.proofs.lemmas.List.Elements.{All-head, All-tail, All-cons, All-nil, All-map, All-contains}
+use Rattle.std.proofs.Math.Bool.{or-true}
 use Rattle.spec_terms.specs.Terms.{Sort, Truth, Head, True, False, Not, And, Or, Xor, Implies, Equal, Ite, Apply, same_head, Term, Terms, app, nil, cons, list_of, negated, sort_of, head_takes, all_same}
 use Rattle.spec_terms.specs.Values.{Value, truth, number, element, same_value, is_true, all_true, any_true, different, Interpretation}
 use Rattle.spec_terms.specs.Literals.{Clause}
@@ -22,11 +23,6 @@ by_two f t u v w true true = t
 by_two f t u v w true false = u
 by_two f t u v w false true = v
 by_two f t u v w false false = w
-
--- a disjunction whose second part is true
-or_true : (b : Bool) → b || true ≡ true
-or_true true = refl
-or_true false = refl
 
 -- one that is true, or else the other is
 or_else : (b c : Bool) → (b ≡ true → c ≡ true) → not (b && true) || c ≡ true
@@ -48,9 +44,9 @@ true_alike (truth true) (truth true) = refl
 true_alike (truth true) (truth false) = refl
 true_alike (truth true) (number q) = refl
 true_alike (truth true) (element s k) = refl
-true_alike (truth false) w = or_true (same_value (truth false) w)
-true_alike (number p) w = or_true (same_value (number p) w)
-true_alike (element s k) w = or_true (same_value (element s k) w)
+true_alike (truth false) w = or-true (same_value (truth false) w)
+true_alike (number p) w = or-true (same_value (number p) w)
+true_alike (element s k) w = or-true (same_value (element s k) w)
 
 -- truth values neither of which is true are the same
 false_alike : (v w : Value) (x y : Bool) → v ≡ truth x → w ≡ truth y → same_value v w || (is_true v || (is_true w || false)) ≡ true
@@ -58,20 +54,20 @@ false_alike v w x y e f = subst (λ u. same_value u w || (is_true u || (is_true 
 
 -- what is chosen is the third value where the first is not true, and else the second
 chosen_pos1 : (c : Bool) (v w : Value) → not (is_true (cond c v w) && true) || (c || (is_true w || false)) ≡ true
-chosen_pos1 true v w = or_true (not (is_true v && true))
+chosen_pos1 true v w = or-true (not (is_true v && true))
 chosen_pos1 false v w = by_one (λ y. not (y && true) || (y || false)) refl refl (is_true w)
 
 chosen_pos2 : (c : Bool) (v w : Value) → not (is_true (cond c v w) && true) || (not (c && true) || (is_true v || false)) ≡ true
 chosen_pos2 true v w = by_one (λ x. not (x && true) || (x || false)) refl refl (is_true v)
-chosen_pos2 false v w = or_true (not (is_true w && true))
+chosen_pos2 false v w = or-true (not (is_true w && true))
 
 chosen_neg1 : (c : Bool) (v w : Value) → is_true (cond c v w) || (c || (not (is_true w && true) || false)) ≡ true
-chosen_neg1 true v w = or_true (is_true v)
+chosen_neg1 true v w = or-true (is_true v)
 chosen_neg1 false v w = by_one (λ y. y || (not (y && true) || false)) refl refl (is_true w)
 
 chosen_neg2 : (c : Bool) (v w : Value) → is_true (cond c v w) || (not (c && true) || (not (is_true v && true) || false)) ≡ true
 chosen_neg2 true v w = by_one (λ x. x || (not (x && true) || false)) refl refl (is_true v)
-chosen_neg2 false v w = or_true (is_true w)
+chosen_neg2 false v w = or-true (is_true w)
 
 -- two sorts, and three
 abbrev pub AreTwo : List Sort → Type 0
@@ -215,7 +211,7 @@ module _ (i : Interpretation) where
     where
       first : (x a : Bool) → (x || a) || (not (x && true) || false) ≡ true
       first true a = refl
-      first false a = or_true a
+      first false a = or-true a
 
       later : (x a c : Bool) → a || c ≡ true → (x || a) || c ≡ true
       later true a c h = refl

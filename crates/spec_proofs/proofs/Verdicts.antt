@@ -76,7 +76,7 @@ two : (b : Bool) → All (λ m. m ≡ literal b) (literal b ∷ literal b ∷ []
 two b = All-cons (λ m. m ≡ literal b) (literal b) (literal b ∷ []) refl (one b)
 
 -- two opposed literals
-units_resolve : IsResolvent ((p ∷ []) ∷ (negated p ∷ []) ∷ []) []
+pub units_resolve : IsResolvent ((p ∷ []) ∷ (negated p ∷ []) ∷ []) []
 unfolding literal_of
 units_resolve =
     let premises = (literal true ∷ []) ∷ (literal false ∷ []) ∷ [] in

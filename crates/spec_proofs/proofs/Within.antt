@@ -9,13 +9,14 @@ use Rattle.spec_text.specs.Shapes.{is_symbol}
 use Rattle.spec_text.specs.Offsets.{AllOffsetsOf, weaker_offsets_of}
 use Rattle.spec_text.specs.Faults.{Located, nesting_limit, first_fault}
 use Rattle.spec_text.specs.Readings.{IsBroken, text_limit, kept, is_long, is_of_end, too_long, at_limit}
+use Rattle.spec_text.proofs.AnswerLaws.{own_offset}
+use Rattle.spec_text.proofs.ShapeLaws.{Holds}
 use Rattle.spec_scripts.specs.Stack.{Stack}
 use Rattle.spec_proofs.specs.Faults.{Fault}
 use Rattle.spec_proofs.specs.Commands.{known_at}
 use Rattle.spec_proofs.specs.Texts.{behind_unsat, begins_listed, Ending, complete, broken, left_over, EndsRow, EndsBehind, EndsList, AreCommands, proof_lexemes, ending_fault}
 use Rattle.spec_proofs.specs.Accepted.{IsJudged, IsVerdict, no_such_check}
-use Rattle.spec_proofs.proofs.Parts.{Holds}
-use Rattle.spec_proofs.proofs.Offsets.{TermLaw, own_offset, first_stands}
+use Rattle.spec_proofs.proofs.Offsets.{TermLaw, first_stands}
 
 -- that trees stand in their text, and first faults
 abbrev pub TreesLaw : Type 0

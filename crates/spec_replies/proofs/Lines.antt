@@ -1,9 +1,10 @@
 -- The line of a constant of sort Bool, piece by piece.
-use Rattle.std.proofs.Common.{◌≡◌, ℕ, Bool, true, List, [], ◌∷◌, ◌++◌, sym, ap, ◌∙◌, refl, append_assoc}
+use Rattle.std.proofs.Common.{◌≡◌, ℕ, Bool, List, [], ◌∷◌, ◌++◌, sym, ap, ◌∙◌, append_assoc}
 use Rattle.std.specs.Prelude.{codes}
 use Rattle.spec_text.specs.Bytes.{Name}
-use Rattle.spec_terms.specs.Terms.{Symbol, Truth, constant, same_sort}
-use Rattle.spec_terms.specs.Values.{Value, truth, number, element, Table, Interpretation, IsTableOf, sort_of_value, table_value}
+use Rattle.spec_terms.specs.Terms.{Symbol, Truth, constant}
+use Rattle.spec_terms.specs.Values.{Value, truth, Table, Interpretation, IsTableOf, table_value}
+use Rattle.spec_terms.proofs.General.{truth_of_sort}
 use Rattle.spec_replies.specs.Values.{name_text, value_text}
 use Rattle.spec_replies.specs.Models.{definition_tree, definition_line, indented}
 
@@ -18,12 +19,6 @@ line_pieces n v = ap (λ ys. codes "  (define-fun " ++ ys) (append_assoc (name_t
 pub bare_table : (t : Table) → t.rows ≡ [] → t ≡ record { rows = []; default = t.default }
 bare_table t e = let table_with : List _ → Table = λ rs. record { rows = rs; default = t.default } in ap table_with e
 
--- a value of sort Bool
-pub truth_of : (v : Value) → same_sort Truth (sort_of_value v) ≡ true → (b : Bool) × (v ≡ truth b)
-truth_of (truth b) e = (b, refl)
-truth_of (number q) e = cc
-truth_of (element s k) e = cc
-
 -- A constant of sort Bool under an interpretation.
 pub record IsLineOf (i : Interpretation) (s : Symbol) (b : Bool) : Type 0 where
   -- its line
@@ -34,7 +29,7 @@ pub record IsLineOf (i : Interpretation) (s : Symbol) (b : Bool) : Type 0 where
 pub line_of_truth : (i : Interpretation) (s : Symbol) → s ≡ constant s.name Truth → IsTableOf s (i.table s.name) → (b : Bool) × IsLineOf i s b
 line_of_truth i s e h =
     let rows : (i.table s.name).rows ≡ [] = h.bare (ap (λ (x : Symbol). x.parameters) e) in
-    let d = truth_of (i.table s.name).default (rw (ap (λ (x : Symbol). x.result) e) at h.default) in
+    let d = truth_of_sort (i.table s.name).default (rw (ap (λ (x : Symbol). x.result) e) at h.default) in
     let bare = bare_table (i.table s.name) rows in
     let with_default : Value → Table = λ v. record { rows = []; default = v } in (
       d.0,

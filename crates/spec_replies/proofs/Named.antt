@@ -2,13 +2,13 @@
 use Rattle.std.proofs.Common.{◌≡◌, ℕ, Bool, true, false, cond, List, [], ◌∷◌, ◌++◌, refl}
 use Rattle.spec_text.specs.declared.Kind.{Kind}
 use Rattle.spec_text.specs.declared.Kind.TheVariants.{Numeral, Decimal, Text, Simple, Quoted, Reserved, Keyword}
-use Rattle.spec_text.specs.Bytes.{Name, is_symbol_byte, is_in_bars}
+use Rattle.spec_text.specs.Bytes.{Name}
 use Rattle.spec_text.specs.Lexemes.{Lexeme, lexemes_from}
-use Rattle.spec_text.specs.Lexicon.{Consists, simple_symbol, quoted_symbol}
+use Rattle.spec_text.specs.Lexicon.{simple_symbol, quoted_symbol}
 use Rattle.spec_text.specs.Shapes.{is_symbol}
 use Rattle.spec_text.specs.Trees.{atom, none, more, spelled, IsRead}
 use Rattle.spec_text.specs.Printed.{is_bare}
-use Rattle.spec_text.proofs.Tests.{other_byte}
+use Rattle.spec_text.proofs.Tests.{symbol_bytes_in_bars}
 use Rattle.spec_text.proofs.Words.{IsWord, words_of_tree}
 use Rattle.spec_text.proofs.Printing.{printed_reads}
 use Rattle.spec_replies.specs.Values.{IsName, name_text}
@@ -22,14 +22,6 @@ some_symbol n false h = (Quoted, refl, h)
 
 pub names_read : (n : Name) → IsName n → (k : Kind) × (is_symbol k ≡ true) × IsRead (name_text n) (more (atom 0 k n) none)
 names_read n h = some_symbol n (is_bare n) (printed_reads (atom 0 Quoted n) (124 ∷ n ++ 124 ∷ [], quoted_symbol n h))
-
--- bytes of symbols may stand between bars
-symbol_byte_in_bars : (b : ℕ) → is_symbol_byte b ≡ true → is_in_bars b ≡ true
-symbol_byte_in_bars b h = rw (other_byte is_symbol_byte b 124 h refl, other_byte is_symbol_byte b 92 h refl) refl
-
-symbol_bytes_in_bars : (bs : List ℕ) → Consists is_symbol_byte bs → Consists is_in_bars bs
-symbol_bytes_in_bars [] h = tt
-symbol_bytes_in_bars (b ∷ bs) h = (symbol_byte_in_bars b h.0, symbol_bytes_in_bars bs h.1)
 
 symbol_name : (k : Kind) (n : Name) → IsWord k n → is_symbol k ≡ true → IsName n
 symbol_name _ _ (_, simple_symbol b bs no_number run simple) s = symbol_bytes_in_bars (b ∷ bs) run

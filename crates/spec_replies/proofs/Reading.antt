@@ -1,7 +1,8 @@
 -- What is printed of a model is read.
-use Rattle.std.proofs.Common.{◌≡◌, ℕ, zero, suc, ◌+◌, ◌-◌, ◌<◌, Bool, true, false, cond, All, List, [], ◌∷◌, ◌++◌, length, drop, sym, ap, ◌∙◌, refl, append_assoc, append-nil, add-zero, length-append, arith}
-use Rattle.std.specs.Prelude.{◌&&◌, not, codes, flat_map}
+use Rattle.std.proofs.Common.{◌≡◌, ℕ, zero, suc, ◌+◌, ◌-◌, ◌<◌, Bool, true, false, cond, All, List, [], ◌∷◌, ◌++◌, length, sym, ap, ◌∙◌, refl, append_assoc, append-nil, length-append, arith}
+use Rattle.std.specs.Prelude.{not, codes, flat_map}
 use Rattle.std.proofs.lemmas.List.{drop_at}
+use Rattle.std.proofs.lemmas.Bool.{not-true}
 use Rattle.spec_text.specs.declared.Kind.{Kind}
 use Rattle.spec_text.specs.declared.Kind.TheVariants.{Simple, Quoted, Reserved}
 use Rattle.spec_text.specs.Bytes.{Name, is_digit, is_symbol_byte, among, reserved_words}
@@ -11,18 +12,14 @@ use Rattle.spec_text.specs.Trees.{Tree, Trees, atom, list, none, more, spelled, 
 use Rattle.spec_text.specs.Printed.{all_pass, is_bare}
 use Rattle.spec_text.proofs.Tests.{passes_consists, IsSymbolic}
 use Rattle.spec_text.proofs.Spelling.{piece_of, quoted_piece, symbol_piece}
+use Rattle.spec_text.proofs.General.{three_parts}
+use Rattle.spec_text.proofs.Printing.{lexemes_skip}
 use Rattle.spec_terms.specs.Terms.{Symbol}
 use Rattle.spec_terms.specs.Values.{truth, Interpretation, Interprets}
 use Rattle.spec_terms.specs.Meaning.{Meaning, value_of}
 use Rattle.spec_replies.specs.Values.{IsName, name_text, value_text}
 use Rattle.spec_replies.specs.Models.{definition_line, model_text, IsTruthConstant, Defines, DefineAll}
 use Rattle.spec_replies.proofs.Lines.{IsLineOf, line_of_truth}
-
-lexemes_skip : (n at : ℕ) (bs : List ℕ) → lexemes n at bs ≡ lexemes 0 (at + n) (drop n bs)
-unfolding lexemes
-lexemes_skip zero at bs = ap (λ k. lexemes 0 k bs) (sym (add-zero at))
-lexemes_skip (suc n) at [] = refl
-lexemes_skip (suc n) at (b ∷ bs) = lexemes_skip n (at + 1) bs ∙ ap (λ k. lexemes 0 k (drop n bs)) (omega arith)
 
 -- bytes that are one word, before others
 one_word : (at : ℕ) (xs rest : List ℕ) (k : Kind) (w : List ℕ) → piece_of (xs ++ rest) ≡ piece (word k w) (length xs) → 0 < length xs → lexemes 0 at (xs ++ rest) ≡ (at, word k w) ∷ lexemes 0 (at + length xs) rest
@@ -31,16 +28,6 @@ one_word at [] rest k w e some = absurd (omega arith)
 one_word at (b ∷ xs) rest k w e some =
     ap (λ (p : Piece). before at p (lexemes (p.size - 1) (at + 1) (xs ++ rest))) e
     ∙ ap (λ ys. (at, word k w) ∷ ys) (ap (λ n. lexemes n (at + 1) (xs ++ rest)) (omega arith) ∙ lexemes_skip (length xs) (at + 1) (xs ++ rest) ∙ ap (λ ys. lexemes 0 (at + 1 + length xs) ys) (drop_at xs rest (length xs) refl) ∙ ap (λ n. lexemes 0 n rest) (omega arith))
-
-bare_parts : (a b c : Bool) → (a && b && c) ≡ true → (a ≡ true) × (b ≡ true) × (c ≡ true)
-bare_parts true true true e = (refl, refl, refl)
-bare_parts true true false e = cc
-bare_parts true false c e = cc
-bare_parts false b c e = cc
-
-opposite : (t : Bool) → not t ≡ true → t ≡ false
-opposite true k = cc
-opposite false k = refl
 
 -- a name before a space is read as one symbol
 record ReadsName (n : Name) (at : ℕ) (rest : List ℕ) : Type 0 where
@@ -53,9 +40,9 @@ module _ (at : ℕ) (rest : List ℕ) where
   bare_read : (n : Name) → is_bare n ≡ true → lexemes 0 at (n ++ 32 ∷ rest) ≡ (at, word Simple n) ∷ lexemes 0 (at + length n) (32 ∷ rest)
   bare_read [] e = cc
   bare_read (b ∷ bs) e =
-      let p = bare_parts (not (is_digit b)) (all_pass is_symbol_byte (b ∷ bs)) (not (among reserved_words (b ∷ bs))) e in
-      let s : IsSymbolic b bs = record { no_number = opposite (is_digit b) p.0; run = passes_consists is_symbol_byte (b ∷ bs) p.1 } in
-      let simple : among reserved_words (b ∷ bs) ≡ false = opposite (among reserved_words (b ∷ bs)) p.2 in
+      let p = three_parts (not (is_digit b)) (all_pass is_symbol_byte (b ∷ bs)) (not (among reserved_words (b ∷ bs))) e in
+      let s : IsSymbolic b bs = record { no_number = not-true (is_digit b) p.0; run = passes_consists is_symbol_byte (b ∷ bs) p.1 } in
+      let simple : among reserved_words (b ∷ bs) ≡ false = not-true (among reserved_words (b ∷ bs)) p.2 in
       one_word at (b ∷ bs) (32 ∷ rest) Simple (b ∷ bs) (symbol_piece b bs (32 ∷ rest) s ∙ rw (append-nil bs, simple) refl) (omega arith)
 
   quoted_read : (n : Name) → IsName n → lexemes 0 at ((124 ∷ n ++ 124 ∷ []) ++ 32 ∷ rest) ≡ (at, word Quoted n) ∷ lexemes 0 (at + length (124 ∷ n ++ 124 ∷ [])) (32 ∷ rest)

@@ -8,6 +8,7 @@ use Rattle.spec_text.specs.declared.Fault.TheVariants.{UnknownSymbol}
 use Rattle.spec_text.specs.Bytes.{Name}
 use Rattle.spec_text.specs.Answers.{refused}
 use Rattle.spec_text.specs.Trees.{Tree, Trees, atom, list, none, more}
+use Rattle.spec_text.proofs.AnswerLaws.{answer, went}
 use Rattle.spec_terms.specs.Terms.{Symbol, Term}
 use Rattle.spec_terms.specs.Values.{Value, Interpretation, Interprets, first_fit, table_value, IsTableOf}
 use Rattle.spec_terms.specs.Theory.{Rule, look_up, theory}
@@ -16,7 +17,6 @@ use Rattle.spec_terms.specs.Meaning.{theory_values, value_by, name_value, symbol
 use Rattle.spec_terms.specs.Reading.{scope_of, symbol_named, applied, applied_as, atom_term, by_form, term_in, terms_in}
 use Rattle.spec_terms.proofs.Heads.{MeansAt, theory_at, theory_means}
 use Rattle.spec_scripts.specs.Current.{IsDeclared, AreDeclared}
-use Rattle.spec_proofs.proofs.Steps.{answer, went}
 use Rattle.spec_replies.specs.Models.{Defines, DefineAll}
 use Rattle.spec_printing.proofs.Lookups.{symbol_found}
 

@@ -1,12 +1,14 @@
 -- A script's text run command by command.
-use Rattle.std.proofs.Common.{◌≡◌, ◌≤◌, ℕ, Bool, true, false, ◌||◌, List, [], ◌∷◌, ◌++◌, length, Option, Some, None, inl, inr, refl, sym, ap, ◌∙◌, subst, append_assoc, append-nil, arith}
+use Rattle.std.proofs.Common.{◌≡◌, ◌≤◌, ℕ, Bool, true, false, ◌||◌, List, [], ◌∷◌, ◌++◌, length, Option, inl, inr, refl, sym, ap, ◌∙◌, subst, append_assoc, append-nil, arith}
 use Rattle.std.specs.List.{list_any}
 use Rattle.std.proofs.lemmas.Grind.{flat_map-append}
 use Rattle.std.proofs.lemmas.List.Folds.{list_any-append}
+use Rattle.std.proofs.Math.Bool.{or-false}
 use Rattle.spec_text.specs.Lexemes.{Lexeme, lexemes, lexemes_from}
 use Rattle.spec_text.specs.Trees.{Tree, Trees, none, more, spelled, spelled_all}
 use Rattle.spec_text.specs.Faults.{Located, nesting_limit}
 use Rattle.spec_text.specs.Readings.{depth, AreTrees, StopsAt, Stops, kept, is_long, limited, IsReadUpTo}
+use Rattle.spec_text.proofs.Stopping.{stop_of}
 use Rattle.spec_scripts.specs.Stack.{Stack, empty_stack}
 use Rattle.spec_runs.specs.Evidence.{Limits}
 use Rattle.spec_runs.specs.Responses.{Mode, Response, success, not_supported, answered, ended, rejected, Answered, Answers, response_text, is_rejected, is_end}
@@ -22,12 +24,6 @@ first_tree xs ys t e flat us rest h = record {
   split = e ∙ ap (λ zs. spelled t ++ zs) h.split ∙ sym (append_assoc (spelled t) (spelled_all us) rest);
   within = omega (arith, flat, h.within);
 }
-
--- what stops trees that stand in no list ends the text
-stop_of : (end : ℕ) (rest : List (ℕ × Lexeme)) → StopsAt end 0 rest → (stop : Option Located) × Stops end rest stop
-stop_of end rest (inl x) = (None, x.1)
-stop_of end rest (inr (inl x)) = absurd (x.0 refl)
-stop_of end rest (inr (inr x)) = (Some x.0, x.1)
 
 -- behind a response that does not end the script all else follows
 follows_on : (r : Response) (P : List Answered → Type 0) (given : List Answered) → is_end r ≡ false → P given → Follows r P given
@@ -109,11 +105,6 @@ module _ (limits : Limits) (bytes : List ℕ) where
         let o = g.onward (more t us) rest (first_tree (lexemes_from bytes from) (lexemes_from bytes after) t first flat us rest h) in
         (o.0, o.1, o.2 (a ∷ []) (answers, follows_none a.response (Runs limits a.stack us) e))
 
--- or with what is false
-or_false : (x : Bool) → (x || false) ≡ x
-or_false true = refl
-or_false false = refl
-
 or_last : (x y : Bool) → (x || (y || false)) ≡ (x || y)
 or_last true y = refl
 or_last false true = refl
@@ -124,14 +115,14 @@ or_second true y b e h = cc
 or_second false y b e h = h
 
 told_is : (x z r f : Bool) → z ≡ (x || r) → r ≡ false → f ≡ false → x ≡ (z || f)
-told_is x z r f e h k = sym (ap (λ g. z || g) k ∙ or_false z ∙ e ∙ ap (λ q. x || q) h ∙ or_false x)
+told_is x z r f e h k = sym (ap (λ g. z || g) k ∙ or-false z ∙ e ∙ ap (λ q. x || q) h ∙ or-false x)
 
 -- each text is read
 abbrev pub EachIsRead : List ℕ → ℕ → Type 0
 EachIsRead bytes at = (ts : Trees) × (rest : List (ℕ × Lexeme)) × AreTrees 0 (lexemes_from bytes at) ts rest × StopsAt (length bytes) 0 rest
 
 -- what is written for one answer more
-answers_more : (mode : Mode) (text : List ℕ) (given : List Answered) (a : Answered) → answers_text mode text (given ++ a ∷ []) ≡ answers_text mode text given ++ response_text mode text a
+pub answers_more : (mode : Mode) (text : List ℕ) (given : List Answered) (a : Answered) → answers_text mode text (given ++ a ∷ []) ≡ answers_text mode text given ++ response_text mode text a
 answers_more mode text given a = flat_map-append (response_text mode text) given (a ∷ []) ∙ ap (λ x. answers_text mode text given ++ x) (append-nil (response_text mode text a))
 
 -- whether one was refused, of one answer more

@@ -1,10 +1,10 @@
 -- That lines which are right refute what is asserted.
-use Rattle.std.proofs.Common.{◌≡◌, ℕ, Bool, true, false, ◌||◌, cond, List, [], ◌∷◌, ◌++◌, map, Option, Some, None, All, Contains, refl, sym, ap, subst}
+use Rattle.std.proofs.Common.{◌≡◌, ℕ, true, false, ◌||◌, List, [], ◌∷◌, ◌++◌, map, Option, Some, None, All, Contains, refl, sym, ap, subst}
 use Rattle.std.specs.Option.{option_map}
 use Rattle.std.proofs.lemmas.Bool.{false≢true}
 use Rattle.std.proofs.lemmas.List.Elements.{All-nil, All-cons, All-head, All-tail, All-push, All-contains}
 use Rattle.spec_terms.specs.Terms.{Symbol, Head, True, False, Not, And, Or, Xor, Implies, Equal, Ite, Apply, Term, of, terms_of, constant_term}
-use Rattle.spec_terms.specs.Values.{Interpretation, Interprets, truth as truth_value, is_true}
+use Rattle.spec_terms.specs.Values.{Interpretation, Interprets, is_true}
 use Rattle.spec_terms.specs.Reading.{symbol_named}
 use Rattle.spec_terms.specs.Agreement.{value_at, values_at}
 use Rattle.spec_terms.specs.Literals.{Clause}
@@ -12,7 +12,7 @@ use Rattle.spec_scripts.specs.Current.{AreDeclared}
 use Rattle.spec_proofs.specs.declared.Rule.{Rule}
 use Rattle.spec_proofs.specs.Clauses.{term_true, clause_true, HasTruth}
 use Rattle.spec_proofs.specs.Rules.{IsRight}
-use Rattle.spec_proofs.proofs.HasTruths.{IsTruthful, all_truthful}
+use Rattle.spec_proofs.proofs.HasTruths.{IsTruthful, all_truthful, chosen_truth}
 use Rattle.spec_printing.specs.Lines.{Argument, truth, symbol, defined, Reference, assumed, stepped, Line, defines, assumes, steps}
 use Rattle.spec_printing.specs.Meaning.{Told, nothing_told, truth_term, term_told, AreTold, clause_told, ArePremises, IsDeclaredHead, IsStep, IsLineAfter, AreLinesAfter, AreRightLines}
 use Rattle.spec_printing.proofs.Lookups.{numbered_in, symbol_found, head_same, tail_same}
@@ -24,11 +24,6 @@ module _ (i : Interpretation) where
   -- what follows by a rule from what is true is true
   abbrev pub HaveSoundRules : Type 0
   HaveSoundRules = (rule : Rule) (premises : List Clause) (clause : Clause) → All IsTrue premises → All (HasTruth i) clause → IsRight rule premises clause → IsTrue clause
-
-  -- one of two terms has a truth value where both have
-  chosen_truth : (c : Bool) (t u : Term) → HasTruth i t → HasTruth i u → (b : Bool) × (cond c (value_at i t) (value_at i u) ≡ truth_value b)
-  chosen_truth true t u h k = h
-  chosen_truth false t u h k = k
 
   module _ (symbols : List Symbol) (asserted : List Term) (truthful : All (IsTruthful i) symbols) (given : All (λ t. term_true i t ≡ true) asserted) (rules : HaveSoundRules) where
     -- What is known, where the terms have truth values and the clauses are true.
@@ -59,7 +54,7 @@ module _ (i : Interpretation) where
     head_truth Ite (t ∷ u ∷ []) e h = (_, refl)
     head_truth Ite (t ∷ u ∷ v ∷ vs) e h =
         let rest = All-tail (HasTruth i) t (u ∷ v ∷ vs) h in
-        chosen_truth (is_true (value_at i t)) u v (All-head (HasTruth i) u (v ∷ vs) rest) (All-head (HasTruth i) v vs (All-tail (HasTruth i) u (v ∷ vs) rest))
+        chosen_truth i (is_true (value_at i t)) u v (All-head (HasTruth i) u (v ∷ vs) rest) (All-head (HasTruth i) v vs (All-tail (HasTruth i) u (v ∷ vs) rest))
     head_truth (Apply s) ts e h = All-contains (IsTruthful i) symbols s truthful (symbol_found symbols s.name s e).0 (values_at i (terms_of ts))
 
     module _ (k : Told) (so : AreTrue k) where

@@ -1,23 +1,19 @@
 -- What is read under some symbols is read the same under more of them.
-use Rattle.std.proofs.Common.{◌≡◌, ℕ, Bool, true, false, List, [], ◌∷◌, ◌++◌, Option, Some, None, cond, refl, ap, ◌∙◌}
+use Rattle.std.proofs.Common.{◌≡◌, ℕ, Bool, true, false, ◌||◌, List, [], ◌∷◌, ◌++◌, Option, Some, None, cond, refl, ap, ◌∙◌}
 use Rattle.std.specs.Prelude.{Ok}
 use Rattle.std.specs.Str.{bytes_eq}
 use Rattle.spec_text.specs.declared.Kind.{Kind}
 use Rattle.spec_text.specs.declared.Kind.TheVariants.{Numeral, Decimal, Text, Simple, Quoted, Reserved as word_kind, Keyword}
 use Rattle.spec_text.specs.declared.Fault.TheVariants.{UnknownSymbol}
-use Rattle.spec_text.specs.Bytes.{Name}
-use Rattle.spec_text.specs.Answers.{Answer, ◌>>=◌, refused}
+use Rattle.spec_text.specs.Bytes.{Name, among}
+use Rattle.spec_text.specs.Answers.{refused}
 use Rattle.spec_text.specs.Trees.{Tree, Trees, atom, list, none, more}
-use Rattle.spec_text.proofs.AnswerLaws.{answer, went}
+use Rattle.spec_text.proofs.AnswerLaws.{answer, went, joined}
 use Rattle.spec_terms.specs.Terms.{Symbol, Term}
 use Rattle.spec_terms.specs.Theory.{Rule, look_up, theory}
 use Rattle.spec_terms.specs.Forms.{Form, malformed, reserved, applies, form}
 use Rattle.spec_terms.specs.Reading.{scope_of, symbol_named, applied, applied_as, atom_term, by_form, term_in, terms_in}
-
--- both steps answer
-joined : {A B : Type 0} (a : Answer A) (f : A → Answer B) (x : A) (y : B) → a ≡ Ok x → f x ≡ Ok y → (a >>= f) ≡ Ok y
-unfolding ◌>>=◌
-joined a f x y e h = ap (λ b. b >>= f) e ∙ h
+use Rattle.spec_scripts.specs.Stack.{names_of}
 
 -- a symbol that is found is found among more
 found_later : (ss new : List Symbol) (n : Name) (s : Symbol) → symbol_named ss n ≡ Some s → symbol_named (ss ++ new) n ≡ Some s
@@ -27,6 +23,15 @@ found_later (x ∷ ss) new n s e = go (bytes_eq x.name n) (found_later ss new n 
     go : (b : Bool) → (symbol_named ss n ≡ Some s → symbol_named (ss ++ new) n ≡ Some s) → cond b (Some x) (symbol_named ss n) ≡ Some s → cond b (Some x) (symbol_named (ss ++ new) n) ≡ Some s
     go true rest e = e
     go false rest e = rest e
+
+-- a name under which none is found is none of theirs
+pub none_among : (ss : List Symbol) (n : Name) → symbol_named ss n ≡ None → among (names_of ss) n ≡ false
+none_among [] n e = refl
+none_among (s ∷ ss) n e = go (bytes_eq s.name n) (none_among ss n) e
+  where
+    go : (b : Bool) → (symbol_named ss n ≡ None → among (names_of ss) n ≡ false) → cond b (Some s) (symbol_named ss n) ≡ None → (b || among (names_of ss) n) ≡ false
+    go true rec e = cc
+    go false rec e = rec e
 
 module _ (ss new : List Symbol) where
   applied_later : (place : ℕ) (n : Name) (at : ℕ) (ts : List Term) (u : Term) → applied (scope_of ss) place n at ts ≡ Ok u → applied (scope_of (ss ++ new)) place n at ts ≡ Ok u

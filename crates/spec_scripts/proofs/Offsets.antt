@@ -1,6 +1,6 @@
 -- The fault of a command stands at an offset of its text.
-use Rattle.std.proofs.Common.{◌≡◌, ℕ, Bool, true, false, cond, List, length, Option, Some, None, refl, subst}
-use Rattle.std.specs.Prelude.{Ok, Err, not, nat_lt, codes}
+use Rattle.std.proofs.Common.{◌≡◌, ℕ, Bool, true, false, cond, List, length, Option, Some, None, subst}
+use Rattle.std.specs.Prelude.{Err, not, nat_lt, codes}
 use Rattle.std.specs.Str.{bytes_eq}
 use Rattle.spec_text.specs.declared.Kind.TheVariants.{Numeral, Decimal, Text, Simple, Quoted, Reserved as word_kind, Keyword}
 use Rattle.spec_text.specs.declared.Fault.TheVariants.{Twice, Reserved, Full}
@@ -10,7 +10,7 @@ use Rattle.spec_text.specs.Shapes.{Word}
 use Rattle.spec_text.specs.Answers.{Answer, require}
 use Rattle.spec_text.specs.Trees.{Tree, Trees, atom, list, none, more, offset_of}
 use Rattle.spec_text.specs.Offsets.{AllOffsets, AllOffsetsOf, HasOffset, HaveOffset, at_offset_of, own_offsets}
-use Rattle.spec_text.proofs.AnswerLaws.{Gives, gives_in_turn, Stands, stands_in_turn, require_stands, own_offset}
+use Rattle.spec_text.proofs.AnswerLaws.{Gives, gives_in_turn, Stands, stands, stands_in_turn, require_stands, own_offset}
 use Rattle.spec_text.proofs.ShapeLaws.{Holds}
 use Rattle.spec_terms.specs.Terms.{Symbol}
 use Rattle.spec_terms.specs.Reading.{Scope, scope_of, terms_in}
@@ -20,10 +20,6 @@ use Rattle.spec_scripts.specs.Stack.{Stack, is_barred, is_taken, new_name, sort_
 use Rattle.spec_scripts.proofs.Parts.{PartsStand, parts_stand}
 
 module _ (P : ℕ → Type 0) where
-  stands : {A : Type 0} (a : Answer A) → ((f : Located) → a ≡ Err f → P f.offset) → Stands P a
-  stands (Ok x) h = tt
-  stands (Err f) h = h f refl
-
   either : {A : Type 0} (c : Bool) (a b : Answer A) → Stands P a → Stands P b → Stands P (cond c a b)
   either true a b h k = h
   either false a b h k = k
@@ -51,7 +47,7 @@ module _ (P : ℕ → Type 0) where
   named_sort_stands : (at : ℕ) (n : Name) → P at → Stands P (sort_named at n)
   named_sort_stands at n h = either (bytes_eq n (codes "Bool")) _ _ tt h
 
-  sort_stands : (t : Tree) → AllOffsets P t → Stands P (sort_in t)
+  pub sort_stands : (t : Tree) → AllOffsets P t → Stands P (sort_in t)
   sort_stands (list at ts end) h = h.0
   sort_stands (atom at Simple n) h = named_sort_stands at n h
   sort_stands (atom at Quoted n) h = named_sort_stands at n h
@@ -69,7 +65,7 @@ module _ (P : ℕ → Type 0) where
     roomy_stands : (scope : Scope) (room at : ℕ) (ts : Trees) → P at → AllOffsetsOf P ts → Stands P (roomy_terms scope room at ts)
     unfolding roomy_terms
     roomy_stands scope room at ts here h =
-        stands_in_turn P (terms_in scope ts) _ (stands (terms_in scope ts) λ f e. at_offset_of P ts f.offset h (law scope ts f e)) λ us.
+        stands_in_turn P (terms_in scope ts) _ (stands P (terms_in scope ts) λ f e. at_offset_of P ts f.offset h (law scope ts f e)) λ us.
         stands_in_turn P (require (fit_in room us) at Full) _ (require_stands P _ at Full here) λ fits. tt
 
     performed_stands : (limit at : ℕ) (s : Stack) (c : Command) → P at → PartsStand P c → Stands P (performed limit at s c)

@@ -1,9 +1,9 @@
 -- The parts of a command stand in its text.
 use Rattle.std.proofs.Common.{ℕ, Bool, true, false}
-use Rattle.spec_text.specs.Shapes.{Word, passes, first_word, only_tree, is_keyword}
-use Rattle.spec_text.specs.Trees.{Trees, atom, list, none, more}
+use Rattle.spec_text.specs.Shapes.{passes, first_word, only_tree, is_keyword}
+use Rattle.spec_text.specs.Trees.{Trees, none, more}
 use Rattle.spec_text.specs.Offsets.{AllOffsets, AllOffsetsOf}
-use Rattle.spec_text.proofs.ShapeLaws.{Holds, holds_in_turn, tree_stands}
+use Rattle.spec_text.proofs.ShapeLaws.{Holds, holds_in_turn, tree_stands, FrontStands, word_stands}
 use Rattle.spec_scripts.specs.Commands.{Command, SetOption, DeclareConst, Assert, CheckSat, Exit, Verb, sets_option, declares_const, asserts, checks, exits, is_name, set_option, declare_const, alone, command_by}
 
 -- a test says nothing of what follows
@@ -12,15 +12,6 @@ passes_holds true = tt
 passes_holds false = tt
 
 module _ (P : ℕ → Type 0) where
-  -- a word, and what follows it
-  abbrev WordStands : Word × Trees → Type 0
-  WordStands x = P x.0.at × AllOffsetsOf P x.1
-
-  word_stands : (ts : Trees) → AllOffsetsOf P ts → Holds WordStands (first_word ts)
-  word_stands none h = tt
-  word_stands (more (atom at k bytes) ts) h = h
-  word_stands (more (list at us end) ts) h = tt
-
   -- the parts of a command stand at offsets with the property
   abbrev pub PartsStand : Command → Type 0
   PartsStand (SetOption k v) = Unit {0}
@@ -32,14 +23,14 @@ module _ (P : ℕ → Type 0) where
   option_stands : (ts : Trees) → AllOffsetsOf P ts → Holds PartsStand (set_option ts)
   unfolding set_option
   option_stands ts h =
-      holds_in_turn WordStands PartsStand (first_word ts) _ (word_stands ts h) λ key k.
+      holds_in_turn (FrontStands P) PartsStand (first_word ts) _ (word_stands P ts h) λ key k.
       holds_in_turn (λ _. Unit {0}) PartsStand (passes (is_keyword key.0.kind)) _ (passes_holds _) λ is_key _.
       holds_in_turn (AllOffsets P) PartsStand (only_tree key.1) _ (tree_stands P key.1 k.1) λ value v. tt
 
   constant_stands : (ts : Trees) → AllOffsetsOf P ts → Holds PartsStand (declare_const ts)
   unfolding declare_const
   constant_stands ts h =
-      holds_in_turn WordStands PartsStand (first_word ts) _ (word_stands ts h) λ c k.
+      holds_in_turn (FrontStands P) PartsStand (first_word ts) _ (word_stands P ts h) λ c k.
       holds_in_turn (λ _. Unit {0}) PartsStand (passes (is_name c.0.kind)) _ (passes_holds _) λ named _.
       holds_in_turn (AllOffsets P) PartsStand (only_tree c.1) _ (tree_stands P c.1 k.1) λ sort v. (k.0, v)
 

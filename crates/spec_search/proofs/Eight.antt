@@ -1,7 +1,7 @@
 -- Tests that compute whether propagation is quiet, and the first clause that is learned of the eight.
 use Rattle.std.proofs.Common.{◌≡◌, ◌≢◌, ℕ, ◌<◌, ◌&&◌, ◌||◌, ◌⊎◌, Bool, true, false, not, List, [], ◌∷◌, map, get_or, Contains, inl, inr, refl, sym, ◌∙◌, subst, zero, suc, arith}
 use Rattle.std.specs.List.{list_any, AllByRecursion}
-use Rattle.std.proofs.lemmas.Bool.{false≢true}
+use Rattle.std.proofs.lemmas.Bool.{false≢true, and_parts, not-true}
 use Rattle.std.proofs.lemmas.List.Folds.{Any-from_list_any, list_any_at}
 use Rattle.std.proofs.lemmas.List.Elements.{All-contains, All-from_recursion}
 use Rattle.spec_text.proofs.Members.{first, later}
@@ -36,16 +36,8 @@ either : (p q : Bool) → p || q ≡ true → (p ≡ true) ⊎ (q ≡ true)
 either true q e = inl refl
 either false q e = inr e
 
-both : (p q : Bool) → p && q ≡ true → (p ≡ true) × (q ≡ true)
-both true q e = (refl, e)
-both false q e = absurd (false≢true e)
-
-not_true : (p : Bool) → not p ≡ true → p ≡ false
-not_true true e = absurd (false≢true e)
-not_true false e = refl
-
 open_is : (held : List Literal) (m : Literal) → open_at held m ≡ true → Contains held (complement m) → ⊥
-open_is held m e h = false≢true (sym (not_true (has held (complement m)) e) ∙ there_has held (complement m) h)
+open_is held m e h = false≢true (sym (not-true (has held (complement m)) e) ∙ there_has held (complement m) h)
 
 abbrev HasTwoOpen : List Literal → List Literal → Type 0
 HasTwoOpen held clause = (m : Literal) × (n : Literal) × Contains clause m × Contains clause n × (m ≢ n) × (Contains held (complement m) → ⊥) × (Contains held (complement n) → ⊥)
@@ -54,10 +46,10 @@ two_are : (held clause : List Literal) → two_open held clause ≡ true → Has
 two_are held [] e = absurd (false≢true e)
 two_are held (m ∷ ms) e = elim (either _ _ e) [
   | inl here ↦
-      let p = both _ _ here in
+      let p = and_parts _ _ here in
       let x = Any-from_list_any (λ n. open_at held n && not (same_literal m n)) ms p.1 in
-      let q = both (open_at held x.1) (not (same_literal m x.1)) x.4 in
-      (m, x.1, first m ms, later m ms x.1 (x.0, x.2, x.3), (λ s. false≢true (sym (not_true (same_literal m x.1) q.1) ∙ (literals_decide m x.1).1 s)), open_is held m p.0, open_is held x.1 q.0)
+      let q = and_parts (open_at held x.1) (not (same_literal m x.1)) x.4 in
+      (m, x.1, first m ms, later m ms x.1 (x.0, x.2, x.3), (λ s. false≢true (sym (not-true (same_literal m x.1) q.1) ∙ (literals_decide m x.1).1 s)), open_is held m p.0, open_is held x.1 q.0)
   | inr rest ↦ let r = two_are held ms rest in (r.0, r.1, later m ms r.0 r.2, later m ms r.1 r.3, r.4, r.5, r.6)
 ]
 
@@ -74,7 +66,7 @@ quiet held (x ∷ xs) = settled held x && quiet held xs
 
 quiet_all : (held : List Literal) (xs : List (List Literal)) → quiet held xs ≡ true → AllByRecursion (IsSettled complement held) xs
 quiet_all held [] e = tt
-quiet_all held (x ∷ xs) e = let p = both (settled held x) (quiet held xs) e in (settled_is held x p.0, quiet_all held xs p.1)
+quiet_all held (x ∷ xs) e = let p = and_parts (settled held x) (quiet held xs) e in (settled_is held x p.0, quiet_all held xs p.1)
 
 quiet_is : (held : List Literal) (xs : List (List Literal)) → quiet held xs ≡ true → IsQuiet complement xs held
 quiet_is held xs e x x_in = All-contains (IsSettled complement held) xs x (All-from_recursion (IsSettled complement held) xs (quiet_all held xs e)) x_in
@@ -85,7 +77,7 @@ consistent held (m ∷ ms) = open_at held m && consistent held ms
 
 consistent_all : (held ms : List Literal) → consistent held ms ≡ true → AllByRecursion (λ m. Contains held (complement m) → ⊥) ms
 consistent_all held [] e = tt
-consistent_all held (m ∷ ms) e = let p = both (open_at held m) (consistent held ms) e in (open_is held m p.0, consistent_all held ms p.1)
+consistent_all held (m ∷ ms) e = let p = and_parts (open_at held m) (consistent held ms) e in (open_is held m p.0, consistent_all held ms p.1)
 
 consistent_is : (held : List Literal) → consistent held held ≡ true → IsConsistent complement held
 consistent_is held e m m_in = All-contains (λ m. Contains held (complement m) → ⊥) held m (All-from_recursion (λ m. Contains held (complement m) → ⊥) held (consistent_all held held e)) m_in

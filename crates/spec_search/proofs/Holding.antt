@@ -2,7 +2,7 @@
 use Rattle.std.proofs.Common.{◌≡◌, ℕ, zero, suc, Bool, true, false, not, ◌||◌, List, [], ◌∷◌, map, get_or, All, Contains, inl, inr, refl, sym, ap, subst, if◌then◌else◌}
 use Rattle.std.specs.Prelude.{flat_map, slice_index_or}
 use Rattle.std.proofs.lemmas.List.Elements.{All-nil, All-cons, All-head, All-tail, All-contains, All-map, Contains-get_or, Contains-append_cases}
-use Rattle.spec_text.proofs.Members.{first, later, cases, none}
+use Rattle.spec_text.proofs.Members.{first, cases, none, to_image, from_flat, from_image}
 use Rattle.spec_terms.specs.Terms.{Not, Term, app, nil, cons}
 use Rattle.spec_terms.specs.Theory.{no_term}
 use Rattle.spec_terms.specs.Values.{Interpretation, truth, is_true, all_true}
@@ -18,23 +18,7 @@ use Rattle.spec_proofs.specs.declared.Rest.TheVariants.{Nothing, One, Two, AnyOn
 use Rattle.spec_proofs.specs.Clauses.{clause_true, HasTruth}
 use Rattle.spec_proofs.specs.Rules.{IsBy, IsRight}
 use Rattle.spec_proofs.specs.Schemes.{Scheme, schemes, states, kind_of, signed, side_of, innermost, rests_of, is_formula_of, clauses_by}
-use Rattle.spec_proofs.proofs.Chains.{mapped}
 use Rattle.spec_search.specs.Base.{clauses_of, base_clauses}
-
--- what an element gives comes from one
-pub from_flat : {X Y : Type 0} (f : X → List Y) (xs : List X) (y : Y) → Contains (flat_map f xs) y → (x : X) × Contains xs x × Contains (f x) y
-from_flat f [] y h = absurd (none y h)
-from_flat f (z ∷ zs) y h = elim (Contains-append_cases (f z) (flat_map f zs) y h) [
-  | inl here ↦ (z, first z zs, here)
-  | inr rest ↦ let r = from_flat f zs y rest in (r.0, later z zs r.0 r.1, r.2)
-]
-
-pub from_map : {X Y : Type 0} (f : X → Y) (xs : List X) (y : Y) → Contains (map f xs) y → (x : X) × Contains xs x × (f x ≡ y)
-from_map f [] y h = absurd (none y h)
-from_map f (z ∷ zs) y h = elim (cases (f z) (map f zs) y h) [
-  | inl e ↦ (z, first z zs, e)
-  | inr rest ↦ let r = from_map f zs y rest in (r.0, later z zs r.0 r.1, r.2)
-]
 
 -- the rules of the schemes, in their order
 abbrev stating : List Rule
@@ -44,7 +28,7 @@ stating = rules.True ∷ rules.False ∷ rules.AndPos ∷ rules.AndNeg ∷ rules
 has_rule : (s : Scheme) → Contains schemes s → (r : Rule) × (kind_of r ≡ states s)
 has_rule s h =
     let each : map kind_of stating ≡ map states schemes = refl in
-    let x = from_map kind_of stating (states s) (subst (λ ks. Contains ks (states s)) (sym each) (mapped states s schemes h)) in
+    let x = from_image kind_of stating (states s) (subst (λ ks. Contains ks (states s)) (sym each) (to_image states schemes s h)) in
     (x.0, x.2)
 
 module _ (i : Interpretation) where
@@ -84,7 +68,7 @@ module _ (i : Interpretation) where
   rest_truth (One x) ts each inner ls h = same_truth (side_of ts x ∷ []) ls h (only_truth (side_of ts x) (side_truth ts x each))
   rest_truth (Two x y) ts each inner ls h = same_truth (side_of ts x ∷ side_of ts y ∷ []) ls h (All-cons (HasTruth i) (side_of ts x) (side_of ts y ∷ []) (side_truth ts x each) (only_truth (side_of ts y) (side_truth ts y each)))
   rest_truth (AnyOne p) ts each inner ls h =
-      let x = from_map (λ t. signed p t ∷ []) ts ls h in
+      let x = from_image (λ t. signed p t ∷ []) ts ls h in
       subst (All (HasTruth i)) x.2 (only_truth (signed p x.0) (signed_truth p x.0 (All-contains (HasTruth i) ts x.0 each x.1)))
   rest_truth (Each p) ts each inner ls h = same_truth (map (signed p) ts) ls h (All-map (HasTruth i) (signed p) ts (λ k d lt. signed_truth p (get_or ts k d) (each k d lt)))
   rest_truth Innermost ts each inner ls h = innermost_truth ts inner ls h
@@ -99,7 +83,7 @@ module _ (i : Interpretation) where
       go : (b : Bool) → Contains (if b then map before (rests_of s.rest (arguments_of t)) else []) c → All (HasTruth i) c
       go false x = absurd (none c x)
       go true x =
-          let y = from_map before (rests_of s.rest (arguments_of t)) c x in
+          let y = from_image before (rests_of s.rest (arguments_of t)) c x in
           subst (All (HasTruth i)) y.2 (All-cons (HasTruth i) (signed s.positive t) y.0 (signed_truth s.positive t h) (rest_truth s.rest (arguments_of t) each inner y.0 y.1))
 
   module _ (sound : (r : Rule) (c : Clause) → All (HasTruth i) c → IsRight r [] c → clause_true i c ≡ true) (terms : List Term) (have : All (HasTruth i) (subterms_of terms)) (closed : IsClosed (subterms_of terms)) where
@@ -122,6 +106,6 @@ module _ (i : Interpretation) where
 
         go : (c : Clause) → Contains (base_clauses terms) c → clause_true i c ≡ true
         go c c_in = elim (Contains-append_cases (map (λ t. t ∷ []) terms) (flat_map clauses_of (subterms_of terms)) c c_in) [
-          | inl h ↦ let x = from_map (λ t. t ∷ []) terms c h in subst (λ ls. clause_true i ls ≡ true) x.2 (alone x.0 x.1)
+          | inl h ↦ let x = from_image (λ t. t ∷ []) terms c h in subst (λ ls. clause_true i ls ≡ true) x.2 (alone x.0 x.1)
           | inr h ↦ let x = from_flat clauses_of (subterms_of terms) c h in subterm_holds x.0 x.1 c x.2
         ]

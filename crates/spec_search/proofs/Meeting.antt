@@ -1,9 +1,8 @@
 -- What truths that meet the clauses of a term say of it, one head after the other.
-use Rattle.std.proofs.Common.{◌≡◌, Bool, true, false, not, ◌&&◌, ◌||◌, cond, List, [], ◌∷◌, map, Contains, inl, inr, refl, sym, ap, ap₂, ◌∙◌, if◌then◌else◌, subst, arith}
-use Rattle.std.specs.Prelude.{flat_map, slice_index_or}
+use Rattle.std.proofs.Common.{◌≡◌, Bool, true, false, not, ◌&&◌, ◌||◌, cond, List, [], ◌∷◌, map, Contains, refl, sym, ap, ap₂, ◌∙◌, if◌then◌else◌, subst, arith}
+use Rattle.std.specs.Prelude.{slice_index_or}
 use Rattle.std.specs.List.{list_any}
-use Rattle.std.proofs.lemmas.List.Elements.{Contains-append_left, Contains-append_right}
-use Rattle.spec_text.proofs.Members.{first, later, cases, none}
+use Rattle.spec_text.proofs.Members.{first, later, to_image, in_flat}
 use Rattle.spec_terms.specs.Terms.{Head, Term, negated}
 use Rattle.spec_terms.specs.Theory.{no_term}
 use Rattle.spec_terms.specs.Values.{truth, all_true, any_true, different, same_value}
@@ -14,17 +13,8 @@ use Rattle.spec_proofs.specs.declared.Rest.TheVariants.{Nothing, One, Two, AnyOn
 use Rattle.spec_proofs.specs.Schemes.{Scheme, schemes, signed, side_of, rests_of, is_formula_of, clauses_by}
 use Rattle.spec_proofs.specs.Truths.{Truths, term_true_by}
 use Rattle.spec_proofs.proofs.Resolution.{complement_true}
-use Rattle.spec_proofs.proofs.Chains.{mapped}
 use Rattle.spec_search.specs.Base.{clauses_of}
 use Rattle.spec_search.specs.Models.{value_by}
-
--- an element of what an element gives
-pub in_flat : {X Y : Type 0} (f : X → List Y) (xs : List X) (x : X) (y : Y) → Contains xs x → Contains (f x) y → Contains (flat_map f xs) y
-in_flat f [] x y x_in y_in = absurd (none x x_in)
-in_flat f (z ∷ zs) x y x_in y_in = elim (cases z zs x x_in) [
-  | inl e ↦ Contains-append_left (f z) (flat_map f zs) y (subst (λ w. Contains (f w) y) (sym e) y_in)
-  | inr h ↦ Contains-append_right (f z) (flat_map f zs) y (in_flat f zs x y h y_in)
-]
 
 -- a truth, or the other one
 abbrev pub sign : Bool → Bool → Bool
@@ -45,7 +35,7 @@ module _ (v : Truths) (t : Term) (met : (c : Clause) → Contains (clauses_of t)
   pub by_scheme : (s : Scheme) → Contains schemes s → is_formula_of s.head t ≡ true → (rest : Clause) → Contains (rests_of s.rest (arguments_of t)) rest → sign s.positive (term_true_by v t) || list_any (term_true_by v) rest ≡ true
   by_scheme s s_in formula rest rest_in =
       let before : Clause → Clause = λ ls. signed s.positive t ∷ ls in
-      let given : Contains (clauses_by s t) (before rest) = subst (λ b. Contains (if b then map before (rests_of s.rest (arguments_of t)) else []) (before rest)) (sym formula) (mapped before rest (rests_of s.rest (arguments_of t)) rest_in) in
+      let given : Contains (clauses_by s t) (before rest) = subst (λ b. Contains (if b then map before (rests_of s.rest (arguments_of t)) else []) (before rest)) (sym formula) (to_image before (rests_of s.rest (arguments_of t)) rest rest_in) in
       ap (λ b. b || list_any (term_true_by v) rest) (sym (signed_true v s.positive t)) ∙ met (before rest) (in_flat (λ x. clauses_by x t) schemes s (before rest) s_in given)
 
   -- nothing behind the term
@@ -68,7 +58,7 @@ module _ (v : Truths) (t : Term) (met : (c : Clause) → Contains (clauses_of t)
 
   -- any one argument behind it
   pub with_any : (h : Head) (p q : Bool) → Contains schemes (record { head = h; positive = p; rest = AnyOne q }) → is_formula_of h t ≡ true → (u : Term) → Contains (arguments_of t) u → sign p (term_true_by v t) || (sign q (term_true_by v u) || false) ≡ true
-  with_any h p q s_in formula u u_in = ap (λ b. sign p (term_true_by v t) || (b || false)) (sym (signed_true v q u)) ∙ by_scheme (record { head = h; positive = p; rest = AnyOne q }) s_in formula (signed q u ∷ []) (mapped (λ w. signed q w ∷ []) u (arguments_of t) u_in)
+  with_any h p q s_in formula u u_in = ap (λ b. sign p (term_true_by v t) || (b || false)) (sym (signed_true v q u)) ∙ by_scheme (record { head = h; positive = p; rest = AnyOne q }) s_in formula (signed q u ∷ []) (to_image (λ w. signed q w ∷ []) (arguments_of t) u u_in)
 
   -- each argument behind it
   pub with_each : (h : Head) (p q : Bool) → Contains schemes (record { head = h; positive = p; rest = Each q }) → is_formula_of h t ≡ true → sign p (term_true_by v t) || list_any (term_true_by v) (map (signed q) (arguments_of t)) ≡ true

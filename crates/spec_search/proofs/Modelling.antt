@@ -3,7 +3,7 @@ use Rattle.std.proofs.Common.{◌≡◌, Bool, true, false, ◌||◌, List, [], 
 use Rattle.std.specs.Prelude.{flat_map}
 use Rattle.std.specs.List.{list_any}
 use Rattle.std.proofs.lemmas.List.Elements.{All-contains, Contains-append_left, Contains-append_right, Contains-get_or}
-use Rattle.spec_text.proofs.Members.{first, later}
+use Rattle.spec_text.proofs.Members.{first, later, to_image, in_flat}
 use Rattle.spec_terms.specs.Terms.{Head, Apply, Term, Terms, app, nil, cons, list_of}
 use Rattle.spec_terms.specs.Values.{Value, truth, Interpretation}
 use Rattle.spec_terms.specs.Literals.{Clause, literal_of}
@@ -11,10 +11,8 @@ use Rattle.spec_terms.specs.Agreement.{head_value, value_at, values_at}
 use Rattle.spec_terms.specs.Subterms.{subterms_of}
 use Rattle.spec_terms.specs.Subsets.{AreAmong, IsClosed}
 use Rattle.spec_proofs.specs.Truths.{Truths, term_true_by}
-use Rattle.spec_proofs.proofs.Chains.{mapped}
 use Rattle.spec_search.specs.Base.{clauses_of, base_clauses}
 use Rattle.spec_search.specs.Models.{Meets, is_formula, AreFormulas, value_by, Obeys, Realizes}
-use Rattle.spec_search.proofs.Meeting.{in_flat}
 use Rattle.spec_search.proofs.Obeying.{IsMet, obeyed}
 
 module _ (terms : List Term) (v : Truths) (formulas : AreFormulas (subterms_of terms)) (meets : Meets v (base_clauses terms)) where
@@ -32,7 +30,7 @@ module _ (terms : List Term) (v : Truths) (formulas : AreFormulas (subterms_of t
 
   -- a term is true
   term_met : (t : Term) → Contains terms t → term_true_by v t ≡ true
-  term_met t t_in = alone (term_true_by v t) (base_met (t ∷ []) (Contains-append_left (map (λ x. x ∷ []) terms) (flat_map clauses_of (subterms_of terms)) (t ∷ []) (mapped (λ x. x ∷ []) t terms t_in)))
+  term_met t t_in = alone (term_true_by v t) (base_met (t ∷ []) (Contains-append_left (map (λ x. x ∷ []) terms) (flat_map clauses_of (subterms_of terms)) (t ∷ []) (to_image (λ x. x ∷ []) terms t t_in)))
     where
       alone : (b : Bool) → b || false ≡ true → b ≡ true
       alone true e = refl

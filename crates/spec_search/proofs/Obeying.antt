@@ -1,38 +1,18 @@
 -- Truths that meet the clauses of a formula give it the value that its head gives.
-use Rattle.std.proofs.Common.{◌≡◌, ℕ, Bool, true, false, not, ◌&&◌, ◌||◌, List, [], ◌∷◌, map, length, Contains, refl, sym, ap, ◌∙◌, subst, arith}
+use Rattle.std.proofs.Common.{◌≡◌, ℕ, Bool, true, false, not, ◌&&◌, ◌||◌, List, map, length, Contains, refl, sym, ap, ◌∙◌, subst, arith}
 use Rattle.std.specs.List.{list_any}
-use Rattle.std.proofs.lemmas.Bool.{false≢true, and_parts}
+use Rattle.std.proofs.lemmas.Bool.{and_parts}
 use Rattle.std.proofs.lemmas.List.{length-map}
 use Rattle.spec_terms.specs.Terms.{Sort, Truth, Head, True, False, Not, And, Or, Xor, Implies, Equal, Ite, Apply, Term, Terms, app, nil, cons, list_of, sort_of, all_same, head_takes}
 use Rattle.spec_terms.specs.Values.{truth, all_true, any_true, Interpretation}
 use Rattle.spec_terms.specs.Literals.{Clause}
 use Rattle.spec_terms.specs.Agreement.{head_value}
+use Rattle.spec_terms.proofs.General.{not_takes, xor_takes, implies_takes, equal_takes, ite_takes}
 use Rattle.spec_proofs.specs.Schemes.{yes, no}
 use Rattle.spec_proofs.specs.Truths.{Truths, term_true_by}
 use Rattle.spec_search.specs.Base.{clauses_of}
 use Rattle.spec_search.specs.Models.{is_formula, value_by, Obeys}
 use Rattle.spec_search.proofs.Meeting.{negated_true, alone, with_one, with_two, with_any, with_each, xor_by, implies_by, equal_by, ite_by, none_false, one_true, all_follow, all_lead, same_truth}
-
--- how many arguments a head takes
-pub not_takes : (ss : List Sort) → head_takes Not ss ≡ true → length ss ≡ 1
-not_takes (Truth ∷ []) e = refl
-not_takes _ e = absurd (false≢true e)
-
-pub xor_takes : (ss : List Sort) → head_takes Xor ss ≡ true → length ss ≡ 2
-xor_takes (Truth ∷ Truth ∷ []) e = refl
-xor_takes _ e = absurd (false≢true e)
-
-pub implies_takes : (ss : List Sort) → head_takes Implies ss ≡ true → length ss ≡ 2
-implies_takes (Truth ∷ Truth ∷ []) e = refl
-implies_takes _ e = absurd (false≢true e)
-
-pub equal_takes : (ss : List Sort) → head_takes Equal ss ≡ true → length ss ≡ 2
-equal_takes (s ∷ t ∷ []) e = refl
-equal_takes _ e = absurd (false≢true e)
-
-pub ite_takes : (ss : List Sort) → head_takes Ite ss ≡ true → length ss ≡ 3
-ite_takes (Truth ∷ s ∷ t ∷ []) e = refl
-ite_takes _ e = absurd (false≢true e)
 
 one_argument : (ts : Terms) → length (list_of ts) ≡ 1 → (a : Term) × (ts ≡ cons a nil)
 one_argument nil e = absurd (omega (arith, e))

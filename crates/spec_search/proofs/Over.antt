@@ -2,10 +2,10 @@
 use Rattle.std.proofs.Common.{◌≡◌, ℕ, ◌<◌, Bool, true, false, ◌&&◌, cond, List, [], ◌∷◌, length, get_or, map, Contains, inl, inr, refl, sym, subst, arith}
 use Rattle.std.specs.Prelude.{slice_index_or}
 use Rattle.std.specs.List.{AllByRecursion}
-use Rattle.std.proofs.lemmas.Bool.{false≢true}
+use Rattle.std.proofs.lemmas.Bool.{false≢true, and_parts}
 use Rattle.std.proofs.lemmas.List.{length-map}
 use Rattle.std.proofs.lemmas.List.Elements.{All-contains, All-from_recursion, Contains-append_cases, Contains-get_or}
-use Rattle.spec_text.proofs.Members.{first, cases, none}
+use Rattle.spec_text.proofs.Members.{first, cases, none, from_flat, from_image}
 use Rattle.spec_terms.specs.Terms.{Head, Not, Xor, Implies, Equal, Ite, Sort, Truth, Term, app, nil, cons, list_of, sort_of, all_same, same_head, head_takes}
 use Rattle.spec_terms.specs.Theory.{no_term}
 use Rattle.spec_terms.specs.Subterms.{subterms_of}
@@ -16,11 +16,6 @@ use Rattle.spec_proofs.specs.declared.Rest.{Rest}
 use Rattle.spec_proofs.specs.declared.Rest.TheVariants.{Nothing, One, Two, AnyOne, Each, Innermost}
 use Rattle.spec_proofs.specs.Schemes.{Scheme, schemes, signed, side_of, innermost, rests_of, is_formula_of, clauses_by}
 use Rattle.spec_search.specs.Base.{clauses_of, base_clauses}
-use Rattle.spec_search.proofs.Holding.{from_flat, from_map}
-
-both : (a b : Bool) → a && b ≡ true → (a ≡ true) × (b ≡ true)
-both true b e = (refl, e)
-both false b e = absurd (false≢true e)
 
 -- so many sorts as a head takes
 implies_two : (g : Head) (ss : List Sort) → same_head Implies g ≡ true → head_takes g ss ≡ true → length ss ≡ 2
@@ -177,10 +172,10 @@ module _ (us : List Term) (closed : IsClosed us) where
       | inr k ↦ absurd (none c k)
     ]
     rest_over (AnyOne p) h c i u j =
-        let x = from_map (λ (t : Term). signed p t ∷ []) ts c i in
+        let x = from_image (λ (t : Term). signed p t ∷ []) ts c i in
         elim (cases (signed p x.0) [] u (subst (λ (d : Clause). Contains d u) (sym x.2) j)) [ inl f ↦ subst IsOver f (signed_over p x.0 (among x.0 x.1)) | inr k ↦ absurd (none u k) ]
     rest_over (Each p) h c i u j = elim (cases (map (signed p) ts) [] c i) [
-      | inl e ↦ let x = from_map (signed p) ts u (subst (λ (d : Clause). Contains d u) (sym e) j) in subst IsOver x.2 (signed_over p x.0 (among x.0 x.1))
+      | inl e ↦ let x = from_image (signed p) ts u (subst (λ (d : Clause). Contains d u) (sym e) j) in subst IsOver x.2 (signed_over p x.0 (among x.0 x.1))
       | inr k ↦ absurd (none c k)
     ]
     rest_over Innermost h c i u j = innermost_over c i u j
@@ -192,9 +187,9 @@ module _ (us : List Term) (closed : IsClosed us) where
       go : (b : Bool) → is_formula_of s.head (app g ts) ≡ b → Contains (cond b (map (λ ls. signed s.positive (app g ts) ∷ ls) (rests_of s.rest (list_of ts))) []) c → IsOver u
       go false e h = absurd (none c h)
       go true e h =
-          let x = from_map (λ ls. signed s.positive (app g ts) ∷ ls) (rests_of s.rest (list_of ts)) c h in
-          let all = both (same_head s.head g && head_takes g (map sort_of (list_of ts))) (all_same Truth (map sort_of (list_of ts))) e in
-          let heads = both (same_head s.head g) (head_takes g (map sort_of (list_of ts))) all.0 in
+          let x = from_image (λ ls. signed s.positive (app g ts) ∷ ls) (rests_of s.rest (list_of ts)) c h in
+          let all = and_parts (same_head s.head g && head_takes g (map sort_of (list_of ts))) (all_same Truth (map sort_of (list_of ts))) e in
+          let heads = and_parts (same_head s.head g) (head_takes g (map sort_of (list_of ts))) all.0 in
           let there = rw length-map at (places g (map sort_of (list_of ts)) heads.0 heads.1) in
           elim (cases (signed s.positive (app g ts)) x.0 u (subst (λ (d : Clause). Contains d u) (sym x.2) j)) [
             | inl f ↦ subst IsOver f (signed_over s.positive (app g ts) t_in)
@@ -204,11 +199,11 @@ module _ (us : List Term) (closed : IsClosed us) where
 -- each literal of a base clause is over a subterm
 pub base_over : ((ts : List Term) → AreAmong ts (subterms_of ts)) → ((ts : List Term) → IsClosed (subterms_of ts)) → (terms : List Term) (c : Clause) (l : Literal) → Contains (base_clauses terms) c → Contains (literals_of c) l → Contains (subterms_of terms) l.atom
 base_over there closed terms c l i j =
-    let u = from_map literal_of c l j in
+    let u = from_image literal_of c l j in
     let us = subterms_of terms in
     let over : Contains us (literal_of u.0).atom = elim (Contains-append_cases (map (λ (t : Term). t ∷ []) terms) _ c i) [
       | inl root ↦
-          let t = from_map (λ (t : Term). t ∷ []) terms c root in
+          let t = from_image (λ (t : Term). t ∷ []) terms c root in
           elim (cases t.0 [] u.0 (subst (λ (d : Clause). Contains d u.0) (sym t.2) u.1)) [ inl e ↦ subst (IsOver us (closed terms)) e (bare_among us (closed terms) t.0 (there terms t.0 t.1)) | inr k ↦ absurd (none u.0 k) ]
       | inr sub ↦
           let t = from_flat clauses_of us c sub in

@@ -1,8 +1,9 @@
 -- What a new clause says, and each of a list of new ones.
-use Rattle.std.proofs.Common.{◌≡◌, ◌≢◌, Bool, true, false, not, List, [], ◌∷◌, ◌++◌, Contains, inl, inr, refl, sym, ap, ◌∙◌, subst}
+use Rattle.std.proofs.Common.{◌≡◌, ◌≢◌, Bool, true, false, not, List, [], ◌∷◌, ◌++◌, Contains, inl, inr, sym, ap, ◌∙◌, subst}
 use Rattle.std.proofs.lemmas.List.{append_assoc, append-nil}
 use Rattle.spec_text.proofs.Members.{cases, none}
 use Rattle.spec_terms.specs.Literals.{Literal, complement}
+use Rattle.spec_terms.proofs.General.{complement-twice}
 use Rattle.spec_proofs.specs.Resolution.{given, both_ways}
 use Rattle.spec_search.specs.Learned.{others, IsNew, AreNew}
 use Rattle.spec_search.proofs.Learned.{decide_literals, others_there}
@@ -15,19 +16,12 @@ differs l e = go l.positive (ap (λ (x : Literal). x.positive) e)
     go true f = cc
     go false f = cc
 
-twice : (l : Literal) → complement (complement l) ≡ l
-twice l = λ i. record { atom = l.atom; positive = go l.positive i }
-  where
-    go : (p : Bool) → not (not p) ≡ p
-    go true = refl
-    go false = refl
-
 -- a literal and its complement are given to each other
 pub no_tautology : (premises : List (List Literal)) (clause : List Literal) (l : Literal) → IsNew premises clause → Contains clause l → Contains clause (complement l) → ⊥
 no_tautology premises clause l new l_in other_in =
     let k = new.0 in
     elim (decide_literals l k) [
-      | inl same ↦ new.1.not_given (given k (subst (λ (x : Literal). Contains (others clause k) x) (twice l ∙ same) (others_there clause k (complement l) other_in (λ e. differs l (e ∙ sym same)))))
+      | inl same ↦ new.1.not_given (given k (subst (λ (x : Literal). Contains (others clause k) x) (complement-twice l ∙ same) (others_there clause k (complement l) other_in (λ e. differs l (e ∙ sym same)))))
       | inr apart ↦ elim (decide_literals (complement l) k) [
         | inl same ↦ new.1.not_given (given k (subst (λ (x : Literal). Contains (others clause k) x) same (others_there clause k l l_in apart)))
         | inr away ↦ new.1.no_conflict (both_ways (complement l) (given (complement l) (others_there clause k l l_in apart)) (given (complement (complement l)) (others_there clause k (complement l) other_in away)))

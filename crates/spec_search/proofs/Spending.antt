@@ -33,12 +33,17 @@ followed earlier (y ∷ ys) (z ∷ before) x after f e =
     subst (λ w. FollowsFrom (earlier ++ w ∷ before) x) same (subst (λ ds. FollowsFrom ds x) (append_assoc earlier (y ∷ []) before) (followed (earlier ++ y ∷ []) ys before x after f.1 rest))
 
 -- the premises of what follows are among those before it
-premises_before : (earlier : Derivation) (x : Inference) (k : ℕ) → FollowsFrom earlier x → Contains (premises_of x) k → k < length earlier
+pub premises_before : (earlier : Derivation) (x : Inference) (k : ℕ) → FollowsFrom earlier x → Contains (premises_of x) k → k < length earlier
 premises_before earlier (assumption t) k f k_in = absurd (none k k_in)
 premises_before earlier (by_rule r ps clause) k f k_in = All-contains (λ n. n < length earlier) ps k f.0 k_in
 
+-- what one of its premises is, a clause rests on
+pub rests_onward : (d : Derivation) (n m k : ℕ) → RestsOn d n m → Contains (premises_of (inference_at d m)) k → RestsOn d n k
+rests_onward d n m k (itself _) p = by_premise n k k p (itself k)
+rests_onward d n m k (by_premise _ j _ first rest) p = by_premise n j k first (rests_onward d j m k rest p)
+
 -- what a clause of a derivation rests on is one of it
-rests_there : (d : Derivation) → IsDerivation d → (n m : ℕ) → n < length d → RestsOn d n m → m < length d
+pub rests_there : (d : Derivation) → IsDerivation d → (n m : ℕ) → n < length d → RestsOn d n m → m < length d
 rests_there d right _ _ lt (itself n) = lt
 rests_there d right _ _ lt (by_premise n k m k_in rests) =
     let less = premises_before (take n d) (inference_at d n) k (right (take n d) (inference_at d n) (drop (suc n) d) (split_at d n lt)) k_in in

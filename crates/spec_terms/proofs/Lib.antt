@@ -6,3 +6,4 @@ pub mod Offsets
 pub mod SameTerms
 pub mod Members
 pub mod LeastSubterms
+pub mod General

@@ -1,29 +1,41 @@
 -- What an answer through two steps says of each, and where its fault stands.
-use Rattle.std.proofs.Common.{◌≡◌, ℕ, Bool, true, false, refl, sym, subst}
-use Rattle.std.specs.Prelude.{Ok, Err}
+use Rattle.std.proofs.Common.{◌≡◌, ℕ, Bool, true, false, refl, sym, ap, ◌∙◌, subst}
+use Rattle.std.specs.Prelude.{Result, Ok, Err}
 use Rattle.spec_text.specs.declared.Fault.{Fault}
+use Rattle.spec_text.specs.Faults.{Located}
 use Rattle.spec_text.specs.Answers.{Answer, ◌>>=◌, require}
 use Rattle.spec_text.specs.Trees.{Tree, atom, list, offset_of}
 use Rattle.spec_text.specs.Offsets.{AllOffsets}
 
--- both steps, and what the first one answers
-pub record Went {A B : Type 0} (a : Answer A) (f : A → Answer B) (b : B) : Type 0 where
+-- What is read through two steps.
+pub record Went {A B E : Type 0} (a : Result A E) (f : A → Result B E) (b : B) : Type 0 where
   pub first : A
   pub was : a ≡ Ok first
   pub then : f first ≡ Ok b
 
 -- the answer is this
-abbrev pub IsAnswer : {A : Type 0} → Answer A → A → Type 0
+abbrev pub IsAnswer : {A E : Type 0} → Result A E → A → Type 0
 IsAnswer (Ok x) y = x ≡ y
 IsAnswer (Err e) y = ⊥
 
-pub answer : {A : Type 0} (a : Answer A) (y : A) → a ≡ Ok y → IsAnswer a y
+pub answer : {A E : Type 0} (a : Result A E) (y : A) → a ≡ Ok y → IsAnswer a y
 answer a y e = subst (λ b. IsAnswer b y) (sym e) refl
 
-pub went : {A B : Type 0} (a : Answer A) (f : A → Answer B) (b : B) → (a >>= f) ≡ Ok b → Went a f b
+pub went : {A B E : Type 0} (a : Result A E) (f : A → Result B E) (b : B) → (a >>= f) ≡ Ok b → Went a f b
 unfolding ◌>>=◌
 went (Ok x) f b e = record { first = x; was = refl; then = e }
 went (Err x) f b e = absurd (answer (Err x) b e)
+
+-- both steps answer
+pub joined : {A B E : Type 0} (a : Result A E) (f : A → Result B E) (x : A) (y : B) → a ≡ Ok x → f x ≡ Ok y → (a >>= f) ≡ Ok y
+unfolding ◌>>=◌
+joined a f x y e h = ap (λ b. b >>= f) e ∙ h
+
+-- what holds of each fault, and of what follows, holds of both steps in turn
+pub in_turn : {A B E : Type 0} (P : Result B E → Type 0) → ((e : E) → P (Err e)) → (a : Result A E) (f : A → Result B E) → ((x : A) → a ≡ Ok x → P (f x)) → P (a >>= f)
+unfolding ◌>>=◌
+in_turn P faulty (Ok x) f g = g x refl
+in_turn P faulty (Err e) f g = faulty e
 
 pub require_true : (b : Bool) (at : ℕ) (f : Fault) (u : Unit {0}) → require b at f ≡ Ok u → b ≡ true
 unfolding require
@@ -50,6 +62,10 @@ module _ (P : ℕ → Type 0) where
   -- the offset of a fault, where there is one, has the property
   abbrev pub Stands : {A : Type 0} → Answer A → Type 0
   Stands a = Gives (λ _. Unit {0}) a
+
+  pub stands : {A : Type 0} (a : Answer A) → ((f : Located) → a ≡ Err f → P f.offset) → Stands a
+  stands (Ok x) h = tt
+  stands (Err f) h = h f refl
 
   pub stands_in_turn : {A B : Type 0} (a : Answer A) (f : A → Answer B) → Stands a → ((x : A) → Stands (f x)) → Stands (a >>= f)
   stands_in_turn a f h g = gives_in_turn (λ _. Unit {0}) (λ _. Unit {0}) a f h (λ x _. g x)

@@ -1,7 +1,7 @@
 -- What shapes of trees have, where each of their steps gives it.
 use Rattle.std.proofs.Common.{ℕ, Option, Some, None}
-use Rattle.spec_text.specs.Shapes.{◌>>=◌, only_tree}
-use Rattle.spec_text.specs.Trees.{Trees, none, more}
+use Rattle.spec_text.specs.Shapes.{◌>>=◌, Word, first_word, only_tree}
+use Rattle.spec_text.specs.Trees.{Trees, atom, list, none, more}
 use Rattle.spec_text.specs.Offsets.{AllOffsets, AllOffsetsOf}
 
 -- what there is has a property
@@ -19,3 +19,13 @@ pub tree_stands : (P : ℕ → Type 0) (ts : Trees) → AllOffsetsOf P ts → Ho
 tree_stands P none h = tt
 tree_stands P (more t none) h = h.0
 tree_stands P (more t (more u us)) h = tt
+
+module _ (P : ℕ → Type 0) where
+  -- a word, and what follows it
+  abbrev pub FrontStands : Word × Trees → Type 0
+  FrontStands x = P x.0.at × AllOffsetsOf P x.1
+
+  pub word_stands : (ts : Trees) → AllOffsetsOf P ts → Holds FrontStands (first_word ts)
+  word_stands none h = tt
+  word_stands (more (atom at k bytes) ts) h = h
+  word_stands (more (list at us end) ts) h = tt

@@ -1,11 +1,11 @@
 -- Where the reading of trees stops: lexemes are one row of trees up to what no tree begins.
-use Rattle.std.proofs.Common.{◌≡◌, ◌<◌, ◌≤◌, ◌+◌, ℕ, List, [], ◌++◌, length, Option, Some, None, refl, sym, ap, ◌∙◌, append_assoc, arith, subst}
+use Rattle.std.proofs.Common.{◌≡◌, ◌<◌, ◌≤◌, ◌+◌, ℕ, List, [], ◌++◌, length, Option, Some, None, inl, inr, refl, sym, ap, ◌∙◌, append_assoc, arith, subst}
 use Rattle.std.specs.Prelude.{max}
 use Rattle.std.proofs.Math.Nat.{le-max_left, le-max_right}
 use Rattle.spec_text.specs.Lexemes.{Lexeme}
 use Rattle.spec_text.specs.Trees.{Tree, Trees, atom, list, none, more, spelled, spelled_all}
 use Rattle.spec_text.specs.Faults.{Located, nesting_limit, first_fault}
-use Rattle.spec_text.specs.Readings.{depth, depth_all, Stops, kept, limited, is_long, IsReadUpTo}
+use Rattle.spec_text.specs.Readings.{depth, depth_all, Stops, StopsAt, kept, limited, is_long, IsReadUpTo}
 use Rattle.spec_text.proofs.Reading.{same_first}
 
 -- no tree that may stand behind n open lists is in front
@@ -55,3 +55,9 @@ one_end text ts us f g a b =
     let row = one_row 0 ts us a.rest b.rest a.trees.within b.trees.within (stop_begins_no_tree end a.rest a.stop a.stops) (stop_begins_no_tree end b.rest b.stop b.stops) (sym a.trees.split ∙ b.trees.split) in
     let stop = one_stop end b.rest a.stop b.stop (subst (λ r. Stops end r a.stop) row.1 a.stops) b.stops in
     (row.0, a.is ∙ ap (limited (is_long text)) stop ∙ sym b.is)
+
+-- what stops trees that stand in no list ends the text
+pub stop_of : (end : ℕ) (rest : List (ℕ × Lexeme)) → StopsAt end 0 rest → (stop : Option Located) × Stops end rest stop
+stop_of end rest (inl x) = (None, x.1)
+stop_of end rest (inr (inl x)) = absurd (x.0 refl)
+stop_of end rest (inr (inr x)) = (Some x.0, x.1)

@@ -5,7 +5,7 @@ use Rattle.std.specs.Str.{bytes_eq}
 use Rattle.std.proofs.lemmas.Bool.{and_parts, not-true}
 use Rattle.std.proofs.lemmas.Bool.Decides.{nat_tests}
 use Rattle.std.proofs.lemmas.Slice.Eq.{bytes_eq-Decides}
-use Rattle.spec_text.specs.Bytes.{Name, one_of, is_blank, is_digit, is_letter, is_symbol_byte, front, among, reserved_words}
+use Rattle.spec_text.specs.Bytes.{Name, one_of, is_blank, is_digit, is_letter, is_symbol_byte, is_in_bars, front, among, reserved_words}
 use Rattle.spec_text.specs.Printed.{all_pass}
 use Rattle.spec_text.specs.Lexicon.{Consists, BeginsWithout}
 
@@ -57,6 +57,14 @@ front_then_rest test (b ∷ bs) = go (test b) (front_then_rest test bs)
     go : (t : Bool) → bs ≡ front test bs ++ drop (length (front test bs)) bs → b ∷ bs ≡ cond t (b ∷ front test bs) [] ++ drop (length (cond t (b ∷ front test bs) [])) (b ∷ bs)
     go true h = ap (λ (xs : List ℕ). b ∷ xs) h
     go false h = refl
+
+-- bytes of symbols may stand between bars
+pub symbol_byte_in_bars : (b : ℕ) → is_symbol_byte b ≡ true → is_in_bars b ≡ true
+symbol_byte_in_bars b h = rw (other_byte is_symbol_byte b 124 h refl, other_byte is_symbol_byte b 92 h refl) refl
+
+pub symbol_bytes_in_bars : (bs : List ℕ) → Consists is_symbol_byte bs → Consists is_in_bars bs
+symbol_bytes_in_bars [] h = tt
+symbol_bytes_in_bars (b ∷ bs) h = (symbol_byte_in_bars b h.0, symbol_bytes_in_bars bs h.1)
 
 -- what a symbol without bars looks like
 abbrev is_symbolic : Name → Bool

@@ -1,5 +1,6 @@
 use Rattle.std.proofs.Common.{sym}
-use Rattle.assertion_stack.proofs.Stacks.{none_among, some_among}
+use Rattle.spec_scripts.proofs.Later.{none_among}
+use Rattle.assertion_stack.proofs.Stacks.{some_among}
 use Rattle.assertion_stack.proofs.names.is_declared.Goals as goal
 
 pub returns-in-Some : goal.returns-in-Some

@@ -1,9 +1,9 @@
 -- By what each learned clause is new over.
 use Rattle.std.proofs.Common.{List, ◌++◌, map, All, Contains, subst}
 use Rattle.std.proofs.lemmas.List.Elements.{All-contains, Contains-append_left, Contains-append_right}
+use Rattle.spec_text.proofs.Members.{to_image}
 use Rattle.spec_terms.specs.Terms.{Term}
 use Rattle.spec_terms.specs.Literals.{Literal, literals_of}
-use Rattle.spec_proofs.proofs.Chains.{mapped}
 use Rattle.spec_search.specs.Base.{base_clauses}
 use Rattle.spec_search.specs.Derivations.{Derivation}
 use Rattle.spec_search.specs.Learned.{IsNew, AreNew}
@@ -37,7 +37,7 @@ returns-clause-not_empty c terms d learned h clause there =
 pub returns-clause-no_base_clause : goal.returns-clause-no_base_clause
 returns-clause-no_base_clause c terms d learned h clause b there b_in within =
     let n = is_new terms d learned h clause there in
-    let b_there = Contains-append_left (base terms) n.0 (literals_of b) (mapped literals_of b (base_clauses terms) b_in) in
+    let b_there = Contains-append_left (base terms) n.0 (literals_of b) (to_image literals_of (base_clauses terms) b b_in) in
     contains_none (base terms ++ n.0) clause (literals_of b) b_there within n.1
 
 pub returns-clause-no_earlier_clause : goal.returns-clause-no_earlier_clause
