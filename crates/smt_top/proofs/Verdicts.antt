@@ -47,7 +47,7 @@ place_in_text n text p h =
 pub read_is_front : (end : ReadEnd) (bytes text : List ℕ) → (end ≡ Whole bytes) ⊎ (end ≡ Cut bytes) → IsReadTo (text_limit + 1) end text → bytes ≡ front text
 read_is_front end bytes text (inl is) h =
     let read = subst (λ e. IsReadTo (text_limit + 1) e text) is h in
-    read.1 ∙ sym (take_all (text_limit + 1) text read.0)
+    read.1 ∙ sym (take_all (text_limit + 1) text (omega (arith, read.0)))
 read_is_front end bytes text (inr is) h =
     let read = subst (λ e. IsReadTo (text_limit + 1) e text) is h in
     read.1

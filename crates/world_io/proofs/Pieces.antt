@@ -7,12 +7,11 @@ use Rattle.std.specs.Prelude.{IfSome, Result, Ok, Err, OnErr, flat_map}
 use Rattle.world_io.specs.Outside.{AppendsPrefix}
 
 -- what was read is a prefix of some text, the one that is known
-pub cut_of : (left new : Option (List ℕ)) (got cut : List ℕ) (limit : ℕ) → limit < length got → cut ≡ take limit got → Consumes left new got → (text : List ℕ) × ((limit < length text) × (cut ≡ take limit text)) × IfSome left (λ t. t ≡ text)
+pub cut_of : (left new : Option (List ℕ)) (got cut : List ℕ) (limit : ℕ) → limit ≤ length got → cut ≡ take limit got → Consumes left new got → (text : List ℕ) × ((limit ≤ length text) × (cut ≡ take limit text)) × IfSome left (λ t. t ≡ text)
 cut_of None new got cut limit h e c = (got, (h, e), tt)
 cut_of (Some bytes) None got cut limit h e c = absurd c
 cut_of (Some bytes) (Some rest) got cut limit h e c =
-    let l : limit ≤ length got = omega arith in
-    (bytes, (omega (arith, ap length c, length-append got rest), e ∙ sym (rw c (take-append-le limit got rest l))), refl)
+    (bytes, (omega (arith, ap length c, length-append got rest), e ∙ sym (rw c (take-append-le limit got rest h))), refl)
 
 take_past : (x y : List ℕ) (k : ℕ) → take (length x + k) (x ++ y) ≡ x ++ take k y
 take_past [] y k = rw zero-add refl

@@ -6,11 +6,11 @@ ghost use Rattle.world_io.specs.Memory.{next_number};
 
 use thiserror::Error;
 
-/// Says that the outside refused a read or a write.
+/// Says that a read or a write failed.
 ///
-/// A call answers it only where the count of faults of the object handed in rose in that call.
+/// A call answers it only where the count of faults of the object that was passed in rose in that call.
 #[derive(Clone, Copy, Debug, PartialEq, Eq, Error)]
-#[error("the outside failed")]
+#[error("I/O failed")]
 pub struct Failed;
 
 /// Gives the next number. The greatest number stays.
