@@ -1,7 +1,7 @@
 //! Lines of responses: an error, one word, a reason.
 
 ghost use Rattle.std.specs.Prelude.{◌≡◌, ◌++◌};
-ghost use Rattle.world_io.specs.Writing.{Sends, SendsWithin};
+ghost use Rattle.world_io.specs.Writing.{Sends};
 ghost use Rattle.spec_replies.specs.Lines.{error_text, word_of, word_line, conflicts, count_tree, reason_text, reason_line, reason_info};
 ghost use Rattle.spec_text.specs.Printed.{printed};
 ghost use Rattle.spec_replies.specs.declared.Word.TheVariants as words;
@@ -15,11 +15,10 @@ use world_io::{Failed, Sink, write_pieces};
 
 /// Writes the line of an error: its line and column, both from 1, in decimal, and its name, as `(error "2:9: PopTooFar")`.
 ///
-/// It takes no memory. `Failed` comes only where the sink's count of faults rose in this call; a front was then appended.
+/// It takes no memory. `Failed` comes only where the sink's count of faults rose in this call; a prefix was then appended.
 /// Source: SMT-LIB 2.6, section 3.9; what stands between the quotes is own.
 pub fn error<K: Sink>(place: Place, name: &[u8], out: &mut K) -> Result<(), Failed>
-    ensures sends { Sends (error_text place.line place.col name.now) result (K.written out.old) (K.written out.new) (K.faults out.old) (K.faults out.new) }
-    ensures room { SendsWithin (error_text place.line place.col name.now) result (K.has_room out.old) (K.has_room out.new) }
+    ensures { Sends (error_text place.line place.col name.now) result (K.state out.old) (K.state out.new) }
 {
     let mut line = Buffer::new();
     let mut column = Buffer::new();
@@ -52,36 +51,33 @@ fn letters(w: Word) -> &'static [u8]
 
 /// Writes the line of a response that is one word, as `unsat`.
 ///
-/// It takes no memory. `Failed` comes only where the sink's count of faults rose in this call; a front was then appended.
+/// It takes no memory. `Failed` comes only where the sink's count of faults rose in this call; a prefix was then appended.
 /// Source: SMT-LIB 2.6, sections 3.9 and 4.1.8.
 pub fn word<K: Sink>(w: Word, out: &mut K) -> Result<(), Failed>
-    ensures sends { Sends (word_line w) result (K.written out.old) (K.written out.new) (K.faults out.old) (K.faults out.new) }
-    ensures room { SendsWithin (word_line w) result (K.has_room out.old) (K.has_room out.new) }
+    ensures { Sends (word_line w) result (K.state out.old) (K.state out.new) }
 {
     write_pieces(out, &[letters(w), b"\n"])
 }
 
 /// Writes the line `success`.
 ///
-/// It takes no memory. `Failed` comes only where the sink's count of faults rose in this call; a front was then appended.
+/// It takes no memory. `Failed` comes only where the sink's count of faults rose in this call; a prefix was then appended.
 /// Source: SMT-LIB 2.6, section 3.9.
 pub fn success<K: Sink>(out: &mut K) -> Result<(), Failed>
-    ensures sends { Sends (word_line words.Success) result (K.written out.old) (K.written out.new) (K.faults out.old) (K.faults out.new) }
-    ensures room { SendsWithin (word_line words.Success) result (K.has_room out.old) (K.has_room out.new) }
+    ensures { Sends (word_line words.Success) result (K.state out.old) (K.state out.new) }
 {
     word(Word::Success, out)
 }
 
-/// Writes a word before a number, in a list, between the bytes before it and those behind it.
+/// Writes a word before a number, in a list, between the bytes before it and those after it.
 fn write_count<'a, K: Sink>(
     before: &'a [u8],
     what: &'a [u8],
     n: u64,
-    behind: &'a [u8],
+    after: &'a [u8],
     out: &mut K,
 ) -> Result<(), Failed>
-    ensures sends { Sends (before.now ++ (printed (count_tree what.now n) ++ behind.now)) result (K.written out.old) (K.written out.new) (K.faults out.old) (K.faults out.new) }
-    ensures room { SendsWithin (before.now ++ (printed (count_tree what.now n) ++ behind.now)) result (K.has_room out.old) (K.has_room out.new) }
+    ensures { Sends (before.now ++ (printed (count_tree what.now n) ++ after.now)) result (K.state out.old) (K.state out.new) }
 {
     let mut number = Buffer::new();
     write_pieces(
@@ -93,7 +89,7 @@ fn write_count<'a, K: Sink>(
             b" ",
             number.format(n).as_bytes(),
             b")",
-            behind,
+            after,
         ],
     )
 }
@@ -107,46 +103,42 @@ fn count_of(r: Reason) -> u64
     }
 }
 
-/// Writes a reason between the bytes before it and those behind it.
+/// Writes a reason between the bytes before it and those after it.
 fn write_reason<'a, K: Sink>(
     before: &'a [u8],
     r: Reason,
-    behind: &'a [u8],
+    after: &'a [u8],
     out: &mut K,
 ) -> Result<(), Failed>
-    ensures sends { Sends (before.now ++ (reason_text (reason_meant r) ++ behind.now)) result (K.written out.old) (K.written out.new) (K.faults out.old) (K.faults out.new) }
-    ensures room { SendsWithin (before.now ++ (reason_text (reason_meant r) ++ behind.now)) result (K.has_room out.old) (K.has_room out.new) }
+    ensures { Sends (before.now ++ (reason_text (reason_meant r) ++ after.now)) result (K.state out.old) (K.state out.new) }
 {
-    write_count(before, b"conflicts", count_of(r), behind, out)
+    write_count(before, b"conflicts", count_of(r), after, out)
 }
 
 /// Writes why a check was answered `unknown`, as `(conflicts 10)`, with no line feed.
 ///
-/// It takes no memory. `Failed` comes only where the sink's count of faults rose in this call; a front was then appended.
+/// It takes no memory. `Failed` comes only where the sink's count of faults rose in this call; a prefix was then appended.
 pub fn reason<K: Sink>(r: &Reason, out: &mut K) -> Result<(), Failed>
-    ensures sends { Sends (reason_text (reason_meant r.now)) result (K.written out.old) (K.written out.new) (K.faults out.old) (K.faults out.new) }
-    ensures room { SendsWithin (reason_text (reason_meant r.now)) result (K.has_room out.old) (K.has_room out.new) }
+    ensures { Sends (reason_text (reason_meant r.now)) result (K.state out.old) (K.state out.new) }
 {
     write_reason(b"", *r, b"", out)
 }
 
 /// Writes why a check was answered `unknown`, on a line of its own.
 ///
-/// It takes no memory. `Failed` comes only where the sink's count of faults rose in this call; a front was then appended.
+/// It takes no memory. `Failed` comes only where the sink's count of faults rose in this call; a prefix was then appended.
 pub fn reason_line<K: Sink>(r: &Reason, out: &mut K) -> Result<(), Failed>
-    ensures sends { Sends (reason_line (reason_meant r.now)) result (K.written out.old) (K.written out.new) (K.faults out.old) (K.faults out.new) }
-    ensures room { SendsWithin (reason_line (reason_meant r.now)) result (K.has_room out.old) (K.has_room out.new) }
+    ensures { Sends (reason_line (reason_meant r.now)) result (K.state out.old) (K.state out.new) }
 {
     write_reason(b"", *r, b"\n", out)
 }
 
 /// Writes the line of `get-info` for `:reason-unknown`, as `(:reason-unknown (conflicts 10))`.
 ///
-/// It takes no memory. `Failed` comes only where the sink's count of faults rose in this call; a front was then appended.
+/// It takes no memory. `Failed` comes only where the sink's count of faults rose in this call; a prefix was then appended.
 /// Source: SMT-LIB 2.6, section 4.1.8; the reason is own.
 pub fn reason_info<K: Sink>(r: &Reason, out: &mut K) -> Result<(), Failed>
-    ensures sends { Sends (reason_info (reason_meant r.now)) result (K.written out.old) (K.written out.new) (K.faults out.old) (K.faults out.new) }
-    ensures room { SendsWithin (reason_info (reason_meant r.now)) result (K.has_room out.old) (K.has_room out.new) }
+    ensures { Sends (reason_info (reason_meant r.now)) result (K.state out.old) (K.state out.new) }
 {
     write_reason(b"(:reason-unknown ", *r, b")\n", out)
 }

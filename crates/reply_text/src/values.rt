@@ -1,7 +1,7 @@
 //! Names and values.
 
 ghost use Rattle.std.specs.Prelude.{◌≡◌, ◌++◌};
-ghost use Rattle.world_io.specs.Writing.{Sends, SendsWithin};
+ghost use Rattle.world_io.specs.Writing.{Sends};
 ghost use Rattle.spec_replies.specs.Values.{name_text, value_text};
 ghost use Rattle.term_core.specs.Valuations.{value_meant};
 
@@ -11,14 +11,13 @@ use world_io::{Failed, Sink, write_all, write_pieces};
 
 /// Writes a symbol by its name: with bars only where it is no symbol without them.
 ///
-/// It takes no memory. `Failed` comes only where the sink's count of faults rose in this call; a front was then appended.
+/// It takes no memory. `Failed` comes only where the sink's count of faults rose in this call; a prefix was then appended.
 /// Source: SMT-LIB 2.6, section 3.1.
 pub fn name<K: Sink>(symbol: &[u8], out: &mut K) -> Result<(), Failed>
-    ensures sends { Sends (name_text symbol.now) result (K.written out.old) (K.written out.new) (K.faults out.old) (K.faults out.new) }
-    ensures room { SendsWithin (name_text symbol.now) result (K.has_room out.old) (K.has_room out.new) }
+    ensures { Sends (name_text symbol.now) result (K.state out.old) (K.state out.new) }
 {
-    let (before, behind) = bars_of(symbol);
-    write_pieces(out, &[before, symbol, behind])
+    let (before, after) = bars_of(symbol);
+    write_pieces(out, &[before, symbol, after])
 }
 
 /// Gives the letters of a truth value.
@@ -34,11 +33,10 @@ fn letters(truth: bool) -> &'static [u8]
 /// Writes a value: `true` or `false`, as there are no others so far. The name of the value's sort is for values of a declared
 /// sort, which print it.
 ///
-/// It takes no memory. `Failed` comes only where the sink's count of faults rose in this call; a front was then appended.
+/// It takes no memory. `Failed` comes only where the sink's count of faults rose in this call; a prefix was then appended.
 /// Source: SMT-LIB 2.6, section 4.2.6.
 pub fn value<K: Sink>(v: Value, _sort: &[u8], out: &mut K) -> Result<(), Failed>
-    ensures sends { Sends (value_text (value_meant v)) result (K.written out.old) (K.written out.new) (K.faults out.old) (K.faults out.new) }
-    ensures room { SendsWithin (value_text (value_meant v)) result (K.has_room out.old) (K.has_room out.new) }
+    ensures { Sends (value_text (value_meant v)) result (K.state out.old) (K.state out.new) }
 {
     match v {
         Value::Bool(truth) => write_all(out, letters(truth)),
