@@ -15,6 +15,8 @@ mod output;
 mod proof_tests;
 mod read;
 #[cfg(test)]
+mod reading_tests;
+#[cfg(test)]
 mod refusal_tests;
 #[cfg(test)]
 mod script_tests;

@@ -1,13 +1,10 @@
-//! What the tests share: words, texts in memory, and a run over them.
+//! What the tests share: runs as rows of a text, arguments, texts in memory, and a run over them.
 
 ghost use Rattle.std.specs.Prelude.{◌≡◌};
 
 use crate::{Status, run_in_memory};
 use std::alloc::Global;
 use world_io::{Bytes, MemShelf, MemSink, NoMemory};
-
-/// The words of a run over the two texts.
-pub(crate) const CHECK: [&str; 3] = ["check", "script.smt2", "proof.alethe"];
 
 /// A script that has no model.
 pub(crate) const SCRIPT: &str = "(declare-const p Bool)(assert p)(assert (not p))(check-sat)\n";
@@ -16,14 +13,10 @@ pub(crate) const SCRIPT: &str = "(declare-const p Bool)(assert p)(assert (not p)
 pub(crate) const PROOF: &str =
     "(assume h1 p)\n(assume h2 (not p))\n(step t1 (cl) :rule resolution :premises (h1 h2))\n";
 
-/// The line in front of a script in which `success` is not answered.
+/// The line before a script in which `success` is not answered.
 pub(crate) const QUIET: &str = "(set-option :print-success false)\n";
 
-/// The eight disjunctions of three constants or their negations, and a check. One learned clause does not refute them.
-pub(crate) const EIGHT: &str =
-    "(declare-const a Bool)(declare-const b Bool)(declare-const c Bool)(assert (or a b c))(assert (or a b (not c)))(assert (or a (not b) c))(assert (or a (not b) (not c)))(assert (or (not a) b c))(assert (or (not a) b (not c)))(assert (or (not a) (not b) c))(assert (or (not a) (not b) (not c)))(check-sat)";
-
-/// How the words are to be.
+/// What is written for wrong arguments.
 pub(crate) const USAGE: &str =
     "usage: smt_cli solve [--conflicts N] [--pivots N] [NAME]\n       smt_cli certify [--conflicts N] [--pivots N] [NAME]\n       smt_cli check [--at K] SCRIPT PROOF\n";
 
@@ -36,29 +29,121 @@ pub(crate) const ROOMY: u64 = 1 << 16;
 /// How many bytes of a text are judged.
 pub(crate) const LIMIT: usize = 1 << 26;
 
-/// Makes the words behind the program's name.
-pub(crate) fn words_of(alloc: Global, words: &[&str]) -> Result<Vec<String>, NoMemory> {
+/// One run, as a row says it.
+///
+/// A row is a line with the status and the arguments, the program's name first, separated by `|`; then the script; then, after a
+/// line `----`, the proof, if there is one; then, after such a line, what is written. A line `====` is between rows. Rows are one
+/// constant, since a table of them takes many times as long to prove.
+#[derive(Clone, Copy)]
+pub(crate) struct Row<'a> {
+    /// The number of the status.
+    pub(crate) status: &'a str,
+    /// The arguments.
+    pub(crate) arguments: &'a str,
+    /// The text of the script.
+    pub(crate) script: &'a str,
+    /// The text of the proof.
+    pub(crate) proof: &'a str,
+    /// What is written.
+    pub(crate) written: &'a str,
+}
+
+/// Takes a row apart.
+pub(crate) fn row_of(text: &str) -> Option<Row<'_>> {
+    let (head, texts) = text.split_once('\n')?;
+    let (status, arguments) = head.split_once(' ')?;
+    let (script, rest) = texts.split_once("\n----\n")?;
+    let (proof, written) = rest.split_once("\n----\n").unwrap_or(("", rest));
+    Some(Row {
+        status,
+        arguments,
+        script,
+        proof,
+        written,
+    })
+}
+
+/// Makes the arguments of a line.
+pub(crate) fn arguments_of(alloc: Global, line: &str) -> Result<Vec<String>, NoMemory> {
     let mut all = Vec::new(alloc);
-    all.push(String::from_str(alloc, "smt_cli")?)?;
-    for word in words {
-        all.push(String::from_str(alloc, word)?)?;
+    for argument in line.split('|') {
+        all.push(String::from_str(alloc, argument)?)?;
     }
     Ok(all)
 }
 
-/// Makes a shelf that holds a script and a proof, and fails the calls with the numbers in `failing`.
-pub(crate) fn shelf_of(
-    alloc: Global,
-    script: &str,
-    proof: &str,
-    failing: &[u64],
-) -> Result<MemShelf, NoMemory> {
-    let script = padded(alloc, script, 0)?;
-    let proof = padded(alloc, proof, 0)?;
-    shelf_with(alloc, script, proof, failing)
+/// Gives the number of a status as a row has it.
+fn digit_of(status: Status) -> &'static str {
+    match status {
+        Status::Done => "0",
+        Status::Refused => "1",
+        Status::Words => "2",
+        Status::Memory => "3",
+        Status::ReadFault => "4",
+        Status::WriteFault => "5",
+    }
 }
 
-/// Makes the bytes of a text, with spaces behind it up to `len` bytes.
+/// Gives the first row whose run ends otherwise, or writes something else, if there is one.
+pub(crate) fn first_other(alloc: Global, rows: &str) -> Result<Option<&str>, NoMemory> {
+    for text in rows.split("====\n") {
+        let Some(row) = row_of(text) else {
+            return Ok(Some(text));
+        };
+        let mut out = sink_of(alloc, ROOMY, ROOMY, &[])?;
+        if run_row(alloc, &row, &mut out)? != row.status
+            || out.written() != row.written.as_bytes()
+        {
+            return Ok(Some(text));
+        }
+    }
+    Ok(None)
+}
+
+/// Gives the first row whose run does not end with status 5, after as many bytes as there is room for, if there is one.
+pub(crate) fn first_uncut(alloc: Global, rows: &str) -> Result<Option<&str>, NoMemory> {
+    for text in rows.split("====\n") {
+        let Some(row) = row_of(text) else {
+            return Ok(Some(text));
+        };
+        for n in 0..row.written.len() {
+            if !is_cut(alloc, &row, n)? {
+                return Ok(Some(text));
+            }
+        }
+    }
+    Ok(None)
+}
+
+/// Tells whether the run of a row ends with status 5 after `n` bytes: by one byte a write where write `n` fails, and where there is
+/// room for `n` bytes, by one byte a write and by all that fits.
+fn is_cut(alloc: Global, row: &Row<'_>, n: usize) -> Result<bool, NoMemory> {
+    let mut failing = sink_of(alloc, ROOMY, 1, &[n as u64])?;
+    let mut narrow = sink_of(alloc, n as u64, 1, &[])?;
+    let mut full = sink_of(alloc, n as u64, ROOMY, &[])?;
+    let start = row.written.as_bytes().get(..n).unwrap_or(&[]);
+    Ok(
+        run_row(alloc, row, &mut failing)? == "5"
+            && failing.written() == start
+            && run_row(alloc, row, &mut narrow)? == "5"
+            && narrow.written() == start
+            && run_row(alloc, row, &mut full)? == "5"
+            && full.written() == start,
+    )
+}
+
+/// Runs a row over a sink, and gives the number of its status.
+pub(crate) fn run_row(
+    alloc: Global,
+    row: &Row<'_>,
+    out: &mut MemSink,
+) -> Result<&'static str, NoMemory> {
+    let script = padded(alloc, row.script, 0)?;
+    let status = run_both(alloc, row.arguments, script, row.proof.as_bytes(), out)?;
+    Ok(digit_of(status))
+}
+
+/// Makes the bytes of a text, with spaces after it up to `len` bytes.
 pub(crate) fn padded(alloc: Global, text: &str, len: usize) -> Result<Vec<u8>, NoMemory> {
     let mut bytes = Vec::from_slice(alloc, text.as_bytes())?;
     if bytes.len() < len {
@@ -87,18 +172,14 @@ pub(crate) fn shelf_named(
     MemShelf::new(alloc, texts, most, Vec::from_slice(alloc, failing)?)
 }
 
-/// Makes a shelf that holds a script under the empty name, and never fails.
-pub(crate) fn shelf_unnamed(alloc: Global, text: Vec<u8>) -> Result<MemShelf, NoMemory> {
-    shelf_named(alloc, "", text, AMPLE, &[])
-}
-
-/// Makes a shelf that holds the bytes of a script and a proof, and fails the calls with the numbers in `failing`.
-pub(crate) fn shelf_with(
+/// Makes a shelf that holds a script, a proof, and nothing else, and fails the calls with the numbers in `failing`.
+pub(crate) fn shelf_of(
     alloc: Global,
     script: Vec<u8>,
-    proof: Vec<u8>,
+    proof: &[u8],
     failing: &[u64],
 ) -> Result<MemShelf, NoMemory> {
+    let proof = Vec::from_slice(alloc, proof)?;
     let mut texts = Vec::new(alloc);
     texts.push((String::from_str(alloc, "script.smt2")?, Bytes::from(script)))?;
     texts.push((String::from_str(alloc, "proof.alethe")?, Bytes::from(proof)))?;
@@ -115,13 +196,42 @@ pub(crate) fn sink_of(
     MemSink::new(alloc, room, most, Vec::from_slice(alloc, failing)?)
 }
 
-/// Runs the words over a shelf and a sink.
-pub(crate) fn run_words(
+/// Runs arguments over a shelf that holds a script without a name.
+pub(crate) fn run_over(
     alloc: Global,
-    words: &[&str],
+    arguments: &str,
+    script: Vec<u8>,
+    out: &mut MemSink,
+) -> Result<Status, NoMemory> {
+    let mut shelf = shelf_named(alloc, "", script, AMPLE, &[])?;
+    run_on(alloc, arguments, &mut shelf, out)
+}
+
+/// Runs arguments over a shelf that holds a script, under the empty name too, and a proof.
+pub(crate) fn run_both(
+    alloc: Global,
+    arguments: &str,
+    script: Vec<u8>,
+    proof: &[u8],
+    out: &mut MemSink,
+) -> Result<Status, NoMemory> {
+    let unnamed = Vec::from_slice(alloc, script.as_slice())?;
+    let proof = Vec::from_slice(alloc, proof)?;
+    let mut texts = Vec::new(alloc);
+    texts.push((String::from_str(alloc, "")?, Bytes::from(unnamed)))?;
+    texts.push((String::from_str(alloc, "script.smt2")?, Bytes::from(script)))?;
+    texts.push((String::from_str(alloc, "proof.alethe")?, Bytes::from(proof)))?;
+    let mut shelf = MemShelf::new(alloc, texts, AMPLE, Vec::new(alloc))?;
+    run_on(alloc, arguments, &mut shelf, out)
+}
+
+/// Runs arguments over a shelf and a sink.
+pub(crate) fn run_on(
+    alloc: Global,
+    arguments: &str,
     shelf: &mut MemShelf,
     out: &mut MemSink,
 ) -> Result<Status, NoMemory> {
-    let words = words_of(alloc, words)?;
-    Ok(run_in_memory(alloc, words.as_slice(), shelf, out))
+    let arguments = arguments_of(alloc, arguments)?;
+    Ok(run_in_memory(alloc, arguments.as_slice(), shelf, out))
 }
