@@ -8,9 +8,9 @@ use Rattle.std.proofs.lemmas.List.Folds.{Any-from_list_any, list_any_at}
 use Rattle.spec_proofs.specs.Resolution.{Derives, unit, false_clause}
 use Rattle.term_core.specs.declared.ids.Lit.{Lit}
 use Rattle.rule_bool.specs.Literals.{lit_complement, has, IsConsistent}
-use Rattle.rule_bool.specs.Findings.{IsFalse, IsUnit, IsTouched}
+use Rattle.rule_bool.specs.Statuses.{IsFalsified, IsUnit, IsSatisfied}
 use Rattle.rule_bool.specs.Propagation.{IsRefuted, failing, untouched, Follows, Advances}
-use Rattle.rule_bool.proofs.Literals.{decide, Contains-from_has, has-from_Contains}
+use Rattle.rule_bool.proofs.LiteralLists.{decide, Contains-from_has, has-from_Contains}
 use Rattle.rule_bool.proofs.Start.{consistent_more}
 
 -- fewer fail a test that more pass
@@ -42,10 +42,10 @@ fail_fewer p q more (d ∷ ds) c (suc k) l e was is = go (fail_fewer p q more ds
 abbrev pub touched : List Lit → List Lit → Bool
 touched held c = list_any (has held) c
 
-touched_by : (held c : List Lit) → IsTouched held c → touched held c ≡ true
+touched_by : (held c : List Lit) → IsSatisfied held c → touched held c ≡ true
 touched_by held c t = list_any_at (has held) c t.there.0 t.literal t.there.1 (ap (has held) t.there.2 ∙ has-from_Contains held t.literal t.holds)
 
-touching : (held c : List Lit) → touched held c ≡ true → IsTouched held c
+touching : (held c : List Lit) → touched held c ≡ true → IsSatisfied held c
 touching held c e = let a = Any-from_list_any (has held) c e in record { literal = a.1; there = (a.0, a.2, a.3); holds = Contains-from_has held a.1 a.4 }
 
 unsure : (b : Bool) → (b ≡ true → ⊥) → b ≡ false
@@ -110,7 +110,7 @@ pub held_on : (premises : List (List Lit)) (old new : List Lit) → Advances pre
 held_on premises old new a m i = subst (λ (h : List Lit). Contains h m) (sym a.is) (Contains-append_left old a.added m i)
 
 -- a false clause refutes what is held
-pub refuted_by : (premises : List (List Lit)) (held c : List Lit) → Contains premises c → IsFalse held c → IsRefuted premises held
+pub refuted_by : (premises : List (List Lit)) (held c : List Lit) → Contains premises c → IsFalsified held c → IsRefuted premises held
 refuted_by premises held c c_in f start d = false_clause c c_in (λ m i. d (lit_complement m) (f m i))
 
 -- and what led to it

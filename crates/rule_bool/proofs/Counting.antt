@@ -4,9 +4,9 @@ use Rattle.std.proofs.lemmas.Bool.{false≢true, eq-eqb}
 use Rattle.std.proofs.lemmas.List.Elements.{Contains-push_cases, Contains-append_right}
 use Rattle.term_core.specs.declared.ids.Lit.{Lit}
 use Rattle.rule_bool.specs.Literals.{lit_complement, has, HasNoTwice}
-use Rattle.rule_bool.specs.Findings.{HasTwoOpen}
+use Rattle.rule_bool.specs.Statuses.{IsUnresolved}
 use Rattle.rule_bool.specs.Propagation.{unseen, times}
-use Rattle.rule_bool.proofs.Literals.{Contains-from_has, has-from_Contains, negation_twice}
+use Rattle.rule_bool.proofs.LiteralLists.{Contains-from_has, has-from_Contains, negation_twice}
 
 -- the first of a list, or one of the others
 pub Contains-cons_cases : {X : Type 0} (xs : List X) (x y : X) → Contains (x ∷ xs) y → (x ≡ y) ⊎ Contains xs y
@@ -92,11 +92,11 @@ counted_one held (x ∷ xs) h = go (counted_one held xs) (has held (lit_compleme
     go rest false e l = (x, Contains-first xs x x refl, unseen_is_open held x e)
 
 -- and two of a clause that has none twice
-pub counted_two : (held c : List Lit) → HasNoTwice c → 2 ≤ unseen held c → HasTwoOpen held c
+pub counted_two : (held c : List Lit) → HasNoTwice c → 2 ≤ unseen held c → IsUnresolved held c
 counted_two held [] d h = absurd (omega arith)
 counted_two held (x ∷ xs) d h = go (counted_two held xs d.1) (has held (lit_complement x)) refl h
   where
-    go : (2 ≤ unseen held xs → HasTwoOpen held xs) → (t : Bool) → has held (lit_complement x) ≡ t → 2 ≤ cond t (unseen held xs) (suc (unseen held xs)) → HasTwoOpen held (x ∷ xs)
+    go : (2 ≤ unseen held xs → IsUnresolved held xs) → (t : Bool) → has held (lit_complement x) ≡ t → 2 ≤ cond t (unseen held xs) (suc (unseen held xs)) → IsUnresolved held (x ∷ xs)
     go rest true e l =
         let r = rest l in
         record {

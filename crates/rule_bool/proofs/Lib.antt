@@ -1,7 +1,7 @@
 -- The lemmas of this crate.
-pub mod Literals
+pub mod LiteralLists
 pub mod Start
-pub mod Looked
+pub mod Statuses
 pub mod Advancing
 pub mod Once
 pub mod Noting

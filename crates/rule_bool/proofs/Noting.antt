@@ -13,9 +13,9 @@ use Rattle.indexmap.specs.IndexSet.{insert_key}
 use Rattle.term_core.specs.declared.ids.Lit.{Lit}
 use Rattle.term_core.specs.contracts.ids.LitPartialEq.TheImpl.{ghosts}
 use Rattle.rule_bool.specs.Literals.{HasNoTwice, lists}
-use Rattle.rule_bool.specs.Watching.{IsWhole, IsListed, Places, Notes, IsIndexOf, Watches, AreBelow}
-use Rattle.rule_bool.specs.declared.watchers.Watchers.{Watchers}
-use Rattle.rule_bool.proofs.Literals.{equal_is, contains_by}
+use Rattle.rule_bool.specs.Occurring.{IsWhole, IsListed, Places, Notes, IsIndexOf, OccursIn, AreBelow}
+use Rattle.rule_bool.specs.declared.occurrences.Occurrences.{Occurrences}
+use Rattle.rule_bool.proofs.LiteralLists.{equal_is, contains_by}
 use Rattle.rule_bool.proofs.Counting.{Contains-cons_cases, Contains-first}
 
 -- a literal stands at one place
@@ -81,7 +81,7 @@ pub stored_at : (new : List Lit) (l : Lit) (index : ℕ) → ((k : Lit) × (slic
 stored_at new l index s = (slice_get_within new index s.0 s.1, get_or_from_slice_get new index s.0 l s.1 ∙ sym (equal_is l s.0 s.2))
 
 -- a new literal gets an empty list
-pub placed_new : (old new : Watchers) (l : Lit) (index : ℕ) → IsWhole old → new.literals.keys ≡ old.literals.keys ++ l ∷ [] → HasNoTwice new.literals.keys
+pub placed_new : (old new : Occurrences) (l : Lit) (index : ℕ) → IsWhole old → new.literals.keys ≡ old.literals.keys ++ l ∷ [] → HasNoTwice new.literals.keys
     → (v : Vec ℕ Global) → v.items ≡ [] → new.lists.items ≡ old.lists.items ++ v ∷ [] → (index < length new.literals.keys) × (get_or new.literals.keys index l ≡ l) → Places old l index new
 placed_new old new l index whole keys once v empty pushed s =
     let ls : lists new.lists.items ≡ lists old.lists.items ++ [] ∷ [] = ap lists pushed ∙ map_push numbers old.lists.items v ∙ ap (λ (ks : List ℕ). lists old.lists.items ++ ks ∷ []) empty in
@@ -95,7 +95,7 @@ placed_new old new l index whole keys once v empty pushed s =
     }
 
 -- one that is there keeps its list
-pub placed_old : (old new : Watchers) (l : Lit) (index : ℕ) → IsWhole old → new.literals.keys ≡ old.literals.keys → new.lists.items ≡ old.lists.items → (index < length new.literals.keys) × (get_or new.literals.keys index l ≡ l) → Places old l index new
+pub placed_old : (old new : Occurrences) (l : Lit) (index : ℕ) → IsWhole old → new.literals.keys ≡ old.literals.keys → new.lists.items ≡ old.lists.items → (index < length new.literals.keys) × (get_or new.literals.keys index l ≡ l) → Places old l index new
 placed_old old new l index whole keys ls s = record {
   whole = record { paired = ap length keys ∙ whole.paired ∙ sym (ap length ls); once = subst HasNoTwice (sym keys) whole.once };
   within = s.0;
@@ -130,29 +130,29 @@ module _ (keys : List Lit) (ls : List (List ℕ)) (index number : ℕ) (within :
   noted_below n lt all = All-set (λ ks. All (λ k. k < n) ks) ls index (get_or ls index [] ++ number ∷ []) (All-push (λ k. k < n) (get_or ls index []) number (All-get_or (λ ks. All (λ k. k < n) ks) ls index [] within all) lt) all
 
 -- a place with one more number
-pub notes_one : (old mid new : Watchers) (l : Lit) (index number : ℕ) → Places old l index mid → new.literals.keys ≡ mid.literals.keys
+pub notes_one : (old mid new : Occurrences) (l : Lit) (index number : ℕ) → Places old l index mid → new.literals.keys ≡ mid.literals.keys
     → (v w : Vec ℕ Global) → v ≡ get_or mid.lists.items index v → w.items ≡ v.items ++ number ∷ [] → new.lists.items ≡ set mid.lists.items index w → Notes old (l ∷ []) number new
 notes_one old mid new l index number p keys v w read pushed written =
     let lt : index < length mid.lists.items = omega (arith, p.within, p.whole.paired) in
     let low : index < length (lists mid.lists.items) = rw length-map lt in
     let ls : lists new.lists.items ≡ noted (lists mid.lists.items) index number = ap lists written ∙ map-set numbers mid.lists.items index w ∙ ap (λ (ks : List ℕ). set (lists mid.lists.items) index ks) (pushed ∙ ap (λ (ks : List ℕ). ks ++ number ∷ []) (list_at mid.lists.items index v lt read)) in
-    let listed : (m : Lit) (k : ℕ) → IsListed mid.literals.keys (noted (lists mid.lists.items) index number) m k → Watches new m k = λ m k h. subst (λ (ks : List Lit). IsListed ks (lists new.lists.items) m k) (sym keys) (subst (λ (xs : List (List ℕ)). IsListed mid.literals.keys xs m k) (sym ls) h) in
+    let listed : (m : Lit) (k : ℕ) → IsListed mid.literals.keys (noted (lists mid.lists.items) index number) m k → OccursIn new m k = λ m k h. subst (λ (ks : List Lit). IsListed ks (lists new.lists.items) m k) (sym keys) (subst (λ (xs : List (List ℕ)). IsListed mid.literals.keys xs m k) (sym ls) h) in
     record {
       whole = record { paired = ap length keys ∙ p.whole.paired ∙ sym (ap length written ∙ length-set mid.lists.items index w); once = subst HasNoTwice (sym keys) p.whole.once };
       kept = λ m k h. listed m k (noted_kept mid.literals.keys (lists mid.lists.items) index number low m k (p.kept m k h));
       added = λ m i. elim (Contains-cons_cases [] l m i) [
-        | inl e ↦ subst (λ (x : Lit). Watches new x number) e (listed l number (noted_added mid.literals.keys (lists mid.lists.items) index number low l p.within p.stored))
+        | inl e ↦ subst (λ (x : Lit). OccursIn new x number) e (listed l number (noted_added mid.literals.keys (lists mid.lists.items) index number low l p.within p.stored))
         | inr none ↦ absurd (omega (arith, none.1))
       ];
       below = λ n nt all. subst (λ (xs : List (List ℕ)). All (λ ks. All (λ k. k < n) ks) xs) (sym ls) (noted_below mid.literals.keys (lists mid.lists.items) index number low n nt (p.below n all));
     }
 
 -- nothing is noted at first
-pub notes_none : (w : Watchers) (number : ℕ) → IsWhole w → Notes w [] number w
+pub notes_none : (w : Occurrences) (number : ℕ) → IsWhole w → Notes w [] number w
 notes_none w number whole = record { whole = whole; kept = λ m k h. h; added = λ m i. absurd (omega (arith, i.1)); below = λ n lt all. all }
 
 -- one literal after others
-pub notes_more : (old mid new : Watchers) (front : List Lit) (l : Lit) (number : ℕ) → Notes old front number mid → Notes mid (l ∷ []) number new → Notes old (front ++ l ∷ []) number new
+pub notes_more : (old mid new : Occurrences) (front : List Lit) (l : Lit) (number : ℕ) → Notes old front number mid → Notes mid (l ∷ []) number new → Notes old (front ++ l ∷ []) number new
 notes_more old mid new front l number a b = record {
   whole = b.whole;
   kept = λ m k h. b.kept m k (a.kept m k h);
@@ -161,32 +161,32 @@ notes_more old mid new front l number a b = record {
 }
 
 -- the first n clauses are in the lists
-pub record HasIndexed (w : Watchers) (clauses : List (List Lit)) (n : ℕ) : Type 0 where
+pub record HasIndexed (w : Occurrences) (clauses : List (List Lit)) (n : ℕ) : Type 0 where
   pub whole : IsWhole w
   pub below : AreBelow (length clauses) w
-  pub complete : (k : ℕ) (l : Lit) → k < n → Contains (get_or clauses k []) l → Watches w l k
+  pub complete : (k : ℕ) (l : Lit) → k < n → Contains (get_or clauses k []) l → OccursIn w l k
 
-pub indexed_none : (w : Watchers) (clauses : List (List Lit)) → w.literals.keys ≡ [] → w.lists.items ≡ [] → HasIndexed w clauses 0
+pub indexed_none : (w : Occurrences) (clauses : List (List Lit)) → w.literals.keys ≡ [] → w.lists.items ≡ [] → HasIndexed w clauses 0
 indexed_none w clauses keys ls = record {
   whole = record { paired = ap length keys ∙ sym (ap length ls); once = subst HasNoTwice (sym keys) tt };
   below = subst (λ (xs : List (Vec ℕ Global)). All (λ ks. All (λ k. k < length clauses) ks) (lists xs)) (sym ls) (All-nil (λ ks. All (λ k. k < length clauses) ks));
   complete = λ k l lt i. absurd (omega (arith, lt));
 }
 
-pub indexed_more : (old new : Watchers) (clauses : List (List Lit)) (n : ℕ) (c : List Lit) → n < length clauses → c ≡ get_or clauses n [] → HasIndexed old clauses n → Notes old c n new → HasIndexed new clauses (n + 1)
+pub indexed_more : (old new : Occurrences) (clauses : List (List Lit)) (n : ℕ) (c : List Lit) → n < length clauses → c ≡ get_or clauses n [] → HasIndexed old clauses n → Notes old c n new → HasIndexed new clauses (n + 1)
 indexed_more old new clauses n c lt is h a = record {
   whole = a.whole;
   below = a.below (length clauses) lt h.below;
   complete = λ k l kt i. go k l kt i (k == n) refl;
 }
   where
-    go : (k : ℕ) (l : Lit) → k < n + 1 → Contains (get_or clauses k []) l → (b : Bool) → (k == n) ≡ b → Watches new l k
+    go : (k : ℕ) (l : Lit) → k < n + 1 → Contains (get_or clauses k []) l → (b : Bool) → (k == n) ≡ b → OccursIn new l k
     go k l kt i true e =
         let s = eqb-true k n e in
-        subst (λ j. Watches new l j) (sym s) (a.added l (subst (λ (d : List Lit). Contains d l) (ap (λ j. get_or clauses j []) s ∙ sym is) i))
+        subst (λ j. OccursIn new l j) (sym s) (a.added l (subst (λ (d : List Lit). Contains d l) (ap (λ j. get_or clauses j []) s ∙ sym is) i))
     go k l kt i false e =
         let l2 : k < n = grind (arith, nat_tests) in
         a.kept l k (h.complete k l l2 i)
 
-pub indexed_all : (w : Watchers) (clauses : List (List Lit)) (n : ℕ) → length clauses ≤ n → HasIndexed w clauses n → IsIndexOf w clauses
+pub indexed_all : (w : Occurrences) (clauses : List (List Lit)) (n : ℕ) → length clauses ≤ n → HasIndexed w clauses n → IsIndexOf w clauses
 indexed_all w clauses n all h = record { whole = h.whole; below = h.below; complete = λ k l lt i. h.complete k l (omega (arith, lt, all)) i }

@@ -11,7 +11,7 @@ use Rattle.indexmap.specs.IndexSet.{insert_key}
 use Rattle.term_core.specs.declared.ids.Lit.{Lit}
 use Rattle.term_core.specs.contracts.ids.LitPartialEq.TheImpl.{ghosts}
 use Rattle.rule_bool.specs.Literals.{lists, SameLits, HasNoTwice, IsSetOf}
-use Rattle.rule_bool.proofs.Literals.{is_equal, adds_by}
+use Rattle.rule_bool.proofs.LiteralLists.{is_equal, adds_by}
 use Rattle.rule_bool.proofs.Start.{same_more, taken_more}
 
 -- what a set of literals says of its list

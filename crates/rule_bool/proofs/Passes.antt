@@ -6,11 +6,11 @@ use Rattle.std.proofs.lemmas.List.{drop_more, length-map, get_or-map, length_pus
 use Rattle.term_core.specs.declared.ids.Lit.{Lit}
 use Rattle.rule_bool.specs.declared.scan.Pass.TheVariants.{Same}
 use Rattle.rule_bool.specs.Literals.{lists}
-use Rattle.rule_bool.specs.Findings.{IsFalse, IsUnit, HasTwoOpen, IsTouched, IsSettled}
+use Rattle.rule_bool.specs.Statuses.{IsFalsified, IsUnit, IsUnresolved, IsSatisfied, IsSettled}
 use Rattle.rule_bool.specs.Propagation.{IsRefuted, Advances}
 use Rattle.rule_bool.specs.Scanning.{Scans, Moves}
-use Rattle.rule_bool.specs.declared.look.Finding.{Finding}
-use Rattle.rule_bool.specs.declared.look.Finding.TheVariants.{Open, True}
+use Rattle.rule_bool.specs.declared.status.ClauseStatus.{ClauseStatus}
+use Rattle.rule_bool.specs.declared.status.ClauseStatus.TheVariants.{Unresolved, Satisfied}
 use Rattle.rule_bool.proofs.Advancing.{advances_one, advances_on, refuted_by, refuted_on}
 use Rattle.rule_bool.proofs.Counting.{Contains-cons_cases}
 
@@ -20,7 +20,7 @@ SoFar premises seen old new true = Advances premises old new × (length old < le
 SoFar premises seen old new false = (new ≡ old) × ((c : List Lit) → Contains seen c → IsSettled new c)
 
 -- a pass that comes to a false clause
-pub to_false : (premises seen : List (List Lit)) (old mid c : List Lit) (b : Bool) → SoFar premises seen old mid b → Contains premises c → IsFalse mid c → IsRefuted premises old
+pub to_false : (premises seen : List (List Lit)) (old mid c : List Lit) (b : Bool) → SoFar premises seen old mid b → Contains premises c → IsFalsified mid c → IsRefuted premises old
 to_false premises seen old mid c true m c_in f = refuted_on premises old mid m.0 (refuted_by premises mid c c_in f)
 to_false premises seen old mid c false m c_in f = subst (λ (h : List Lit). IsRefuted premises h) m.0 (refuted_by premises mid c c_in f)
 
@@ -60,6 +60,6 @@ ended premises zero old new l m = m
 ended premises (suc n) old new l m = absurd (omega (arith, l))
 
 -- an open or a true clause
-pub settles : (c old new : List Lit) (f : Finding) → (f ≡ Open) ⊎ (f ≡ True) → Scans c old new f → IsSettled old c × (new ≡ old)
-settles c old new f (inl e) s = let t : HasTwoOpen old c × (new ≡ old) = let P : Finding → Type 0 = Scans c old new in subst P e s in (inr t.0, t.1)
-settles c old new f (inr e) s = let t : IsTouched old c × (new ≡ old) = let P : Finding → Type 0 = Scans c old new in subst P e s in (inl t.0, t.1)
+pub settles : (c old new : List Lit) (f : ClauseStatus) → (f ≡ Unresolved) ⊎ (f ≡ Satisfied) → Scans c old new f → IsSettled old c × (new ≡ old)
+settles c old new f (inl e) s = let t : IsUnresolved old c × (new ≡ old) = let P : ClauseStatus → Type 0 = Scans c old new in subst P e s in (inr t.0, t.1)
+settles c old new f (inr e) s = let t : IsSatisfied old c × (new ≡ old) = let P : ClauseStatus → Type 0 = Scans c old new in subst P e s in (inl t.0, t.1)

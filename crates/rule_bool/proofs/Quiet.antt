@@ -4,8 +4,8 @@ use Rattle.std.specs.List.{AllZip}
 use Rattle.spec_proofs.specs.Resolution.{Derives, given, unit, Conflicts, false_clause, both_ways, IsWithin}
 use Rattle.term_core.specs.declared.ids.Lit.{Lit}
 use Rattle.rule_bool.specs.Literals.{lit_complement, SameLits, HasNoTwice, IsSetOf, IsConsistent}
-use Rattle.rule_bool.specs.Findings.{IsSettled}
-use Rattle.rule_bool.proofs.Literals.{decide}
+use Rattle.rule_bool.specs.Statuses.{IsSettled}
+use Rattle.rule_bool.proofs.LiteralLists.{decide}
 use Rattle.rule_bool.proofs.Counting.{Contains-cons_cases, Contains-first, Contains-later}
 
 -- where nothing follows any more, all that is derived holds

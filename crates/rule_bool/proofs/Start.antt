@@ -4,7 +4,7 @@ use Rattle.std.proofs.lemmas.List.{take_more, map-append, length-map, get_or-map
 use Rattle.std.proofs.lemmas.List.Elements.{Contains-push, Contains-push_cases, Contains-append_left}
 use Rattle.term_core.specs.declared.ids.Lit.{Lit}
 use Rattle.rule_bool.specs.Literals.{lit_complement, SameLits, AddsLast, IsConsistent}
-use Rattle.rule_bool.proofs.Literals.{negation_twice, not_own_negation}
+use Rattle.rule_bool.proofs.LiteralLists.{negation_twice, not_own_negation}
 
 -- a list with one more literal
 pub consistent_more : (old : List Lit) (l : Lit) → IsConsistent old → (Contains old (lit_complement l) → ⊥) → IsConsistent (old ++ l ∷ [])

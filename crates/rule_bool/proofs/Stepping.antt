@@ -5,10 +5,10 @@ use Rattle.std.specs.declared.alloc.Global.{Global}
 use Rattle.std.proofs.lemmas.List.{get_or-map, length-map, length_push, drop_more, drop_all, take_all, take-append-le, length-append}
 use Rattle.spec_proofs.specs.Resolution.{IsWithin}
 use Rattle.term_core.specs.declared.ids.Lit.{Lit}
-use Rattle.rule_bool.specs.declared.watchers.Watchers.{Watchers}
+use Rattle.rule_bool.specs.declared.occurrences.Occurrences.{Occurrences}
 use Rattle.rule_bool.specs.Literals.{lit_complement, lists, HasNoTwice, IsConsistent}
-use Rattle.rule_bool.specs.Watching.{Watches, IsIndexOf}
-use Rattle.rule_bool.specs.Findings.{IsFalse}
+use Rattle.rule_bool.specs.Occurring.{OccursIn, IsIndexOf}
+use Rattle.rule_bool.specs.Statuses.{IsFalsified}
 use Rattle.rule_bool.specs.Propagation.{IsRefuted, untouched, Advances, AreTracked, TakesUp, Begins, Loses, IsQuiet}
 use Rattle.rule_bool.proofs.Advancing.{advances_none, advances_by, advances_on, held_on, refuted_by, refuted_on}
 use Rattle.rule_bool.proofs.Tracking.{begins_more, loses_one, within_take, loses_all, settled}
@@ -54,7 +54,7 @@ begun_more vs i v lt e first held new left after count n counted h t pushed =
 
 -- a false one
 pub refuted_here : (vs : List (Vec Lit Global)) (i : ℕ) (v : Vec Lit Global) → i < length vs → v ≡ get_or vs i v
-    → (first held : List Lit) → Advances (lists vs) first held → IsFalse held v.items → IsRefuted (lists vs) first
+    → (first held : List Lit) → Advances (lists vs) first held → IsFalsified held v.items → IsRefuted (lists vs) first
 refuted_here vs i v lt e first held a f = refuted_on (lists vs) first held a (refuted_by (lists vs) held v.items (item_in vs i v lt e) f)
 
 pub begun_all : (vs : List (Vec Lit Global)) (i : ℕ) → i ≡ length vs → (first held : List Lit) (left : List ℕ) → HasBegun (lists vs) first held left i → Begins (lists vs) first held left
@@ -104,9 +104,9 @@ pub record IsGoing (premises : List (List Lit)) (first held : List Lit) (left : 
 pub going_none : (premises : List (List Lit)) (held : List Lit) (left : List ℕ) → AreTracked (length premises) [] [] premises held left → IsGoing premises held held left 0
 going_none premises held left t = record { within = omega arith; advances = advances_none premises held; tracked = t }
 
-pub going_more : (premises : List (List Lit)) → All HasNoTwice premises → (w : Watchers) → IsIndexOf w premises
+pub going_more : (premises : List (List Lit)) → All HasNoTwice premises → (w : Occurrences) → IsIndexOf w premises
     → (first held new : List Lit) (left after : List ℕ) (done : ℕ) (l : Lit) (losing : List ℕ) → done < length held → l ≡ get_or held done l
-    → ((k : ℕ) → Watches w (lit_complement l) k → Contains losing k)
+    → ((k : ℕ) → OccursIn w (lit_complement l) k → Contains losing k)
     → IsGoing premises first held left done → Loses premises losing held new left after → IsGoing premises first new after (done + 1)
 going_more premises once w index first held new left after done l losing lt is complete h a =
     let more : take (done + 1) held ≡ take done held ++ l ∷ [] = taken_more held done l lt is in

@@ -7,9 +7,9 @@ use Rattle.std.proofs.lemmas.List.Elements.{Contains-push, Contains-append_left}
 use Rattle.spec_proofs.specs.Resolution.{IsWithin}
 use Rattle.term_core.specs.declared.ids.Lit.{Lit}
 use Rattle.rule_bool.specs.Literals.{lit_complement, HasNoTwice, AddsLast}
-use Rattle.rule_bool.specs.Findings.{IsUnit, HasTwoOpen, IsTouched, IsSettled}
+use Rattle.rule_bool.specs.Statuses.{IsUnit, IsUnresolved, IsSatisfied, IsSettled}
 use Rattle.rule_bool.specs.Propagation.{Advances, IsBounded, IsTracked, AreTracked, TakesUp, unseen, times}
-use Rattle.rule_bool.proofs.Literals.{is_in, adds_new}
+use Rattle.rule_bool.proofs.LiteralLists.{is_in, adds_new}
 use Rattle.rule_bool.proofs.Advancing.{held_on}
 use Rattle.rule_bool.proofs.Counting.{unseen_all, lose_none, lose_one, two_count, counted_two, times_there}
 
@@ -30,7 +30,7 @@ takes_unit c old new l n u a = let e = adds_new old new l a u.not_held in record
 }
 
 -- two are open
-pub takes_open : (c held : List Lit) (n : ℕ) → HasTwoOpen held c → TakesUp c held held n 2
+pub takes_open : (c held : List Lit) (n : ℕ) → IsUnresolved held c → TakesUp c held held n 2
 takes_open c held n o = record {
   follows = inl refl;
   tracked = λ seen more within b.
@@ -39,7 +39,7 @@ takes_open c held n o = record {
 }
 
 -- one holds
-pub takes_true : (c held : List Lit) (n : ℕ) → IsTouched held c → TakesUp c held held n n
+pub takes_true : (c held : List Lit) (n : ℕ) → IsSatisfied held c → TakesUp c held held n n
 takes_true c held n t = record { follows = inl refl; tracked = λ seen more within b. inl t }
 
 -- ---- all premises

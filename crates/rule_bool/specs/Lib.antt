@@ -1,7 +1,7 @@
 -- Literals, what propagation finds under those that hold, and how it goes on; what premises are as terms of the table; what terms give.
 pub mod Literals
-pub mod Findings
-pub mod Watching
+pub mod Statuses
+pub mod Occurring
 pub mod Propagation
 pub mod Scanning
 pub mod Resolvents

@@ -4,7 +4,7 @@ use Rattle.std.specs.List.{list_any}
 use Rattle.spec_proofs.specs.Resolution.{Derives, Conflicts, IsWithin}
 use Rattle.term_core.specs.declared.ids.Lit.{Lit}
 use Rattle.rule_bool.specs.Literals.{lit_complement, has, IsConsistent}
-use Rattle.rule_bool.specs.Findings.{IsUnit, IsTouched, IsSettled}
+use Rattle.rule_bool.specs.Statuses.{IsUnit, IsSatisfied, IsSettled}
 
 -- all that is held follows from the start
 abbrev pub IsDerived : List (List Lit) → List Lit → List Lit → Type 0
@@ -50,11 +50,11 @@ pub record Advances (premises : List (List Lit)) (old new : List Lit) : Type 0 w
 
 -- a literal of the clause holds, or no more are left than are unseen, with some more
 abbrev pub IsBounded : List Lit → List Lit → ℕ → List Lit → ℕ → Type 0
-IsBounded seen held more clause left = IsTouched held clause ⊎ (left ≤ unseen seen clause + more)
+IsBounded seen held more clause left = IsSatisfied held clause ⊎ (left ≤ unseen seen clause + more)
 
 -- a literal of the clause holds, or two are left, and no more than are unseen, with some more
 abbrev pub IsTracked : List Lit → List Lit → ℕ → List Lit → ℕ → Type 0
-IsTracked seen held more clause left = IsTouched held clause ⊎ ((2 ≤ left) × (left ≤ unseen seen clause + more))
+IsTracked seen held more clause left = IsSatisfied held clause ⊎ ((2 ≤ left) × (left ≤ unseen seen clause + more))
 
 -- the first n clauses are tracked, where those of some numbers have still to lose a literal
 abbrev pub AreTracked : ℕ → List Lit → List ℕ → List (List Lit) → List Lit → List ℕ → Type 0

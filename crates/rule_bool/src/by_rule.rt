@@ -8,6 +8,9 @@ ghost use Rattle.rule_bool.specs.declared.rule_stop.RuleStop.TheVariants as stop
 ghost use Rattle.rule_bool.specs.Resolvents.{Stops};
 ghost use Rattle.rule_bool.specs.Schemes.{IsTurn};
 
+use crate::and_or_rules::{
+    rule_and, rule_and_neg, rule_and_pos, rule_not_and, rule_not_or, rule_or_neg, rule_or_pos,
+};
 use crate::equiv_rules::{
     rule_equiv_neg1, rule_equiv_neg2, rule_equiv_pos1, rule_equiv_pos2, rule_equiv1, rule_equiv2,
     rule_not_equiv1, rule_not_equiv2,
@@ -19,9 +22,6 @@ use crate::implies_rules::{
 use crate::ite_rules::{
     rule_ite_neg1, rule_ite_neg2, rule_ite_pos1, rule_ite_pos2, rule_ite1, rule_ite2,
     rule_not_ite1, rule_not_ite2,
-};
-use crate::junction_rules::{
-    rule_and, rule_and_neg, rule_and_pos, rule_not_and, rule_not_or, rule_or_neg, rule_or_pos,
 };
 use crate::resolvent::resolution;
 use crate::rule_stop::RuleStop;

@@ -6,15 +6,16 @@
 //! `resolves` propagates units in time in proportion to them; a plain slow body beside it is what tests compare it with.
 #![tactic(auto)]
 
+mod and_or_rules;
+mod assignment;
 mod by_rule;
 mod distinct;
 mod equiv_rules;
-mod held;
 mod implies_rules;
 mod ite_rules;
-mod junction_rules;
-mod lits;
-pub mod look;
+mod literals;
+mod occurrences;
+mod polarity;
 mod propagation;
 mod resolvent;
 mod rests;
@@ -24,24 +25,26 @@ mod rule_tests;
 mod rules;
 mod scan;
 mod schemes;
-mod signs;
 #[cfg(test)]
 mod stated_tests;
+mod status;
 #[cfg(test)]
 mod tests;
 mod truth_rules;
 #[cfg(test)]
 mod turned_tests;
-mod watchers;
 mod within;
 mod xor_rules;
 
+pub use and_or_rules::{
+    rule_and, rule_and_neg, rule_and_pos, rule_not_and, rule_not_or, rule_or_neg, rule_or_pos,
+};
+pub use assignment::Assignment;
 pub use by_rule::judge;
 pub use equiv_rules::{
     rule_equiv_neg1, rule_equiv_neg2, rule_equiv_pos1, rule_equiv_pos2, rule_equiv1, rule_equiv2,
     rule_not_equiv1, rule_not_equiv2,
 };
-pub use held::Held;
 pub use implies_rules::{
     rule_implies, rule_implies_neg1, rule_implies_neg2, rule_implies_pos, rule_not_implies1,
     rule_not_implies2,
@@ -50,14 +53,12 @@ pub use ite_rules::{
     rule_ite_neg1, rule_ite_neg2, rule_ite_pos1, rule_ite_pos2, rule_ite1, rule_ite2,
     rule_not_ite1, rule_not_ite2,
 };
-pub use junction_rules::{
-    rule_and, rule_and_neg, rule_and_pos, rule_not_and, rule_not_or, rule_or_neg, rule_or_pos,
-};
-pub use lits::{negated, same};
+pub use literals::{negated, same};
 pub use propagation::resolves;
 pub use resolvent::{literals_of, resolution};
 pub use rule_stop::RuleStop;
 pub use rules::{rule_contraction, rule_or, rule_reordering, rule_weakening};
+pub use status::{ClauseStatus, clause_status};
 pub use term_core::{Lit, TermId};
 pub use truth_rules::{rule_false, rule_not_not, rule_true};
 pub use xor_rules::{

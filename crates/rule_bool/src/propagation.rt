@@ -3,34 +3,34 @@
 ghost use Rattle.std.specs.Prelude.{◌≡◌, ◌<◌, [], length, All, IfOk, MatchBool, MatchOption};
 ghost use Rattle.spec_proofs.specs.Resolution.{Resolves};
 ghost use Rattle.rule_bool.specs.Literals.{lit_complement, lists, HasNoTwice, IsConsistent};
-ghost use Rattle.rule_bool.specs.Findings.{IsFalse};
-ghost use Rattle.rule_bool.specs.Watching.{IsIndexOf};
+ghost use Rattle.rule_bool.specs.Statuses.{IsFalsified};
+ghost use Rattle.rule_bool.specs.Occurring.{IsIndexOf};
 ghost use Rattle.rule_bool.specs.Propagation.{TakesUp, IsRefuted, IsUnrefuted, Begins, AreTracked, PassesOn, Propagates};
 
+use crate::assignment::{Assignment, start_of};
 use crate::distinct::distinct_each;
-use crate::held::{Held, start_of};
-use crate::lits::negated;
-use crate::look::{Finding, look};
+use crate::literals::negated;
+use crate::occurrences::{Occurrences, occurrences_of};
 use crate::scan::{Pass, pass_over};
-use crate::watchers::{Watchers, watchers_of};
+use crate::status::{ClauseStatus, clause_status};
 use std::alloc::{AllocError, Global};
 use term_core::Lit;
 
 /// Takes up a premise of which so many literals are left, and gives how many are left then, or nothing where it is false.
-fn take_up(premise: &[Lit], left: usize, held: &mut Held) -> Result<Option<usize>, AllocError>
-    ensures { IfOk result (λ o. MatchOption o (IsFalse held.old premise.now) (λ n. TakesUp premise.now held.old held.new left n)) }
+fn take_up(premise: &[Lit], left: usize, held: &mut Assignment) -> Result<Option<usize>, AllocError>
+    ensures { IfOk result (λ o. MatchOption o (IsFalsified held.old premise.now) (λ n. TakesUp premise.now held.old held.new left n)) }
 {
     if left > 1 {
         return Ok(Some(left));
     }
-    match look(premise, held) {
-        Finding::False => Ok(None),
-        Finding::Unit(l) => {
+    match clause_status(premise, held) {
+        ClauseStatus::Falsified => Ok(None),
+        ClauseStatus::Unit(l) => {
             held.add(l)?;
             Ok(Some(left))
         }
-        Finding::Open => Ok(Some(2)),
-        Finding::True => Ok(Some(left)),
+        ClauseStatus::Unresolved => Ok(Some(2)),
+        ClauseStatus::Satisfied => Ok(Some(left)),
     }
 }
 
@@ -38,7 +38,7 @@ fn take_up(premise: &[Lit], left: usize, held: &mut Held) -> Result<Option<usize
 fn begin(
     alloc: Global,
     premises: &[Vec<Lit>],
-    held: &mut Held,
+    held: &mut Assignment,
 ) -> Result<Option<Vec<usize>>, AllocError>
     ensures { IfOk result (λ o. MatchOption o (IsRefuted (lists premises.now) held.old) (λ left. Begins (lists premises.now) held.old held.new left.items)) }
 {
@@ -56,7 +56,7 @@ fn begin(
 fn pass_on(
     premises: &[Vec<Lit>],
     losing: &[usize],
-    held: &mut Held,
+    held: &mut Assignment,
     left: &mut [usize],
 ) -> Result<bool, AllocError>
     requires counted { length left.old ≡ length premises.now }
@@ -76,13 +76,13 @@ fn pass_on(
 /// Takes each literal that holds out of the premises with its complement, and tells whether one comes to be false.
 fn take_out_each(
     premises: &[Vec<Lit>],
-    watchers: &Watchers,
-    held: &mut Held,
+    occurrences: &Occurrences,
+    held: &mut Assignment,
     left: &mut [usize],
 ) -> Result<bool, AllocError>
     requires counted { length left.old ≡ length premises.now }
     requires once { All HasNoTwice (lists premises.now) }
-    requires index { IsIndexOf watchers.now (lists premises.now) }
+    requires index { IsIndexOf occurrences.now (lists premises.now) }
     requires consistent { IsConsistent held.old }
     requires tracked { AreTracked (length premises.now) [] [] (lists premises.now) held.old left.old }
     ensures { IfOk result (λ no. Propagates (lists premises.now) held.old held.new no) }
@@ -90,7 +90,7 @@ fn take_out_each(
     let mut done = 0;
     while done < held.len() {
         let complement = negated(held.at(done));
-        let losing = watchers.of(complement);
+        let losing = occurrences.of(complement);
         if pass_on(premises, losing, held, left)? {
             return Ok(true);
         }
@@ -100,7 +100,11 @@ fn take_out_each(
 }
 
 /// Goes on from the literals that hold as far as it can, and tells whether a premise comes to be false.
-fn propagate(alloc: Global, premises: &[Vec<Lit>], held: &mut Held) -> Result<bool, AllocError>
+fn propagate(
+    alloc: Global,
+    premises: &[Vec<Lit>],
+    held: &mut Assignment,
+) -> Result<bool, AllocError>
     requires once { All HasNoTwice (lists premises.now) }
     requires consistent { IsConsistent held.old }
     ensures { IfOk result (λ no. Propagates (lists premises.now) held.old held.new no) }
@@ -108,8 +112,8 @@ fn propagate(alloc: Global, premises: &[Vec<Lit>], held: &mut Held) -> Result<bo
     let Some(mut left) = begin(alloc, premises, held)? else {
         return Ok(true);
     };
-    let watchers = watchers_of(alloc, premises)?;
-    if take_out_each(premises, &watchers, held, &mut left)? {
+    let occurrences = occurrences_of(alloc, premises)?;
+    if take_out_each(premises, &occurrences, held, &mut left)? {
         return Ok(true);
     }
     Ok(false)
@@ -119,7 +123,7 @@ fn propagate(alloc: Global, premises: &[Vec<Lit>], held: &mut Held) -> Result<bo
 pub(crate) fn refutes(
     alloc: Global,
     premises: &[Vec<Lit>],
-    held: &mut Held,
+    held: &mut Assignment,
 ) -> Result<bool, AllocError>
     requires { IsConsistent held.old }
     ensures { IfOk result (λ yes. MatchBool yes (IsRefuted (lists premises.now) held.old) (IsUnrefuted (lists premises.now) held.old)) }

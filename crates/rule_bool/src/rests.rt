@@ -6,7 +6,7 @@ ghost use Rattle.spec_proofs.specs.declared.Rest.TheVariants as rests;
 ghost use Rattle.term_core.specs.Tables.{IsIn, AreIn, term_at, clause_at};
 ghost use Rattle.rule_bool.specs.Schemes.{HasPlaces};
 
-use crate::signs::without_sign;
+use crate::polarity::without_sign;
 use crate::within::{alone, has_number, same_number};
 use spec_proofs::{Rest, Side};
 use term_core::{TermId, TermTable};

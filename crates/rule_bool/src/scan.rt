@@ -5,8 +5,8 @@ ghost use Rattle.spec_proofs.specs.Resolution.{Resolves};
 ghost use Rattle.rule_bool.specs.Literals.{lit_complement, lists};
 ghost use Rattle.rule_bool.specs.Scanning.{Scans, Moves};
 
-use crate::held::{Held, start_of};
-use crate::look::{Finding, look};
+use crate::assignment::{Assignment, start_of};
+use crate::status::{ClauseStatus, clause_status};
 use std::alloc::{AllocError, Global};
 use term_core::Lit;
 
@@ -22,28 +22,28 @@ pub(crate) enum Pass {
 }
 
 /// Looks at a clause, and adds the literal that follows from it.
-fn take_up(clause: &[Lit], held: &mut Held) -> Result<Finding, AllocError>
+fn take_up(clause: &[Lit], held: &mut Assignment) -> Result<ClauseStatus, AllocError>
     ensures { IfOk result (λ found. Scans clause.now held.old held.new found) }
 {
-    match look(clause, held) {
-        Finding::Unit(l) => {
+    match clause_status(clause, held) {
+        ClauseStatus::Unit(l) => {
             held.add(l)?;
-            Ok(Finding::Unit(l))
+            Ok(ClauseStatus::Unit(l))
         }
         found => Ok(found),
     }
 }
 
 /// Takes up each premise once, from the last to the first, until one is false.
-pub(crate) fn pass_over(premises: &[Vec<Lit>], held: &mut Held) -> Result<Pass, AllocError>
+pub(crate) fn pass_over(premises: &[Vec<Lit>], held: &mut Assignment) -> Result<Pass, AllocError>
     ensures { IfOk result (λ p. Moves (lists premises.now) (lists premises.now) held.old held.new p) }
 {
     let mut added = false;
     for at in (0..premises.len()).rev() {
         match take_up(&premises[at], held)? {
-            Finding::False => return Ok(Pass::Conflict),
-            Finding::Unit(_) => added = true,
-            Finding::Open | Finding::True => {}
+            ClauseStatus::Falsified => return Ok(Pass::Conflict),
+            ClauseStatus::Unit(_) => added = true,
+            ClauseStatus::Unresolved | ClauseStatus::Satisfied => {}
         }
     }
     Ok(if added { Pass::Added } else { Pass::Same })

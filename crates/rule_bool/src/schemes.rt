@@ -6,8 +6,8 @@ ghost use Rattle.term_core.specs.declared.ids.TermId.{TermId as Number};
 ghost use Rattle.term_core.specs.Tables.{IsIn, AreIn, term_at, clause_at, head_meant};
 ghost use Rattle.rule_bool.specs.Schemes.{scheme_meant, IsStating, IsTurning, GivesRest};
 
+use crate::polarity::{turned_without_sign, without_sign};
 use crate::rests::has_rest;
-use crate::signs::{turned_without_sign, without_sign};
 use crate::within::alone;
 use spec_proofs::{Rest, Side};
 use term_core::{Clause, Head, RuleFails, TermId, TermTable};

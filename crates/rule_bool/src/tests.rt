@@ -1,6 +1,6 @@
 //! Both ways to propagate, on a table and on many small cases.
 
-use crate::held::start_of;
+use crate::assignment::start_of;
 use crate::propagation::refutes;
 use crate::scan::resolves_by_scan;
 use crate::{Lit, TermId, resolves};

@@ -7,7 +7,7 @@ use Rattle.std.proofs.lemmas.List.{length-append, append-nil, length-map, get_or
 use Rattle.std.proofs.lemmas.List.Elements.{All-push, Contains-push, Contains-push_cases, Contains-append_left}
 use Rattle.term_core.specs.declared.ids.Lit.{Lit}
 use Rattle.rule_bool.specs.Literals.{lit_complement, lists}
-use Rattle.rule_bool.proofs.Literals.{negation_twice}
+use Rattle.rule_bool.proofs.LiteralLists.{negation_twice}
 use Rattle.solve_core.specs.Search.{IsTrail, IsAdded, IsForced, IsClash}
 use Rattle.solve_core.specs.Analyses.{MarksEach, MarksOthers, IsExplained, IsDecision, HasTwo, RestsAt, Cuts, Notes, Follows, IsNeeded, by_clash, by_reason}
 use Rattle.solve_core.specs.declared.analysis.Analysis.{Analysis}

@@ -10,7 +10,7 @@ use Rattle.spec_search.specs.Spent.{IsAtomOf}
 use Rattle.term_core.specs.declared.ids.Lit.{Lit}
 use Rattle.term_core.specs.Tables.{TableView, IsIn, AreDifferent, term_at, literal_at}
 use Rattle.rule_bool.specs.Literals.{lit_complement}
-use Rattle.rule_bool.specs.Findings.{IsSettled}
+use Rattle.rule_bool.specs.Statuses.{IsSettled}
 use Rattle.rule_bool.proofs.Counting.{Contains-cons_cases}
 use Rattle.rule_bool.proofs.Transport.{to_image}
 use Rattle.rule_bool.proofs.Resolvents.{literals_apart}

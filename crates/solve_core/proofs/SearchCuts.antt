@@ -4,7 +4,7 @@ use Rattle.std.specs.Prelude.{Option, Some, None}
 use Rattle.std.proofs.lemmas.List.{length-append, get_or-take, length-take-le}
 use Rattle.std.proofs.lemmas.List.Elements.{Contains-push_cases, Contains-append_left}
 use Rattle.term_core.specs.declared.ids.Lit.{Lit}
-use Rattle.rule_bool.specs.Findings.{IsSettled}
+use Rattle.rule_bool.specs.Statuses.{IsSettled}
 use Rattle.solve_core.specs.Search.{IsTrail, IsAdded, IsForced, IsDecided, IsOpen}
 use Rattle.solve_core.specs.Analyses.{HasTwo, RestsAt}
 use Rattle.solve_core.proofs.SearchTrails.{get_early}

@@ -6,7 +6,7 @@ use Rattle.std.proofs.lemmas.Bool.{false≢true}
 use Rattle.std.proofs.lemmas.List.Elements.{Contains-push, Contains-push_cases, Contains-append_left}
 use Rattle.term_core.specs.declared.ids.Lit.{Lit}
 use Rattle.rule_bool.specs.Literals.{lit_complement}
-use Rattle.rule_bool.specs.Findings.{IsFalse, IsTouched}
+use Rattle.rule_bool.specs.Statuses.{IsFalsified, IsSatisfied}
 use Rattle.solve_core.specs.Search.{Opens, IsOpenOf, AreSettled}
 
 module _ (held front : List Lit) (m : Lit) where
@@ -14,9 +14,9 @@ module _ (held front : List Lit) (m : Lit) where
   in_both : (P : Lit → Type 0) → ((k : Lit) → Contains front k → P k) → P m → (k : Lit) → Contains (front ++ m ∷ []) k → P k
   in_both P old new k i = elim (Contains-push_cases front m k i) [ inl was ↦ old k was | inr is ↦ subst P is new ]
 
-  pub false_next : (first : Option Lit) → first ≡ None → Contains held (lit_complement m) → Opens held front first → IsFalse held (front ++ m ∷ [])
+  pub false_next : (first : Option Lit) → first ≡ None → Contains held (lit_complement m) → Opens held front first → IsFalsified held (front ++ m ∷ [])
   false_next first e i h =
-      let old : IsFalse held front = let P : Option Lit → Type 0 = Opens held front in subst P e h in
+      let old : IsFalsified held front = let P : Option Lit → Type 0 = Opens held front in subst P e h in
       in_both (λ k. Contains held (lit_complement k)) old i
 
   pub open_next : (Contains held m → ⊥) → (Contains held (lit_complement m) → ⊥) → IsOpenOf held (front ++ m ∷ []) m
@@ -34,10 +34,10 @@ none_of None e = refl
 none_of (Some l) e = absurd (false≢true (sym e))
 
 -- what is open of all literals
-pub opened : (held clause : List Lit) (first : Option Lit) → Opens held clause first → MatchOption first (IsTouched held clause ⊎ IsFalse held clause) (IsOpenOf held clause)
+pub opened : (held clause : List Lit) (first : Option Lit) → Opens held clause first → MatchOption first (IsSatisfied held clause ⊎ IsFalsified held clause) (IsOpenOf held clause)
 opened held clause None h = inr h
 opened held clause (Some l) h = h
 
 -- a clause that has no open literal, or one of them holds
-pub settled_next : (clauses : List (List Lit)) (held : List Lit) (n : ℕ) (c : List Lit) → take (n + 1) clauses ≡ take n clauses ++ c ∷ [] → IsTouched held c ⊎ IsFalse held c → AreSettled (take n clauses) held → AreSettled (take (n + 1) clauses) held
-settled_next clauses held n c e here old d i = elim (Contains-push_cases (take n clauses) c d (subst (λ (cs : List (List Lit)). Contains cs d) e i)) [ inl was ↦ old d was | inr is ↦ subst (λ (x : List Lit). IsTouched held x ⊎ IsFalse held x) is here ]
+pub settled_next : (clauses : List (List Lit)) (held : List Lit) (n : ℕ) (c : List Lit) → take (n + 1) clauses ≡ take n clauses ++ c ∷ [] → IsSatisfied held c ⊎ IsFalsified held c → AreSettled (take n clauses) held → AreSettled (take (n + 1) clauses) held
+settled_next clauses held n c e here old d i = elim (Contains-push_cases (take n clauses) c d (subst (λ (cs : List (List Lit)). Contains cs d) e i)) [ inl was ↦ old d was | inr is ↦ subst (λ (x : List Lit). IsSatisfied held x ⊎ IsFalsified held x) is here ]

@@ -18,7 +18,7 @@ use Rattle.term_core.specs.declared.values.Interp.{Interp}
 use Rattle.term_core.specs.Tables.{TableView, IsIn, AreDifferent, AreDeclared, term_at}
 use Rattle.term_core.specs.Valuations.{Stands}
 use Rattle.rule_bool.specs.Literals.{lit_complement}
-use Rattle.rule_bool.specs.Findings.{IsFalse, IsTouched, IsSettled}
+use Rattle.rule_bool.specs.Statuses.{IsFalsified, IsSatisfied, IsSettled}
 use Rattle.rule_bool.specs.Propagation.{failing}
 use Rattle.rule_bool.specs.Resolvents.{Means, AreOf}
 use Rattle.proof_log.specs.declared.premises.StepId.{StepId}
@@ -99,7 +99,7 @@ module _ (t : TableView) (log : List Logged) (clauses : List (List Lit)) (steps 
   consistent : (l : Lit) → Contains held l → Contains held (lit_complement l) → ⊥
   consistent l i j = trail_consistent clauses held reasons ready.trail l i j
 
-  touched : (c : List Lit) → IsSettled held c → IsTouched held c ⊎ IsFalse held c → IsTouched held c
+  touched : (c : List Lit) → IsSettled held c → IsSatisfied held c ⊎ IsFalsified held c → IsSatisfied held c
   touched c s (inl h) = h
   touched c (inl h) (inr f) = h
   touched c (inr h) (inr f) = absurd (h.one_open (f h.one h.has_one))

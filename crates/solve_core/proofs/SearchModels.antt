@@ -24,7 +24,7 @@ use Rattle.term_core.specs.declared.values.Interp.{Interp}
 use Rattle.term_core.specs.Tables.{TableView, no_symbol, no_term, term_at, IsIn, AreIn, clause_at, literal_at, AreDifferent, truth_symbol, AreDeclared}
 use Rattle.term_core.specs.Valuations.{Stands}
 use Rattle.rule_bool.specs.Literals.{lit_complement, IsConsistent}
-use Rattle.rule_bool.specs.Findings.{IsTouched}
+use Rattle.rule_bool.specs.Statuses.{IsSatisfied}
 use Rattle.rule_bool.specs.Resolvents.{AreOf, Means}
 use Rattle.rule_bool.proofs.Transport.{to_image, from_image}
 use Rattle.solve_core.specs.SearchModels.{affirms, truths_of, constant_table, IsModelOf}
@@ -76,7 +76,7 @@ module _ (t : TableView) (held : List Lit) (different : AreDifferent t.terms) (t
       go false e = ap not (denied l c e)
 
   -- a clause is met of which a literal holds
-  clause_met : (c : Clause) (d : List Lit) → Means t d c → IsTouched held d → list_any (term_true_by v) c ≡ true
+  clause_met : (c : Clause) (d : List Lit) → Means t d c → IsSatisfied held d → list_any (term_true_by v) c ≡ true
   clause_met c d means touched =
       let l = touched.literal in
       let image = subst (λ ls. Contains ls (literal_at t l)) means.same (to_image (literal_at t) d l touched.there) in
@@ -84,7 +84,7 @@ module _ (t : TableView) (held : List Lit) (different : AreDifferent t.terms) (t
       list_any_at (term_true_by v) c u.1.0 u.0 u.1.1 (subst (λ x. term_true_by v x ≡ true) (sym u.1.2) (ap (literal_true v) u.2 ∙ holds l touched.holds))
 
   -- and so are those that have the literals of such
-  pub all_met : (cs : List Clause) (clauses : List (List Lit)) → ((d : List Lit) → Contains clauses d → IsTouched held d)
+  pub all_met : (cs : List Clause) (clauses : List (List Lit)) → ((d : List Lit) → Contains clauses d → IsSatisfied held d)
       → ((c : Clause) → Contains cs c → (d : List Lit) × Contains clauses d × Means t d c) → Meets v cs
   all_met cs clauses touched base k e lt =
       let b = base (get_or cs k e) (Contains-get_or cs k e lt) in
@@ -158,7 +158,7 @@ pub model_is_true : (t : TableView) (roots : List TermId) (clauses : List (List 
     → ((h : Head) (ts : Terms) → Contains t.terms (app h ts) → head_takes h (map sort_of (list_of ts)) ≡ true)
     → ((s : Symbol) (ts : Terms) → Contains t.terms (app (Apply s) ts) → Contains t.symbols s)
     → AreDeclared t.symbols → AreIn t roots → AreOf t held → IsConsistent held
-    → ((c : List Lit) → Contains clauses c → IsTouched held c)
+    → ((c : List Lit) → Contains clauses c → IsSatisfied held c)
     → ((c : Clause) → Contains (base_clauses (clause_at t roots)) c → (d : List Lit) × Contains clauses d × Means t d c)
     → IsModelOf t held interp → Stands t.symbols interp i
     → ((terms : List Term) (v : Truths) (j : Interpretation) → AreFormulas (subterms_of terms) → Realizes j v terms → Meets v (base_clauses terms) → All (λ u. value_at j u ≡ truth true) terms)

@@ -9,8 +9,8 @@ use Rattle.spec_search.proofs.Learned.{quiet_is_new}
 use Rattle.term_core.specs.declared.ids.Lit.{Lit}
 use Rattle.term_core.specs.Tables.{TableView, IsIn, AreDifferent, literal_at}
 use Rattle.rule_bool.specs.Literals.{lit_complement}
-use Rattle.rule_bool.specs.Findings.{IsSettled as LitSettled}
-use Rattle.rule_bool.proofs.Literals.{negation_twice}
+use Rattle.rule_bool.specs.Statuses.{IsSettled as LitSettled}
+use Rattle.rule_bool.proofs.LiteralLists.{negation_twice}
 use Rattle.rule_bool.proofs.Transport.{to_image, from_image}
 use Rattle.rule_bool.proofs.Resolvents.{literals_apart}
 use Rattle.solve_core.specs.Search.{IsTrail, IsQuiet as LitQuiet}

@@ -6,9 +6,9 @@ use Rattle.std.proofs.lemmas.List.{length-append, append-nil, append_assoc, take
 use Rattle.std.proofs.lemmas.List.Elements.{Contains-push_cases}
 use Rattle.term_core.specs.declared.ids.Lit.{Lit}
 use Rattle.rule_bool.specs.Literals.{lists}
-use Rattle.rule_bool.specs.Findings.{IsFalse, IsUnit, IsSettled}
-use Rattle.rule_bool.specs.declared.look.Finding.{Finding}
-use Rattle.rule_bool.specs.declared.look.Finding.TheVariants as findings
+use Rattle.rule_bool.specs.Statuses.{IsFalsified, IsUnit, IsSettled}
+use Rattle.rule_bool.specs.declared.status.ClauseStatus.{ClauseStatus}
+use Rattle.rule_bool.specs.declared.status.ClauseStatus.TheVariants as statuses
 use Rattle.solve_core.specs.Search.{IsQuiet, IsOpen, Advances, TakesUp, IsClash}
 use Rattle.solve_core.proofs.SearchTrails.{trail_more, open_fewer}
 
@@ -30,9 +30,9 @@ module _ (vs : List (Vec Lit Global)) (n : ℕ) (v : Vec Lit Global) (lt : n < l
   taken_next = take_more (lists vs) n [] in_lists ∙ ap (λ (c : List Lit). take n (lists vs) ++ c ∷ []) item
 
 -- an open or a true clause
-pub settles : (c old new : List Lit) (before after : List (Option ℕ)) (number : ℕ) (f : Finding) → (f ≡ findings.Open) ⊎ (f ≡ findings.True) → TakesUp c number old new before after f → IsSettled old c × (new ≡ old) × (after ≡ before)
-settles c old new before after number f (inl e) t = let P : Finding → Type 0 = TakesUp c number old new before after in subst P e t
-settles c old new before after number f (inr e) t = let P : Finding → Type 0 = TakesUp c number old new before after in subst P e t
+pub settles : (c old new : List Lit) (before after : List (Option ℕ)) (number : ℕ) (f : ClauseStatus) → (f ≡ statuses.Unresolved) ⊎ (f ≡ statuses.Satisfied) → TakesUp c number old new before after f → IsSettled old c × (new ≡ old) × (after ≡ before)
+settles c old new before after number f (inl e) t = let P : ClauseStatus → Type 0 = TakesUp c number old new before after in subst P e t
+settles c old new before after number f (inr e) t = let P : ClauseStatus → Type 0 = TakesUp c number old new before after in subst P e t
 
 -- nothing is added
 pub advances_none : (clauses : List (List Lit)) (held : List Lit) (reasons : List (Option ℕ)) → Advances clauses held held reasons reasons
@@ -96,9 +96,9 @@ module _ (clauses seen : List (List Lit)) (old mid : List Lit) (before between :
 
   -- on to a false one
   pub to_false : (number : ℕ) (new : List Lit) (after : List (Option ℕ)) (b : Bool) → number < length clauses → SoFar clauses seen old mid before between b → new ≡ mid → after ≡ between
-      → IsFalse mid (get_or clauses number []) → Advances clauses old new before after × IsClash clauses new number
+      → IsFalsified mid (get_or clauses number []) → Advances clauses old new before after × IsClash clauses new number
   to_false number new after b lt m e f fails =
       let one = so_far_advances b m in (
         subst (λ (h : List Lit). Advances clauses old h before after) (sym e) (subst (λ (rs : List (Option ℕ)). Advances clauses old mid before rs) (sym f) one),
-        record { there = lt; fails = subst (λ (h : List Lit). IsFalse h (get_or clauses number [])) (sym e) fails },
+        record { there = lt; fails = subst (λ (h : List Lit). IsFalsified h (get_or clauses number [])) (sym e) fails },
       )

@@ -9,7 +9,7 @@ use Rattle.term_core.specs.declared.ids.Lit.{Lit}
 use Rattle.term_core.specs.Tables.{TableView, IsIn, term_at, literal_at, positive_literal}
 use Rattle.rule_bool.specs.Literals.{lit_complement}
 use Rattle.rule_bool.specs.Resolvents.{Means}
-use Rattle.rule_bool.proofs.Literals.{negation_twice}
+use Rattle.rule_bool.proofs.LiteralLists.{negation_twice}
 use Rattle.rule_bool.proofs.Transport.{to_image, from_image}
 use Rattle.proof_log.specs.declared.premises.StepId.{StepId}
 use Rattle.proof_log.specs.Logs.{Logged}

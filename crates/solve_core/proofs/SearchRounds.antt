@@ -17,7 +17,7 @@ use Rattle.term_core.specs.declared.ids.TermId.{TermId}
 use Rattle.term_core.specs.declared.ids.Lit.{Lit}
 use Rattle.term_core.specs.Tables.{TableView, IsIn, AreDifferent, term_at, literal_at}
 use Rattle.rule_bool.specs.Literals.{lit_complement}
-use Rattle.rule_bool.proofs.Literals.{negation_twice}
+use Rattle.rule_bool.proofs.LiteralLists.{negation_twice}
 use Rattle.rule_bool.proofs.Transport.{from_image, resolves_there}
 use Rattle.proof_log.specs.declared.premises.StepId.{StepId}
 use Rattle.proof_log.specs.Logs.{Logged, stepped, inference_of, derivation_in, IsLogOf}

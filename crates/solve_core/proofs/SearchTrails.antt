@@ -9,7 +9,7 @@ use Rattle.rule_bool.proofs.Transport.{to_image}
 use Rattle.term_core.specs.declared.ids.TermId.{TermId}
 use Rattle.term_core.specs.declared.ids.Lit.{Lit}
 use Rattle.rule_bool.specs.Literals.{lit_complement, has}
-use Rattle.rule_bool.proofs.Literals.{Contains-from_has, has-from_Contains}
+use Rattle.rule_bool.proofs.LiteralLists.{Contains-from_has, has-from_Contains}
 use Rattle.rule_bool.proofs.Advancing.{fail_fewer}
 use Rattle.solve_core.specs.Search.{AreOver, IsOpen, IsAdded, IsTrail, atoms_in, is_assigned, open_count}
 

@@ -3,9 +3,9 @@ use Rattle.std.specs.Prelude.{◌≡◌, ◌≢◌, ◌⊎◌, ◌+◌, ◌<◌,
 use Rattle.term_core.specs.declared.ids.TermId.{TermId}
 use Rattle.term_core.specs.declared.ids.Lit.{Lit}
 use Rattle.rule_bool.specs.Literals.{lit_complement, has}
-use Rattle.rule_bool.specs.Findings.{IsFalse, IsUnit, IsTouched, IsSettled}
-use Rattle.rule_bool.specs.declared.look.Finding.{Finding}
-use Rattle.rule_bool.specs.declared.look.Finding.TheVariants as findings
+use Rattle.rule_bool.specs.Statuses.{IsFalsified, IsUnit, IsSatisfied, IsSettled}
+use Rattle.rule_bool.specs.declared.status.ClauseStatus.{ClauseStatus}
+use Rattle.rule_bool.specs.declared.status.ClauseStatus.TheVariants as statuses
 use Rattle.rule_bool.specs.Propagation.{failing}
 use Rattle.solve_core.specs.declared.propagate.Pass.{Pass}
 use Rattle.solve_core.specs.declared.propagate.Pass.TheVariants as passes
@@ -86,19 +86,19 @@ pub record Advances (clauses : List (List Lit)) (old new : List Lit) (before aft
   -- each literal leaves a term less of unknown truth
   pub fewer : (atoms : List TermId) → AreOver atoms clauses → length new + open_count atoms new ≤ length old + open_count atoms old
 
--- what a look at the clause of a number finds, and what holds then
-abbrev pub TakesUp : List Lit → ℕ → List Lit → List Lit → List (Option ℕ) → List (Option ℕ) → Finding → Type 0
-TakesUp clause number old new before after findings.False = IsFalse old clause × (new ≡ old) × (after ≡ before)
-TakesUp clause number old new before after (findings.Unit l) = IsUnit old clause l × (new ≡ old ++ l ∷ []) × (after ≡ before ++ Some number ∷ [])
-TakesUp clause number old new before after findings.Open = IsSettled old clause × (new ≡ old) × (after ≡ before)
-TakesUp clause number old new before after findings.True = IsSettled old clause × (new ≡ old) × (after ≡ before)
+-- the status of the clause of a number, and what holds then
+abbrev pub TakesUp : List Lit → ℕ → List Lit → List Lit → List (Option ℕ) → List (Option ℕ) → ClauseStatus → Type 0
+TakesUp clause number old new before after statuses.Falsified = IsFalsified old clause × (new ≡ old) × (after ≡ before)
+TakesUp clause number old new before after (statuses.Unit l) = IsUnit old clause l × (new ≡ old ++ l ∷ []) × (after ≡ before ++ Some number ∷ [])
+TakesUp clause number old new before after statuses.Unresolved = IsSettled old clause × (new ≡ old) × (after ≡ before)
+TakesUp clause number old new before after statuses.Satisfied = IsSettled old clause × (new ≡ old) × (after ≡ before)
 
 -- the clause of a number is false
 pub record IsClash (clauses : List (List Lit)) (held : List Lit) (number : ℕ) : Type 0 where
   -- the number is a clause's
   pub there : number < length clauses
   -- all of its literals are false
-  pub fails : IsFalse held (get_or clauses number [])
+  pub fails : IsFalsified held (get_or clauses number [])
 
 -- what a pass over the clauses seen comes to
 abbrev pub Passes : List (List Lit) → List (List Lit) → List Lit → List Lit → List (Option ℕ) → List (Option ℕ) → Pass → Type 0
@@ -131,9 +131,9 @@ pub record IsOpenIn (clauses : List (List Lit)) (held : List Lit) (l : Lit) : Ty
 
 -- of each clause a literal holds, or all of its literals are false
 abbrev pub AreSettled : List (List Lit) → List Lit → Type 0
-AreSettled clauses held = (c : List Lit) → Contains clauses c → IsTouched held c ⊎ IsFalse held c
+AreSettled clauses held = (c : List Lit) → Contains clauses c → IsSatisfied held c ⊎ IsFalsified held c
 
 -- none of the literals holds; and none is open, or this one is
 abbrev pub Opens : List Lit → List Lit → Option Lit → Type 0
-Opens held front None = IsFalse held front
+Opens held front None = IsFalsified held front
 Opens held front (Some l) = IsOpenOf held front l

@@ -7,7 +7,7 @@ ghost use Rattle.solve_core.specs.Analyses.{MarksEach, MarksOthers, Notes, Follo
 
 use crate::store::Store;
 use crate::trail::Trail;
-use rule_bool::{Held, negated, same};
+use rule_bool::{Assignment, negated, same};
 use std::alloc::{AllocError, Global};
 use term_core::Lit;
 
@@ -15,7 +15,7 @@ use term_core::Lit;
 #[derive(Drop)]
 pub(crate) struct Analysis {
     /// Literals that hold and that the conflict rests on.
-    pub(crate) marked: Held,
+    pub(crate) marked: Assignment,
     /// The numbers of the clause that is false and of the reasons that it rests on.
     pub(crate) premises: Vec<usize>,
     /// The negations of the decisions that it rests on, newest first.
@@ -26,7 +26,7 @@ pub(crate) struct Analysis {
 }
 
 /// Marks the complement of each literal of a false clause.
-fn mark_each(clause: &[Lit], marked: &mut Held) -> Result<(), AllocError>
+fn mark_each(clause: &[Lit], marked: &mut Assignment) -> Result<(), AllocError>
     ensures { OnOk result (MarksEach clause.now marked.old marked.new) }
 {
     for m in clause {
@@ -36,7 +36,7 @@ fn mark_each(clause: &[Lit], marked: &mut Held) -> Result<(), AllocError>
 }
 
 /// Marks the complement of each literal of a clause but the one that it forced.
-fn mark_others(clause: &[Lit], l: Lit, marked: &mut Held) -> Result<(), AllocError>
+fn mark_others(clause: &[Lit], l: Lit, marked: &mut Assignment) -> Result<(), AllocError>
     ensures { OnOk result (MarksOthers clause.now l marked.old marked.new) }
 {
     for m in clause {
@@ -103,7 +103,7 @@ pub(crate) fn analyze(
     let mut premises = Vec::new(alloc);
     premises.push(clash)?;
     let mut found = Analysis {
-        marked: Held::new(alloc),
+        marked: Assignment::new(alloc),
         premises,
         clause: Vec::new(alloc),
         cut: trail.held.len(),

@@ -2,14 +2,14 @@
 
 ghost use Rattle.std.specs.Prelude.{◌⊎◌, ◌++◌, ◌∷◌, [], List, Contains, MatchOption};
 ghost use Rattle.rule_bool.specs.Literals.{lists};
-ghost use Rattle.rule_bool.specs.Findings.{IsFalse, IsTouched};
+ghost use Rattle.rule_bool.specs.Statuses.{IsFalsified, IsSatisfied};
 ghost use Rattle.solve_core.specs.Search.{Opens, IsOpenOf, AreSettled, IsOpenIn};
 
-use rule_bool::{Held, negated};
+use rule_bool::{Assignment, negated};
 use term_core::Lit;
 
 /// Gives the first open literal with one literal more, which does not hold.
-fn first_open(first: Option<Lit>, m: Lit, held: &Held) -> Option<Lit>
+fn first_open(first: Option<Lit>, m: Lit, held: &Assignment) -> Option<Lit>
     requires { Contains held.now m → ⊥ }
     ensures { (front : List Lit) → Opens held.now front first → Opens held.now (front ++ m ∷ []) result }
 {
@@ -23,8 +23,8 @@ fn first_open(first: Option<Lit>, m: Lit, held: &Held) -> Option<Lit>
 }
 
 /// Gives the first open literal of a clause none of whose literals holds, or nothing where one holds or none is open.
-fn open_in(clause: &[Lit], held: &Held) -> Option<Lit>
-    ensures { MatchOption result (IsTouched held.now clause.now ⊎ IsFalse held.now clause.now) (IsOpenOf held.now clause.now) }
+fn open_in(clause: &[Lit], held: &Assignment) -> Option<Lit>
+    ensures { MatchOption result (IsSatisfied held.now clause.now ⊎ IsFalsified held.now clause.now) (IsOpenOf held.now clause.now) }
 {
     let mut first = None;
     for m in clause {
@@ -37,7 +37,7 @@ fn open_in(clause: &[Lit], held: &Held) -> Option<Lit>
 }
 
 /// Gives an open literal of the oldest clause none of whose literals holds, or nothing where each clause has one or is false.
-pub(crate) fn next_open(clauses: &[Vec<Lit>], held: &Held) -> Option<Lit>
+pub(crate) fn next_open(clauses: &[Vec<Lit>], held: &Assignment) -> Option<Lit>
     ensures { MatchOption result (AreSettled (lists clauses.now) held.now) (IsOpenIn (lists clauses.now) held.now) }
 {
     for clause in clauses {

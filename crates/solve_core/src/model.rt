@@ -6,7 +6,7 @@ ghost use Rattle.term_core.specs.Tables.{IsIn};
 ghost use Rattle.term_core.specs.Valuations.{tables_meant};
 ghost use Rattle.solve_core.specs.SearchModels.{constant_table, IsModelOf, IsApplied, AffirmsSymbol, AreTruthsOf};
 
-use rule_bool::Held;
+use rule_bool::Assignment;
 use std::alloc::{AllocError, Global};
 use term_core::{Head, Interp, Lit, SymbolId, Table, TermTable, Value};
 
@@ -45,7 +45,7 @@ fn note(table: &TermTable, l: Lit, truths: &mut Vec<bool>)
 }
 
 /// Gives the truth value of each symbol, by its number: true where its constant holds as it stands, else false.
-fn truths_by_symbol(alloc: Global, table: &TermTable, held: &Held) -> Result<Vec<bool>, AllocError>
+fn truths_by_symbol(alloc: Global, table: &TermTable, held: &Assignment) -> Result<Vec<bool>, AllocError>
     requires { All (λ l. IsIn table.now l.term) held.now }
     ensures { IfOk result (λ truths. AreTruthsOf table.now held.now truths.items) }
 {
@@ -73,7 +73,7 @@ fn interp_of(alloc: Global, truths: &[bool]) -> Result<Interp, AllocError>
 /// Gives the interpretation under which a symbol is true where its constant is among the literals that hold, as it stands.
 ///
 /// It takes time in proportion to the symbols and the literals. `AllocError` comes where its tables find no memory.
-pub(crate) fn model_of(alloc: Global, table: &TermTable, held: &Held) -> Result<Interp, AllocError>
+pub(crate) fn model_of(alloc: Global, table: &TermTable, held: &Assignment) -> Result<Interp, AllocError>
     requires { All (λ l. IsIn table.now l.term) held.now }
     ensures { IfOk result (IsModelOf table.now held.now) }
 {

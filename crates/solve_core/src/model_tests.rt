@@ -4,7 +4,7 @@ ghost use Rattle.std.specs.Prelude.{All, IfOk};
 ghost use Rattle.term_core.specs.Tables.{IsIn};
 
 use crate::model::model_of;
-use rule_bool::Held;
+use rule_bool::Assignment;
 use std::alloc::{AllocError, Global};
 use std::test::Fail;
 use term_core::{Head, Lit, Node, TermId, TermTable, Value};
@@ -40,10 +40,10 @@ fn table_of_five(alloc: Global) -> Result<TermTable, NoMemory> {
 }
 
 /// The literals of the table's terms among these, which are given by numbers and signs.
-fn held_of(alloc: Global, table: &TermTable, literals: &[(u64, bool)]) -> Result<Held, AllocError>
+fn held_of(alloc: Global, table: &TermTable, literals: &[(u64, bool)]) -> Result<Assignment, AllocError>
     ensures { IfOk result (λ held. All (λ l. IsIn table.now l.term) held) }
 {
-    let mut held = Held::new(alloc);
+    let mut held = Assignment::new(alloc);
     for (number, positive) in literals {
         if *number < table.len() {
             held.add(Lit {

@@ -6,7 +6,7 @@ ghost use Rattle.solve_core.specs.Search.{TakesUp, Passes, Propagates};
 
 use crate::store::Store;
 use crate::trail::Trail;
-use rule_bool::look::{Finding, look};
+use rule_bool::{ClauseStatus, clause_status};
 use std::alloc::AllocError;
 use term_core::Lit;
 
@@ -31,13 +31,13 @@ pub(crate) enum Propagation {
 }
 
 /// Looks at the clause of a number, and adds the literal that it forces.
-fn take_up(clause: &[Lit], number: usize, trail: &mut Trail) -> Result<Finding, AllocError>
+fn take_up(clause: &[Lit], number: usize, trail: &mut Trail) -> Result<ClauseStatus, AllocError>
     ensures { IfOk result (λ found. TakesUp clause.now number trail.old.held trail.new.held trail.old.reasons.items trail.new.reasons.items found) }
 {
-    match look(clause, &trail.held) {
-        Finding::Unit(l) => {
+    match clause_status(clause, &trail.held) {
+        ClauseStatus::Unit(l) => {
             trail.push(l, Some(number))?;
-            Ok(Finding::Unit(l))
+            Ok(ClauseStatus::Unit(l))
         }
         found => Ok(found),
     }
@@ -50,9 +50,9 @@ fn pass_over(clauses: &[Vec<Lit>], trail: &mut Trail) -> Result<Pass, AllocError
     let mut added = false;
     for number in 0..clauses.len() {
         match take_up(&clauses[number], number, trail)? {
-            Finding::False => return Ok(Pass::Clash(number)),
-            Finding::Unit(_) => added = true,
-            Finding::Open | Finding::True => {}
+            ClauseStatus::Falsified => return Ok(Pass::Clash(number)),
+            ClauseStatus::Unit(_) => added = true,
+            ClauseStatus::Unresolved | ClauseStatus::Satisfied => {}
         }
     }
     Ok(if added { Pass::Added } else { Pass::Same })

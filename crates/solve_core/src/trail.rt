@@ -2,7 +2,7 @@
 
 ghost use Rattle.std.specs.Prelude.{◌≡◌, ◌<◌, ◌++◌, ◌∷◌, [], take, length, slice_index_or, Contains, OnOk, None};
 
-use rule_bool::Held;
+use rule_bool::Assignment;
 use std::alloc::{AllocError, Global};
 use term_core::Lit;
 
@@ -10,7 +10,7 @@ use term_core::Lit;
 #[derive(Drop)]
 pub(crate) struct Trail {
     /// The literals.
-    pub(crate) held: Held,
+    pub(crate) held: Assignment,
     /// Their reasons, in the same order.
     pub(crate) reasons: Vec<Option<usize>>,
 }
@@ -22,7 +22,7 @@ impl Trail {
         ensures reasons { result.reasons.items ≡ [] }
     {
         Trail {
-            held: Held::new(alloc),
+            held: Assignment::new(alloc),
             reasons: Vec::new(alloc),
         }
     }

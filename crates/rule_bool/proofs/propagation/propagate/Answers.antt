@@ -9,7 +9,7 @@ take_out_each-requires c =
     record {
       counted = begun_counted c.args.premises.now _ _ _ _ c.deref_mut.ensures.value begun;
       once = c.requires.once;
-      index = c.in_ok-watchers.ensures;
+      index = c.in_ok-occurrences.ensures;
       consistent = begun.advances.consistent c.requires.consistent;
       tracked = begun_tracked c.args.premises.now _ _ _ _ c.deref_mut.ensures.value begun;
     }

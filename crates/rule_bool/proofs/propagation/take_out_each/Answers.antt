@@ -3,7 +3,7 @@ use Rattle.std.proofs.Common.{arith, subst, sym, length}
 use Rattle.std.proofs.lemmas.List.{length-map}
 use Rattle.term_core.specs.declared.ids.Lit.{Lit}
 use Rattle.rule_bool.specs.Literals.{lists}
-use Rattle.rule_bool.specs.Watching.{Watches}
+use Rattle.rule_bool.specs.Occurring.{OccursIn}
 use Rattle.rule_bool.proofs.Advancing.{refuted_on}
 use Rattle.rule_bool.proofs.Stepping.{going_none, going_more, going_smaller, going_all}
 use Rattle.rule_bool.proofs.propagation.take_out_each.Goals as goal
@@ -33,7 +33,7 @@ loop-done-smaller c =
 pub loop-done-preserved : goal.loop-done-preserved
 loop-done-preserved c =
     let went = rw c.if-branch.false at c.in_ok-pass_on.ensures in
-    going_more (lists c.args.premises.now) c.requires.once c.args.watchers.now c.requires.index c.args.held.now c.loop-done.held c.pass_on.new.held c.loop-done.left c.pass_on.new.left c.loop-done.done c.at.result c.of-losing.result.now (omega arith) c.at.ensures (λ k w. c.of-losing.ensures.complete k (subst (λ (x : Lit). Watches c.args.watchers.now x k) (sym c.negated-complement.ensures) w)) c.loop-done.invariant went
+    going_more (lists c.args.premises.now) c.requires.once c.args.occurrences.now c.requires.index c.args.held.now c.loop-done.held c.pass_on.new.held c.loop-done.left c.pass_on.new.left c.loop-done.done c.at.result c.of-losing.result.now (omega arith) c.at.ensures (λ k w. c.of-losing.ensures.complete k (subst (λ (x : Lit). OccursIn c.args.occurrences.now x k) (sym c.negated-complement.ensures) w)) c.loop-done.invariant went
 
 pub returns : goal.returns
 returns c = going_all (lists c.args.premises.now) c.requires.once c.args.held.now c.loop-done.held c.loop-done.left c.loop-done.done (omega arith) c.loop-done.invariant

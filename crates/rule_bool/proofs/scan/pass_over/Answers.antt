@@ -3,9 +3,9 @@ use Rattle.rule_bool.specs.Literals.{lists}
 use Rattle.rule_bool.proofs.Passes.{to_false, to_unit, to_settled, settles, before, behind, ended}
 use Rattle.rule_bool.proofs.scan.pass_over.Goals as goal
 
-pub returns-in-False : goal.returns-in-False
-returns-in-False c =
-    let found = rw (c.in-False.is, c.deref.ensures.value) at c.in_ok-take_up.ensures in
+pub returns-in-Falsified : goal.returns-in-Falsified
+returns-in-Falsified c =
+    let found = rw (c.in-Falsified.is, c.deref.ensures.value) at c.in_ok-take_up.ensures in
     to_false _ _ _ _ _ _ c.loop-at.invariant (before c.args.premises.now c.loop-at.at c.index-premises-at.result c.loop-at-test.true c.loop-at.auto.at c.index-premises-at.is) found
 
 pub loop-at-preserved-in-Unit : goal.loop-at-preserved-in-Unit
@@ -15,7 +15,7 @@ loop-at-preserved-in-Unit c =
 
 pub loop-at-preserved : goal.loop-at-preserved
 loop-at-preserved c =
-    let found = settles c.index-premises-at.result.items _ _ _ c.in-Open.is (rw c.deref.ensures.value at c.in_ok-take_up.ensures) in
+    let found = settles c.index-premises-at.result.items _ _ _ c.in-Unresolved.is (rw c.deref.ensures.value at c.in_ok-take_up.ensures) in
     to_settled _ _ _ _ _ _ _ c.loop-at.added c.loop-at.invariant found.1 found.0 (behind c.args.premises.now c.loop-at.at c.index-premises-at.result c.loop-at-test.true c.loop-at.auto.at c.index-premises-at.is)
 
 pub returns-else-added : goal.returns-else-added

@@ -2,7 +2,7 @@
 use Rattle.std.proofs.Common.{subst, arith, List}
 use Rattle.term_core.specs.declared.ids.Lit.{Lit}
 use Rattle.rule_bool.specs.Literals.{lit_complement}
-use Rattle.rule_bool.specs.Findings.{IsSettled}
+use Rattle.rule_bool.specs.Statuses.{IsSettled}
 use Rattle.spec_proofs.specs.Resolution.{both_ways, given}
 use Rattle.rule_bool.proofs.Advancing.{held_on}
 use Rattle.rule_bool.proofs.Quiet.{no_conflict}
