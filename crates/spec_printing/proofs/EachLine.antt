@@ -1,7 +1,6 @@
 -- Lines that are right are good commands.
-use Rattle.std.proofs.Common.{◌≡◌, ℕ, ◌+◌, ◌<◌, ◌^◌, true, false, List, [], ◌∷◌, ◌++◌, length, map, Contains, refl, sym, ap, ◌∙◌, subst, length-append, arith}
+use Rattle.std.proofs.Common.{◌≡◌, ℕ, ◌+◌, ◌<◌, ◌^◌, true, false, List, [], ◌∷◌, ◌++◌, length, map, Option, Contains, refl, sym, ap, ◌∙◌, subst, length-append, arith}
 use Rattle.std.specs.Prelude.{◌≤◌, Ok, codes}
-use Rattle.std.proofs.lemmas.Bool.Decides.{nat_tests}
 use Rattle.std.proofs.lemmas.List.Elements.{Contains-append_left, Contains-push}
 use Rattle.spec_text.specs.Bytes.{Name, among}
 use Rattle.spec_text.specs.Trees.{Tree, none, more, offset_of}
@@ -11,10 +10,8 @@ use Rattle.spec_text.proofs.AnswerLaws.{joined}
 use Rattle.spec_terms.specs.Terms.{Symbol, Head, Term}
 use Rattle.spec_terms.specs.Reading.{term_in, terms_in}
 use Rattle.spec_terms.specs.Literals.{Clause}
-use Rattle.spec_terms.specs.Subterms.{fit_in}
 use Rattle.spec_terms.specs.Subsets.{arguments_of, AreAmong}
 use Rattle.spec_terms.proofs.General.{list_of-terms_of}
-use Rattle.spec_scripts.specs.Stack.{term_limit}
 use Rattle.spec_scripts.specs.Current.{AreDeclared}
 use Rattle.spec_proofs.specs.declared.Rule.{Rule}
 use Rattle.spec_proofs.specs.Commands.{Known, Entry, Command, Assume, Step, Define}
@@ -29,6 +26,7 @@ use Rattle.spec_printing.proofs.Lookups.{entry}
 use Rattle.spec_printing.proofs.Arguments.{terms_known, arguments_read, single_read}
 use Rattle.spec_printing.proofs.Heads.{compound_read}
 use Rattle.spec_printing.proofs.CommandShapes.{assume_read, bare_step_read, full_step_read, define_read}
+use Rattle.spec_printing.proofs.Room.{IsWithin, fit_within, no_more}
 use Rattle.spec_printing.proofs.Standing.{Stands, assume_stands, step_stands, definition_stands, new_assume, new_step, new_definition, known_fits, next_fits, references_read, references_are_symbols}
 
 -- what is known, by the names and the entries so far
@@ -40,11 +38,11 @@ abbrev pub HasOne : List Entry → Type 0
 HasOne entries = (e : Entry) × Contains entries e × (e.clause ≡ [])
 
 -- What a line is as a command, and what it leaves.
-pub record Goes (symbols : List Symbol) (asserted : List Term) (told next : Told) (names : List (Name × Term)) (entries : List Entry) (l : Line) (at : ℕ) : Type 0 where
+pub record Goes (limit : Option ℕ) (symbols : List Symbol) (asserted : List Term) (told next : Told) (names : List (Name × Term)) (entries : List Entry) (l : Line) (at : ℕ) : Type 0 where
   pub command : Command
   pub later_names : List (Name × Term)
   pub later_entries : List Entry
-  pub reads : command_of (known symbols asserted names entries) (moved at (line_tree l)) ≡ Ok command
+  pub reads : command_of limit (known symbols asserted names entries) (moved at (line_tree l)) ≡ Ok command
   pub right : IsRightAfter (known symbols asserted names entries) command
   pub after : known symbols asserted later_names later_entries ≡ with_command (known symbols asserted names entries) command
   pub stands : Stands symbols next later_names later_entries
@@ -55,8 +53,9 @@ pub record Goes (symbols : List Symbol) (asserted : List Term) (told next : Told
   pub empty : (n : ℕ) (r : Rule) (ps : List Reference) → l ≡ steps n [] r ps → HasOne later_entries
 
 -- there is room for a line more
-pub record HasRoom (symbols : List Symbol) (told : Told) (l : Line) : Type 0 where
-  pub more_terms : length symbols + length told.terms + definitions_in (l ∷ []) + 2 ≤ term_limit
+pub record HasRoom (limit : Option ℕ) (symbols : List Symbol) (told : Told) (l : Line) : Type 0 where
+  pub within : IsWithin limit (length symbols + length told.terms + definitions_in (l ∷ []) + 2)
+  pub more_terms : length told.terms + 1 < 2 ^ 64
   pub more_assumes : length told.assumes + 1 < 2 ^ 64
   pub more_steps : length told.steps + 1 < 2 ^ 64
 
@@ -65,11 +64,11 @@ alone_read : (k : Known) (t : Tree) (u : Term) → term_in k.scope t ≡ Ok u �
 unfolding terms_in
 alone_read k t u e = joined (term_in k.scope t) _ u (u ∷ []) e (joined (terms_in k.scope none) _ [] (u ∷ []) refl refl)
 
-module _ (symbols : List Symbol) (asserted : List Term) (declared : AreDeclared symbols) (told : Told) (names : List (Name × Term)) (entries : List Entry) (s : Stands symbols told names entries) where
+module _ (limit : Option ℕ) (symbols : List Symbol) (asserted : List Term) (declared : AreDeclared symbols) (told : Told) (names : List (Name × Term)) (entries : List Entry) (s : Stands symbols told names entries) where
   abbrev here : Known
   here = known symbols asserted names entries
 
-  pub assume_goes : (n : ℕ) (a : Argument) (t : Term) (at : ℕ) → IsAssume symbols asserted told n a t → HasRoom symbols told (assumes n a) → Goes symbols asserted told (with_assume told (t ∷ [])) names entries (assumes n a) at
+  pub assume_goes : (n : ℕ) (a : Argument) (t : Term) (at : ℕ) → IsAssume symbols asserted told n a t → HasRoom limit symbols told (assumes n a) → Goes limit symbols asserted told (with_assume told (t ∷ [])) names entries (assumes n a) at
   assume_goes n a t at d room =
       let few : length told.terms < 2 ^ 64 = omega (arith, room.more_terms) in
       let small : n < 2 ^ 64 = omega (arith, d.number, room.more_assumes) in
@@ -77,12 +76,12 @@ module _ (symbols : List Symbol) (asserted : List Term) (declared : AreDeclared 
       let c : ℕ = b + length (printed (word_tree (codes "assume"))) + 1 in
       let g : ℕ = c + length (printed (word_tree (assume_name n))) + 1 in
       let read = single_read symbols declared told names few s.terms a t d.told g in
-      let fits = known_fits symbols told names entries s (t ∷ []) read.1 (omega (arith, room.more_terms)) in
+      let fits = known_fits symbols told names entries s limit (t ∷ []) read.1 (no_more limit _ _ (omega arith) room.within) in
       record {
         command = Assume (offset_of (moved g (argument_tree a))) (assume_name n) t;
         later_names = names;
         later_entries = entries ++ entry (assume_name n) (t ∷ []) ∷ [];
-        reads = assume_read here at b c _ (assume_name n) (moved g (argument_tree a)) t (new_assume symbols told names entries s n d.number small) read.0 fits;
+        reads = assume_read limit here at b c _ (assume_name n) (moved g (argument_tree a)) t (new_assume symbols told names entries s n d.number small) read.0 fits;
         right = d.there;
         after = refl;
         stands = assume_stands symbols told names entries s n (t ∷ []) d.number small;
@@ -93,7 +92,7 @@ module _ (symbols : List Symbol) (asserted : List Term) (declared : AreDeclared 
         empty = λ m r ps e. absurd cc;
       }
 
-  pub step_goes : (n : ℕ) (items : List Argument) (r : Rule) (ps : List Reference) (c : Clause) (at : ℕ) → IsStep symbols told n items r ps c → HasRoom symbols told (steps n items r ps) → Goes symbols asserted told (with_step told c) names entries (steps n items r ps) at
+  pub step_goes : (n : ℕ) (items : List Argument) (r : Rule) (ps : List Reference) (c : Clause) (at : ℕ) → IsStep symbols told n items r ps c → HasRoom limit symbols told (steps n items r ps) → Goes limit symbols asserted told (with_step told c) names entries (steps n items r ps) at
   step_goes n items r ps c at d room = record {
     command = Step at (step_name n) c r d.premises;
     later_names = names;
@@ -121,16 +120,16 @@ module _ (symbols : List Symbol) (asserted : List Term) (declared : AreDeclared 
       literals : (i : ℕ) → terms_in here.scope (moved_all i (row (map argument_tree items))) ≡ Ok c
       literals i = (arguments_read symbols declared told names few s.terms items c d.literals i).0
 
-      fits : fit_in term_limit c ≡ true
-      fits = known_fits symbols told names entries s c (arguments_read symbols declared told names few s.terms items c d.literals 0).1 (omega (arith, room.more_terms))
+      fits : fit_within limit c ≡ true
+      fits = known_fits symbols told names entries s limit c (arguments_read symbols declared told names few s.terms items c d.literals 0).1 (no_more limit _ _ (omega arith) room.within)
 
-      none_read : (cs : List Clause) → ArePremises told [] cs → command_of here (moved at (line_tree (steps n items r []))) ≡ Ok (Step at (step_name n) c r cs)
-      none_read [] e = bare_step_read here at _ _ _ _ _ _ _ _ (step_name n) _ (rule_name r) c r fresh (literals _) fits (named r).1
+      none_read : (cs : List Clause) → ArePremises told [] cs → command_of limit here (moved at (line_tree (steps n items r []))) ≡ Ok (Step at (step_name n) c r cs)
+      none_read [] e = bare_step_read limit here at _ _ _ _ _ _ _ _ (step_name n) _ (rule_name r) c r fresh (literals _) fits (named r).1
       none_read (x ∷ cs) e = cc
 
-      by : (qs : List Reference) → ArePremises told qs d.premises → command_of here (moved at (line_tree (steps n items r qs))) ≡ Ok (Step at (step_name n) c r d.premises)
+      by : (qs : List Reference) → ArePremises told qs d.premises → command_of limit here (moved at (line_tree (steps n items r qs))) ≡ Ok (Step at (step_name n) c r d.premises)
       by [] e = none_read d.premises e
-      by (q ∷ qs) e = full_step_read here at _ _ _ _ _ _ _ _ _ _ _ (step_name n) _ (rule_name r) _ c r d.premises (references_are_symbols _ (q ∷ qs)) fresh (literals _) fits (named r).1 (references_read symbols told names entries s (omega (arith, room.more_assumes)) (omega (arith, room.more_steps)) here refl (q ∷ qs) d.premises e _)
+      by (q ∷ qs) e = full_step_read limit here at _ _ _ _ _ _ _ _ _ _ _ (step_name n) _ (rule_name r) _ c r d.premises (references_are_symbols _ (q ∷ qs)) fresh (literals _) fits (named r).1 (references_read symbols told names entries s (omega (arith, room.more_assumes)) (omega (arith, room.more_steps)) here refl (q ∷ qs) d.premises e _)
 
       items_of : {m : ℕ} {q : Rule} {qs : List Reference} → steps n items r ps ≡ steps m [] q qs → items ≡ []
       items_of e = cc
@@ -140,7 +139,7 @@ module _ (symbols : List Symbol) (asserted : List Term) (declared : AreDeclared 
       nothing [] (t ∷ ts) e h = cc
       nothing (x ∷ xs) ts e h = absurd cc
 
-  pub define_goes : (n : ℕ) (h : Head) (items : List Argument) (at : ℕ) (t : Term) → IsDefinition symbols told n h items t → HasRoom symbols told (defines n h items) → Goes symbols asserted told (with_definition told t) names entries (defines n h items) at
+  pub define_goes : (n : ℕ) (h : Head) (items : List Argument) (at : ℕ) (t : Term) → IsDefinition symbols told n h items t → HasRoom limit symbols told (defines n h items) → Goes limit symbols asserted told (with_definition told t) names entries (defines n h items) at
   define_goes n h items at t d room =
       let few : length told.terms < 2 ^ 64 = omega (arith, room.more_terms) in
       let small : n < 2 ^ 64 = omega (arith, d.number, room.more_terms) in
@@ -150,7 +149,7 @@ module _ (symbols : List Symbol) (asserted : List Term) (declared : AreDeclared 
         command = Define at (defined_name n) t;
         later_names = names ++ (defined_name n, t) ∷ [];
         later_entries = entries;
-        reads = define_read here at _ _ _ _ _ _ (defined_name n) _ t (new_definition symbols told names entries s declared n d.number small) (alone_read here _ t (reading _)) (next_fits symbols told names entries s t args (omega (arith, room.more_terms))) (grind (arith, nat_tests, room.more_terms, s.count));
+        reads = define_read limit here at _ _ _ _ _ _ (defined_name n) _ t (new_definition symbols told names entries s declared n d.number small) (alone_read here _ t (reading _)) (next_fits symbols told names entries s limit t args (no_more limit _ _ (omega arith) room.within)) (no_more limit _ _ (omega (arith, s.count)) room.within);
         right = tt;
         after = refl;
         stands = definition_stands symbols told names entries s n t d.number small args;

@@ -8,6 +8,7 @@ pub mod Lookups
 pub mod Arguments
 pub mod Heads
 pub mod CommandShapes
+pub mod Room
 pub mod Standing
 pub mod EachLine
 pub mod Sizes

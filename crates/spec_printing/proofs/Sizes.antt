@@ -46,6 +46,12 @@ definitions_more (defines n h items) ls = omega arith
 definitions_more (assumes n a) ls = omega arith
 definitions_more (steps n items r ps) ls = omega arith
 
+-- a line is one definition at the most
+pub one_definition : (l : Line) → definitions_in (l ∷ []) ≤ 1
+one_definition (defines n h items) = omega arith
+one_definition (assumes n a) = omega arith
+one_definition (steps n items r ps) = omega arith
+
 lines_size : (lines : List Line) → (27 * definitions_in lines ≤ length (flat_map line_text lines)) × (length lines ≤ length (flat_map line_text lines))
 lines_size [] = (omega arith, omega arith)
 lines_size (l ∷ ls) =

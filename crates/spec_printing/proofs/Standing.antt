@@ -1,6 +1,6 @@
 -- What lines make known is what their commands make known.
 use Rattle.std.proofs.Common.{◌≡◌, inl, inr, ℕ, zero, suc, ◌+◌, ◌<◌, ◌^◌, true, false, List, [], ◌∷◌, ◌++◌, length, map, Option, Some, None, Contains, refl, sym, ap, ◌∙◌, subst, append_assoc, length-append, arith}
-use Rattle.std.specs.Prelude.{◌≤◌, ◌⊎◌, ◌||◌, Ok, codes, decimal}
+use Rattle.std.specs.Prelude.{◌⊎◌, ◌||◌, Ok, codes, decimal}
 use Rattle.std.specs.Str.{bytes_eq}
 use Rattle.std.proofs.lemmas.List.Elements.{Contains-push}
 use Rattle.spec_text.specs.Bytes.{Name, among}
@@ -9,12 +9,9 @@ use Rattle.spec_text.proofs.Printing.{moved, moved_all}
 use Rattle.spec_terms.specs.Terms.{Symbol, Term}
 use Rattle.spec_terms.specs.Theory.{look_up}
 use Rattle.spec_terms.specs.Literals.{Clause}
-use Rattle.spec_terms.specs.Subterms.{fit_in}
 use Rattle.spec_terms.specs.Subsets.{arguments_of, AreAmong, IsClosed}
-use Rattle.spec_terms.proofs.LeastSubterms.{has_room}
 use Rattle.spec_text.proofs.Members.{cases, none as no_member}
 use Rattle.spec_text.proofs.AnswerLaws.{joined}
-use Rattle.spec_scripts.specs.Stack.{term_limit}
 use Rattle.spec_scripts.specs.Current.{AreDeclared}
 use Rattle.spec_scripts.proofs.Later.{none_among}
 use Rattle.spec_proofs.specs.Commands.{Known, Entry, all_symbols}
@@ -23,6 +20,7 @@ use Rattle.spec_proofs.proofs.Steps.{clause_by, known_by}
 use Rattle.spec_printing.specs.Lines.{Reference, assumed, stepped, defined_name, assume_name, step_name, reference_name, row, reference_tree}
 use Rattle.spec_printing.specs.Meaning.{Told, nothing_told, with_definition, with_assume, with_step, numbered, clause_told, ArePremises}
 use Rattle.spec_printing.proofs.Lookups.{extended, not_extended, numbered_push, numbered_within, numbered_next, look_up_push, entry, clause_push, told_apart, entry_unfound, name_unfound, head_same, tail_same}
+use Rattle.spec_printing.proofs.Room.{IsWithin, fit_within, no_more, among_fit}
 use Rattle.spec_printing.proofs.Arguments.{terms_known, ground, ground_closed, closed_more, known_count, kept_unfound}
 
 -- Names with what they stand for, and entries, are those that lines make known.
@@ -89,12 +87,12 @@ module _ (symbols : List Symbol) (told : Told) (names : List (Name × Term)) (en
       (λ i. free i || new i)
 
   -- there is room for terms that are known
-  pub known_fits : (ts : List Term) → AreAmong ts (terms_known symbols told.terms) → length symbols + length told.terms + 2 ≤ term_limit → fit_in term_limit ts ≡ true
-  known_fits ts among room = has_room term_limit ts (terms_known symbols told.terms) among s.closed (omega (arith, known_count symbols told.terms, room))
+  pub known_fits : (limit : Option ℕ) (ts : List Term) → AreAmong ts (terms_known symbols told.terms) → IsWithin limit (length symbols + length told.terms + 2) → fit_within limit ts ≡ true
+  known_fits limit ts among room = among_fit limit ts (terms_known symbols told.terms) among s.closed (no_more limit _ _ (omega (arith, known_count symbols told.terms)) room)
 
   -- and for one more over them
-  pub next_fits : (t : Term) → AreAmong (arguments_of t) (terms_known symbols told.terms) → length symbols + length told.terms + 3 ≤ term_limit → fit_in term_limit (t ∷ []) ≡ true
-  next_fits t args room = has_room term_limit (t ∷ []) (terms_known symbols told.terms ++ t ∷ []) (λ u c. within u (cases t [] u c)) (closed_more (terms_known symbols told.terms) t s.closed args) (omega (arith, known_count symbols told.terms, length-append (terms_known symbols told.terms) (t ∷ []), room))
+  pub next_fits : (limit : Option ℕ) (t : Term) → AreAmong (arguments_of t) (terms_known symbols told.terms) → IsWithin limit (length symbols + length told.terms + 3) → fit_within limit (t ∷ []) ≡ true
+  next_fits limit t args room = among_fit limit (t ∷ []) (terms_known symbols told.terms ++ t ∷ []) (λ u c. within u (cases t [] u c)) (closed_more (terms_known symbols told.terms) t s.closed args) (no_more limit _ _ (omega (arith, known_count symbols told.terms, length-append (terms_known symbols told.terms) (t ∷ []))) room)
     where
       within : (u : Term) → (t ≡ u) ⊎ Contains [] u → Contains (terms_known symbols told.terms ++ t ∷ []) u
       within u (inl e) = subst (Contains (terms_known symbols told.terms ++ t ∷ [])) e (Contains-push (terms_known symbols told.terms) t)

@@ -1,13 +1,13 @@
 //! What the definitions imply. Each law is a function whose contract is the law; it computes nothing.
 
-ghost use Rattle.std.specs.Prelude.{◌≡◌, ℕ, ◌+◌, ◌*◌, ◌<◌, ◌≤◌, ◌^◌, false, List, [], ◌++◌, length, map, All, codes};
+ghost use Rattle.std.specs.Prelude.{◌≡◌, ℕ, ◌+◌, ◌*◌, ◌<◌, ◌≤◌, ◌^◌, false, List, [], ◌++◌, length, map, All, Some, None, codes};
 ghost use Rattle.spec_text.specs.Trees.{Trees};
 ghost use Rattle.spec_text.specs.Printed.{SameTrees};
 ghost use Rattle.spec_text.specs.Readings.{text_limit, is_long};
 ghost use Rattle.spec_terms.specs.Terms.{Symbol, Term};
 ghost use Rattle.spec_scripts.specs.Stack.{Stack, Assertion, term_limit, IsCurrent};
 ghost use Rattle.spec_scripts.specs.Current.{AreDeclared};
-ghost use Rattle.spec_proofs.specs.Good.{IsGood};
+ghost use Rattle.spec_proofs.specs.Good.{AreGood, IsGood};
 ghost use Rattle.spec_proofs.specs.Accepted.{IsAccepted};
 ghost use Rattle.spec_search.specs.Derivations.{Derivation, conclusion_at, IsDerivation, IsDerivedFrom};
 ghost use Rattle.spec_printing.specs.Lines.{Line, row, line_tree, proof_text};
@@ -31,20 +31,35 @@ pub fn printed_proofs_are_read()
         → (commands : Trees) × AreCommandsOf (proof_text lines) commands × SameTrees (row (map line_tree lines)) commands }
 {}
 
-/// States that lines which are right under declared symbols are read back, the whole of their text, as good commands, where
-/// there is room for the truth values, the symbols and the terms that are defined, all together.
-pub fn printed_proofs_are_good()
-    ensures { (symbols : List Symbol) (asserted : List Term) (lines : List Line) → AreDeclared symbols → AreWritable symbols
-        → AreRightLines symbols asserted lines → length symbols + definitions_in lines + 2 ≤ term_limit → length lines < 2 ^ 64
-        → (commands : Trees) × AreCommandsOf (proof_text lines) commands × IsGood (known_before symbols asserted) commands }
-{}
-
 /// States that the names which are declared at a check of a script can be printed, and that they are no more than a fifth
 /// of the bytes that may be read.
 pub fn declared_names_can_be_written()
     ensures { (limit : ℕ) (script : List ℕ) (k : ℕ) (s : Stack) → IsCurrent limit script k s
         → AreWritable s.symbols × (5 * length s.symbols ≤ text_limit) }
 {}
+
+/// States that lines which are right under declared symbols are read back, the whole of their text, as good commands, and
+/// within a limit, where there is room for the truth values, the symbols and the terms that are defined, all together; and
+/// that under what is current at a check of a script, whatever the limit on terms is, their text is a good proof of that
+/// check, alone and behind the answer `unsat`. The names of lines are numbers that are told apart below 2^64.
+pub fn printed_proofs_are_good()
+    ensures commands { (symbols : List Symbol) (asserted : List Term) (lines : List Line) → AreDeclared symbols → AreWritable symbols
+        → AreRightLines symbols asserted lines → length lines < 2 ^ 64
+        → (commands : Trees) × AreCommandsOf (proof_text lines) commands × AreGood None (known_before symbols asserted) commands }
+    ensures within { (limit : ℕ) (symbols : List Symbol) (asserted : List Term) (lines : List Line) → AreDeclared symbols
+        → AreWritable symbols → AreRightLines symbols asserted lines → length symbols + definitions_in lines + 2 ≤ limit
+        → length lines < 2 ^ 64
+        → (commands : Trees) × AreCommandsOf (proof_text lines) commands × AreGood (Some limit) (known_before symbols asserted) commands }
+    ensures alone { (limit : ℕ) (script : List ℕ) (k : ℕ) (s : Stack) (lines : List Line) → IsCurrent limit script k s
+        → AreRightLines s.symbols (map (λ (a : Assertion). a.term) s.assertions) lines → length lines < 2 ^ 64
+        → IsGood limit script k (proof_text lines) }
+    ensures answered { (limit : ℕ) (script : List ℕ) (k : ℕ) (s : Stack) (lines : List Line) → IsCurrent limit script k s
+        → AreRightLines s.symbols (map (λ (a : Assertion). a.term) s.assertions) lines → length lines < 2 ^ 64
+        → IsGood limit script k (codes "unsat\n" ++ proof_text lines) }
+{
+    spec_scripts::laws::assertions_are_read();
+    declared_names_can_be_written();
+}
 
 /// States that lines which are right under what is current at a check of a script are an accepted proof of that check, alone
 /// and behind the answer `unsat`, where the text is no longer than it may be.

@@ -49,38 +49,38 @@ commands_by text ts e r =
     subst (λ (bytes : List ℕ). AreCommands (begins_listed (behind_unsat (lexemes 0 0 bytes))) (length bytes) (behind_unsat (lexemes 0 0 bytes)) ts e) (same_kept text_limit text) r
 
 -- where what ends the text is a fault, it does not matter where that end is
-any_end : (k : Known) (m n : ℕ) (f : Fault) (ts : Trees) (found : Option Fault) → FirstFault k m (Some f) ts found → FirstFault k n (Some f) ts found
+any_end : (limit : Option ℕ) (k : Known) (m n : ℕ) (f : Fault) (ts : Trees) (found : Option Fault) → FirstFault limit k m (Some f) ts found → FirstFault limit k n (Some f) ts found
 unfolding FirstFault
-any_end k m n f none found h = h
-any_end k m n f (more t ts) found h = go (command_of k t) h (λ next. any_end next m n f ts found)
+any_end limit k m n f none found h = h
+any_end limit k m n f (more t ts) found h = go (command_of limit k t) h (λ next. any_end limit next m n f ts found)
   where
-    go : (o : Read Command) → FaultBy k o (λ next. FirstFault next m (Some f) ts found) found
-        → ((next : Known) → FirstFault next m (Some f) ts found → FirstFault next n (Some f) ts found)
-        → FaultBy k o (λ next. FirstFault next n (Some f) ts found) found
+    go : (o : Read Command) → FaultBy k o (λ next. FirstFault limit next m (Some f) ts found) found
+        → ((next : Known) → FirstFault limit next m (Some f) ts found → FirstFault limit next n (Some f) ts found)
+        → FaultBy k o (λ next. FirstFault limit next n (Some f) ts found) found
     go (Err g) h rec = h
     go (Ok c) (inl x) rec = inl (x.0, rec (with_command k c) x.1)
     go (Ok c) (inr x) rec = inr x
 
 -- in a text with more bytes it is always one
-end_of_long : (k : Known) (m n : ℕ) (e : Ending) (ts : Trees) (found : Option Fault) → FirstFault k m (ending_fault true e) ts found → FirstFault k n (ending_fault true e) ts found
-end_of_long k m n complete ts found h = any_end k m n (text_fault too_long) ts found h
-end_of_long k m n (broken f) ts found h = any_end k m n (text_fault (at_limit true f)) ts found h
-end_of_long k m n (left_over at) ts found h = any_end k m n (fault_at at BadShape) ts found h
+end_of_long : (limit : Option ℕ) (k : Known) (m n : ℕ) (e : Ending) (ts : Trees) (found : Option Fault) → FirstFault limit k m (ending_fault true e) ts found → FirstFault limit k n (ending_fault true e) ts found
+end_of_long limit k m n complete ts found h = any_end limit k m n (text_fault too_long) ts found h
+end_of_long limit k m n (broken f) ts found h = any_end limit k m n (text_fault (at_limit true f)) ts found h
+end_of_long limit k m n (left_over at) ts found h = any_end limit k m n (fault_at at BadShape) ts found h
 
 -- the end of the front is that of the text, or does not matter
-fault_by : (k : Known) (text : List ℕ) (e : Ending) (ts : Trees) (found : Option Fault) → FirstFault k (length (front text)) (ending_fault (is_long text) e) ts found → FirstFault k (length text) (ending_fault (is_long text) e) ts found
-fault_by k text e ts found h = go (is_long text) (whole_front text_limit text) h
+fault_by : (limit : Option ℕ) (k : Known) (text : List ℕ) (e : Ending) (ts : Trees) (found : Option Fault) → FirstFault limit k (length (front text)) (ending_fault (is_long text) e) ts found → FirstFault limit k (length text) (ending_fault (is_long text) e) ts found
+fault_by limit k text e ts found h = go (is_long text) (whole_front text_limit text) h
   where
-    go : (long : Bool) → (long ≡ false → front text ≡ text) → FirstFault k (length (front text)) (ending_fault long e) ts found → FirstFault k (length text) (ending_fault long e) ts found
-    go false same h = subst (λ (bytes : List ℕ). FirstFault k (length bytes) (ending_fault false e) ts found) (same refl) h
-    go true same h = end_of_long k (length (front text)) (length text) e ts found h
+    go : (long : Bool) → (long ≡ false → front text ≡ text) → FirstFault limit k (length (front text)) (ending_fault long e) ts found → FirstFault limit k (length text) (ending_fault long e) ts found
+    go false same h = subst (λ (bytes : List ℕ). FirstFault limit k (length bytes) (ending_fault false e) ts found) (same refl) h
+    go true same h = end_of_long limit k (length (front text)) (length text) e ts found h
 
 judged_by : (s : Stack) (proof : List ℕ) (found : Option Fault) → IsJudged s (front proof) found → IsJudged s proof found
 judged_by s proof found j = record {
   commands = j.commands;
   ending = j.ending;
   read = commands_by proof j.commands j.ending j.read;
-  fault = fault_by (known_at s) proof j.ending j.commands found (subst (λ long. FirstFault (known_at s) (length (front proof)) (ending_fault long j.ending) j.commands found) (same_long text_limit proof) j.fault);
+  fault = fault_by (Some term_limit) (known_at s) proof j.ending j.commands found (subst (λ long. FirstFault (Some term_limit) (known_at s) (length (front proof)) (ending_fault long j.ending) j.commands found) (same_long text_limit proof) j.fault);
 }
 
 pub verdict_of_fronts : (script proof : List ℕ) (k : ℕ) (found : Option Fault) → IsVerdict (front script) k (front proof) found → IsVerdict script k proof found

@@ -1,5 +1,5 @@
 -- Good commands, one after the other.
-use Rattle.std.proofs.Common.{◌≡◌, ℕ, List, [], ◌∷◌, ◌++◌, Some, None, inl, inr, refl, sym, ap, subst}
+use Rattle.std.proofs.Common.{◌≡◌, ℕ, Option, List, [], ◌∷◌, ◌++◌, Some, None, inl, inr, refl, sym, ap, subst}
 use Rattle.std.specs.Prelude.{Ok, Err}
 use Rattle.spec_text.specs.Trees.{Tree, Trees, none, more}
 use Rattle.spec_text.proofs.AnswerLaws.{answer, went, joined}
@@ -7,7 +7,7 @@ use Rattle.spec_proofs.specs.Faults.{Fault, Read}
 use Rattle.spec_proofs.specs.Commands.{Known, Command}
 use Rattle.spec_proofs.specs.Known.{command_of}
 use Rattle.spec_proofs.specs.Judging.{with_command, fault_of, IsRightAfter, HasEmptyClause, FaultBy, FirstFault}
-use Rattle.spec_proofs.specs.Good.{commands_in, known_after, AreRight, IsGood}
+use Rattle.spec_proofs.specs.Good.{commands_in, known_after, AreRight, AreGood}
 
 -- the first of a list
 head_is : (c d : Command) (cs ds : List Command) → c ∷ cs ≡ d ∷ ds → c ≡ d
@@ -28,54 +28,54 @@ none_right k [] d after e = cc
 none_right k (b ∷ bs) d after e = cc
 
 -- no commands are good where a clause is empty already
-pub good_end : (k : Known) → HasEmptyClause k → IsGood k none
+pub good_end : (limit : Option ℕ) (k : Known) → HasEmptyClause k → AreGood limit k none
 unfolding commands_in
-good_end k h = record { commands = []; read = refl; right = none_right k; empty = h }
+good_end limit k h = record { commands = []; read = refl; right = none_right k; empty = h }
 
 -- a command that is right is good before good ones
-pub good_step : (k : Known) (t : Tree) (ts : Trees) (c : Command) → command_of k t ≡ Ok c → IsRightAfter k c → IsGood (with_command k c) ts → IsGood k (more t ts)
+pub good_step : (limit : Option ℕ) (k : Known) (t : Tree) (ts : Trees) (c : Command) → command_of limit k t ≡ Ok c → IsRightAfter k c → AreGood limit (with_command k c) ts → AreGood limit k (more t ts)
 unfolding commands_in
-good_step k t ts c e one rest = record {
+good_step limit k t ts c e one rest = record {
   commands = c ∷ rest.commands;
-  read = joined (command_of k t) _ c (c ∷ rest.commands) e (joined (commands_in (with_command k c) ts) _ rest.commands (c ∷ rest.commands) rest.read refl);
+  read = joined (command_of limit k t) _ c (c ∷ rest.commands) e (joined (commands_in limit (with_command k c) ts) _ rest.commands (c ∷ rest.commands) rest.read refl);
   right = right_before k c rest.commands one rest.right;
   empty = rest.empty;
 }
 
 -- commands without a fault are good
-pub good : (end : ℕ) (k : Known) (ts : Trees) → FirstFault k end None ts None → IsGood k ts
+pub good : (limit : Option ℕ) (end : ℕ) (k : Known) (ts : Trees) → FirstFault limit k end None ts None → AreGood limit k ts
 unfolding FirstFault
-good end k none h = good_end k h
-good end k (more t ts) h = go (command_of k t) refl h (λ next. good end next ts)
+good limit end k none h = good_end limit k h
+good limit end k (more t ts) h = go (command_of limit k t) refl h (λ next. good limit end next ts)
   where
-    go : (o : Read Command) → command_of k t ≡ o → FaultBy k o (λ next. FirstFault next end None ts None) None → ((next : Known) → FirstFault next end None ts None → IsGood next ts) → IsGood k (more t ts)
+    go : (o : Read Command) → command_of limit k t ≡ o → FaultBy k o (λ next. FirstFault limit next end None ts None) None → ((next : Known) → FirstFault limit next end None ts None → AreGood limit next ts) → AreGood limit k (more t ts)
     go (Err f) e h rec = cc
-    go (Ok c) e (inl x) rec = good_step k t ts c e x.0 (rec (with_command k c) x.1)
+    go (Ok c) e (inl x) rec = good_step limit k t ts c e x.0 (rec (with_command k c) x.1)
     go (Ok c) e (inr x) rec = let none : None ≡ Some (fault_of c) = x.1 in cc
 
 -- by the commands: those that are right, with an empty clause at the end, have no fault
-by_list : (end : ℕ) (k : Known) (ts : Trees) (cs : List Command) → commands_in k ts ≡ Ok cs → AreRight k cs → HasEmptyClause (known_after k cs) → FirstFault k end None ts None
+by_list : (limit : Option ℕ) (end : ℕ) (k : Known) (ts : Trees) (cs : List Command) → commands_in limit k ts ≡ Ok cs → AreRight k cs → HasEmptyClause (known_after k cs) → FirstFault limit k end None ts None
 unfolding FirstFault commands_in
-by_list end k none cs e right empty = subst (λ x. HasEmptyClause (known_after k x)) (sym (answer (Ok []) cs e)) empty
-by_list end k (more t ts) cs e right empty =
-    let a = went (command_of k t) _ cs e in
-    let b = went (commands_in (with_command k a.first) ts) _ cs a.then in
+by_list limit end k none cs e right empty = subst (λ x. HasEmptyClause (known_after k x)) (sym (answer (Ok []) cs e)) empty
+by_list limit end k (more t ts) cs e right empty =
+    let a = went (command_of limit k t) _ cs e in
+    let b = went (commands_in limit (with_command k a.first) ts) _ cs a.then in
     let same : a.first ∷ b.first ≡ cs = answer (Ok (a.first ∷ b.first)) cs b.then in
     let all = subst (AreRight k) (sym same) right in
-    let later = by_list end (with_command k a.first) ts b.first b.was (λ before d after s. all (a.first ∷ before) d after (ap (λ xs. a.first ∷ xs) s)) (subst (λ x. HasEmptyClause (known_after k x)) (sym same) empty) in
-    subst (λ o. FaultBy k o (λ next. FirstFault next end None ts None) None) (sym a.was) (inl (all [] a.first b.first refl, later))
+    let later = by_list limit end (with_command k a.first) ts b.first b.was (λ before d after s. all (a.first ∷ before) d after (ap (λ xs. a.first ∷ xs) s)) (subst (λ x. HasEmptyClause (known_after k x)) (sym same) empty) in
+    subst (λ o. FaultBy k o (λ next. FirstFault limit next end None ts None) None) (sym a.was) (inl (all [] a.first b.first refl, later))
 
 -- good commands have no fault
-pub no_fault : (end : ℕ) (k : Known) (ts : Trees) → IsGood k ts → FirstFault k end None ts None
-no_fault end k ts g = by_list end k ts g.commands g.read g.right g.empty
+pub no_fault : (limit : Option ℕ) (end : ℕ) (k : Known) (ts : Trees) → AreGood limit k ts → FirstFault limit k end None ts None
+no_fault limit end k ts g = by_list limit end k ts g.commands g.read g.right g.empty
 
 -- where something ends the commands wrongly there is a fault
-pub wrong_end : (end : ℕ) (k : Known) (f : Fault) (ts : Trees) → FirstFault k end (Some f) ts None → ⊥
+pub wrong_end : (limit : Option ℕ) (end : ℕ) (k : Known) (f : Fault) (ts : Trees) → FirstFault limit k end (Some f) ts None → ⊥
 unfolding FirstFault
-wrong_end end k f none h = let none : None ≡ Some f = h in cc
-wrong_end end k f (more t ts) h = go (command_of k t) h (λ next. wrong_end end next f ts)
+wrong_end limit end k f none h = let none : None ≡ Some f = h in cc
+wrong_end limit end k f (more t ts) h = go (command_of limit k t) h (λ next. wrong_end limit end next f ts)
   where
-    go : (o : Read Command) → FaultBy k o (λ next. FirstFault next end (Some f) ts None) None → ((next : Known) → FirstFault next end (Some f) ts None → ⊥) → ⊥
+    go : (o : Read Command) → FaultBy k o (λ next. FirstFault limit next end (Some f) ts None) None → ((next : Known) → FirstFault limit next end (Some f) ts None → ⊥) → ⊥
     go (Err g) h rec = let none : None ≡ Some g = h in cc
     go (Ok c) (inl x) rec = rec (with_command k c) x.1
     go (Ok c) (inr x) rec = let none : None ≡ Some (fault_of c) = x.1 in cc

@@ -19,11 +19,10 @@ use Rattle.spec_terms.specs.Reading.{Scope, symbol_named, applied, applied_as, a
 use Rattle.spec_terms.specs.Subterms.{roomy_terms}
 use Rattle.spec_terms.specs.Agreement.{value_at, values_at}
 use Rattle.spec_terms.proofs.General.{truth_of_sort}
-use Rattle.spec_scripts.specs.Stack.{term_limit}
 use Rattle.spec_scripts.specs.Current.{IsDeclared}
 use Rattle.spec_proofs.specs.Clauses.{HasTruth}
 use Rattle.spec_proofs.specs.Commands.{Known}
-use Rattle.spec_proofs.specs.Known.{in_proof, clause_in}
+use Rattle.spec_proofs.specs.Known.{in_proof, terms_within, clause_in}
 
 module _ (i : Interpretation) where
   -- a symbol has a truth value before any arguments
@@ -210,18 +209,19 @@ module _ (i : Interpretation) where
           let c = went (terms_in scope ts) _ us a.then in
           subst (All (HasTruth i)) (answer (Ok (a.first ∷ c.first)) us c.then) (All-cons (HasTruth i) a.first c.first (term_truth t a.first a.was) (terms_truth ts c.first c.was))
 
-    -- with room for them
-    roomy_truth : (at : ℕ) (ts : Trees) (us : List Term) → roomy_terms scope term_limit at ts ≡ Ok us → All (HasTruth i) us
+    -- within a limit
+    roomy_truth : (limit : Option ℕ) (at : ℕ) (ts : Trees) (us : List Term) → terms_within limit scope at ts ≡ Ok us → All (HasTruth i) us
     unfolding roomy_terms
-    roomy_truth at ts us e =
+    roomy_truth None at ts us e = terms_truth ts us e
+    roomy_truth (Some limit) at ts us e =
         let a = went (terms_in scope ts) _ us e in
         let c = went _ _ us a.then in
         subst (All (HasTruth i)) (answer (Ok a.first) us c.then) (terms_truth ts a.first a.was)
 
   -- the terms of a clause that is read have truth values, where all symbols and defined names have
-  pub clause_truths : (k : Known) → GivesTruths k.scope → (at : ℕ) (ts : Trees) (c : List Term) → clause_in k at ts ≡ Ok c → All (HasTruth i) c
+  pub clause_truths : (limit : Option ℕ) (k : Known) → GivesTruths k.scope → (at : ℕ) (ts : Trees) (c : List Term) → clause_in limit k at ts ≡ Ok c → All (HasTruth i) c
   unfolding in_proof
-  clause_truths k all at ts c e = go (roomy_terms k.scope term_limit at ts) (roomy_truth k.scope all at ts) e
+  clause_truths limit k all at ts c e = go (terms_within limit k.scope at ts) (roomy_truth k.scope all limit at ts) e
     where
       go : (a : Answer (List Term)) → ((us : List Term) → a ≡ Ok us → All (HasTruth i) us) → in_proof a ≡ Ok c → All (HasTruth i) c
       go (Ok us) h e = subst (All (HasTruth i)) (answer (Ok us) c e) (h us refl)

@@ -67,28 +67,28 @@ module _ (i : Interpretation) where
   IsGrounded (Ok (Define at n u)) = HasTruth i u
   IsGrounded _ = Unit {0}
 
-  shape_grounded : (k : Known) (at : ℕ) (s : Shape) → GivesTruths i k.scope → All EntryTrue k.entries → IsGrounded (read_shape k at s)
+  shape_grounded : (limit : Option ℕ) (k : Known) (at : ℕ) (s : Shape) → GivesTruths i k.scope → All EntryTrue k.entries → IsGrounded (read_shape limit k at s)
   unfolding read_shape
-  shape_grounded k at (assumes h t) ss es =
+  shape_grounded limit k at (assumes h t) ss es =
       in_turn IsGrounded (λ _. tt) (fresh_name k h) _ λ n _.
-      in_turn IsGrounded (λ _. tt) (clause_in k at (more t none)) _ λ us _.
+      in_turn IsGrounded (λ _. tt) (clause_in limit k at (more t none)) _ λ us _.
       in_turn IsGrounded (λ _. tt) (term_alone at us) _ λ u _. tt
-  shape_grounded k at (steps n ls r ps) ss es =
+  shape_grounded limit k at (steps n ls r ps) ss es =
       in_turn IsGrounded (λ _. tt) (fresh_name k n) _ λ m _.
-      in_turn IsGrounded (λ _. tt) (clause_in k at ls) _ λ c read.
+      in_turn IsGrounded (λ _. tt) (clause_in limit k at ls) _ λ c read.
       in_turn IsGrounded (λ _. tt) (known_rule r) _ λ rule _.
-      in_turn IsGrounded (λ _. tt) (premises_of k ps) _ λ qs e. (premises_true k ps qs es e, clause_truths i k ss at ls c read)
-  shape_grounded k at (defines f s t) ss es =
+      in_turn IsGrounded (λ _. tt) (premises_of k ps) _ λ qs e. (premises_true k ps qs es e, clause_truths i limit k ss at ls c read)
+  shape_grounded limit k at (defines f s t) ss es =
       in_turn IsGrounded (λ _. tt) (new_term_name k f) _ λ n _.
       in_turn IsGrounded (λ _. tt) (in_proof (sort_in s)) _ λ sort _.
-      in_turn IsGrounded (λ _. tt) (clause_in k at (more t none)) _ λ us read.
+      in_turn IsGrounded (λ _. tt) (clause_in limit k at (more t none)) _ λ us read.
       in_turn IsGrounded (λ _. tt) (term_alone at us) _ λ u alone.
-      in_turn IsGrounded (λ _. tt) (name_room k at) _ λ room _. alone_truth at us u alone (clause_truths i k ss at (more t none) us read)
+      in_turn IsGrounded (λ _. tt) (name_room limit k at) _ λ room _. alone_truth at us u alone (clause_truths i limit k ss at (more t none) us read)
 
-  command_grounded : (k : Known) (t : Tree) → GivesTruths i k.scope → All EntryTrue k.entries → IsGrounded (command_of k t)
+  command_grounded : (limit : Option ℕ) (k : Known) (t : Tree) → GivesTruths i k.scope → All EntryTrue k.entries → IsGrounded (command_of limit k t)
   unfolding command_of
-  command_grounded k (atom at kind n) ss h = tt
-  command_grounded k (list at ts end) ss h = in_turn IsGrounded (λ _. tt) (shaped at (shape_of ts)) _ λ s _. shape_grounded k at s ss h
+  command_grounded limit k (atom at kind n) ss h = tt
+  command_grounded limit k (list at ts end) ss h = in_turn IsGrounded (λ _. tt) (shaped at (shape_of ts)) _ λ s _. shape_grounded limit k at s ss h
 
   -- no clause that is true is empty
   none_empty : (k : Known) → All EntryTrue k.entries → HasEmptyClause k → ⊥
@@ -123,12 +123,12 @@ module _ (i : Interpretation) where
     }
 
     -- where all assertions and clauses are true, no proof from there is without a fault
-    pub sound : (k : Known) (end : ℕ) (ts : Trees) → IsTruly k → FirstFault k end None ts None → ⊥
+    pub sound : (limit : Option ℕ) (k : Known) (end : ℕ) (ts : Trees) → IsTruly k → FirstFault limit k end None ts None → ⊥
     unfolding FirstFault
-    sound k end none all h = none_empty k all.entries h
-    sound k end (more t ts) all h = go (command_of k t) (command_grounded k t all.scope all.entries) h (λ next. sound next end ts)
+    sound limit k end none all h = none_empty k all.entries h
+    sound limit k end (more t ts) all h = go (command_of limit k t) (command_grounded limit k t all.scope all.entries) h (λ next. sound limit next end ts)
       where
-        go : (o : Read Command) → IsGrounded o → FaultBy k o (λ next. FirstFault next end None ts None) None → ((next : Known) → IsTruly next → FirstFault next end None ts None → ⊥) → ⊥
+        go : (o : Read Command) → IsGrounded o → FaultBy k o (λ next. FirstFault limit next end None ts None) None → ((next : Known) → IsTruly next → FirstFault limit next end None ts None → ⊥) → ⊥
         go (Err f) ground h rec = let none : None ≡ Some f = h in cc
         go (Ok c) ground (inl right) rec = rec (with_command k c) (truly_kept k c ground right.0 all) right.1
         go (Ok c) ground (inr x) rec = let none : None ≡ Some (fault_of c) = x.1 in cc
@@ -141,12 +141,12 @@ ends_one k end None (Some f) None x y = absurd (x.0 y)
 ends_one k end None (Some f) (Some g) x y = ap Some (x.1 ∙ sym y.1)
 
 -- commands have at most one first fault
-pub fault_one : (k : Known) (end : ℕ) (ending : Option Fault) (ts : Trees) (a b : Option Fault) → FirstFault k end ending ts a → FirstFault k end ending ts b → a ≡ b
+pub fault_one : (limit : Option ℕ) (k : Known) (end : ℕ) (ending : Option Fault) (ts : Trees) (a b : Option Fault) → FirstFault limit k end ending ts a → FirstFault limit k end ending ts b → a ≡ b
 unfolding FirstFault
-fault_one k end ending none a b x y = ends_one k end ending a b x y
-fault_one k end ending (more t ts) a b x y = go (command_of k t) x y (λ next. fault_one next end ending ts a b)
+fault_one limit k end ending none a b x y = ends_one k end ending a b x y
+fault_one limit k end ending (more t ts) a b x y = go (command_of limit k t) x y (λ next. fault_one limit next end ending ts a b)
   where
-    go : (o : Read Command) → FaultBy k o (λ next. FirstFault next end ending ts a) a → FaultBy k o (λ next. FirstFault next end ending ts b) b → ((next : Known) → FirstFault next end ending ts a → FirstFault next end ending ts b → a ≡ b) → a ≡ b
+    go : (o : Read Command) → FaultBy k o (λ next. FirstFault limit next end ending ts a) a → FaultBy k o (λ next. FirstFault limit next end ending ts b) b → ((next : Known) → FirstFault limit next end ending ts a → FirstFault limit next end ending ts b → a ≡ b) → a ≡ b
     go (Err f) x y rec = x ∙ sym y
     go (Ok c) (inl p) (inl q) rec = rec (with_command k c) p.1 q.1
     go (Ok c) (inl p) (inr q) rec = absurd (q.0 p.0)

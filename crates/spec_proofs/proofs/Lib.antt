@@ -5,6 +5,7 @@ pub mod Rules
 pub mod Chains
 pub mod Steps
 pub mod Good
+pub mod Limits
 pub mod HasTruths
 pub mod Judging
 pub mod Endings

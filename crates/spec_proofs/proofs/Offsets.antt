@@ -14,7 +14,7 @@ use Rattle.spec_terms.specs.Terms.{Term}
 use Rattle.spec_terms.specs.Literals.{Clause}
 use Rattle.spec_terms.specs.Reading.{Scope, terms_in}
 use Rattle.spec_terms.specs.Subterms.{fit_in, roomy_terms}
-use Rattle.spec_scripts.specs.Stack.{term_limit, sort_in}
+use Rattle.spec_scripts.specs.Stack.{sort_in}
 use Rattle.spec_scripts.proofs.Offsets.{sort_stands}
 use Rattle.spec_proofs.specs.declared.Rule.{Rule}
 use Rattle.spec_proofs.specs.declared.ProofKind.TheVariants.{TwiceName, UnknownRule, Term as in_term}
@@ -80,8 +80,9 @@ module _ (P : ℕ → Type 0) where
       go false true = h
       go false false = tt
 
-  room_stands : (k : Known) (at : ℕ) → P at → Stands (name_room k at)
-  room_stands k at h = in_proof_stands (require (nat_lt (length k.scope.symbols + length k.scope.defined) term_limit) at Full) (require_stands P _ at Full h)
+  room_stands : (limit : Option ℕ) (k : Known) (at : ℕ) → P at → Stands (name_room limit k at)
+  room_stands None k at h = tt
+  room_stands (Some limit) k at h = in_proof_stands (require (nat_lt (length k.scope.symbols + length k.scope.defined) limit) at Full) (require_stands P _ at Full h)
 
   rule_stands : (w : Word) → P w.at → Stands (known_rule w)
   rule_stands w h = subst Stands (sym (rule_known w)) (go (rule_named w.bytes))
@@ -122,51 +123,52 @@ module _ (P : ℕ → Type 0) where
   shaped_stands at None here h = here
 
   module _ (law : TermLaw) where
-    clause_stands : (k : Known) (at : ℕ) (ts : Trees) → P at → AllOffsetsOf P ts → Stands (clause_in k at ts)
+    clause_stands : (limit : Option ℕ) (k : Known) (at : ℕ) (ts : Trees) → P at → AllOffsetsOf P ts → Stands (clause_in limit k at ts)
     unfolding roomy_terms
-    clause_stands k at ts here h = in_proof_stands (roomy_terms k.scope term_limit at ts) (
+    clause_stands None k at ts here h = in_proof_stands (terms_in k.scope ts) (terms_stand P (terms_in k.scope ts) λ f e. at_offset_of P ts f.offset h (law k.scope ts f e))
+    clause_stands (Some limit) k at ts here h = in_proof_stands (roomy_terms k.scope limit at ts) (
         terms_in_turn P (terms_in k.scope ts) _ (terms_stand P (terms_in k.scope ts) λ f e. at_offset_of P ts f.offset h (law k.scope ts f e)) λ us.
-        terms_in_turn P (require (fit_in term_limit us) at Full) _ (require_stands P _ at Full here) λ fits. tt)
+        terms_in_turn P (require (fit_in limit us) at Full) _ (require_stands P _ at Full here) λ fits. tt)
 
-    read_stands : (k : Known) (at : ℕ) (s : Shape) → P at → ShapeStands P s → Gives CommandStands (read_shape k at s)
+    read_stands : (limit : Option ℕ) (k : Known) (at : ℕ) (s : Shape) → P at → ShapeStands P s → Gives CommandStands (read_shape limit k at s)
     unfolding read_shape
-    read_stands k at (assumes w t) here h =
+    read_stands limit k at (assumes w t) here h =
         stands_in_turn CommandStands (fresh_name k w) _ (name_stands k w h.0) λ n.
-        stands_in_turn CommandStands (clause_in k at (more t none)) _ (clause_stands k at (more t none) here (h.1, tt)) λ us.
+        stands_in_turn CommandStands (clause_in limit k at (more t none)) _ (clause_stands limit k at (more t none) here (h.1, tt)) λ us.
         stands_in_turn CommandStands (term_alone at us) _ (alone_stands at us here) λ u. own_offset P t h.1
-    read_stands k at (steps i ls r ps) here h =
+    read_stands limit k at (steps i ls r ps) here h =
         stands_in_turn CommandStands (fresh_name k i) _ (name_stands k i h.0) λ n.
-        stands_in_turn CommandStands (clause_in k at ls) _ (clause_stands k at ls here h.1) λ c.
+        stands_in_turn CommandStands (clause_in limit k at ls) _ (clause_stands limit k at ls here h.1) λ c.
         stands_in_turn CommandStands (known_rule r) _ (rule_stands r h.2) λ rule.
         stands_in_turn CommandStands (premises_of k ps) _ (premises_stand k ps h.3) λ qs. here
-    read_stands k at (defines f s t) here h =
+    read_stands limit k at (defines f s t) here h =
         stands_in_turn CommandStands (new_term_name k f) _ (term_name_stands k f h.0) λ n.
         stands_in_turn CommandStands (in_proof (sort_in s)) _ (in_proof_stands (sort_in s) (sort_stands P s h.1)) λ sort.
-        stands_in_turn CommandStands (clause_in k at (more t none)) _ (clause_stands k at (more t none) here (h.2, tt)) λ us.
+        stands_in_turn CommandStands (clause_in limit k at (more t none)) _ (clause_stands limit k at (more t none) here (h.2, tt)) λ us.
         stands_in_turn CommandStands (term_alone at us) _ (alone_stands at us here) λ u.
-        stands_in_turn CommandStands (name_room k at) _ (room_stands k at here) λ room. here
+        stands_in_turn CommandStands (name_room limit k at) _ (room_stands limit k at here) λ room. here
 
-    command_stands : (k : Known) (t : Tree) → AllOffsets P t → Gives CommandStands (command_of k t)
+    command_stands : (limit : Option ℕ) (k : Known) (t : Tree) → AllOffsets P t → Gives CommandStands (command_of limit k t)
     unfolding command_of
-    command_stands k (atom at kind n) h = h
-    command_stands k (list at ts end) h =
-        gives_in_turn (ShapeStands P) CommandStands (shaped at (shape_of ts)) _ (shaped_stands at (shape_of ts) h.0 (shape_stands P ts h.1)) λ s parts. read_stands k at s h.0 parts
+    command_stands limit k (atom at kind n) h = h
+    command_stands limit k (list at ts end) h =
+        gives_in_turn (ShapeStands P) CommandStands (shaped at (shape_of ts)) _ (shaped_stands at (shape_of ts) h.0 (shape_stands P ts h.1)) λ s parts. read_stands limit k at s h.0 parts
 
     -- the first fault of commands stands at one of their offsets, or it is that of their end
-    pub first_stands : (k : Known) (end : ℕ) (ending : Option Fault) (ts : Trees) (f : Fault) → P end → Holds (λ (e : Fault). P e.offset) ending → AllOffsetsOf P ts → FirstFault k end ending ts (Some f) → P f.offset
+    pub first_stands : (limit : Option ℕ) (k : Known) (end : ℕ) (ending : Option Fault) (ts : Trees) (f : Fault) → P end → Holds (λ (e : Fault). P e.offset) ending → AllOffsetsOf P ts → FirstFault limit k end ending ts (Some f) → P f.offset
     unfolding FirstFault
-    first_stands k end (Some e) none f last h all found = let same : Some f ≡ Some e = found in let is : e ≡ f = cc in subst (λ (x : Fault). P x.offset) is h
-    first_stands k end None none f last h all found = subst (λ (x : Fault). P x.offset) (sym found.1) last
-    first_stands k end ending (more t ts) f last h all found = go (command_of k t) (command_stands k t all.0) found (λ next. first_stands next end ending ts f last h all.1)
+    first_stands limit k end (Some e) none f last h all found = let same : Some f ≡ Some e = found in let is : e ≡ f = cc in subst (λ (x : Fault). P x.offset) is h
+    first_stands limit k end None none f last h all found = subst (λ (x : Fault). P x.offset) (sym found.1) last
+    first_stands limit k end ending (more t ts) f last h all found = go (command_of limit k t) (command_stands limit k t all.0) found (λ next. first_stands limit next end ending ts f last h all.1)
       where
-        go : (o : Read Command) → Gives CommandStands o → FaultBy k o (λ next. FirstFault next end ending ts (Some f)) (Some f) → ((next : Known) → FirstFault next end ending ts (Some f) → P f.offset) → P f.offset
+        go : (o : Read Command) → Gives CommandStands o → FaultBy k o (λ next. FirstFault limit next end ending ts (Some f)) (Some f) → ((next : Known) → FirstFault limit next end ending ts (Some f) → P f.offset) → P f.offset
         go (Err e) s found rest = let is : e ≡ f = let same : Some f ≡ Some e = found in cc in subst (λ (x : Fault). P x.offset) is s
         go (Ok c) s (inl right) rest = rest (with_command k c) right.1
         go (Ok c) s (inr x) rest = let is : fault_of c ≡ f = let same : Some f ≡ Some (fault_of c) = x.1 in cc in subst (λ (y : Fault). P y.offset) is s
 
 -- the fault of reading a command, and that of one that is not right
-pub reading_stands : (law : TermLaw) (k : Known) (t : Tree) (f : Fault) → command_of k t ≡ Err f → HasOffset t f.offset
-reading_stands law k t f e = subst (Gives (HasOffset t) (CommandStands (HasOffset t))) e (command_stands (HasOffset t) law k t (own_offsets t))
+pub reading_stands : (law : TermLaw) (limit : Option ℕ) (k : Known) (t : Tree) (f : Fault) → command_of limit k t ≡ Err f → HasOffset t f.offset
+reading_stands law limit k t f e = subst (Gives (HasOffset t) (CommandStands (HasOffset t))) e (command_stands (HasOffset t) law limit k t (own_offsets t))
 
-pub judging_stands : (law : TermLaw) (k : Known) (t : Tree) (c : Command) → command_of k t ≡ Ok c → HasOffset t (fault_of c).offset
-judging_stands law k t c e = subst (Gives (HasOffset t) (CommandStands (HasOffset t))) e (command_stands (HasOffset t) law k t (own_offsets t))
+pub judging_stands : (law : TermLaw) (limit : Option ℕ) (k : Known) (t : Tree) (c : Command) → command_of limit k t ≡ Ok c → HasOffset t (fault_of c).offset
+judging_stands law limit k t c e = subst (Gives (HasOffset t) (CommandStands (HasOffset t))) e (command_stands (HasOffset t) law limit k t (own_offsets t))

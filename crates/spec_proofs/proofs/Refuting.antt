@@ -1,8 +1,9 @@
 -- A good proof of what no truths make true: two of the assertions are opposed, and their resolvent is empty.
-use Rattle.std.proofs.Common.{◌≡◌, ℕ, Bool, true, false, not, ◌&&◌, ◌⊎◌, List, [], ◌∷◌, codes, cond, All, Contains, get_or, inl, inr, refl, sym, ap, ◌∙◌, subst, arith}
-use Rattle.std.specs.Prelude.{Ok}
+use Rattle.std.proofs.Common.{◌≡◌, ℕ, Bool, true, false, not, ◌&&◌, ◌⊎◌, List, [], ◌∷◌, codes, cond, Some, All, Contains, get_or, inl, inr, refl, sym, ap, ◌∙◌, subst, arith}
+use Rattle.std.specs.Prelude.{Ok, nat_le}
 use Rattle.std.specs.List.{list_any}
 use Rattle.std.proofs.lemmas.Bool.{false≢true, and_parts}
+use Rattle.std.proofs.lemmas.Bool.Decides.{nat_tests}
 use Rattle.std.proofs.lemmas.List.Elements.{All-nil, All-cons, All-contains}
 use Rattle.std.proofs.lemmas.List.Folds.{Any-from_list_any, list_any_at}
 use Rattle.spec_text.specs.declared.Kind.TheVariants.{Simple, Keyword}
@@ -18,7 +19,7 @@ use Rattle.spec_terms.specs.Reading.{Scope, scope_of, term_in, terms_in}
 use Rattle.spec_terms.specs.Subterms.{fit_in, roomy_terms}
 use Rattle.spec_terms.specs.Literals.{Literal, complement, literal_of}
 use Rattle.spec_terms.proofs.SameTerms.{one_term, term_itself}
-use Rattle.spec_scripts.specs.Stack.{Stack, Assertion, term_limit}
+use Rattle.spec_scripts.specs.Stack.{Stack, Assertion}
 use Rattle.spec_scripts.specs.Current.{IsReadUnder, IsReadStack}
 use Rattle.spec_proofs.specs.declared.Rule.TheVariants.{Resolution}
 use Rattle.spec_proofs.specs.Resolution.{Derives, unit, both_ways}
@@ -27,7 +28,7 @@ use Rattle.spec_proofs.specs.Truths.{Truths, term_true_by}
 use Rattle.spec_proofs.specs.Commands.{Known, Assume, Step, known_at, shape_of, assume_shape, step_shape, parts_of}
 use Rattle.spec_proofs.specs.Known.{fresh_name, in_proof, clause_in, known_rule, known_clause, premise_of, premises_of, term_alone, read_shape, shaped, command_of}
 use Rattle.spec_proofs.specs.Judging.{with_command}
-use Rattle.spec_proofs.specs.Good.{IsGood}
+use Rattle.spec_proofs.specs.Good.{AreGood}
 use Rattle.spec_proofs.proofs.Good.{good_end, good_step}
 use Rattle.spec_proofs.proofs.Resolution.{sure}
 
@@ -133,32 +134,32 @@ read_alone : (scope : Scope) (room at : ℕ) (t : Tree) (u : Term) → term_in s
 unfolding roomy_terms terms_in require ◌>>=◌
 read_alone scope room at t u e fits = joined (terms_in scope (more t none)) _ (u ∷ []) (u ∷ []) (joined (term_in scope t) _ u (u ∷ []) e refl) (ap (λ b. require b at Full >>= λ f. Ok (u ∷ [])) fits)
 
-assumed_reads : (k : Known) (n : Name) (t : Tree) (u : Term) → fresh_name k (named n) ≡ Ok n → term_in k.scope t ≡ Ok u → fit_in term_limit (u ∷ []) ≡ true → command_of k (assumed n t) ≡ Ok (Assume (offset_of t) n u)
+assumed_reads : (limit : ℕ) (k : Known) (n : Name) (t : Tree) (u : Term) → fresh_name k (named n) ≡ Ok n → term_in k.scope t ≡ Ok u → fit_in limit (u ∷ []) ≡ true → command_of (Some limit) k (assumed n t) ≡ Ok (Assume (offset_of t) n u)
 unfolding command_of shaped shape_of assume_shape read_shape in_proof term_alone ◌>>=◌
-assumed_reads k n t u e f fits =
-    let read : clause_in k 0 (more t none) ≡ Ok (u ∷ []) = ap in_proof (read_alone k.scope term_limit 0 t u f fits) in
-    joined (fresh_name k (named n)) _ n (Assume (offset_of t) n u) e (joined (clause_in k 0 (more t none)) _ (u ∷ []) (Assume (offset_of t) n u) read refl)
+assumed_reads limit k n t u e f fits =
+    let read : clause_in (Some limit) k 0 (more t none) ≡ Ok (u ∷ []) = ap in_proof (read_alone k.scope limit 0 t u f fits) in
+    joined (fresh_name k (named n)) _ n (Assume (offset_of t) n u) e (joined (clause_in (Some limit) k 0 (more t none)) _ (u ∷ []) (Assume (offset_of t) n u) read refl)
 
-resolved_reads : (ss : List Symbol) (ts : List Term) (u w : Term) → command_of (record { scope = scope_of ss; asserted = ts; entries = record { name = codes "a"; clause = u ∷ [] } ∷ record { name = codes "b"; clause = w ∷ [] } ∷ [] }) resolved ≡ Ok (Step 0 (codes "c") [] Resolution ((u ∷ []) ∷ (w ∷ []) ∷ []))
+resolved_reads : (limit : ℕ) (ss : List Symbol) (ts : List Term) (u w : Term) → command_of (Some limit) (record { scope = scope_of ss; asserted = ts; entries = record { name = codes "a"; clause = u ∷ [] } ∷ record { name = codes "b"; clause = w ∷ [] } ∷ [] }) resolved ≡ Ok (Step 0 (codes "c") [] Resolution ((u ∷ []) ∷ (w ∷ []) ∷ []))
 unfolding command_of shaped shape_of step_shape parts_of read_shape fresh_name in_proof roomy_terms terms_in require known_rule known_clause premise_of premises_of ◌>>=◌
-resolved_reads ss ts u w = refl
+resolved_reads limit ss ts u w = let room : nat_le 0 limit ≡ true = grind (arith, nat_tests) in rw room refl
 
 -- there is room for an assertion's term
-abbrev HasRoom : Assertion → Type 0
-HasRoom a = fit_in term_limit (a.term ∷ []) ≡ true
+abbrev HasRoom : ℕ → Assertion → Type 0
+HasRoom limit a = fit_in limit (a.term ∷ []) ≡ true
 
 -- two assertions that are opposed have a good proof
-opposed_good : (s : Stack) → IsReadStack s → All HasRoom s.assertions → AreOpposed s.assertions → (ts : Trees) × IsGood (known_at s) ts
+opposed_good : (limit : ℕ) (s : Stack) → IsReadStack s → All (HasRoom limit) s.assertions → AreOpposed s.assertions → (ts : Trees) × AreGood (Some limit) (known_at s) ts
 unfolding fresh_name
-opposed_good s read room o =
+opposed_good limit s read room o =
     let xs = s.assertions in
     let ss = s.symbols in
     let a = o.one in
     let b = o.two in
     let reads_a = All-contains (IsReadUnder ss) xs a read.assertions o.has_one in
     let reads_b = All-contains (IsReadUnder ss) xs b read.assertions o.has_two in
-    let room_a = All-contains HasRoom xs a room o.has_one in
-    let room_b = All-contains HasRoom xs b room o.has_two in
+    let room_a = All-contains (HasRoom limit) xs a room o.has_one in
+    let room_b = All-contains (HasRoom limit) xs b room o.has_two in
     let opposite : literal_of b.term ≡ complement (literal_of a.term) = one_literal (literal_of b.term) (complement (literal_of a.term)) (sym o.alike) (o.negative ∙ sym (ap not o.positive)) in
     let one = Assume (offset_of a.text) (codes "a") a.term in
     let two = Assume (offset_of b.text) (codes "b") b.term in
@@ -167,11 +168,11 @@ opposed_good s read room o =
     let after_one = with_command k one in
     let after_two = with_command after_one two in
     let term : Assertion → Term = λ x. x.term in
-    let end = good_end (with_command after_two third) (2, record { name = codes "c"; clause = [] }, omega arith, refl, refl) in
-    let last = good_step after_two resolved none third (resolved_reads ss k.asserted a.term b.term) (empty_follows a.term b.term opposite) end in
-    let middle = good_step after_one (assumed (codes "b") b.text) (more resolved none) two (assumed_reads after_one (codes "b") b.text b.term refl reads_b room_b) (to_image term xs b o.has_two) last in
-    (more (assumed (codes "a") a.text) (more (assumed (codes "b") b.text) (more resolved none)), good_step k (assumed (codes "a") a.text) (more (assumed (codes "b") b.text) (more resolved none)) one (assumed_reads k (codes "a") a.text a.term refl reads_a room_a) (to_image term xs a o.has_one) middle)
+    let end = good_end (Some limit) (with_command after_two third) (2, record { name = codes "c"; clause = [] }, omega arith, refl, refl) in
+    let last = good_step (Some limit) after_two resolved none third (resolved_reads limit ss k.asserted a.term b.term) (empty_follows a.term b.term opposite) end in
+    let middle = good_step (Some limit) after_one (assumed (codes "b") b.text) (more resolved none) two (assumed_reads limit after_one (codes "b") b.text b.term refl reads_b room_b) (to_image term xs b o.has_two) last in
+    (more (assumed (codes "a") a.text) (more (assumed (codes "b") b.text) (more resolved none)), good_step (Some limit) k (assumed (codes "a") a.text) (more (assumed (codes "b") b.text) (more resolved none)) one (assumed_reads limit k (codes "a") a.text a.term refl reads_a room_a) (to_image term xs a o.has_one) middle)
 
 -- where no truths make all assertions true, there is a good proof
-pub refuted : (s : Stack) → IsReadStack s → All HasRoom s.assertions → ((v : Truths) → All (λ (a : Assertion). term_true_by v a.term ≡ true) s.assertions → ⊥) → (ts : Trees) × IsGood (known_at s) ts
-refuted s read room never = opposed_good s read room (opposed s.assertions never)
+pub refuted : (limit : ℕ) (s : Stack) → IsReadStack s → All (HasRoom limit) s.assertions → ((v : Truths) → All (λ (a : Assertion). term_true_by v a.term ≡ true) s.assertions → ⊥) → (ts : Trees) × AreGood (Some limit) (known_at s) ts
+refuted limit s read room never = opposed_good limit s read room (opposed s.assertions never)

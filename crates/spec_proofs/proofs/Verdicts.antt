@@ -39,19 +39,19 @@ FaultIn k end ending [] (Some f) found = found ≡ Some f
 FaultIn k end ending (c ∷ cs) unread found = FaultBy k (Ok c) (λ next. FaultIn next end ending cs unread found) found
 
 -- the first fault of trees is that of what they are read as
-fault_in : (k : Known) (end : ℕ) (ending : Option Fault) (ts : Trees) (found : Option Fault) → FaultIn k end ending (read_commands k ts).0 (read_commands k ts).1 found → FirstFault k end ending ts found
+fault_in : (k : Known) (end : ℕ) (ending : Option Fault) (ts : Trees) (found : Option Fault) → FaultIn k end ending (read_commands k ts).0 (read_commands k ts).1 found → FirstFault (Some term_limit) k end ending ts found
 unfolding read_commands FirstFault
 fault_in k end ending none found h = h
-fault_in k end ending (more t ts) found h = go (command_of k t) h (λ next. fault_in next end ending ts found)
+fault_in k end ending (more t ts) found h = go (command_of (Some term_limit) k t) h (λ next. fault_in next end ending ts found)
   where
     go : (o : Read Command) → FaultIn k end ending (Examples.before k o (λ next. read_commands next ts)).0 (Examples.before k o (λ next. read_commands next ts)).1 found
-        → ((next : Known) → FaultIn next end ending (read_commands next ts).0 (read_commands next ts).1 found → FirstFault next end ending ts found)
-        → FaultBy k o (λ next. FirstFault next end ending ts found) found
+        → ((next : Known) → FaultIn next end ending (read_commands next ts).0 (read_commands next ts).1 found → FirstFault (Some term_limit) next end ending ts found)
+        → FaultBy k o (λ next. FirstFault (Some term_limit) next end ending ts found) found
     go (Err f) h rec = h
     go (Ok c) (inl x) rec = inl (x.0, rec (with_command k c) x.1)
     go (Ok c) (inr x) rec = inr x
 
-by_commands : (k : Known) (end : ℕ) (ending : Option Fault) (ts : Trees) (cs : List Command) (unread found : Option Fault) → read_commands k ts ≡ (cs, unread) → FaultIn k end ending cs unread found → FirstFault k end ending ts found
+by_commands : (k : Known) (end : ℕ) (ending : Option Fault) (ts : Trees) (cs : List Command) (unread found : Option Fault) → read_commands k ts ≡ (cs, unread) → FaultIn k end ending cs unread found → FirstFault (Some term_limit) k end ending ts found
 by_commands k end ending ts cs unread found e h = fault_in k end ending ts found (subst (λ (x : List Command × Option Fault). FaultIn k end ending x.0 x.1 found) (sym e) h)
 
 -- a verdict by what the proof is read as

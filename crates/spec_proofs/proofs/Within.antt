@@ -11,7 +11,7 @@ use Rattle.spec_text.specs.Faults.{Located, nesting_limit, first_fault}
 use Rattle.spec_text.specs.Readings.{IsBroken, text_limit, kept, is_long, is_of_end, too_long, at_limit}
 use Rattle.spec_text.proofs.AnswerLaws.{own_offset}
 use Rattle.spec_text.proofs.ShapeLaws.{Holds}
-use Rattle.spec_scripts.specs.Stack.{Stack}
+use Rattle.spec_scripts.specs.Stack.{Stack, term_limit}
 use Rattle.spec_proofs.specs.Faults.{Fault}
 use Rattle.spec_proofs.specs.Commands.{known_at}
 use Rattle.spec_proofs.specs.Texts.{behind_unsat, begins_listed, Ending, complete, broken, left_over, EndsRow, EndsBehind, EndsList, AreCommands, proof_lexemes, ending_fault}
@@ -120,7 +120,7 @@ module _ (trees_law : TreesLaw) (faults_law : FaultsLaw) (text : List ℕ) where
   pub judged_in : (law : TermLaw) (s : Stack) (f : Fault) → IsJudged s text (Some f) → IsIn f.offset
   judged_in law s f j =
       let inside = commands_in (begins_listed (proof_lexemes text)) (proof_lexemes text) j.commands j.ending (behind_word all) j.read in
-      first_stands IsIn law (known_at s) (length text) (ending_fault (is_long text) j.ending) j.commands f (omega arith) (ending_in (is_long text) j.ending limit_in inside.1) inside.0 j.fault
+      first_stands IsIn law (Some term_limit) (known_at s) (length text) (ending_fault (is_long text) j.ending) j.commands f (omega arith) (ending_in (is_long text) j.ending limit_in inside.1) inside.0 j.fault
 
   pub verdict_in : (law : TermLaw) (script : List ℕ) (k : ℕ) (f : Fault) → IsVerdict script k text (Some f) → IsIn f.offset
   verdict_in law script k f (inl x) = judged_in law x.0 f x.2

@@ -1,4 +1,4 @@
--- Accepted proofs, and the verdict on a script and a proof.
+-- Accepted proofs, which are good ones within the limits, and the verdict on a script and a proof.
 use Rattle.std.specs.Prelude.{◌≡◌, ℕ, false, ◌⊎◌, List, length, Option, Some}
 use Rattle.spec_text.specs.Trees.{Trees}
 use Rattle.spec_text.specs.Readings.{is_long}
@@ -8,9 +8,9 @@ use Rattle.spec_proofs.specs.Faults.{Fault, fault_at}
 use Rattle.spec_proofs.specs.Commands.{known_at}
 use Rattle.spec_proofs.specs.Texts.{Ending, complete, IsProofText, ending_fault}
 use Rattle.spec_proofs.specs.Judging.{FirstFault}
-use Rattle.spec_proofs.specs.Good.{IsGood}
+use Rattle.spec_proofs.specs.Good.{AreGood}
 
--- a proof of the k-th check of a script: its whole text is commands, each right after those before it, and one clause is empty
+-- a proof of the k-th check of a script, within the limits: its whole text is commands, each right after those before it, and one clause is empty
 pub record IsAccepted (script : List ℕ) (k : ℕ) (proof : List ℕ) : Type 0 where
   -- what is current at the check
   pub stack : Stack
@@ -22,8 +22,8 @@ pub record IsAccepted (script : List ℕ) (k : ℕ) (proof : List ℕ) : Type 0 
   pub commands : Trees
   -- they are those of the text, and nothing else is there
   pub read : IsProofText proof commands complete
-  -- they are good
-  pub good : IsGood (known_at stack) commands
+  -- they are good, within the limit on terms
+  pub good : AreGood (Some term_limit) (known_at stack) commands
 
 -- a proof is judged at a stack: its commands, their ending, and the first fault or none
 pub record IsJudged (s : Stack) (proof : List ℕ) (found : Option Fault) : Type 0 where
@@ -34,7 +34,7 @@ pub record IsJudged (s : Stack) (proof : List ℕ) (found : Option Fault) : Type
   -- they are those of the text
   pub read : IsProofText proof commands ending
   -- the first fault of the commands and their ending
-  pub fault : FirstFault (known_at s) (length proof) (ending_fault (is_long proof) ending) commands found
+  pub fault : FirstFault (Some term_limit) (known_at s) (length proof) (ending_fault (is_long proof) ending) commands found
 
 -- that the script has no such check: at the start
 abbrev pub no_such_check : Fault

@@ -12,14 +12,16 @@ use Rattle.spec_terms.specs.Terms.{Or, And, of, negated, same_term}
 use Rattle.spec_terms.specs.Reading.{term_in, terms_in}
 use Rattle.spec_terms.specs.Subterms.{with_subterms, with_all_subterms, roomy_terms}
 use Rattle.spec_terms.specs.Examples.{built, trees_in, p}
+use Rattle.spec_scripts.specs.Stack.{term_limit}
 use Rattle.spec_scripts.specs.Examples.{contradiction_stack, disjunction_stack}
 use Rattle.spec_proofs.specs.declared.Rule.TheVariants as rules
 use Rattle.spec_proofs.specs.declared.ProofKind.TheVariants.{TwiceName, UnknownPremise, UnknownRule, Term}
-use Rattle.spec_proofs.specs.Faults.{Fault, fault_at, Read}
+use Rattle.spec_proofs.specs.Faults.{Fault, fault_at, Read, wrong}
 use Rattle.spec_proofs.specs.Commands.{Known, Command, Assume, Step, known_at, shape_of, assume_shape, step_shape, parts_of}
 use Rattle.spec_proofs.specs.Known.{fresh_name, in_proof, known_rule, known_clause, premise_of, premises_of, term_alone, read_shape, shaped, command_of}
-use Rattle.spec_proofs.specs.Texts.{complete, AreCommands, proof_lexemes, IsProofText}
+use Rattle.spec_proofs.specs.Texts.{complete, AreCommands, IsWholeText, proof_lexemes, IsProofText}
 use Rattle.spec_proofs.specs.Judging.{with_command}
+use Rattle.spec_proofs.specs.Good.{commands_in}
 
 -- What trees are read as: commands, up to the first that cannot be read, and the fault of that one.
 abbrev pub Commands : Type 0
@@ -30,10 +32,10 @@ abbrev pub before : Known → Read Command → (Known → Commands) → Commands
 before k (Err f) rest = ([], Some f)
 before k (Ok c) rest = (c ∷ (rest (with_command k c)).0, (rest (with_command k c)).1)
 
--- each command under what is known before it
+-- each command under what is known before it, within the limit under which proofs are checked
 unfoldable pub read_commands : Known → Trees → Commands
 read_commands k none = ([], None)
-read_commands k (more t ts) = before k (command_of k t) (λ next. read_commands next ts)
+read_commands k (more t ts) = before k (command_of (Some term_limit) k t) (λ next. read_commands next ts)
 
 -- what the script makes known
 abbrev pub known : Known
@@ -71,6 +73,21 @@ pub refutation_commands : read_commands known (trees_in refutation) ≡ (Assume 
 unfolding lexemes first_piece built command_of shaped shape_of assume_shape step_shape parts_of read_shape fresh_name in_proof known_rule known_clause premise_of premises_of term_alone term_in terms_in roomy_terms with_subterms with_all_subterms same_term require ◌>>=◌ read_commands
 refutation_commands = refl
 
+-- its second assume has two subterms: within a limit of one there is no room for them
+pub refutation_has_no_room : commands_in (Some 1) known (trees_in refutation) ≡ wrong 14 (Term faults.Full)
+unfolding lexemes first_piece built command_of shaped shape_of assume_shape step_shape parts_of read_shape fresh_name in_proof known_rule known_clause premise_of premises_of term_alone term_in terms_in roomy_terms with_subterms with_all_subterms same_term require ◌>>=◌ commands_in
+refutation_has_no_room = refl
+
+-- without a limit its commands are the same
+pub refutation_has_room : commands_in None known (trees_in refutation) ≡ Ok (Assume 11 (codes "h1") p ∷ Assume 25 (codes "h2") (negated p) ∷ Step 34 (codes "t1") [] rules.Resolution ((p ∷ []) ∷ (negated p ∷ []) ∷ []) ∷ [])
+unfolding lexemes first_piece built command_of shaped shape_of assume_shape step_shape parts_of read_shape fresh_name in_proof known_rule known_clause premise_of premises_of term_alone term_in terms_in roomy_terms with_subterms with_all_subterms same_term require ◌>>=◌ commands_in
+refutation_has_room = refl
+
+-- all of its text is these commands, and nothing else
+pub refutation_is_whole : IsWholeText refutation (trees_in refutation)
+unfolding lexemes first_piece built
+refutation_is_whole = refl
+
 -- the same in one list, behind the word `unsat`
 abbrev pub listed : List ℕ
 listed = codes "unsat\n((assume h1 p)\n(assume h2 (not p))\n(step t1 (cl) :rule resolution :premises (h1 h2)))\n"
@@ -79,6 +96,11 @@ listed = codes "unsat\n((assume h1 p)\n(assume h2 (not p))\n(step t1 (cl) :rule 
 pub listed_is_read : IsProofText listed (first_items (trees_in listed)) complete
 unfolding lexemes first_piece built
 listed_is_read = in_one_list (length (kept listed)) 6 90 (proof_lexemes listed) (first_items (trees_in listed)) refl (omega arith)
+
+-- all of it is these commands, within the list
+pub listed_is_whole : IsWholeText listed (first_items (trees_in listed))
+unfolding lexemes first_piece built
+listed_is_whole = (6, 90, refl)
 
 -- its commands as they are read
 pub listed_commands : read_commands known (first_items (trees_in listed)) ≡ (Assume 18 (codes "h1") p ∷ Assume 32 (codes "h2") (negated p) ∷ Step 41 (codes "t1") [] rules.Resolution ((p ∷ []) ∷ (negated p ∷ []) ∷ []) ∷ [], None)

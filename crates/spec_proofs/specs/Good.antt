@@ -1,16 +1,18 @@
--- When the commands of a proof are good, apart from any fault. Source: Alethe specification, proofs as lists of commands.
-use Rattle.std.specs.Prelude.{◌≡◌, List, [], ◌∷◌, ◌++◌, Ok}
+-- When the commands of a proof are good, and a proof's text, apart from any fault: within a limit on terms, or with none. Source: Alethe specification, proofs as lists of commands; limits are own.
+use Rattle.std.specs.Prelude.{◌≡◌, ℕ, List, [], ◌∷◌, ◌++◌, Option, None, Ok}
 use Rattle.spec_text.specs.Answers.{◌>>=◌}
 use Rattle.spec_text.specs.Trees.{Trees, none, more}
+use Rattle.spec_scripts.specs.Stack.{Stack, IsCurrent}
 use Rattle.spec_proofs.specs.Faults.{Read}
-use Rattle.spec_proofs.specs.Commands.{Known, Command}
+use Rattle.spec_proofs.specs.Commands.{Known, Command, known_at}
 use Rattle.spec_proofs.specs.Known.{command_of}
+use Rattle.spec_proofs.specs.Texts.{IsWholeText}
 use Rattle.spec_proofs.specs.Judging.{with_command, IsRightAfter, HasEmptyClause}
 
--- the commands that trees are, each under the names before it
-unfoldable pub commands_in : Known → Trees → Read (List Command)
-commands_in k none = Ok []
-commands_in k (more t ts) = command_of k t >>= λ c. commands_in (with_command k c) ts >>= λ cs. Ok (c ∷ cs)
+-- the commands that trees are, each within a limit and under the names before it
+unfoldable pub commands_in : Option ℕ → Known → Trees → Read (List Command)
+commands_in limit k none = Ok []
+commands_in limit k (more t ts) = command_of limit k t >>= λ c. commands_in limit (with_command k c) ts >>= λ cs. Ok (c ∷ cs)
 
 -- what is known after commands
 abbrev pub known_after : Known → List Command → Known
@@ -21,13 +23,26 @@ known_after k (c ∷ cs) = known_after (with_command k c) cs
 abbrev pub AreRight : Known → List Command → Type 0
 AreRight k commands = (before : List Command) (c : Command) (after : List Command) → commands ≡ before ++ c ∷ after → IsRightAfter (known_after k before) c
 
--- the trees are commands that are right, and at the end some clause is empty
-pub record IsGood (k : Known) (ts : Trees) : Type 0 where
+-- the trees are commands that are right, within a limit, and at the end some clause is empty
+pub record AreGood (limit : Option ℕ) (k : Known) (ts : Trees) : Type 0 where
   -- the commands
   pub commands : List Command
   -- they are those of the trees
-  pub read : commands_in k ts ≡ Ok commands
+  pub read : commands_in limit k ts ≡ Ok commands
   -- each is right
   pub right : AreRight k commands
   -- one has the empty clause
   pub empty : HasEmptyClause (known_after k commands)
+
+-- a good proof of the k-th check of a script, under whose limit on terms that is current: of the proof's own length, nesting and terms nothing is asked
+pub record IsGood (limit : ℕ) (script : List ℕ) (k : ℕ) (proof : List ℕ) : Type 0 where
+  -- what is current at the check
+  pub stack : Stack
+  -- it is current there
+  pub current : IsCurrent limit script k stack
+  -- the commands of the proof
+  pub commands : Trees
+  -- its whole text is these commands, and nothing else
+  pub read : IsWholeText proof commands
+  -- they are good
+  pub good : AreGood None (known_at stack) commands

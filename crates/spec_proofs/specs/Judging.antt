@@ -1,4 +1,4 @@
--- Which commands are right, and the first fault of a proof. Source: Alethe specification; the faults are own.
+-- Which commands are right, and the first fault of a proof, within a limit on terms, or with none. Source: Alethe specification; the faults are own.
 use Rattle.std.specs.Prelude.{◌≡◌, ℕ, [], ◌∷◌, ◌++◌, Any, ◌⊎◌, Option, Some, None, Ok, Err, Contains}
 use Rattle.spec_text.specs.Bytes.{Name}
 use Rattle.spec_text.specs.Trees.{Trees, none, more}
@@ -52,7 +52,7 @@ abbrev pub FaultBy : Known → Read Command → (Known → Type 0) → Option Fa
 FaultBy k (Err f) rest found = found ≡ Some f
 FaultBy k (Ok c) rest found = (IsRightAfter k c × rest (with_command k c)) ⊎ ((IsRightAfter k c → ⊥) × (found ≡ Some (fault_of c)))
 
--- the first fault of a proof's commands and of what ends them, or none
-unfoldable pub FirstFault : Known → ℕ → Option Fault → Trees → Option Fault → Type 0
-FirstFault k end ending none found = EndsBy k end ending found
-FirstFault k end ending (more t ts) found = FaultBy k (command_of k t) (λ next. FirstFault next end ending ts found) found
+-- the first fault of a proof's commands and of what ends them, or none; each command within a limit
+unfoldable pub FirstFault : Option ℕ → Known → ℕ → Option Fault → Trees → Option Fault → Type 0
+FirstFault limit k end ending none found = EndsBy k end ending found
+FirstFault limit k end ending (more t ts) found = FaultBy k (command_of limit k t) (λ next. FirstFault limit next end ending ts found) found

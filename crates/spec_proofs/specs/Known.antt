@@ -1,4 +1,4 @@
--- What a command's parts are under what is known before it. Source: Alethe specification, commands; the order of faults is own.
+-- What a command's parts are under what is known before it, within a limit on terms and names, or with none. Source: Alethe specification, commands; the order of faults is own.
 use Rattle.std.specs.Prelude.{ℕ, Bool, ◌+◌, ◌||◌, List, [], ◌∷◌, length, map, Option, Some, None, Ok, Err, nat_lt, if◌then◌else◌}
 use Rattle.std.specs.Str.{bytes_eq}
 use Rattle.spec_text.specs.declared.Fault.TheVariants.{Reserved, Full}
@@ -7,10 +7,10 @@ use Rattle.spec_text.specs.Trees.{Tree, Trees, atom, list, none, more, offset_of
 use Rattle.spec_text.specs.Shapes.{Word, is_reserved}
 use Rattle.spec_text.specs.Answers.{Answer, ◌>>=◌, require}
 use Rattle.spec_terms.specs.Terms.{Term}
-use Rattle.spec_terms.specs.Reading.{Scope}
+use Rattle.spec_terms.specs.Reading.{Scope, terms_in}
 use Rattle.spec_terms.specs.Literals.{Clause}
 use Rattle.spec_terms.specs.Subterms.{roomy_terms}
-use Rattle.spec_scripts.specs.Stack.{term_limit, is_taken, sort_in}
+use Rattle.spec_scripts.specs.Stack.{is_taken, sort_in}
 use Rattle.spec_proofs.specs.declared.Rule.{Rule}
 use Rattle.spec_proofs.specs.declared.ProofKind.TheVariants.{BadShape, TwiceName, UnknownPremise, UnknownRule, Term as in_term}
 use Rattle.spec_proofs.specs.RuleNames.{rule_named}
@@ -47,9 +47,14 @@ unfoldable pub in_proof : {A : Type 0} → Answer A → Read A
 in_proof (Ok a) = Ok a
 in_proof (Err f) = Err (term_fault f)
 
--- the terms of a clause, all of which there is room for
-abbrev pub clause_in : Known → ℕ → Trees → Read Clause
-clause_in k at ts = in_proof (roomy_terms k.scope term_limit at ts)
+-- the terms of trees, and where there is a limit, the fault at an offset if their different subterms are more, all together
+abbrev pub terms_within : Option ℕ → Scope → ℕ → Trees → Answer (List Term)
+terms_within None scope at ts = terms_in scope ts
+terms_within (Some limit) scope at ts = roomy_terms scope limit at ts
+
+-- the terms of a clause, within a limit
+abbrev pub clause_in : Option ℕ → Known → ℕ → Trees → Read Clause
+clause_in limit k at ts = in_proof (terms_within limit k.scope at ts)
 
 -- the rule of a name
 unfoldable pub known_rule : Word → Read Rule
@@ -82,29 +87,30 @@ unfoldable pub term_alone : ℕ → List Term → Read Term
 term_alone at (u ∷ []) = Ok u
 term_alone at _ = wrong at BadShape
 
--- room for one name more beside those that are declared and defined
-abbrev pub name_room : Known → ℕ → Read (Unit {0})
-name_room k at = in_proof (require (nat_lt (length k.scope.symbols + length k.scope.defined) term_limit) at Full)
+-- where there is a limit, room for one name more beside those that are declared and defined
+abbrev pub name_room : Option ℕ → Known → ℕ → Read (Unit {0})
+name_room None k at = Ok tt
+name_room (Some limit) k at = in_proof (require (nat_lt (length k.scope.symbols + length k.scope.defined) limit) at Full)
 
--- a command by its shape, which stands at an offset; in a definition the term has the sort that is stated, since Bool is the one sort so far
-unfoldable pub read_shape : Known → ℕ → Shape → Read Command
-read_shape k at (assumes h t) = do
+-- a command by its shape, which stands at an offset, within a limit; in a definition the term has the sort that is stated, since Bool is the one sort so far
+unfoldable pub read_shape : Option ℕ → Known → ℕ → Shape → Read Command
+read_shape limit k at (assumes h t) = do
   n ← fresh_name k h
-  us ← clause_in k at (more t none)
+  us ← clause_in limit k at (more t none)
   u ← term_alone at us
   Ok (Assume (offset_of t) n u)
-read_shape k at (steps i ls r ps) = do
+read_shape limit k at (steps i ls r ps) = do
   n ← fresh_name k i
-  c ← clause_in k at ls
+  c ← clause_in limit k at ls
   rule ← known_rule r
   qs ← premises_of k ps
   Ok (Step at n c rule qs)
-read_shape k at (defines f s t) = do
+read_shape limit k at (defines f s t) = do
   n ← new_term_name k f
   sort ← in_proof (sort_in s)
-  us ← clause_in k at (more t none)
+  us ← clause_in limit k at (more t none)
   u ← term_alone at us
-  room ← name_room k at
+  room ← name_room limit k at
   Ok (Define at n u)
 
 -- what has the shape of a command, or the fault at its start
@@ -112,7 +118,7 @@ unfoldable pub shaped : ℕ → Option Shape → Read Shape
 shaped at (Some s) = Ok s
 shaped at None = wrong at BadShape
 
--- the command that a tree is
-unfoldable pub command_of : Known → Tree → Read Command
-command_of k (atom at kind n) = wrong at BadShape
-command_of k (list at ts end) = shaped at (shape_of ts) >>= λ s. read_shape k at s
+-- the command that a tree is, within a limit on the different subterms of its terms and on the names
+unfoldable pub command_of : Option ℕ → Known → Tree → Read Command
+command_of limit k (atom at kind n) = wrong at BadShape
+command_of limit k (list at ts end) = shaped at (shape_of ts) >>= λ s. read_shape limit k at s

@@ -1,8 +1,8 @@
 -- The commands of a proof's text: after the word `unsat` or without it, one after the other, or in one list. Source: Alethe specification, proofs; the word and the list are own.
-use Rattle.std.specs.Prelude.{◌≡◌, ℕ, Bool, true, false, ◌⊎◌, List, [], ◌∷◌, length, Option, Some, None, codes, if◌then◌else◌}
+use Rattle.std.specs.Prelude.{◌≡◌, ℕ, Bool, true, false, ◌⊎◌, List, [], ◌∷◌, ◌++◌, length, Option, Some, None, codes, if◌then◌else◌}
 use Rattle.std.specs.Str.{bytes_eq}
 use Rattle.spec_text.specs.Lexemes.{Lexeme, opens, closes, word, lexemes}
-use Rattle.spec_text.specs.Trees.{Tree, Trees, none, more, offset_of}
+use Rattle.spec_text.specs.Trees.{Tree, Trees, none, more, spelled_all, offset_of}
 use Rattle.spec_text.specs.Shapes.{is_symbol}
 use Rattle.spec_text.specs.Faults.{Located}
 use Rattle.spec_text.specs.Readings.{IsBroken, AreTrees, kept, too_long, at_limit}
@@ -50,7 +50,16 @@ abbrev pub AreCommands : Bool → ℕ → List (ℕ × Lexeme) → Trees → End
 AreCommands false end xs ts e = (rest : List (ℕ × Lexeme)) × AreTrees 0 xs ts rest × EndsRow end rest e
 AreCommands true end xs ts e = (at : ℕ) × (inner : List (ℕ × Lexeme)) × (rest : List (ℕ × Lexeme)) × (xs ≡ (at, opens) ∷ inner) × AreTrees 1 inner ts rest × EndsList end rest e
 
--- the lexemes of a proof, behind the word
+-- the lexemes are these commands and nothing else, in a list or not, however deep they are nested
+abbrev pub AreAllCommands : Bool → List (ℕ × Lexeme) → Trees → Type 0
+AreAllCommands false xs ts = xs ≡ spelled_all ts
+AreAllCommands true xs ts = (at : ℕ) × (end : ℕ) × (xs ≡ (at, opens) ∷ spelled_all ts ++ (end, closes) ∷ [])
+
+-- the whole text is these commands and nothing else, however long it is
+abbrev pub IsWholeText : List ℕ → Trees → Type 0
+IsWholeText text ts = AreAllCommands (begins_listed (behind_unsat (lexemes 0 0 text))) (behind_unsat (lexemes 0 0 text)) ts
+
+-- the lexemes of the part of a proof that is read, behind the word
 abbrev pub proof_lexemes : List ℕ → List (ℕ × Lexeme)
 proof_lexemes text = behind_unsat (lexemes 0 0 (kept text))
 

@@ -19,7 +19,7 @@ ghost use Rattle.spec_proofs.specs.Known.{command_of};
 ghost use Rattle.spec_proofs.specs.Faults.{Fault};
 ghost use Rattle.spec_proofs.specs.Texts.{Ending, IsProofText};
 ghost use Rattle.spec_proofs.specs.Judging.{fault_of, FirstFault};
-ghost use Rattle.spec_proofs.specs.Good.{IsGood};
+ghost use Rattle.spec_proofs.specs.Good.{AreGood, IsGood};
 ghost use Rattle.spec_proofs.specs.Accepted.{IsAccepted, IsVerdict};
 
 /// States that what follows by a rule from clauses that are true is true, under the same interpretation, where this gives
@@ -44,7 +44,7 @@ pub fn chains_are_resolvents()
 /// States that commands are good exactly where they have no first fault, wherever the text ends: the two are stated apart,
 /// goodness of the whole list, the first fault by going through it.
 pub fn good_proofs_have_no_fault()
-    ensures { (k : Known) (end : ℕ) (ts : Trees) → IsGood k ts ↔ FirstFault k end None ts None }
+    ensures { (limit : Option ℕ) (k : Known) (end : ℕ) (ts : Trees) → AreGood limit k ts ↔ FirstFault limit k end None ts None }
 {}
 
 /// States that the verdict has no fault exactly where the proof is accepted.
@@ -54,9 +54,19 @@ pub fn accepted_proofs_have_no_fault()
     good_proofs_have_no_fault();
 }
 
-/// States that no interpretation makes true what is current at a check of which a proof is accepted.
-pub fn acceptance_is_sound()
-    ensures { (script proof : List ℕ) (k : ℕ) → IsAccepted script k proof → HasNoModel term_limit script k }
+/// States that limits only refuse: what is good within a limit on terms is good without one, and so an accepted proof is a
+/// good one.
+pub fn accepted_proofs_are_good()
+    ensures commands { (limit : Option ℕ) (k : Known) (ts : Trees) → AreGood limit k ts → AreGood None k ts }
+    ensures whole { (script proof : List ℕ) (k : ℕ) → IsAccepted script k proof → IsGood term_limit script k proof }
+{}
+
+/// States that no interpretation makes true what is current at a check, under any limit on terms, of which commands or a whole
+/// text are a good proof, however long it is, however deep it is nested, and however many terms it has.
+pub fn good_proofs_are_sound()
+    ensures commands { (limit : ℕ) (script : List ℕ) (k : ℕ) (s : Stack) (ts : Trees) → IsCurrent limit script k s
+        → AreGood None (known_at s) ts → HasNoModel limit script k }
+    ensures whole { (limit : ℕ) (script proof : List ℕ) (k : ℕ) → IsGood limit script k proof → HasNoModel limit script k }
 {
     rules_are_sound();
     spec_scripts::laws::checks_have_one_stack();
@@ -64,10 +74,18 @@ pub fn acceptance_is_sound()
     spec_scripts::laws::assertions_have_their_texts_value();
 }
 
+/// States that no interpretation makes true what is current at a check of which a proof is accepted.
+pub fn acceptance_is_sound()
+    ensures { (script proof : List ℕ) (k : ℕ) → IsAccepted script k proof → HasNoModel term_limit script k }
+{
+    accepted_proofs_are_good();
+    good_proofs_are_sound();
+}
+
 /// States that commands have at most one first fault.
 pub fn first_fault_is_one()
-    ensures { (k : Known) (end : ℕ) (ending : Option Fault) (ts : Trees) (a b : Option Fault) → FirstFault k end ending ts a
-        → FirstFault k end ending ts b → a ≡ b }
+    ensures { (limit : Option ℕ) (k : Known) (end : ℕ) (ending : Option Fault) (ts : Trees) (a b : Option Fault)
+        → FirstFault limit k end ending ts a → FirstFault limit k end ending ts b → a ≡ b }
 {}
 
 /// States that a proof's text is one row of commands with one ending.
@@ -105,11 +123,12 @@ pub fn satisfied_scripts_have_a_model()
 }
 
 /// States that goodness is not asked in vain: where at a check no truths of the terms below negations make all current
-/// assertions true, there is a good proof. It is given by its trees: its text may be longer than a text may be.
+/// assertions true, there is a good proof, within the limit on terms of the script. It is given by its trees: its text may
+/// be longer than a text may be.
 pub fn unsatisfiable_scripts_have_a_proof()
-    ensures truths { (script : List ℕ) (k : ℕ) (s : Stack) → IsCurrent term_limit script k s
+    ensures truths { (limit : ℕ) (script : List ℕ) (k : ℕ) (s : Stack) → IsCurrent limit script k s
         → ((v : Truths) → All (λ (a : Assertion). term_true_by v a.term ≡ true) s.assertions → ⊥)
-        → (ts : Trees) × IsGood (known_at s) ts }
+        → (ts : Trees) × AreGood (Some limit) (known_at s) ts }
 {
     spec_scripts::laws::assertions_are_read();
 }
@@ -117,8 +136,9 @@ pub fn unsatisfiable_scripts_have_a_proof()
 /// States that the fault of a command of a proof stands at the offset of one of its atoms or lists: that of reading it,
 /// and that of a command that is read and isn't right.
 pub fn faults_stand_in_their_command()
-    ensures reading { (k : Known) (t : Tree) (f : Fault) → command_of k t ≡ Err f → HasOffset t f.offset }
-    ensures judging { (k : Known) (t : Tree) (c : Command) → command_of k t ≡ Ok c → HasOffset t (fault_of c).offset }
+    ensures reading { (limit : Option ℕ) (k : Known) (t : Tree) (f : Fault) → command_of limit k t ≡ Err f → HasOffset t f.offset }
+    ensures judging { (limit : Option ℕ) (k : Known) (t : Tree) (c : Command) → command_of limit k t ≡ Ok c
+        → HasOffset t (fault_of c).offset }
 {
     spec_terms::faults_stand_in_their_text();
 }

@@ -1,5 +1,5 @@
 -- A text that is read whole has room for what it defines.
-use Rattle.std.proofs.Common.{◌≡◌, ◌+◌, ◌*◌, ℕ, List, ◌++◌, length, map, false, arith, sym, subst, length-append}
+use Rattle.std.proofs.Common.{◌≡◌, Some, ◌+◌, ◌*◌, ℕ, List, ◌++◌, length, map, false, arith, sym, subst, length-append}
 use Rattle.std.specs.Prelude.{◌≤◌, codes}
 use Rattle.std.proofs.lemmas.Bool.Decides.{nat_tests}
 use Rattle.std.proofs.lemmas.List.{take_all}
@@ -38,7 +38,7 @@ accepted_at script k s current declared few lines right text at within e read =
       short = e;
       commands = commands_at at lines;
       read = read_whole text (commands_at at lines) e read;
-      good = all_good s.symbols (map (λ (a : Assertion). a.term) s.assertions) declared lines (at + 1 + 1) right (omega (arith, size.0, few, le, within)) (omega (arith, size.1, le, within));
+      good = all_good (Some term_limit) s.symbols (map (λ (a : Assertion). a.term) s.assertions) declared lines (at + 1 + 1) right (omega (arith, size.0, few, le, within)) (omega (arith, size.1, le, within));
     }
 
 pub returns-clause-alone : goal.returns-clause-alone

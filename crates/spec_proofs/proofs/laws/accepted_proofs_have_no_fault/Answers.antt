@@ -2,25 +2,26 @@
 use Rattle.std.proofs.Common.{◌≡◌, ℕ, Bool, true, false, List, length, Some, None, inl, inr, refl, sym, subst}
 use Rattle.spec_text.specs.Trees.{Trees}
 use Rattle.spec_text.specs.Readings.{is_long, too_long, at_limit}
+use Rattle.spec_scripts.specs.Stack.{term_limit}
 use Rattle.spec_proofs.specs.declared.ProofKind.TheVariants.{BadShape}
 use Rattle.spec_proofs.specs.Faults.{fault_at, text_fault}
 use Rattle.spec_proofs.specs.Commands.{Known, known_at}
 use Rattle.spec_proofs.specs.Texts.{Ending, complete, broken, left_over, IsProofText, ending_fault}
 use Rattle.spec_proofs.specs.Judging.{FirstFault}
-use Rattle.spec_proofs.specs.Good.{IsGood}
+use Rattle.spec_proofs.specs.Good.{AreGood}
 use Rattle.spec_proofs.specs.Accepted.{IsAccepted, IsVerdict, no_such_check}
 use Rattle.spec_proofs.proofs.Good.{wrong_end}
 use Rattle.spec_proofs.proofs.laws.accepted_proofs_have_no_fault.Goals as goal
 
 -- without a fault the text is no longer than it may be, and nothing stands behind its commands
-is_whole : (end : ℕ) (k : Known) (ts : Trees) (long : Bool) (e : Ending) → FirstFault k end (ending_fault long e) ts None → (long ≡ false) × (e ≡ complete) × FirstFault k end None ts None
+is_whole : (end : ℕ) (k : Known) (ts : Trees) (long : Bool) (e : Ending) → FirstFault (Some term_limit) k end (ending_fault long e) ts None → (long ≡ false) × (e ≡ complete) × FirstFault (Some term_limit) k end None ts None
 is_whole end k ts false complete h = (refl, refl, h)
-is_whole end k ts true complete h = absurd (wrong_end end k (text_fault too_long) ts h)
-is_whole end k ts long (broken f) h = absurd (wrong_end end k (text_fault (at_limit long f)) ts h)
-is_whole end k ts long (left_over at) h = absurd (wrong_end end k (fault_at at BadShape) ts h)
+is_whole end k ts true complete h = absurd (wrong_end (Some term_limit) end k (text_fault too_long) ts h)
+is_whole end k ts long (broken f) h = absurd (wrong_end (Some term_limit) end k (text_fault (at_limit long f)) ts h)
+is_whole end k ts long (left_over at) h = absurd (wrong_end (Some term_limit) end k (fault_at at BadShape) ts h)
 
 abbrev Law : Type 0
-Law = (k : Known) (end : ℕ) (ts : Trees) → (IsGood k ts → FirstFault k end None ts None) × (FirstFault k end None ts None → IsGood k ts)
+Law = (k : Known) (end : ℕ) (ts : Trees) → (AreGood (Some term_limit) k ts → FirstFault (Some term_limit) k end None ts None) × (FirstFault (Some term_limit) k end None ts None → AreGood (Some term_limit) k ts)
 
 accepted : (law : Law) (script proof : List ℕ) (k : ℕ) → IsVerdict script k proof None → IsAccepted script k proof
 accepted law script proof k (inr h) = let none : None ≡ Some no_such_check = h.1 in cc
@@ -48,9 +49,9 @@ no_fault law script proof k a =
         commands = a.commands;
         ending = complete;
         read = a.read;
-        fault = subst (λ long. FirstFault (known_at s) (length proof) (ending_fault long complete) a.commands None) (sym a.short) good;
+        fault = subst (λ long. FirstFault (Some term_limit) (known_at s) (length proof) (ending_fault long complete) a.commands None) (sym a.short) good;
       },
     )
 
 pub returns : goal.returns
-returns c = λ script proof k. (accepted c.good_proofs_have_no_fault.ensures script proof k, no_fault c.good_proofs_have_no_fault.ensures script proof k)
+returns c = λ script proof k. (accepted (c.good_proofs_have_no_fault.ensures (Some term_limit)) script proof k, no_fault (c.good_proofs_have_no_fault.ensures (Some term_limit)) script proof k)

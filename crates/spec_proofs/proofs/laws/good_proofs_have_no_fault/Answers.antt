@@ -3,4 +3,4 @@ use Rattle.spec_proofs.proofs.Good.{no_fault, good}
 use Rattle.spec_proofs.proofs.laws.good_proofs_have_no_fault.Goals as goal
 
 pub returns : goal.returns
-returns c = λ k end ts. (no_fault end k ts, good end k ts)
+returns c = λ limit k end ts. (no_fault limit end k ts, good limit end k ts)

@@ -1,5 +1,5 @@
 -- That there is one verdict: one stack, or none, and one reading of the proof with one first fault.
-use Rattle.std.proofs.Common.{◌≡◌, ℕ, List, length, Option, inl, inr, sym, ◌∙◌, subst}
+use Rattle.std.proofs.Common.{◌≡◌, ℕ, List, length, Option, Some, inl, inr, sym, ◌∙◌, subst}
 use Rattle.spec_text.specs.Trees.{Trees}
 use Rattle.spec_text.specs.Readings.{is_long}
 use Rattle.spec_scripts.specs.Stack.{Stack, term_limit, IsCurrent, HasNoCheck}
@@ -10,11 +10,11 @@ use Rattle.spec_proofs.specs.Judging.{FirstFault}
 use Rattle.spec_proofs.specs.Accepted.{IsJudged, IsVerdict}
 use Rattle.spec_proofs.proofs.laws.verdict_is_one.Goals as goal
 
-module _ (one_fault : (k : Known) (end : ℕ) (ending : Option Fault) (ts : Trees) (a b : Option Fault) → FirstFault k end ending ts a → FirstFault k end ending ts b → a ≡ b) (one_reading : (text : List ℕ) (ts us : Trees) (e f : Ending) → IsProofText text ts e → IsProofText text us f → (ts ≡ us) × (e ≡ f)) where
+module _ (one_fault : (k : Known) (end : ℕ) (ending : Option Fault) (ts : Trees) (a b : Option Fault) → FirstFault (Some term_limit) k end ending ts a → FirstFault (Some term_limit) k end ending ts b → a ≡ b) (one_reading : (text : List ℕ) (ts us : Trees) (e f : Ending) → IsProofText text ts e → IsProofText text us f → (ts ≡ us) × (e ≡ f)) where
   judged_one : (s : Stack) (proof : List ℕ) (a b : Option Fault) → IsJudged s proof a → IsJudged s proof b → a ≡ b
   judged_one s proof a b x y =
       let row = one_reading proof x.commands y.commands x.ending y.ending x.read y.read in
-      let same = subst (λ e. FirstFault (known_at s) (length proof) (ending_fault (is_long proof) e) y.commands a) row.1 (subst (λ ts. FirstFault (known_at s) (length proof) (ending_fault (is_long proof) x.ending) ts a) row.0 x.fault) in
+      let same = subst (λ e. FirstFault (Some term_limit) (known_at s) (length proof) (ending_fault (is_long proof) e) y.commands a) row.1 (subst (λ ts. FirstFault (Some term_limit) (known_at s) (length proof) (ending_fault (is_long proof) x.ending) ts a) row.0 x.fault) in
       one_fault (known_at s) (length proof) (ending_fault (is_long proof) y.ending) y.commands a b same y.fault
 
   verdict_one : (script proof : List ℕ) (k : ℕ) (a b : Option Fault) → ((s t : Stack) → IsCurrent term_limit script k s → IsCurrent term_limit script k t → s ≡ t) → ((s : Stack) → IsCurrent term_limit script k s → HasNoCheck term_limit script k → ⊥) → IsVerdict script k proof a → IsVerdict script k proof b → a ≡ b
@@ -24,4 +24,4 @@ module _ (one_fault : (k : Known) (end : ℕ) (ending : Option Fault) (ts : Tree
   verdict_one script proof k a b same other (inr x) (inr y) = x.1 ∙ sym y.1
 
 pub returns : goal.returns
-returns c = λ script proof k a b. verdict_one c.first_fault_is_one.ensures c.proofs_have_one_reading.ensures script proof k a b (c.checks_have_one_stack.ensures.one term_limit script k) (c.checks_have_one_stack.ensures.other term_limit script k)
+returns c = λ script proof k a b. verdict_one (c.first_fault_is_one.ensures (Some term_limit)) c.proofs_have_one_reading.ensures script proof k a b (c.checks_have_one_stack.ensures.one term_limit script k) (c.checks_have_one_stack.ensures.other term_limit script k)
