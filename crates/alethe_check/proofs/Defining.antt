@@ -11,8 +11,8 @@ use Rattle.spec_proofs.specs.Faults.{wrong}
 use Rattle.spec_proofs.specs.Commands.{Known}
 use Rattle.spec_proofs.specs.Known.{is_term_name, in_proof, name_room}
 use Rattle.term_core.specs.Tables.{TableView}
-use Rattle.sort_check.specs.declared.faults.TermStop.{TermStop}
-use Rattle.sort_check.specs.declared.faults.TermStop.TheVariants as term_stops
+use Rattle.sort_check.specs.declared.faults.ReadError.{ReadError}
+use Rattle.sort_check.specs.declared.faults.ReadError.TheVariants as term_stops
 use Rattle.sort_check.specs.Definitions.{DefinitionsView, scope_at}
 use Rattle.alethe_check.specs.declared.stop.Stop.{Stop}
 use Rattle.assertion_stack.specs.Views.{Fails}
@@ -24,7 +24,7 @@ pub term_name : (t : TableView) (d : DefinitionsView) (n : Name) → length d.na
 term_name t d n paired = ap (λ ns. is_taken t.symbols n || among ns n) (names_defined t d.names d.terms paired)
 
 -- a part that was not read, as a part of a proof
-pub part_stopped : {X Y : Type 0} (view : X → Y) (a : Answer Y) (s : TermStop) (r : Stop) → r ≡ stop_meant s → Fails s a → Reads view (Err r) (in_proof a)
+pub part_stopped : {X Y : Type 0} (view : X → Y) (a : Answer Y) (s : ReadError) (r : Stop) → r ≡ stop_meant s → Fails s a → Reads view (Err r) (in_proof a)
 unfolding in_proof
 part_stopped view a (term_stops.Fault f) r e h = subst (λ q. Reads view (Err q) (in_proof a)) (sym e) (ap in_proof h)
 part_stopped view a term_stops.Memory r e h = subst (λ q. Reads view (Err q) (in_proof a)) (sym e) tt

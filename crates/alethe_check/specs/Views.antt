@@ -4,8 +4,8 @@ use Rattle.std.specs.Borrow.{Bor}
 use Rattle.spec_text.specs.Bytes.{Name}
 use Rattle.spec_proofs.specs.declared.Rule.{Rule}
 use Rattle.spec_proofs.specs.Faults.{Fault, Read, fault_at, term_kind}
-use Rattle.sort_check.specs.declared.TermStop.{TermStop}
-use Rattle.sort_check.specs.declared.TermStop.TheVariants as term_stops
+use Rattle.sort_check.specs.declared.ReadError.{ReadError}
+use Rattle.sort_check.specs.declared.ReadError.TheVariants as term_stops
 use Rattle.alethe_check.specs.declared.stop.Found.{Found}
 use Rattle.alethe_check.specs.declared.stop.Stop.{Stop}
 use Rattle.alethe_check.specs.declared.stop.Stop.TheVariants as stops
@@ -21,7 +21,7 @@ Reads view (Err (stops.Fault f)) read = read ≡ Err (found_view f)
 Reads view (Err stops.Memory) read = Unit {0}
 
 -- the stop that a stop of reading terms is in a proof
-abbrev pub stop_meant : TermStop → Stop
+abbrev pub stop_meant : ReadError → Stop
 stop_meant (term_stops.Fault f) = stops.Fault (record { offset = f.offset; kind = term_kind f.fault })
 stop_meant term_stops.Memory = stops.Memory
 

@@ -13,9 +13,9 @@ ghost use Rattle.alethe_check.specs.Views.{Reads, stop_meant};
 ghost use Rattle.alethe_check.specs.Holding.{known_view, IsSound, clause_numbered, clauses_numbered, AreNumbers};
 
 use crate::stop::{Found, Stop, fault};
-use assertion_stack::{Asserted, Script, TERM_LIMIT};
+use assertion_stack::{Assertions, Script, TERM_LIMIT};
 use smt_sexpr::{Item, View, Word, look, split};
-use sort_check::{Definitions, TermFault, TermStop, terms_under};
+use sort_check::{Definitions, ReadError, TermFault, terms_under};
 use spec_proofs::ProofKind;
 use spec_text::Fault;
 use std::alloc::Global;
@@ -29,7 +29,7 @@ pub struct Held {
     /// The names that are defined so far, with their terms.
     pub definitions: Definitions,
     /// The current assertions.
-    pub asserted: Asserted,
+    pub asserted: Assertions,
     /// The names of the assumes and steps so far.
     pub names: NameTable,
     /// Their clauses.
@@ -153,12 +153,12 @@ fn term_kind(fault: Fault) -> ProofKind
 }
 
 /// The stop that a stop of reading terms is in a proof.
-pub fn in_proof(stop: TermStop) -> Stop
+pub fn in_proof(stop: ReadError) -> Stop
     ensures { result ≡ stop_meant stop }
 {
     match stop {
-        TermStop::Fault(f) => fault(f.offset, term_kind(f.fault)),
-        TermStop::Memory => Stop::Memory,
+        ReadError::Fault(f) => fault(f.offset, term_kind(f.fault)),
+        ReadError::Memory => Stop::Memory,
     }
 }
 

@@ -5,9 +5,9 @@ use Rattle.spec_terms.specs.Theory.{takes}
 use Rattle.term_core.specs.declared.ids.TermId.{TermId}
 use Rattle.term_core.specs.declared.nodes.Head.TheVariants as heads
 use Rattle.term_core.specs.Tables.{takes_so_many}
-use Rattle.sort_check.specs.declared.heads.CoreHead.{CoreHead}
-use Rattle.sort_check.specs.declared.heads.CoreHead.TheVariants as core
-use Rattle.sort_check.specs.Heads.{rule_of}
+use Rattle.term_core.specs.declared.core_heads.CoreHead.{CoreHead}
+use Rattle.term_core.specs.declared.core_heads.CoreHead.TheVariants as core
+use Rattle.term_core.specs.Heads.{rule_of}
 
 -- the head takes the arguments
 abbrev TakesThem : CoreHead → List TermId → Type 0

@@ -10,7 +10,7 @@ use Rattle.spec_terms.specs.Theory.{pair, no_term}
 use Rattle.term_core.specs.declared.ids.TermId.{TermId}
 use Rattle.term_core.specs.Tables.{TableView, term_at, IsIn, AreIn, clause_at}
 use Rattle.term_core.proofs.TermsExtend.{term_at-kept}
-use Rattle.sort_check.specs.declared.build.BuildStop.{BuildStop}
+use Rattle.sort_check.specs.declared.build.BuildError.{BuildError}
 use Rattle.sort_check.specs.Building.{Grows, Means, Builds}
 use Rattle.sort_check.proofs.Members.{only}
 use Rattle.sort_check.proofs.Subterms.{AreSubterms, self_subterms, subterms_along, member_subterms}
@@ -39,12 +39,12 @@ pub record IsFolded (f : Fold) (old now : TableView) (all : Term) (id : TermId) 
   pub same : f term (clause_at old rest) ≡ all
 
 -- how a step goes on
-abbrev FoldsOn : Fold → ℕ → TableView → TableView → Term → List TermId → Result TermId BuildStop → Type 0
+abbrev FoldsOn : Fold → ℕ → TableView → TableView → Term → List TermId → Result TermId BuildError → Type 0
 FoldsOn f most old new all rest (Ok id) = IsFolded f old new all id rest
 FoldsOn f most old new all rest (Err e) = Builds most old new all (Err e)
 
 module _ (f : Fold) (keeps : KeepsFirst f) (most : ℕ) (old now new : TableView) (all : Term) (id : TermId) (rest next : List TermId) where
-  pub fold_step : (h : IsFolded f old now all id rest) (t : Term) (r : Result TermId BuildStop) → f h.term (clause_at old rest) ≡ f t (clause_at old next) → AreIn old next → AreSubterms (h.term ∷ []) (t ∷ []) → Builds most now new t r → FoldsOn f most old new all next r
+  pub fold_step : (h : IsFolded f old now all id rest) (t : Term) (r : Result TermId BuildError) → f h.term (clause_at old rest) ≡ f t (clause_at old next) → AreIn old next → AreSubterms (h.term ∷ []) (t ∷ []) → Builds most now new t r → FoldsOn f most old new all next r
   fold_step h t (Ok n) same there first b = record {
     term = t;
     grows = grows_along old now new (h.term ∷ []) (t ∷ []) (t ∷ []) h.grows first b.grows (self_subterms (t ∷ []));
@@ -83,13 +83,13 @@ left_first t us = only_first t us (to_left t us ∷ []) (left_keeps no_term (pai
 pub left_ends : (t : Term) → to_left t [] ≡ t
 left_ends t = refl
 
-pub left_step : (most : ℕ) (old now new : TableView) (all : Term) (id next : TermId) (rest behind : List TermId) (r : Result TermId BuildStop) → rest ≡ next ∷ behind → IsFolded to_left old now all id rest
-    → Builds most now new (pair Xor (term_at now id) (term_at now next)) r → FoldsOn to_left most old new all behind r
-left_step most old now new all id next rest behind r is h b =
-    let there : AreIn old (next ∷ behind) = subst (AreIn old) is h.there in
+pub left_step : (most : ℕ) (old now new : TableView) (all : Term) (id next : TermId) (rest after : List TermId) (r : Result TermId BuildError) → rest ≡ next ∷ after → IsFolded to_left old now all id rest
+    → Builds most now new (pair Xor (term_at now id) (term_at now next)) r → FoldsOn to_left most old new all after r
+left_step most old now new all id next rest after r is h b =
+    let there : AreIn old (next ∷ after) = subst (AreIn old) is h.there in
     let u : Term = term_at old next in
-    let kept : term_at now next ≡ u = term_at-kept old now h.grows.keeps.extends next (All-head (λ i. IsIn old i) next behind there) in
-    fold_step to_left left_first most old now new all id rest behind h (pair Xor h.term u) r (ap (λ ids. to_left h.term (clause_at old ids)) is) (All-tail (λ i. IsIn old i) next behind there)
+    let kept : term_at now next ≡ u = term_at-kept old now h.grows.keeps.extends next (All-head (λ i. IsIn old i) next after there) in
+    fold_step to_left left_first most old now new all id rest after h (pair Xor h.term u) r (ap (λ ids. to_left h.term (clause_at old ids)) is) (All-tail (λ i. IsIn old i) next after there)
     (only_first h.term (u ∷ []) (pair Xor h.term u ∷ []) (pair_keeps Xor h.term u)) (subst (λ v. Builds most now new (pair Xor v u) r) h.means.term (subst (λ v. Builds most now new (pair Xor (term_at now id) v) r) kept b))
 
 -- to the right by `=>`
@@ -107,7 +107,7 @@ right_first t us = subterms_along (t ∷ []) (us ++ t ∷ []) (to_right t us ∷
 pub right_ends : (t : Term) → to_right t [] ≡ t
 right_ends t = refl
 
-pub right_step : (most : ℕ) (old now new : TableView) (all : Term) (id next : TermId) (rest before : List TermId) (r : Result TermId BuildStop) → rest ≡ before ++ next ∷ [] → IsFolded to_right old now all id rest
+pub right_step : (most : ℕ) (old now new : TableView) (all : Term) (id next : TermId) (rest before : List TermId) (r : Result TermId BuildError) → rest ≡ before ++ next ∷ [] → IsFolded to_right old now all id rest
     → Builds most now new (pair Implies (term_at now next) (term_at now id)) r → FoldsOn to_right most old new all before r
 right_step most old now new all id next rest before r is h b =
     let there : AreIn old (before ++ next ∷ []) = subst (AreIn old) is h.there in

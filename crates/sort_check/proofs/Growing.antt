@@ -11,8 +11,8 @@ use Rattle.term_core.specs.declared.nodes.Head.{Head as NodeHead}
 use Rattle.term_core.specs.declared.nodes.Node.{Node}
 use Rattle.term_core.specs.Tables.{TableView, no_term, clause_at, Extends, head_meant, node_term}
 use Rattle.term_core.proofs.TermsExtend.{Extends-self, IsIn-kept, term_at-kept, AreIn-kept, clause_at-kept}
-use Rattle.sort_check.specs.declared.build.BuildStop.{BuildStop}
-use Rattle.sort_check.specs.declared.build.BuildStop.TheVariants.{Crowded, Memory}
+use Rattle.sort_check.specs.declared.build.BuildError.{BuildError}
+use Rattle.sort_check.specs.declared.build.BuildError.TheVariants.{OverLimit, Memory}
 use Rattle.sort_check.specs.Building.{AreSubtermsFrom, Keeps, Grows, Means, AllMean, Builds}
 use Rattle.sort_check.proofs.Subterms.{AreSubterms, self_subterms, least_subterms}
 
@@ -75,12 +75,12 @@ pub all_mean_kept : (a b : TableView) (ts : List Term) (ids : List TermId) → E
 all_mean_kept a b ts ids more h = record { there = AreIn-kept a b more ids h.there; terms = clause_at-kept a b more ids h.there ∙ h.terms }
 
 -- a subterm was built first
-pub builds_after : (most : ℕ) (a b c : TableView) (ts : List Term) (t : Term) (r : Result TermId BuildStop) → Grows ts a b → AreSubterms ts (t ∷ []) → Builds most b c t r → Builds most a c t r
+pub builds_after : (most : ℕ) (a b c : TableView) (ts : List Term) (t : Term) (r : Result TermId BuildError) → Grows ts a b → AreSubterms ts (t ∷ []) → Builds most b c t r → Builds most a c t r
 builds_after most a b c ts t r h ts_in k = record { grows = grows_along a b c ts (t ∷ []) (t ∷ []) h ts_in k.grows (self_subterms (t ∷ [])); ends = k.ends }
 
 -- a subterm was not built
-pub builds_not : (most : ℕ) (a b c : TableView) (ts : List Term) (t u : Term) (e : BuildStop) → Grows ts a b → AreSubterms ts (u ∷ []) → AreSubterms (t ∷ []) (u ∷ []) → Builds most b c t (Err e) → Builds most a c u (Err e)
-builds_not most a b c ts t u Crowded h ts_in t_in k = record { grows = grows_along a b c ts (t ∷ []) (u ∷ []) h ts_in k.grows t_in; ends = k.ends }
+pub builds_not : (most : ℕ) (a b c : TableView) (ts : List Term) (t u : Term) (e : BuildError) → Grows ts a b → AreSubterms ts (u ∷ []) → AreSubterms (t ∷ []) (u ∷ []) → Builds most b c t (Err e) → Builds most a c u (Err e)
+builds_not most a b c ts t u OverLimit h ts_in t_in k = record { grows = grows_along a b c ts (t ∷ []) (u ∷ []) h ts_in k.grows t_in; ends = k.ends }
 builds_not most a b c ts t u Memory h ts_in t_in k = record { grows = grows_along a b c ts (t ∷ []) (u ∷ []) h ts_in k.grows t_in; ends = tt }
 
 -- a node's term, by what the node was made of

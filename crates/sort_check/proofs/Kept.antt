@@ -10,7 +10,7 @@ use Rattle.spec_terms.specs.Theory.{Rule, takes, look_up, theory, pair, unequal,
 use Rattle.term_core.specs.Tables.{TableView, term_at}
 use Rattle.sort_check.specs.declared.functions.Function.{Function}
 use Rattle.sort_check.specs.declared.functions.Function.TheVariants.{Core, Declared, Defined}
-use Rattle.sort_check.specs.Heads.{rule_there, name_of, rule_of}
+use Rattle.term_core.specs.Heads.{rule_there, core_name, rule_of}
 use Rattle.sort_check.specs.Functions.{function_term, Takes}
 use Rattle.sort_check.proofs.Members.{only, each_of}
 use Rattle.sort_check.proofs.Subterms.{AreSubterms, self_subterms, argument_subterm, subterms_along, member_subterms, subterms_cons, subterms_behind, subterms_first}
@@ -129,7 +129,7 @@ rule_keeps None h (t ∷ ts) few = absurd (grind (arith, nat_tests, few))
 
 pub function_keeps : (table : TableView) (f : Function) (ts : List Term) → Takes table f (length ts) → AreSubterms ts (function_term table f ts ∷ [])
 unfolding rule_of
-function_keeps table (Core h) ts few = rule_keeps (look_up theory (name_of h)) (keeps_at theory (name_of h) theory_keeps) ts few
+function_keeps table (Core h) ts few = rule_keeps (look_up theory (core_name h)) (keeps_at theory (core_name h) theory_keeps) ts few
 function_keeps table (Declared s) ts few = of_keeps _ ts
 function_keeps table (Defined id) [] few = nothing_kept (term_at table id ∷ [])
 function_keeps table (Defined id) (t ∷ ts) few = absurd (omega (arith, few.1))

@@ -6,7 +6,7 @@ pub mod Resuming
 pub mod Named
 pub mod Errors
 pub mod Growing
-pub mod Crowding
+pub mod OverLimit
 pub mod Left
 pub mod Reading
 pub mod Stacking

@@ -10,11 +10,11 @@ use Rattle.spec_terms.specs.Reading.{symbol_named, by_rule, applied, applied_as}
 use Rattle.term_core.specs.declared.ids.SymbolId.{SymbolId}
 use Rattle.term_core.specs.declared.ids.TermId.{TermId}
 use Rattle.term_core.specs.Tables.{TableView, truth_symbol, symbol_at, IsSymbol, term_at, IsIn}
-use Rattle.sort_check.specs.declared.heads.CoreHead.{CoreHead}
+use Rattle.term_core.specs.declared.core_heads.CoreHead.{CoreHead}
 use Rattle.sort_check.specs.declared.faults.TermFault.{TermFault}
 use Rattle.sort_check.specs.declared.functions.Function.{Function}
 use Rattle.sort_check.specs.declared.functions.Function.TheVariants.{Core, Declared, Defined}
-use Rattle.sort_check.specs.Heads.{rule_of}
+use Rattle.term_core.specs.Heads.{rule_of}
 use Rattle.sort_check.specs.Functions.{located_of, IsFunction, StandsAlone}
 use Rattle.sort_check.specs.Definitions.{DefinitionsView, defined_by, scope_at}
 

@@ -9,8 +9,8 @@ use Rattle.spec_terms.specs.Theory.{conjunction}
 use Rattle.term_core.specs.declared.ids.TermId.{TermId}
 use Rattle.term_core.specs.Tables.{TableView, term_at, IsIn, AreIn, clause_at, Extends}
 use Rattle.term_core.proofs.TermsExtend.{term_at-kept}
-use Rattle.sort_check.specs.declared.build.BuildStop.{BuildStop}
-use Rattle.sort_check.specs.declared.build.BuildStop.TheVariants.{Crowded, Memory}
+use Rattle.sort_check.specs.declared.build.BuildError.{BuildError}
+use Rattle.sort_check.specs.declared.build.BuildError.TheVariants.{OverLimit, Memory}
 use Rattle.sort_check.specs.Building.{Grows, AllMean, Builds, PutsAll}
 use Rattle.sort_check.proofs.Subterms.{AreSubterms, member_subterms}
 use Rattle.sort_check.proofs.Growing.{grows_same, grows_along, grows_by, all_mean_kept, builds_after}
@@ -60,8 +60,8 @@ module _ (most : ℕ) (old now new : TableView) (before : List TermId) (all : Li
       grows_by old new (h.done ++ ts) all (grows_along old now new h.done ts (h.done ++ ts) h.grows (front_subterms h.done ts (h.done ++ ts) refl) g (back_subterms h.done ts (h.done ++ ts) refl))
       (front_subterms (h.done ++ ts) rest all whole)
 
-  pub put_none_more : (ts rest : List Term) (next : List TermId) (e : BuildStop) → IsPut old now before all parts (ts ++ rest) → PutsAll most now new parts next ts (Err e) → PutsAll most old new before next all (Err e)
-  put_none_more ts rest next Crowded h p = record { grows = grows_all ts rest h p.grows; ends = p.ends }
+  pub put_none_more : (ts rest : List Term) (next : List TermId) (e : BuildError) → IsPut old now before all parts (ts ++ rest) → PutsAll most now new parts next ts (Err e) → PutsAll most old new before next all (Err e)
+  put_none_more ts rest next OverLimit h p = record { grows = grows_all ts rest h p.grows; ends = p.ends }
   put_none_more ts rest next Memory h p = record { grows = grows_all ts rest h p.grows; ends = tt }
 
   -- one term more was put
@@ -73,8 +73,8 @@ module _ (most : ℕ) (old now new : TableView) (before : List TermId) (all : Li
         terms = map-append (term_at new) parts (id ∷ []) ∙ λ i. kept.terms i ++ b.ends.term i ∷ [];
       }))
 
-  pub put_none : (t : Term) (rest : List Term) (next : List TermId) (e : BuildStop) → IsPut old now before all parts (t ∷ rest) → Builds most now new t (Err e) → PutsAll most old new before next all (Err e)
-  put_none t rest next Crowded h b = record { grows = grows_all (t ∷ []) rest h b.grows; ends = b.ends }
+  pub put_none : (t : Term) (rest : List Term) (next : List TermId) (e : BuildError) → IsPut old now before all parts (t ∷ rest) → Builds most now new t (Err e) → PutsAll most old new before next all (Err e)
+  put_none t rest next OverLimit h b = record { grows = grows_all (t ∷ []) rest h b.grows; ends = b.ends }
   put_none t rest next Memory h b = record { grows = grows_all (t ∷ []) rest h b.grows; ends = tt }
 
   -- its number found no memory
@@ -87,7 +87,7 @@ put_ends most old now before all parts h =
     record { grows = subst (λ ts. Grows ts old now) is h.grows; ends = record { there = h.means.there; terms = h.means.terms ∙ ap (λ ts. clause_at old before ++ ts) is } }
 
 -- two terms that were there from the start
-pub builds_kept : (f : Term → Term → Term) (most : ℕ) (old now new : TableView) (a b : TermId) (r : Result TermId BuildStop) → Extends old now → IsIn old a → IsIn old b
+pub builds_kept : (f : Term → Term → Term) (most : ℕ) (old now new : TableView) (a b : TermId) (r : Result TermId BuildError) → Extends old now → IsIn old a → IsIn old b
     → Builds most now new (f (term_at now a) (term_at now b)) r → Builds most now new (f (term_at old a) (term_at old b)) r
 builds_kept f most old now new a b r more in_a in_b h = subst (λ t. Builds most now new t r) (λ i. f (term_at-kept old now more a in_a i) (term_at-kept old now more b in_b i)) h
 
@@ -110,11 +110,11 @@ with_each f t us = map-append (λ p. f p.0 p.1) (map (λ u. (t, u)) us) (all_pai
     each (u ∷ us) = ap (λ vs. f t u ∷ vs) (each us)
 
 -- the conjunction of terms that were put
-pub conjoined : (most : ℕ) (a b c : TableView) (ts : List Term) (parts : List TermId) (r : Result TermId BuildStop) → PutsAll most a b [] parts ts (Ok tt) → Builds most b c (conjunction (clause_at b parts)) r → Builds most a c (conjunction ts) r
+pub conjoined : (most : ℕ) (a b c : TableView) (ts : List Term) (parts : List TermId) (r : Result TermId BuildError) → PutsAll most a b [] parts ts (Ok tt) → Builds most b c (conjunction (clause_at b parts)) r → Builds most a c (conjunction ts) r
 conjoined most a b c ts parts r h k = builds_after most a b c ts (conjunction ts) r h.grows (conjunction_keeps ts) (subst (λ us. Builds most b c (conjunction us) r) h.ends.terms k)
 
-pub not_conjoined : (most : ℕ) (a b : TableView) (ts : List Term) (parts : List TermId) (e : BuildStop) → PutsAll most a b [] parts ts (Err e) → Builds most a b (conjunction ts) (Err e)
-not_conjoined most a b ts parts Crowded h = record { grows = grows_by a b ts (conjunction ts ∷ []) h.grows (conjunction_keeps ts); ends = h.ends }
+pub not_conjoined : (most : ℕ) (a b : TableView) (ts : List Term) (parts : List TermId) (e : BuildError) → PutsAll most a b [] parts ts (Err e) → Builds most a b (conjunction ts) (Err e)
+not_conjoined most a b ts parts OverLimit h = record { grows = grows_by a b ts (conjunction ts ∷ []) h.grows (conjunction_keeps ts); ends = h.ends }
 not_conjoined most a b ts parts Memory h = record { grows = grows_by a b ts (conjunction ts ∷ []) h.grows (conjunction_keeps ts); ends = tt }
 
 -- a list is its first item and the others

@@ -10,8 +10,7 @@ use Rattle.spec_terms.specs.Terms.{Term}
 use Rattle.spec_terms.specs.Reading.{Scope, applied, atom_term, term_in, terms_in}
 use Rattle.term_core.specs.declared.ids.TermId.{TermId}
 use Rattle.term_core.specs.Tables.{TableView, IsIn, AreIn}
-use Rattle.smt_sexpr.specs.declared.items.Item.{Item}
-use Rattle.smt_sexpr.specs.Items.{trees_in, split_first}
+use Rattle.smt_sexpr.specs.Items.{split_first}
 use Rattle.sort_check.specs.declared.faults.TermFault.{TermFault}
 use Rattle.sort_check.specs.declared.frames.Frame.{Frame}
 use Rattle.sort_check.specs.declared.functions.Function.{Function}
@@ -46,16 +45,16 @@ rises_closed low [] o n h = (h.0, h.1)
 rises_closed low (p ∷ os) o n h = let r = rises_closed p.from os o n h.1 in ((h.0, r.0), r.1)
 
 -- What was read, and what is left.
-pub record Reading (most : ℕ) (scope : Scope) (all : Trees) (old now : TableView) (crowded : Bool) (os : List Open) (ids : List TermId) (rest : Trees) : Type 0 where
+pub record Reading (most : ℕ) (scope : Scope) (all : Trees) (old now : TableView) (over_limit : Bool) (os : List Open) (ids : List TermId) (rest : Trees) : Type 0 where
   -- the terms that were read
   pub terms : List Term
   -- the values stand for them
-  pub stack : Stack crowded most now terms ids
+  pub stack : Stack over_limit most now terms ids
   -- with what is left they come to all
   pub same : terms_in scope all ≡ resumed scope os terms rest
   -- their subterms alone came
   pub grows : Grows terms old now
-  -- the open lists begin one behind the other
+  -- the open lists begin one after the other
   pub rises : Rises 0 os (length terms)
 
 pub reading_begins : (most : ℕ) (scope : Scope) (all : Trees) (old : TableView) → Reading most scope all old old false [] [] all
@@ -74,7 +73,7 @@ replaced_subterms ts n t h u part = elim (Contains-append_cases (take n ts) (dro
   | inr back ↦ subterms_along (drop n ts) (t ∷ []) (take n ts ++ t ∷ []) h (member_subterms (t ∷ []) (take n ts ++ t ∷ []) (λ v one. Contains-append_right (take n ts) (t ∷ []) v one)) u back
 ]
 
-module _ (most : ℕ) (scope : Scope) (all : Trees) (old now : TableView) (crowded : Bool) (os : List Open) (ids : List TermId) (rest : Trees) (h : Reading most scope all old now crowded os ids rest) where
+module _ (most : ℕ) (scope : Scope) (all : Trees) (old now : TableView) (over_limit : Bool) (os : List Open) (ids : List TermId) (rest : Trees) (h : Reading most scope all old now over_limit os ids rest) where
   -- a term in the place of its arguments
   replaced : (new : TableView) (next : Bool) (n : ℕ) (t : Term) (values : List TermId) (ps : List Open) (left : Trees) → Replaces most now new h.terms n t values (Ok next) → AreSubterms (drop n h.terms) (t ∷ [])
       → resumed scope os h.terms rest ≡ resumed scope ps (take n h.terms ++ t ∷ []) left → Rises 0 ps (length (take n h.terms ++ t ∷ [])) → Reading most scope all old new next ps values left
@@ -113,7 +112,7 @@ module _ (most : ℕ) (scope : Scope) (all : Trees) (old now : TableView) (crowd
     atom_refused at k n ts e is fun = next_fault (atom at k n) ts e is (ap (λ s. atom_term s at k n) (sym here_scope) ∙ fun [] refl)
 
     pub closed_read : (ps : List Open) (o : Open) (f : Function) (new : TableView) (next : Bool) (values : List TermId) → rest ≡ none → os ≡ ps ++ o ∷ []
-        → IsFunction now (length ids - o.from) (applied (scope_at now d) o.place o.name o.at) (Ok f) → Replaces most now new h.terms o.from (function_term now f (drop o.from h.terms)) values (Ok next) → Reading most scope all old new next ps values o.behind
+        → IsFunction now (length ids - o.from) (applied (scope_at now d) o.place o.name o.at) (Ok f) → Replaces most now new h.terms o.from (function_term now f (drop o.from h.terms)) values (Ok next) → Reading most scope all old new next ps values o.after
     closed_read ps o f new next values is opens fun r =
         let args : List Term = drop o.from h.terms in
         let t : Term = function_term now f args in
@@ -122,8 +121,8 @@ module _ (most : ℕ) (scope : Scope) (all : Trees) (old now : TableView) (crowd
         let rose = rises_closed 0 ps o (length h.terms) (subst (λ qs. Rises 0 qs (length h.terms)) opens h.rises) in
         let read : applied scope o.place o.name o.at args ≡ Ok t = ap (λ s. applied s o.place o.name o.at args) (sym here_scope) ∙ fun.1 args count in
         let takes : Takes now f (length args) = subst (Takes now f) (sym count) fun.0 in
-        replaced new next o.from t values ps o.behind r (function_keeps now f args takes)
-        ((λ i. resumed scope (opens i) h.terms (is i)) ∙ sym (resumed_more scope ps o (front ++ t ∷ []) h.terms o.behind none (sym (closed_term scope h.terms o t read))))
+        replaced new next o.from t values ps o.after r (function_keeps now f args takes)
+        ((λ i. resumed scope (opens i) h.terms (is i)) ∙ sym (resumed_more scope ps o (front ++ t ∷ []) h.terms o.after none (sym (closed_term scope h.terms o t read))))
         (rises_more 0 ps o.from (length (front ++ t ∷ [])) (omega (arith, length-append front (t ∷ []), length-take o.from h.terms, rose.1)) rose.0)
 
     pub closed_refused : (ps : List Open) (o : Open) (e : TermFault) → rest ≡ none → os ≡ ps ++ o ∷ [] → IsFunction now (length ids - o.from) (applied (scope_at now d) o.place o.name o.at) (Err e) → terms_in scope all ≡ Err (located_of e)
@@ -133,16 +132,16 @@ module _ (most : ℕ) (scope : Scope) (all : Trees) (old now : TableView) (crowd
         let wrong : applied scope o.place o.name o.at args ≡ Err (located_of e) = ap (λ s. applied s o.place o.name o.at args) (sym here_scope) ∙ fun args count in
         h.same ∙ (λ i. resumed scope (opens i) h.terms (is i)) ∙ resumed_closed_fault scope ps o h.terms none (located_of e) (closed_fault scope h.terms o (located_of e) wrong)
 
-  pub list_read : (text : List ℕ) (at end : ℕ) (inside : Trees) (behind : List Item) (from : ℕ) (f : Frame) (us : List Item) → rest ≡ more (list at inside end) (trees_in text behind) → from ≡ length ids
-      → HasBegun text at inside behind from f us → Reading most scope all old now crowded (os ++ open_of text f ∷ []) ids (trees_in text us)
-  list_read text at end inside behind from f us is whole b =
-      let o : Open = open_of text f in
+  pub list_read : (at end : ℕ) (inside after : Trees) (from : ℕ) (f : Frame) (us : Trees) → rest ≡ more (list at inside end) after → from ≡ length ids
+      → HasBegun at inside after from f us → Reading most scope all old now over_limit (os ++ open_of f ∷ []) ids us
+  list_read at end inside after from f us is whole b =
+      let o : Open = open_of f in
       let first : o.from ≡ length h.terms = omega (arith, b.from, whole, h.stack.count) in
       record {
         terms = h.terms;
         stack = h.stack;
-        same = h.same ∙ resumed_more scope os o h.terms h.terms rest (trees_in text us)
-            (ap (followed scope h.terms) is ∙ (λ i. followed scope h.terms (more (list (sym b.at i) inside end) (sym b.behind i))) ∙ followed_list scope h.terms o inside end b.head first ∙ ap (resumed scope (o ∷ []) h.terms) (sym b.arguments));
+        same = h.same ∙ resumed_more scope os o h.terms h.terms rest us
+            (ap (followed scope h.terms) is ∙ (λ i. followed scope h.terms (more (list (sym b.at i) inside end) (sym b.after i))) ∙ followed_list scope h.terms o inside end b.head first ∙ ap (resumed scope (o ∷ []) h.terms) (sym b.arguments));
         grows = h.grows;
         rises = rises_opened 0 os o (length h.terms) first h.rises;
       }
@@ -151,14 +150,14 @@ module _ (most : ℕ) (scope : Scope) (all : Trees) (old now : TableView) (crowd
   list_refused at end inside ts e is wrong = next_fault (list at inside end) ts e is (list_fault scope at inside end (located_of e) wrong)
 
   -- what is on the stack
-  pub stacked : (ts : List Term) × Stack crowded most now ts ids
+  pub stacked : (ts : List Term) × Stack over_limit most now ts ids
   stacked = (h.terms, h.stack)
 
   pub all_read : rest ≡ none → os ≡ [] → HasRead most scope all old now ids
   all_read is closed = record {
     terms = h.terms;
     read = h.same ∙ (λ i. resumed scope (closed i) h.terms (is i)) ∙ resumed_end scope h.terms;
-    stand = λ few. stands crowded h.stack.stand few;
+    stand = λ few. stands over_limit h.stack.stand few;
     grows = h.grows;
   }
     where
@@ -177,9 +176,9 @@ pub split_none : (ts : Trees) → None ≡ split_first ts → ts ≡ none
 split_none none e = refl
 split_none (more t ts) e = absurd (let wrong = e in cc)
 
-pub next_is : (text : List ℕ) (rest behind : List Item) (t u : Tree) → Some (u, trees_in text behind) ≡ split_first (trees_in text rest) → t ≡ u → trees_in text rest ≡ more t (trees_in text behind)
-next_is text rest behind t u e same = split_more (trees_in text rest) (trees_in text behind) u e ∙ ap (λ v. more v (trees_in text behind)) (sym same)
+pub next_is : (rest after : Trees) (t u : Tree) → Some (u, after) ≡ split_first rest → t ≡ u → rest ≡ more t after
+next_is rest after t u e same = split_more rest after u e ∙ ap (λ v. more v after) (sym same)
 
 -- the innermost open list
-pub opens_last : (text : List ℕ) (fs gs : List Frame) (f : Frame) → fs ≡ gs ++ f ∷ [] → opens_of text fs ≡ opens_of text gs ++ open_of text f ∷ []
-opens_last text fs gs f e = ap (opens_of text) e ∙ map-append (open_of text) gs (f ∷ [])
+pub opens_last : (fs gs : List Frame) (f : Frame) → fs ≡ gs ++ f ∷ [] → opens_of fs ≡ opens_of gs ++ open_of f ∷ []
+opens_last fs gs f e = ap opens_of e ∙ map-append open_of gs (f ∷ [])

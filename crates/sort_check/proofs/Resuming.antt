@@ -8,11 +8,11 @@ use Rattle.spec_text.specs.Trees.{Tree, Trees, list, none, more}
 use Rattle.spec_terms.specs.Terms.{Term}
 use Rattle.spec_terms.specs.Forms.{Form, malformed, reserved, applies, form}
 use Rattle.spec_terms.specs.Reading.{Scope, applied, by_form, term_in, terms_in}
-use Rattle.sort_check.specs.Frames.{form_of, behind_first, form_fault}
+use Rattle.sort_check.specs.Frames.{form_of, after_first, form_fault}
 use Rattle.sort_check.specs.Resuming.{Open, followed, closed, resumed}
 
 module _ (scope : Scope) where
-  -- a term more, before those of the trees behind it
+  -- a term more, before those of the trees after it
   one_more : (done : List Term) (a : Answer Term) (b : Answer (List Term)) → ((a >>= λ u. b >>= λ us. Ok (u ∷ us)) >>= λ us. Ok (done ++ us)) ≡ (a >>= λ u. b >>= λ us. Ok ((done ++ u ∷ []) ++ us))
   unfolding ◌>>=◌
   one_more done (Err e) b = refl
@@ -45,16 +45,16 @@ module _ (scope : Scope) where
 
   -- a list begins
   pub followed_list : (done : List Term) (o : Open) (inside : Trees) (end : ℕ) → form_of inside ≡ applies o.place o.name → o.from ≡ length done
-      → followed scope done (more (list o.at inside end) o.behind) ≡ resumed scope (o ∷ []) done (behind_first inside)
+      → followed scope done (more (list o.at inside end) o.after) ≡ resumed scope (o ∷ []) done (after_first inside)
   unfolding ◌>>=◌ term_in terms_in resumed
   followed_list done o none end f n = absurd (malformed_no f)
     where
       malformed_no : malformed ≡ applies o.place o.name → ⊥
       malformed_no e = cc
   followed_list done o (more head us) end f n =
-      one_more done (by_form scope o.at (form head us) (terms_in scope us)) (terms_in scope o.behind)
-      ∙ ap (λ g. by_form scope o.at g (terms_in scope us) >>= λ v. terms_in scope o.behind >>= λ us. Ok ((done ++ v ∷ []) ++ us)) f
-      ∙ opened done o (terms_in scope us) (terms_in scope o.behind) n
+      one_more done (by_form scope o.at (form head us) (terms_in scope us)) (terms_in scope o.after)
+      ∙ ap (λ g. by_form scope o.at g (terms_in scope us) >>= λ v. terms_in scope o.after >>= λ us. Ok ((done ++ v ∷ []) ++ us)) f
+      ∙ opened done o (terms_in scope us) (terms_in scope o.after) n
 
   -- a list does not begin
   pub list_fault : (at : ℕ) (inside : Trees) (end : ℕ) (e : Located) → form_fault at (form_of inside) ≡ Some e → term_in scope (list at inside end) ≡ Err e
@@ -75,40 +75,40 @@ module _ (scope : Scope) where
 
   -- all arguments of a list were read
   pub closed_term : (done : List Term) (o : Open) (u : Term) → applied scope o.place o.name o.at (drop o.from done) ≡ Ok u
-      → resumed scope (o ∷ []) done none ≡ followed scope (take o.from done ++ u ∷ []) o.behind
+      → resumed scope (o ∷ []) done none ≡ followed scope (take o.from done ++ u ∷ []) o.after
   unfolding ◌>>=◌ terms_in resumed
   closed_term done o u e =
-      ap (λ ds. closed scope o ds >>= λ us. followed scope us o.behind) (append-nil done)
-      ∙ ap (λ a. (a >>= λ t. Ok (take o.from done ++ t ∷ [])) >>= λ us. followed scope us o.behind) e
+      ap (λ ds. closed scope o ds >>= λ us. followed scope us o.after) (append-nil done)
+      ∙ ap (λ a. (a >>= λ t. Ok (take o.from done ++ t ∷ [])) >>= λ us. followed scope us o.after) e
 
   -- the list itself has a fault
   pub closed_fault : (done : List Term) (o : Open) (e : Located) → applied scope o.place o.name o.at (drop o.from done) ≡ Err e → resumed scope (o ∷ []) done none ≡ Err e
   unfolding ◌>>=◌ terms_in resumed
   closed_fault done o e h =
-      ap (λ ds. closed scope o ds >>= λ us. followed scope us o.behind) (append-nil done)
-      ∙ ap (λ a. (a >>= λ t. Ok (take o.from done ++ t ∷ [])) >>= λ us. followed scope us o.behind) h
+      ap (λ ds. closed scope o ds >>= λ us. followed scope us o.after) (append-nil done)
+      ∙ ap (λ a. (a >>= λ t. Ok (take o.from done ++ t ∷ [])) >>= λ us. followed scope us o.after) h
 
   -- what is the same in the innermost list is the same in all
   pub resumed_same : (os : List Open) (done new : List Term) (rest next : Trees) → followed scope done rest ≡ followed scope new next → resumed scope os done rest ≡ resumed scope os new next
   unfolding resumed
   resumed_same [] done new rest next e = e
-  resumed_same (o ∷ os) done new rest next e = ap (λ a. a >>= λ ts. closed scope o ts >>= λ us. followed scope us o.behind) (resumed_same os done new rest next e)
+  resumed_same (o ∷ os) done new rest next e = ap (λ a. a >>= λ ts. closed scope o ts >>= λ us. followed scope us o.after) (resumed_same os done new rest next e)
 
   pub resumed_more : (os : List Open) (o : Open) (done new : List Term) (rest next : Trees) → followed scope done rest ≡ resumed scope (o ∷ []) new next → resumed scope os done rest ≡ resumed scope (os ++ o ∷ []) new next
   unfolding resumed
   resumed_more [] o done new rest next e = e
-  resumed_more (p ∷ os) o done new rest next e = ap (λ a. a >>= λ ts. closed scope p ts >>= λ us. followed scope us p.behind) (resumed_more os o done new rest next e)
+  resumed_more (p ∷ os) o done new rest next e = ap (λ a. a >>= λ ts. closed scope p ts >>= λ us. followed scope us p.after) (resumed_more os o done new rest next e)
 
   -- a fault in the innermost list is the fault of all
   pub resumed_fault : (os : List Open) (done : List Term) (rest : Trees) (e : Located) → followed scope done rest ≡ Err e → resumed scope os done rest ≡ Err e
   unfolding resumed ◌>>=◌
   resumed_fault [] done rest e h = h
-  resumed_fault (o ∷ os) done rest e h = ap (λ a. a >>= λ ts. closed scope o ts >>= λ us. followed scope us o.behind) (resumed_fault os done rest e h)
+  resumed_fault (o ∷ os) done rest e h = ap (λ a. a >>= λ ts. closed scope o ts >>= λ us. followed scope us o.after) (resumed_fault os done rest e h)
 
   pub resumed_closed_fault : (os : List Open) (o : Open) (done : List Term) (rest : Trees) (e : Located) → resumed scope (o ∷ []) done rest ≡ Err e → resumed scope (os ++ o ∷ []) done rest ≡ Err e
   unfolding resumed ◌>>=◌
   resumed_closed_fault [] o done rest e h = h
-  resumed_closed_fault (p ∷ os) o done rest e h = ap (λ a. a >>= λ ts. closed scope p ts >>= λ us. followed scope us p.behind) (resumed_closed_fault os o done rest e h)
+  resumed_closed_fault (p ∷ os) o done rest e h = ap (λ a. a >>= λ ts. closed scope p ts >>= λ us. followed scope us p.after) (resumed_closed_fault os o done rest e h)
 
   -- nothing is left
   pub resumed_end : (done : List Term) → resumed scope [] done none ≡ Ok done

@@ -25,15 +25,15 @@ mean_take : (t : TableView) (n : ℕ) (ts : List Term) (ids : List TermId) → A
 mean_take t n ts ids h = record { there = All-take (λ i. IsIn t i) n ids h.there; terms = map_take (term_at t) n ids ∙ ap (take n) h.terms }
 
 -- the values from one on
-pub stand_drop : (crowded : Bool) (most : ℕ) (t : TableView) (n : ℕ) (ts : List Term) (ids : List TermId) → Stand crowded most t ts ids → Stand crowded most t (drop n ts) (drop n ids)
+pub stand_drop : (over_limit : Bool) (most : ℕ) (t : TableView) (n : ℕ) (ts : List Term) (ids : List TermId) → Stand over_limit most t ts ids → Stand over_limit most t (drop n ts) (drop n ids)
 stand_drop true most t n ts ids h = h
 stand_drop false most t n ts ids h = record { there = All-drop (λ i. IsIn t i) n ids h.there; terms = map_drop (term_at t) n ids ∙ ap (drop n) h.terms }
 
-module _ (crowded : Bool) (most : ℕ) (old new : TableView) (ts : List Term) (ids next : List TermId) (n : ℕ) (t : Term) (id : TermId) (stack : Stack crowded most old ts ids) (is : next ≡ take n ids ++ id ∷ []) where
+module _ (over_limit : Bool) (most : ℕ) (old new : TableView) (ts : List Term) (ids next : List TermId) (n : ℕ) (t : Term) (id : TermId) (stack : Stack over_limit most old ts ids) (is : next ≡ take n ids ++ id ∷ []) where
   as_many : length next ≡ length (take n ts ++ t ∷ [])
   as_many = omega (arith, ap length is, length-append (take n ids) (id ∷ []), length-append (take n ts) (t ∷ []), length-take n ids, length-take n ts, stack.count)
 
-  pub replaced_some : IsValue crowded most old new t (Ok (Some id)) → Replaces most old new ts n t next (Ok false)
+  pub replaced_some : IsValue over_limit most old new t (Ok (Some id)) → Replaces most old new ts n t next (Ok false)
   replaced_some v =
       let before : AllMean old ts ids = subst (λ b. Stand b most old ts ids) v.ends.0 stack.stand in
       let front : AllMean new (take n ts) (take n ids) = all_mean_kept old new (take n ts) (take n ids) v.grows.keeps.extends (mean_take old n ts ids before) in
@@ -48,11 +48,11 @@ module _ (crowded : Bool) (most : ℕ) (old new : TableView) (ts : List Term) (i
         };
       }
 
-  pub replaced_none : IsValue crowded most old new t (Ok None) → Replaces most old new ts n t next (Ok true)
+  pub replaced_none : IsValue over_limit most old new t (Ok None) → Replaces most old new ts n t next (Ok true)
   replaced_none v = record { grows = v.grows; ends = record { count = as_many; stand = v.ends } }
 
-pub replaced_not : (crowded : Bool) (most : ℕ) (old new : TableView) (ts : List Term) (n : ℕ) (t : Term) (next : List TermId) (e : NoMemory) (r : Result (Option TermId) NoMemory) → IsValue crowded most old new t r → Replaces most old new ts n t next (Err e)
-replaced_not crowded most old new ts n t next e r v = record { grows = v.grows; ends = tt }
+pub replaced_not : (over_limit : Bool) (most : ℕ) (old new : TableView) (ts : List Term) (n : ℕ) (t : Term) (next : List TermId) (e : NoMemory) (r : Result (Option TermId) NoMemory) → IsValue over_limit most old new t r → Replaces most old new ts n t next (Err e)
+replaced_not over_limit most old new ts n t next e r v = record { grows = v.grows; ends = tt }
 
-pub stand_rest : (crowded : Bool) (most : ℕ) (t : TableView) (n : ℕ) (ts : List Term) (ids held : List TermId) → held ≡ ids → Stack crowded most t ts ids → Stand crowded most t (drop n ts) (take (length held - n) (drop n held))
-stand_rest crowded most t n ts ids held is h = subst (Stand crowded most t (drop n ts)) (sym (take_rest held n)) (subst (λ xs. Stand crowded most t (drop n ts) (drop n xs)) (sym is) (stand_drop crowded most t n ts ids h.stand))
+pub stand_rest : (over_limit : Bool) (most : ℕ) (t : TableView) (n : ℕ) (ts : List Term) (ids held : List TermId) → held ≡ ids → Stack over_limit most t ts ids → Stand over_limit most t (drop n ts) (take (length held - n) (drop n held))
+stand_rest over_limit most t n ts ids held is h = subst (Stand over_limit most t (drop n ts)) (sym (take_rest held n)) (subst (λ xs. Stand over_limit most t (drop n ts) (drop n xs)) (sym is) (stand_drop over_limit most t n ts ids h.stand))

@@ -4,8 +4,8 @@ use Rattle.spec_terms.specs.Terms.{Term}
 use Rattle.spec_terms.specs.Subterms.{subterms_of}
 use Rattle.term_core.specs.declared.ids.TermId.{TermId}
 use Rattle.term_core.specs.Tables.{TableView, no_term, term_at, clause_at, IsIn, AreIn, Extends}
-use Rattle.sort_check.specs.declared.build.BuildStop.{BuildStop}
-use Rattle.sort_check.specs.declared.build.BuildStop.TheVariants.{Crowded, Memory}
+use Rattle.sort_check.specs.declared.build.BuildError.{BuildError}
+use Rattle.sort_check.specs.declared.build.BuildError.TheVariants.{OverLimit, Memory}
 
 -- the terms of a table from a number on are subterms of these
 abbrev pub AreSubtermsFrom : ℕ → List Term → TableView → Type 0
@@ -33,13 +33,13 @@ pub record Means (table : TableView) (t : Term) (id : TermId) : Type 0 where
   pub term : term_at table id ≡ t
 
 -- how building one term ends
-abbrev pub EndsBuilding : ℕ → Term → TableView → Result TermId BuildStop → Type 0
+abbrev pub EndsBuilding : ℕ → Term → TableView → Result TermId BuildError → Type 0
 EndsBuilding most t new (Ok id) = Means new t id
-EndsBuilding most t new (Err Crowded) = most < length new.terms
+EndsBuilding most t new (Err OverLimit) = most < length new.terms
 EndsBuilding most t new (Err Memory) = Unit {0}
 
 -- Building one term: the table grows by its subterms, and then has it, or more than `most` terms, or memory ran out.
-pub record Builds (most : ℕ) (old new : TableView) (t : Term) (result : Result TermId BuildStop) : Type 0 where
+pub record Builds (most : ℕ) (old new : TableView) (t : Term) (result : Result TermId BuildError) : Type 0 where
   -- the table has its subterms
   pub grows : Grows (t ∷ []) old new
   -- its number, or why there is none
@@ -53,13 +53,13 @@ pub record AllMean (table : TableView) (ts : List Term) (ids : List TermId) : Ty
   pub terms : clause_at table ids ≡ ts
 
 -- how building terms, one after the other, ends
-abbrev pub EndsPutting : ℕ → TableView → List Term → List TermId → Result (Unit {0}) BuildStop → Type 0
+abbrev pub EndsPutting : ℕ → TableView → List Term → List TermId → Result (Unit {0}) BuildError → Type 0
 EndsPutting most new ts ids (Ok u) = AllMean new ts ids
-EndsPutting most new ts ids (Err Crowded) = most < length new.terms
+EndsPutting most new ts ids (Err OverLimit) = most < length new.terms
 EndsPutting most new ts ids (Err Memory) = Unit {0}
 
 -- Building terms, one after the other, behind those of numbers that there are: as building one.
-pub record PutsAll (most : ℕ) (old new : TableView) (before after : List TermId) (ts : List Term) (result : Result (Unit {0}) BuildStop) : Type 0 where
+pub record PutsAll (most : ℕ) (old new : TableView) (before after : List TermId) (ts : List Term) (result : Result (Unit {0}) BuildError) : Type 0 where
   -- the table has their subterms
   pub grows : Grows ts old new
   -- their numbers, or why there are none

@@ -9,7 +9,7 @@ use Rattle.term_core.specs.Tables.{TableView, symbol_at, IsSymbol, term_at, IsIn
 use Rattle.sort_check.specs.declared.faults.TermFault.{TermFault}
 use Rattle.sort_check.specs.declared.functions.Function.{Function}
 use Rattle.sort_check.specs.declared.functions.Function.TheVariants.{Core, Declared, Defined}
-use Rattle.sort_check.specs.Heads.{rule_of}
+use Rattle.term_core.specs.Heads.{rule_of}
 
 -- a fault with its offset, in the words of the definitions
 abbrev pub located_of : TermFault → Located

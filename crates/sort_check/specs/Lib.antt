@@ -1,5 +1,4 @@
 -- What reading terms comes to, step by step.
-pub mod Heads
 pub mod Definitions
 pub mod Functions
 pub mod Building

@@ -7,8 +7,8 @@ use Rattle.spec_terms.specs.Terms.{Term}
 use Rattle.spec_terms.specs.Reading.{Scope, terms_in}
 use Rattle.term_core.specs.declared.ids.TermId.{TermId}
 use Rattle.term_core.specs.Tables.{TableView, clause_at, AreIn}
-use Rattle.sort_check.specs.declared.faults.TermStop.{TermStop}
-use Rattle.sort_check.specs.declared.faults.TermStop.TheVariants.{Fault, Memory}
+use Rattle.sort_check.specs.declared.faults.ReadError.{ReadError}
+use Rattle.sort_check.specs.declared.faults.ReadError.TheVariants.{Fault, Memory}
 use Rattle.sort_check.specs.Functions.{located_of}
 use Rattle.sort_check.specs.Building.{Keeps, Grows, AllMean}
 
@@ -24,21 +24,21 @@ pub record HasRead (most : ℕ) (scope : Scope) (all : Trees) (old new : TableVi
   pub grows : Grows terms old new
 
 -- how reading ends
-abbrev pub EndsReading : ℕ → Scope → Trees → TableView → TableView → Result (Vec TermId Global) TermStop → Type 0
+abbrev pub EndsReading : ℕ → Scope → Trees → TableView → TableView → Result (Vec TermId Global) ReadError → Type 0
 EndsReading most scope all old new (Ok v) = HasRead most scope all old new v.items
 EndsReading most scope all old new (Err (Fault f)) = terms_in scope all ≡ Err (located_of f)
 EndsReading most scope all old new (Err Memory) = Unit {0}
 
--- Reading, without a look at the room that there is.
-pub record Reads (most : ℕ) (scope : Scope) (all : Trees) (old new : TableView) (result : Result (Vec TermId Global) TermStop) : Type 0 where
+-- Reading, without a look at the limit on terms.
+pub record Reads (most : ℕ) (scope : Scope) (all : Trees) (old new : TableView) (result : Result (Vec TermId Global) ReadError) : Type 0 where
   -- what was there is there still
   pub keeps : Keeps old new
   -- the terms, or the first fault
   pub ends : EndsReading most scope all old new result
 
--- the table has no more terms than those that were there before and as many as there is room for; their number has 64 bits
-abbrev pub HasRoom : (before room : ℕ) → TableView → Type 0
-HasRoom before room table = (length table.terms ≤ before + room) × (length table.terms < 2 ^ 64)
+-- the table has no more terms than those that were there before and as many as the limit says; their number has 64 bits
+abbrev pub IsWithinLimit : (before limit : ℕ) → TableView → Type 0
+IsWithinLimit before limit table = (length table.terms ≤ before + limit) × (length table.terms < 2 ^ 64)
 
 -- The answer is these terms, by their numbers in the table, which keeps what it had.
 pub record HasTerms (answer : Answer (List Term)) (old new : TableView) (ids : List TermId) : Type 0 where
@@ -50,7 +50,7 @@ pub record HasTerms (answer : Answer (List Term)) (old new : TableView) (ids : L
   pub keeps : Keeps old new
 
 -- the terms, or the first fault
-abbrev pub AnswersTerms : Answer (List Term) → TableView → TableView → Result (Vec TermId Global) TermStop → Type 0
+abbrev pub AnswersTerms : Answer (List Term) → TableView → TableView → Result (Vec TermId Global) ReadError → Type 0
 AnswersTerms answer old new (Ok v) = HasTerms answer old new v.items
 AnswersTerms answer old new (Err (Fault f)) = answer ≡ Err (located_of f)
 AnswersTerms answer old new (Err Memory) = Unit {0}

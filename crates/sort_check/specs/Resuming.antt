@@ -16,10 +16,10 @@ pub record Open : Type 0 where
   pub name : Name
   -- how many terms were read before its arguments
   pub from : ℕ
-  -- the trees behind it, in the list around it
-  pub behind : Trees
+  -- the trees after it, in the list around it
+  pub after : Trees
 
--- the terms that were read, with those of the trees behind them
+-- the terms that were read, with those of the trees after them
 abbrev pub followed : Scope → List Term → Trees → Answer (List Term)
 followed scope done rest = terms_in scope rest >>= λ us. Ok (done ++ us)
 
@@ -27,7 +27,7 @@ followed scope done rest = terms_in scope rest >>= λ us. Ok (done ++ us)
 abbrev pub closed : Scope → Open → List Term → Answer (List Term)
 closed scope o ts = applied scope o.place o.name o.at (drop o.from ts) >>= λ t. Ok (take o.from ts ++ t ∷ [])
 
--- all terms, of what was read and what is left of the open lists, the outermost first, and of what stands behind them
+-- all terms, of what was read and what is left of the open lists, the outermost first, and of what stands after them
 unfoldable pub resumed : Scope → List Open → List Term → Trees → Answer (List Term)
 resumed scope [] done rest = followed scope done rest
-resumed scope (o ∷ os) done rest = resumed scope os done rest >>= λ ts. closed scope o ts >>= λ us. followed scope us o.behind
+resumed scope (o ∷ os) done rest = resumed scope os done rest >>= λ ts. closed scope o ts >>= λ us. followed scope us o.after

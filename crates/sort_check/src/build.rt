@@ -1,11 +1,11 @@
-//! Puts terms into the table, as long as there is room for them.
+//! Puts terms into the table, up to a limit on terms.
 
 ghost use Rattle.std.specs.Prelude.{◌≡◌, ◌<◌, true, [], ◌∷◌, length};
 ghost use Rattle.spec_terms.specs.Terms.{of};
 ghost use Rattle.spec_terms.specs.Theory.{pair, unequal, conjunction};
 ghost use Rattle.term_core.specs.Tables.{HasHead, head_meant, takes_so_many, term_at, clause_at, IsIn, AreIn};
 ghost use Rattle.sort_check.specs.Building.{Builds};
-ghost use Rattle.sort_check.specs.declared.build.BuildStop.TheVariants as stops;
+ghost use Rattle.sort_check.specs.declared.build.BuildError.TheVariants as stops;
 
 use std::alloc::{AllocError, AllocFailed, Global};
 use term_core::{Head, Node, TermId, TermTable};
@@ -13,45 +13,45 @@ use world_io::NoMemory;
 
 /// Tells why a term was not built.
 #[derive(Clone, Copy, Debug, PartialEq, Eq)]
-pub enum BuildStop {
-    /// The table has more terms than there is room for.
-    Crowded,
+pub enum BuildError {
+    /// The table has more terms than it may have.
+    OverLimit,
     /// No memory was left.
     Memory,
 }
 
-impl From<NoMemory> for BuildStop {
+impl From<NoMemory> for BuildError {
     ghost from_gives = { λ _ r. r ≡ stops.Memory };
 
-    fn from(_error: NoMemory) -> BuildStop {
-        BuildStop::Memory
+    fn from(_error: NoMemory) -> BuildError {
+        BuildError::Memory
     }
 }
 
-impl From<AllocError> for BuildStop {
+impl From<AllocError> for BuildError {
     ghost from_gives = { λ _ r. r ≡ stops.Memory };
 
-    fn from(_error: AllocError) -> BuildStop {
-        BuildStop::Memory
+    fn from(_error: AllocError) -> BuildError {
+        BuildError::Memory
     }
 }
 
-impl<T: Drop> From<AllocFailed<T>> for BuildStop {
+impl<T: Drop> From<AllocFailed<T>> for BuildError {
     ghost from_gives = { λ _ r. r ≡ stops.Memory };
 
-    fn from(_error: AllocFailed<T>) -> BuildStop {
-        BuildStop::Memory
+    fn from(_error: AllocFailed<T>) -> BuildError {
+        BuildError::Memory
     }
 }
 
-/// Puts a term of a head before arguments that it takes. `Crowded` comes where the table has more than `most` terms then.
+/// Puts a term of a head before arguments that it takes. `OverLimit` comes where the table has more than `most` terms then.
 pub fn put(
     alloc: Global,
     table: &mut TermTable,
     head: Head,
     arguments: &[TermId],
     most: u64,
-) -> Result<TermId, BuildStop>
+) -> Result<TermId, BuildError>
     requires there { AreIn table.old arguments.now }
     requires head { HasHead table.old.symbols head }
     requires takes { takes_so_many head arguments.now ≡ true }
@@ -61,7 +61,7 @@ pub fn put(
     let node = Node::new(alloc, head, arguments)?;
     let id = table.put(node)?;
     if table.len() > most {
-        return Err(BuildStop::Crowded);
+        return Err(BuildError::OverLimit);
     }
     Ok(id)
 }
@@ -74,7 +74,7 @@ pub fn put_pair(
     first: TermId,
     second: TermId,
     most: u64,
-) -> Result<TermId, BuildStop>
+) -> Result<TermId, BuildError>
     requires first { IsIn table.old first }
     requires second { IsIn table.old second }
     requires head { HasHead table.old.symbols head }
@@ -91,7 +91,7 @@ pub fn put_unequal(
     first: TermId,
     second: TermId,
     most: u64,
-) -> Result<TermId, BuildStop>
+) -> Result<TermId, BuildError>
     requires first { IsIn table.old first }
     requires second { IsIn table.old second }
     ensures { Builds most table.old table.new (unequal (term_at table.old first) (term_at table.old second)) result }
@@ -106,7 +106,7 @@ pub fn conjoin(
     table: &mut TermTable,
     parts: &[TermId],
     most: u64,
-) -> Result<TermId, BuildStop>
+) -> Result<TermId, BuildError>
     requires some { 0 < length parts.now }
     requires there { AreIn table.old parts.now }
     ensures { Builds most table.old table.new (conjunction (clause_at table.old parts.now)) result }

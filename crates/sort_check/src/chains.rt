@@ -5,15 +5,14 @@ ghost use Rattle.spec_terms.specs.Terms.{Xor, Implies, Equal};
 ghost use Rattle.spec_terms.specs.Lists.{left, right, neighbours, all_pairs};
 ghost use Rattle.spec_terms.specs.Theory.{pair, unequal, each_pair, no_term, takes};
 ghost use Rattle.term_core.specs.Tables.{term_at, clause_at, IsIn, AreIn};
-ghost use Rattle.sort_check.specs.Heads.{rule_of};
+ghost use Rattle.term_core.specs.Heads.{rule_of};
 ghost use Rattle.sort_check.specs.Building.{Builds, PutsAll};
 ghost use Rattle.sort_check.specs.Functions.{function_term, Takes};
 
-use crate::build::{BuildStop, conjoin, put, put_pair, put_unequal};
+use crate::build::{BuildError, conjoin, put, put_pair, put_unequal};
 use crate::functions::Function;
-use crate::heads::CoreHead;
 use std::alloc::Global;
-use term_core::{Head, TermId, TermTable};
+use term_core::{CoreHead, Head, TermId, TermTable};
 
 /// Takes arguments to the left by `xor`: the first two together, then the next one with them, and so on.
 fn exclusive(
@@ -21,16 +20,16 @@ fn exclusive(
     table: &mut TermTable,
     arguments: &[TermId],
     most: u64,
-) -> Result<TermId, BuildStop>
+) -> Result<TermId, BuildError>
     requires some { 0 < length arguments.now }
     requires there { AreIn table.old arguments.now }
     ensures { Builds most table.old table.new (left no_term (pair Xor) (clause_at table.old arguments.now)) result }
 {
     let mut all = arguments[0];
     let mut rest = &arguments[1..];
-    'arguments: while let Some((next, behind)) = rest.split_first() {
+    'arguments: while let Some((next, after)) = rest.split_first() {
         all = put_pair(alloc, table, Head::Xor, all, *next, most)?;
-        rest = behind;
+        rest = after;
     }
     Ok(all)
 }
@@ -41,7 +40,7 @@ fn implication(
     table: &mut TermTable,
     arguments: &[TermId],
     most: u64,
-) -> Result<TermId, BuildStop>
+) -> Result<TermId, BuildError>
     requires some { 0 < length arguments.now }
     requires there { AreIn table.old arguments.now }
     ensures { Builds most table.old table.new (right no_term (pair Implies) (clause_at table.old arguments.now)) result }
@@ -64,7 +63,7 @@ fn put_neighbours(
     others: &[TermId],
     parts: &mut Vec<TermId>,
     most: u64,
-) -> Result<(), BuildStop>
+) -> Result<(), BuildError>
     requires first { IsIn table.old first }
     requires there { AreIn table.old others.now }
     requires parts { AreIn table.old parts.old.items }
@@ -72,11 +71,11 @@ fn put_neighbours(
 {
     let mut previous = first;
     let mut rest = others;
-    'arguments: while let Some((next, behind)) = rest.split_first() {
+    'arguments: while let Some((next, after)) = rest.split_first() {
         let equal = put_pair(alloc, table, Head::Equal, previous, *next, most)?;
         parts.push(equal)?;
         previous = *next;
-        rest = behind;
+        rest = after;
     }
     Ok(())
 }
@@ -87,7 +86,7 @@ fn equality(
     table: &mut TermTable,
     arguments: &[TermId],
     most: u64,
-) -> Result<TermId, BuildStop>
+) -> Result<TermId, BuildError>
     requires two { 1 < length arguments.now }
     requires there { AreIn table.old arguments.now }
     ensures { Builds most table.old table.new (each_pair (pair Equal) (neighbours (clause_at table.old arguments.now))) result }
@@ -112,17 +111,17 @@ fn put_different(
     others: &[TermId],
     parts: &mut Vec<TermId>,
     most: u64,
-) -> Result<(), BuildStop>
+) -> Result<(), BuildError>
     requires first { IsIn table.old first }
     requires there { AreIn table.old others.now }
     requires parts { AreIn table.old parts.old.items }
     ensures { PutsAll most table.old table.new parts.old.items parts.new.items (map (unequal (term_at table.old first)) (clause_at table.old others.now)) result }
 {
     let mut rest = others;
-    'others: while let Some((other, behind)) = rest.split_first() {
+    'others: while let Some((other, after)) = rest.split_first() {
         let unequal = put_unequal(alloc, table, first, *other, most)?;
         parts.push(unequal)?;
-        rest = behind;
+        rest = after;
     }
     Ok(())
 }
@@ -134,7 +133,7 @@ fn put_all_pairs(
     arguments: &[TermId],
     parts: &mut Vec<TermId>,
     most: u64,
-) -> Result<(), BuildStop>
+) -> Result<(), BuildError>
     requires there { AreIn table.old arguments.now }
     requires parts { AreIn table.old parts.old.items }
     ensures { PutsAll most table.old table.new parts.old.items parts.new.items (map (λ p. unequal p.0 p.1) (all_pairs (clause_at table.old arguments.now))) result }
@@ -153,7 +152,7 @@ fn distinct(
     table: &mut TermTable,
     arguments: &[TermId],
     most: u64,
-) -> Result<TermId, BuildStop>
+) -> Result<TermId, BuildError>
     requires two { 1 < length arguments.now }
     requires there { AreIn table.old arguments.now }
     ensures { Builds most table.old table.new (each_pair unequal (all_pairs (clause_at table.old arguments.now))) result }
@@ -164,14 +163,14 @@ fn distinct(
 }
 
 /// Builds the term of a function of theory Core before arguments that it takes.
-#[tactic(auto, unfolding(crate::specs::Heads::rule_of))]
+#[tactic(auto, unfolding(term_core::specs::Heads::rule_of))]
 fn build_core(
     alloc: Global,
     table: &mut TermTable,
     head: CoreHead,
     arguments: &[TermId],
     most: u64,
-) -> Result<TermId, BuildStop>
+) -> Result<TermId, BuildError>
     requires there { AreIn table.old arguments.now }
     requires takes { takes (rule_of head) (length arguments.now) ≡ true }
     ensures { Builds most table.old table.new ((rule_of head).reads (clause_at table.old arguments.now)) result }
@@ -190,7 +189,7 @@ fn build_core(
     }
 }
 
-/// Builds the term of a function before arguments that it takes. `Crowded` comes as soon as the table has more than `most`
+/// Builds the term of a function before arguments that it takes. `OverLimit` comes as soon as the table has more than `most`
 /// terms; whatever was put is a subterm of the term that there would be.
 pub fn build(
     alloc: Global,
@@ -198,7 +197,7 @@ pub fn build(
     function: Function,
     arguments: &[TermId],
     most: u64,
-) -> Result<TermId, BuildStop>
+) -> Result<TermId, BuildError>
     requires there { AreIn table.old arguments.now }
     requires takes { Takes table.old function (length arguments.now) }
     ensures { Builds most table.old table.new (function_term table.old function (clause_at table.old arguments.now)) result }

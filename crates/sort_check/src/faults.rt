@@ -1,7 +1,7 @@
 //! Why a text was not read.
 
 ghost use Rattle.std.specs.Prelude.{◌≡◌};
-ghost use Rattle.sort_check.specs.declared.faults.TermStop.TheVariants as stops;
+ghost use Rattle.sort_check.specs.declared.faults.ReadError.TheVariants as stops;
 
 use spec_text::Fault;
 use std::alloc::{AllocError, AllocFailed};
@@ -19,7 +19,7 @@ pub struct TermFault {
 
 /// Tells why terms were not read.
 #[derive(Clone, Copy, Debug, Error, PartialEq, Eq)]
-pub enum TermStop {
+pub enum ReadError {
     /// The first fault of the text.
     #[error("{0:?}")]
     Fault(TermFault),
@@ -28,35 +28,35 @@ pub enum TermStop {
     Memory,
 }
 
-impl From<TermFault> for TermStop {
+impl From<TermFault> for ReadError {
     ghost from_gives = { λ f r. r ≡ stops.Fault f };
 
-    fn from(fault: TermFault) -> TermStop {
-        TermStop::Fault(fault)
+    fn from(fault: TermFault) -> ReadError {
+        ReadError::Fault(fault)
     }
 }
 
-impl From<NoMemory> for TermStop {
+impl From<NoMemory> for ReadError {
     ghost from_gives = { λ _ r. r ≡ stops.Memory };
 
-    fn from(_error: NoMemory) -> TermStop {
-        TermStop::Memory
+    fn from(_error: NoMemory) -> ReadError {
+        ReadError::Memory
     }
 }
 
-impl From<AllocError> for TermStop {
+impl From<AllocError> for ReadError {
     ghost from_gives = { λ _ r. r ≡ stops.Memory };
 
-    fn from(_error: AllocError) -> TermStop {
-        TermStop::Memory
+    fn from(_error: AllocError) -> ReadError {
+        ReadError::Memory
     }
 }
 
-impl<T: Drop> From<AllocFailed<T>> for TermStop {
+impl<T: Drop> From<AllocFailed<T>> for ReadError {
     ghost from_gives = { λ _ r. r ≡ stops.Memory };
 
-    fn from(_error: AllocFailed<T>) -> TermStop {
-        TermStop::Memory
+    fn from(_error: AllocFailed<T>) -> ReadError {
+        ReadError::Memory
     }
 }
 

@@ -1,10 +1,10 @@
 //! Lists that are open while their arguments are read.
 
-ghost use Rattle.smt_sexpr.specs.Items.{trees_in};
+ghost use Rattle.smt_sexpr.specs.Items.{trees_meant};
 ghost use Rattle.sort_check.specs.Frames.{Begins};
 
 use crate::faults::{TermFault, fault_at};
-use smt_sexpr::{Item, View, look, split};
+use smt_sexpr::{Trees, View, look, split};
 use spec_text::{Fault, Kind};
 
 /// Holds a list whose arguments are being read.
@@ -18,23 +18,22 @@ pub struct Frame<'a> {
     pub name: &'a [u8],
     /// How many terms were read before its arguments.
     pub from: usize,
-    /// What stands behind it in the list around it.
-    pub behind: &'a [Item],
+    /// What stands after it in the list around it.
+    pub after: Trees<'a>,
 }
 
-/// Begins a list at an offset, with what stands in it and behind it, where so many terms were read: gives it with its
+/// Begins a list at an offset, with what stands in it and after it, where so many terms were read: gives it with its
 /// arguments.
 ///
 /// `BadShape` at the list comes where there is no argument, or no word in front that could be a head, and `Reserved` at
 /// the word in front where it is a reserved one. It takes no memory. Source: SMT-LIB 2.6, section 3.6.
 pub fn begin<'a>(
-    text: &'a [u8],
     at: u64,
-    inside: &'a [Item],
-    behind: &'a [Item],
+    inside: Trees<'a>,
+    after: Trees<'a>,
     from: usize,
-) -> Result<(Frame<'a>, &'a [Item]), TermFault>
-    ensures { Begins text.now at (trees_in text.now inside.now) behind.now from result }
+) -> Result<(Frame<'a>, Trees<'a>), TermFault>
+    ensures { Begins at (trees_meant inside.entry) (trees_meant after.entry) from result }
 {
     let Some((head, arguments)) = split(inside) else {
         return Err(fault_at(at, Fault::BadShape));
@@ -42,14 +41,14 @@ pub fn begin<'a>(
     if split(arguments).is_none() {
         return Err(fault_at(at, Fault::BadShape));
     }
-    match look(text, head) {
+    match look(head) {
         View::Atom(place, Kind::Simple | Kind::Quoted, name) => {
             let frame = Frame {
                 at,
                 place: u64::from(place),
                 name,
                 from,
-                behind,
+                after,
             };
             Ok((frame, arguments))
         }

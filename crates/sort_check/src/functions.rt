@@ -5,14 +5,13 @@ ghost use Rattle.spec_terms.specs.Theory.{look_up, theory};
 ghost use Rattle.spec_terms.specs.Reading.{symbol_named, applied, atom_term, by_rule};
 ghost use Rattle.term_core.specs.Tables.{TableView, AreIn};
 ghost use Rattle.sort_check.specs.Definitions.{scope_at};
-ghost use Rattle.sort_check.specs.Heads.{rule_of};
+ghost use Rattle.term_core.specs.Heads.{rule_of};
 ghost use Rattle.sort_check.specs.Functions.{IsFunction, StandsAlone};
 
 use crate::definitions::Definitions;
 use crate::faults::{TermFault, fault_at};
-use crate::heads::{CoreHead, head_named, takes_count};
 use spec_text::{Fault, Kind};
-use term_core::{SymbolId, TermId, TermTable};
+use term_core::{CoreHead, SymbolId, TermId, TermTable};
 
 /// Stands before arguments. Source: SMT-LIB 2.6, section 3.6.
 #[derive(Clone, Copy, Debug, PartialEq, Eq)]
@@ -29,7 +28,7 @@ pub enum Function {
 fn core_function(head: CoreHead, at: u64, count: usize) -> Result<Function, TermFault>
     ensures { (table : TableView) → IsFunction table count (by_rule (rule_of head) at) result }
 {
-    if takes_count(head, count) {
+    if head.takes_count(count) {
         return Ok(Function::Core(head));
     }
     Err(fault_at(at, Fault::WrongCount))
@@ -100,7 +99,7 @@ pub fn function_named(
     requires { AreIn table.now definitions.now.terms }
     ensures { IsFunction table.now count (applied (scope_at table.now definitions.now) place name.now at) result }
 {
-    match head_named(name) {
+    match CoreHead::named(name) {
         Some(head) => core_function(head, at, count),
         None => declared_function(table, definitions, place, name, at, count),
     }

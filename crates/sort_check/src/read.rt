@@ -1,47 +1,46 @@
 //! Reads terms from left to right, one list inside the other.
 
-ghost use Rattle.smt_sexpr.specs.Items.{trees_in};
+ghost use Rattle.smt_sexpr.specs.Items.{trees_meant};
 ghost use Rattle.term_core.specs.Tables.{AreIn};
 ghost use Rattle.sort_check.specs.Definitions.{scope_at};
 ghost use Rattle.sort_check.specs.Reads.{Reads};
 
 use crate::definitions::Definitions;
-use crate::faults::TermStop;
+use crate::faults::ReadError;
 use crate::frames::{Frame, begin};
 use crate::functions::{atom_function, function_named};
 use crate::values::replace;
-use smt_sexpr::{Item, View, look, split};
+use smt_sexpr::{Trees, View, look, split};
 use std::alloc::Global;
 use term_core::{TermId, TermTable};
 
-/// Reads the trees of items as terms under the table's symbols and the definitions, or says the first fault. As soon as the table has more than `most` terms, no
-/// more are built, while the search for a fault goes on; the numbers mean nothing then.
+/// Reads trees as terms under the table's symbols and the definitions, or says the first fault. As soon as the table has
+/// more than `most` terms, no more are built, while the search for a fault goes on; the numbers mean nothing then.
 pub fn read_terms<'a>(
     alloc: Global,
     table: &mut TermTable,
     definitions: &Definitions,
-    text: &'a [u8],
-    items: &'a [Item],
+    trees: Trees<'a>,
     most: u64,
-) -> Result<Vec<TermId>, TermStop>
+) -> Result<Vec<TermId>, ReadError>
     requires { AreIn table.old definitions.now.terms }
-    ensures { Reads most (scope_at table.old definitions.now) (trees_in text.now items.now) table.old table.new result }
+    ensures { Reads most (scope_at table.old definitions.now) (trees_meant trees.entry) table.old table.new result }
 {
     let mut open: Vec<Frame<'a>> = Vec::new(alloc);
     let mut ids: Vec<TermId> = Vec::new(alloc);
-    let mut crowded = false;
-    let mut rest = items;
+    let mut over_limit = false;
+    let mut rest = trees;
     'steps: loop {
-        if let Some((first, behind)) = split(rest) {
-            match look(text, first) {
+        if let Some((first, after)) = split(rest) {
+            match look(first) {
                 View::Atom(at, kind, name) => {
                     let function = atom_function(table, definitions, u64::from(at), kind, name)?;
                     let from = ids.len();
-                    crowded = replace(alloc, table, &mut ids, crowded, function, from, most)?;
-                    rest = behind;
+                    over_limit = replace(alloc, table, &mut ids, over_limit, function, from, most)?;
+                    rest = after;
                 }
                 View::List(at, inside, _) => {
-                    let (frame, arguments) = begin(text, u64::from(at), inside, behind, ids.len())?;
+                    let (frame, arguments) = begin(u64::from(at), inside, after, ids.len())?;
                     open.push(frame)?;
                     rest = arguments;
                 }
@@ -56,8 +55,10 @@ pub fn read_terms<'a>(
                 frame.at,
                 count,
             )?;
-            crowded = replace(alloc, table, &mut ids, crowded, function, frame.from, most)?;
-            rest = frame.behind;
+            over_limit = replace(
+                alloc, table, &mut ids, over_limit, function, frame.from, most,
+            )?;
+            rest = frame.after;
         } else {
             return Ok(ids);
         }

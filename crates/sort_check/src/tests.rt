@@ -1,6 +1,6 @@
 //! Terms of texts, and the first faults of texts. A text is a list, in which the terms stand.
 
-use crate::{Fault, TermFault, TermStop, terms};
+use crate::{Fault, ReadError, TermFault, terms};
 use smt_lexer::start;
 use smt_sexpr::{list_inside, read_one};
 use std::alloc::{AllocError, Global};
@@ -17,8 +17,8 @@ const R: TermId = TermId(2);
 /// Where a `Full` stands.
 const AT: u64 = 77;
 
-/// More room than any of these terms wants.
-const ROOM: u64 = 1000;
+/// A limit that none of these terms is over.
+const LIMIT: u64 = 1000;
 
 /// Makes a table with the constants `p`, `q` and `r`, and no terms.
 fn table_of_three(alloc: Global) -> Result<TermTable, NoMemory> {
@@ -37,19 +37,19 @@ fn read(
     alloc: Global,
     table: &mut TermTable,
     text: &[u8],
-    room: u64,
-) -> Option<Result<Vec<TermId>, TermStop>> {
+    limit: u64,
+) -> Option<Result<Vec<TermId>, ReadError>> {
     let Ok(Some((s, _))) = read_one(alloc, text, start()) else {
         return None;
     };
-    let (_, inside) = list_inside(text, s.items())?;
-    Some(terms(alloc, table, text, inside, AT, room))
+    let (_, inside) = list_inside(s.trees())?;
+    Some(terms(alloc, table, inside, AT, limit))
 }
 
 /// Reads `(p q r)`, so that these are the terms 0 to 2, and then the terms in a list.
 fn read_after_three(alloc: Global, table: &mut TermTable, text: &[u8]) -> Option<Vec<TermId>> {
-    match read(alloc, table, b"(p q r)", ROOM)? {
-        Ok(_) => read(alloc, table, text, ROOM)?.ok(),
+    match read(alloc, table, b"(p q r)", LIMIT)? {
+        Ok(_) => read(alloc, table, text, LIMIT)?.ok(),
         Err(_) => None,
     }
 }
@@ -59,14 +59,14 @@ fn is_refused(
     alloc: Global,
     table: &mut TermTable,
     text: &[u8],
-    room: u64,
+    limit: u64,
     offset: u64,
     fault: Fault,
 ) -> bool {
     let before = table.len();
-    match read(alloc, table, text, room) {
+    match read(alloc, table, text, limit) {
         Some(Err(stop)) => {
-            stop == TermStop::Fault(TermFault { offset, fault }) && table.len() == before
+            stop == ReadError::Fault(TermFault { offset, fault }) && table.len() == before
         }
         _ => false,
     }
@@ -242,15 +242,15 @@ fn refuses_with_the_first_fault(rt: HostRuntime) -> Result<(), Fail> {
     let mut table = table_of_three(alloc).expect(&rt, "memory");
     for (text, offset, fault) in REFUSALS.iter() {
         assert!(rt;
-            is_refused(alloc, &mut table, text.as_bytes(), ROOM, *offset, *fault),
+            is_refused(alloc, &mut table, text.as_bytes(), LIMIT, *offset, *fault),
             "{text}"
         );
     }
     assert!(rt; table.len() == 0);
-    assert!(rt; read(alloc, &mut table, b"((or p q))", ROOM).is_some_and(|read| read.is_ok()));
+    assert!(rt; read(alloc, &mut table, b"((or p q))", LIMIT).is_some_and(|read| read.is_ok()));
     for (text, offset, fault) in REFUSALS.iter() {
         assert!(rt;
-            is_refused(alloc, &mut table, text.as_bytes(), ROOM, *offset, *fault),
+            is_refused(alloc, &mut table, text.as_bytes(), LIMIT, *offset, *fault),
             "{text}"
         );
     }
@@ -261,7 +261,7 @@ fn refuses_with_the_first_fault(rt: HostRuntime) -> Result<(), Fail> {
 #[test]
 fn counts_different_subterms(rt: HostRuntime) -> Result<(), Fail> {
     let alloc = rt.alloc();
-    // Texts, and how much room they want.
+    // Texts, and how many different subterms they have.
     let rows = [
         ("()", 0),
         ("(p)", 1),
@@ -291,7 +291,7 @@ fn counts_different_subterms(rt: HostRuntime) -> Result<(), Fail> {
             }
             let fits = read(alloc, &mut table, bytes, *wanted);
             assert!(rt; fits.is_some_and(|read| read.is_ok()), "{text}");
-            let more = read(alloc, &mut table, b"(true false (ite p q r))", ROOM);
+            let more = read(alloc, &mut table, b"(true false (ite p q r))", LIMIT);
             assert!(rt; more.is_some_and(|read| read.is_ok()));
         }
     }

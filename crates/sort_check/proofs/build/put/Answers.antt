@@ -1,7 +1,7 @@
 use Rattle.std.proofs.Common.{[], ◌∷◌, arith, sym, ◌∙◌, subst}
 use Rattle.spec_terms.specs.Terms.{of}
 use Rattle.term_core.specs.Tables.{HasHead, head_meant, clause_at, AreIn, shape_of, takes_so_many}
-use Rattle.sort_check.specs.declared.build.BuildStop.TheVariants.{Memory}
+use Rattle.sort_check.specs.declared.build.BuildError.TheVariants.{Memory}
 use Rattle.sort_check.specs.Building.{Builds, Grows}
 use Rattle.sort_check.proofs.Errors.{by_error}
 use Rattle.sort_check.proofs.Growing.{grows_put, grows_same, written}

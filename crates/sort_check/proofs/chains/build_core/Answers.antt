@@ -1,6 +1,6 @@
 use Rattle.std.proofs.Common.{true, length, subst, ◌≡◌}
 use Rattle.spec_terms.specs.Theory.{takes}
-use Rattle.sort_check.specs.Heads.{rule_of}
+use Rattle.term_core.specs.Heads.{rule_of}
 use Rattle.sort_check.proofs.Counts.{true_takes, false_takes, not_takes, ite_takes, xor_takes, implies_takes, equal_takes, distinct_takes, and_takes, or_takes}
 use Rattle.sort_check.proofs.chains.build_core.Goals as goal
 

@@ -18,15 +18,15 @@ arguments-init c = rw take_rest (left_begins c.args.table.now c.args.arguments.n
 pub put_pair-requires-clause-second : goal.put_pair-requires-clause-second
 put_pair-requires-clause-second c =
     IsIn-kept c.args.table.now c.arguments.table c.arguments.invariant.grows.keeps.extends c.in-Some.next.now
-    (All-head (λ i. IsIn c.args.table.now i) c.in-Some.next.now c.in-Some.behind.now (subst (AreIn c.args.table.now) c.in-Some.ensures.cases.0 c.arguments.invariant.there))
+    (All-head (λ i. IsIn c.args.table.now i) c.in-Some.next.now c.in-Some.after.now (subst (AreIn c.args.table.now) c.in-Some.ensures.cases.0 c.arguments.invariant.there))
 
 pub returns-in_err-all : goal.returns-in_err-all
 returns-in_err-all c =
     let all = left no_term (pair Xor) (clause_at c.args.table.now c.args.arguments.now) in
     by_error (Builds c.args.most c.args.table.now c.put_pair.new.table all) c.from_residual.result c.in_err-all.field-0.0 c.from_residual.ensures.1
-    (left_step c.args.most c.args.table.now c.arguments.table c.put_pair.new.table all c.arguments.all c.in-Some.next.now c.arguments.rest.now c.in-Some.behind.now (Err c.in_err-all.field-0.0) c.in-Some.ensures.cases.0 c.arguments.invariant c.in_err-all.ensures)
+    (left_step c.args.most c.args.table.now c.arguments.table c.put_pair.new.table all c.arguments.all c.in-Some.next.now c.arguments.rest.now c.in-Some.after.now (Err c.in_err-all.field-0.0) c.in-Some.ensures.cases.0 c.arguments.invariant c.in_err-all.ensures)
 
 pub arguments-preserved : goal.arguments-preserved
 arguments-preserved c =
     let all = left no_term (pair Xor) (clause_at c.args.table.now c.args.arguments.now) in
-    left_step c.args.most c.args.table.now c.arguments.table c.put_pair.new.table all c.arguments.all c.in-Some.next.now c.arguments.rest.now c.in-Some.behind.now (Ok c.in_ok-all.all) c.in-Some.ensures.cases.0 c.arguments.invariant c.in_ok-all.ensures
+    left_step c.args.most c.args.table.now c.arguments.table c.put_pair.new.table all c.arguments.all c.in-Some.next.now c.arguments.rest.now c.in-Some.after.now (Ok c.in_ok-all.all) c.in-Some.ensures.cases.0 c.arguments.invariant c.in_ok-all.ensures

@@ -5,7 +5,7 @@ use Rattle.spec_terms.specs.Lists.{neighbours}
 use Rattle.spec_terms.specs.Theory.{pair}
 use Rattle.term_core.specs.Tables.{term_at, clause_at}
 use Rattle.term_core.proofs.TermsExtend.{IsIn-kept}
-use Rattle.sort_check.specs.declared.build.BuildStop.TheVariants.{Memory}
+use Rattle.sort_check.specs.declared.build.BuildError.TheVariants.{Memory}
 use Rattle.sort_check.specs.Building.{PutsAll}
 use Rattle.sort_check.proofs.Errors.{by_error}
 use Rattle.sort_check.proofs.Putting.{IsPut, put_begins, put_one, put_none, put_unheld, put_ends, builds_kept, first_in, behind_in, none_left}
@@ -19,7 +19,7 @@ put_pair-requires-clause-first c = IsIn-kept c.args.table.now c.arguments.table 
 
 pub put_pair-requires-clause-second : goal.put_pair-requires-clause-second
 put_pair-requires-clause-second c =
-    IsIn-kept c.args.table.now c.arguments.table c.arguments.invariant.put.grows.keeps.extends c.in-Some.next.now (first_in c.args.table.now c.arguments.rest.now c.in-Some.behind.now c.in-Some.next.now c.in-Some.ensures.cases.0 c.arguments.invariant.rest)
+    IsIn-kept c.args.table.now c.arguments.table c.arguments.invariant.put.grows.keeps.extends c.in-Some.next.now (first_in c.args.table.now c.arguments.rest.now c.in-Some.after.now c.in-Some.next.now c.in-Some.ensures.cases.0 c.arguments.invariant.rest)
 
 pub returns-in_err-equal : goal.returns-in_err-equal
 returns-in_err-equal c =
@@ -28,7 +28,7 @@ returns-in_err-equal c =
     let p = c.arguments.previous in
     let all = map (λ q. pair Equal q.0 q.1) (neighbours (clause_at old (c.args.first ∷ c.args.others.now))) in
     by_error (PutsAll c.args.most old c.put_pair.new.table before c.arguments.parts.items all) c.from_residual.result c.in_err-equal.field-0.0 c.from_residual.ensures.1
-    (put_none c.args.most old c.arguments.table c.put_pair.new.table before all c.arguments.parts.items (pair Equal (term_at old p) (term_at old c.in-Some.next.now)) (map (λ q. pair Equal q.0 q.1) (neighbours (clause_at old (c.in-Some.next.now ∷ c.in-Some.behind.now)))) c.arguments.parts.items c.in_err-equal.field-0.0 (subst (λ ids. IsPut old c.arguments.table before all c.arguments.parts.items (map (λ q. pair Equal q.0 q.1) (neighbours (clause_at old (p ∷ ids))))) c.in-Some.ensures.cases.0 c.arguments.invariant.put) (builds_kept (pair Equal) c.args.most old c.arguments.table c.put_pair.new.table p c.in-Some.next.now (Err c.in_err-equal.field-0.0) c.arguments.invariant.put.grows.keeps.extends c.arguments.invariant.previous (first_in old c.arguments.rest.now c.in-Some.behind.now c.in-Some.next.now c.in-Some.ensures.cases.0 c.arguments.invariant.rest) c.in_err-equal.ensures))
+    (put_none c.args.most old c.arguments.table c.put_pair.new.table before all c.arguments.parts.items (pair Equal (term_at old p) (term_at old c.in-Some.next.now)) (map (λ q. pair Equal q.0 q.1) (neighbours (clause_at old (c.in-Some.next.now ∷ c.in-Some.after.now)))) c.arguments.parts.items c.in_err-equal.field-0.0 (subst (λ ids. IsPut old c.arguments.table before all c.arguments.parts.items (map (λ q. pair Equal q.0 q.1) (neighbours (clause_at old (p ∷ ids))))) c.in-Some.ensures.cases.0 c.arguments.invariant.put) (builds_kept (pair Equal) c.args.most old c.arguments.table c.put_pair.new.table p c.in-Some.next.now (Err c.in_err-equal.field-0.0) c.arguments.invariant.put.grows.keeps.extends c.arguments.invariant.previous (first_in old c.arguments.rest.now c.in-Some.after.now c.in-Some.next.now c.in-Some.ensures.cases.0 c.arguments.invariant.rest) c.in_err-equal.ensures))
 
 pub returns-in_err-push : goal.returns-in_err-push
 returns-in_err-push c =
@@ -37,7 +37,7 @@ returns-in_err-push c =
     let p = c.arguments.previous in
     let all = map (λ q. pair Equal q.0 q.1) (neighbours (clause_at old (c.args.first ∷ c.args.others.now))) in
     by_error (PutsAll c.args.most old c.put_pair.new.table before c.push.new.self.items all) c.from_residual-in_err-push.result Memory c.from_residual-in_err-push.ensures.1
-    (put_unheld c.args.most old c.arguments.table c.put_pair.new.table before all c.arguments.parts.items (pair Equal (term_at old p) (term_at old c.in-Some.next.now)) (map (λ q. pair Equal q.0 q.1) (neighbours (clause_at old (c.in-Some.next.now ∷ c.in-Some.behind.now)))) c.in_ok-equal.equal c.push.new.self.items (subst (λ ids. IsPut old c.arguments.table before all c.arguments.parts.items (map (λ q. pair Equal q.0 q.1) (neighbours (clause_at old (p ∷ ids))))) c.in-Some.ensures.cases.0 c.arguments.invariant.put) (builds_kept (pair Equal) c.args.most old c.arguments.table c.put_pair.new.table p c.in-Some.next.now (Ok c.in_ok-equal.equal) c.arguments.invariant.put.grows.keeps.extends c.arguments.invariant.previous (first_in old c.arguments.rest.now c.in-Some.behind.now c.in-Some.next.now c.in-Some.ensures.cases.0 c.arguments.invariant.rest) c.in_ok-equal.ensures))
+    (put_unheld c.args.most old c.arguments.table c.put_pair.new.table before all c.arguments.parts.items (pair Equal (term_at old p) (term_at old c.in-Some.next.now)) (map (λ q. pair Equal q.0 q.1) (neighbours (clause_at old (c.in-Some.next.now ∷ c.in-Some.after.now)))) c.in_ok-equal.equal c.push.new.self.items (subst (λ ids. IsPut old c.arguments.table before all c.arguments.parts.items (map (λ q. pair Equal q.0 q.1) (neighbours (clause_at old (p ∷ ids))))) c.in-Some.ensures.cases.0 c.arguments.invariant.put) (builds_kept (pair Equal) c.args.most old c.arguments.table c.put_pair.new.table p c.in-Some.next.now (Ok c.in_ok-equal.equal) c.arguments.invariant.put.grows.keeps.extends c.arguments.invariant.previous (first_in old c.arguments.rest.now c.in-Some.after.now c.in-Some.next.now c.in-Some.ensures.cases.0 c.arguments.invariant.rest) c.in_ok-equal.ensures))
 
 pub arguments-preserved : goal.arguments-preserved
 arguments-preserved c =
@@ -46,9 +46,9 @@ arguments-preserved c =
     let p = c.arguments.previous in
     let all = map (λ q. pair Equal q.0 q.1) (neighbours (clause_at old (c.args.first ∷ c.args.others.now))) in
     record {
-      put = put_one c.args.most old c.arguments.table c.put_pair.new.table before all c.arguments.parts.items (pair Equal (term_at old p) (term_at old c.in-Some.next.now)) (map (λ q. pair Equal q.0 q.1) (neighbours (clause_at old (c.in-Some.next.now ∷ c.in-Some.behind.now)))) c.in_ok-equal.equal c.push.new.self.items (subst (λ ids. IsPut old c.arguments.table before all c.arguments.parts.items (map (λ q. pair Equal q.0 q.1) (neighbours (clause_at old (p ∷ ids))))) c.in-Some.ensures.cases.0 c.arguments.invariant.put) (builds_kept (pair Equal) c.args.most old c.arguments.table c.put_pair.new.table p c.in-Some.next.now (Ok c.in_ok-equal.equal) c.arguments.invariant.put.grows.keeps.extends c.arguments.invariant.previous (first_in old c.arguments.rest.now c.in-Some.behind.now c.in-Some.next.now c.in-Some.ensures.cases.0 c.arguments.invariant.rest) c.in_ok-equal.ensures) c.in_ok-push.ensures.items;
-      previous = first_in old c.arguments.rest.now c.in-Some.behind.now c.in-Some.next.now c.in-Some.ensures.cases.0 c.arguments.invariant.rest;
-      rest = behind_in old c.arguments.rest.now c.in-Some.behind.now c.in-Some.next.now c.in-Some.ensures.cases.0 c.arguments.invariant.rest;
+      put = put_one c.args.most old c.arguments.table c.put_pair.new.table before all c.arguments.parts.items (pair Equal (term_at old p) (term_at old c.in-Some.next.now)) (map (λ q. pair Equal q.0 q.1) (neighbours (clause_at old (c.in-Some.next.now ∷ c.in-Some.after.now)))) c.in_ok-equal.equal c.push.new.self.items (subst (λ ids. IsPut old c.arguments.table before all c.arguments.parts.items (map (λ q. pair Equal q.0 q.1) (neighbours (clause_at old (p ∷ ids))))) c.in-Some.ensures.cases.0 c.arguments.invariant.put) (builds_kept (pair Equal) c.args.most old c.arguments.table c.put_pair.new.table p c.in-Some.next.now (Ok c.in_ok-equal.equal) c.arguments.invariant.put.grows.keeps.extends c.arguments.invariant.previous (first_in old c.arguments.rest.now c.in-Some.after.now c.in-Some.next.now c.in-Some.ensures.cases.0 c.arguments.invariant.rest) c.in_ok-equal.ensures) c.in_ok-push.ensures.items;
+      previous = first_in old c.arguments.rest.now c.in-Some.after.now c.in-Some.next.now c.in-Some.ensures.cases.0 c.arguments.invariant.rest;
+      rest = behind_in old c.arguments.rest.now c.in-Some.after.now c.in-Some.next.now c.in-Some.ensures.cases.0 c.arguments.invariant.rest;
     }
 
 pub returns : goal.returns

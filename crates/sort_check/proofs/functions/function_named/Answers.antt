@@ -1,5 +1,5 @@
 use Rattle.sort_check.proofs.Named.{theory_first}
-use Rattle.sort_check.specs.Heads.{rule_of}
+use Rattle.term_core.specs.Heads.{rule_of}
 use Rattle.sort_check.proofs.functions.function_named.Goals as goal
 
 pub returns-in-Some : goal.returns-in-Some
