@@ -1,74 +1,67 @@
 -- Texts of models as they are written, piece by piece.
-use Rattle.std.proofs.Common.{◌≡◌, ℕ, ◌+◌, ◌-◌, ◌≤◌, ◌<◌, List, [], ◌∷◌, ◌++◌, length, take, drop, get_or, All, Option, sym, ap, ◌∙◌, subst, append_assoc, length-append, arith}
-use Rattle.std.specs.Prelude.{Result, Ok, Err, IsOk, IsErr, codes, slice_index_or, flat_map}
-use Rattle.std.proofs.lemmas.Bool.{false≢true}
-use Rattle.std.proofs.lemmas.List.{get_or-map}
-use Rattle.std.proofs.lemmas.List.Elements.{All-get_or}
+use Rattle.std.proofs.Common.{◌≡◌, ℕ, suc, ◌+◌, ◌≤◌, ◌<◌, List, [], ◌∷◌, ◌++◌, length, drop, get_or, refl, sym, ap, ◌∙◌, subst, arith}
+use Rattle.std.specs.Prelude.{codes, slice_index_or, flat_map}
+use Rattle.std.proofs.lemmas.List.{get_or-map, drop_more, drop_all, length-map}
 use Rattle.spec_text.specs.Bytes.{Name}
 use Rattle.spec_terms.specs.Terms.{Symbol}
 use Rattle.spec_terms.specs.Values.{Value, Table, Interpretation, IsTableOf, Interprets}
-use Rattle.world_io.specs.Outside.{Rose, AppendsPrefix}
-use Rattle.world_io.specs.Writing.{Sends, SendsWithin}
-use Rattle.world_io.specs.declared.fault.Failed.{Failed}
-use Rattle.world_io.proofs.Pieces.{pieces_split, pieces_up_to}
-use Rattle.world_io.proofs.Sending.{first_then, first_fails, within_then, within_fails}
+use Rattle.world_io.specs.Writing.{SinkView}
+use Rattle.world_io.proofs.Chains.{IsSending, start, joined}
 use Rattle.spec_replies.specs.Values.{name_text, value_text}
-use Rattle.spec_replies.proofs.Lines.{pieces_of, line_pieces, bare_table}
-use Rattle.spec_replies.specs.Models.{definition_tree, definition_line, indented}
+use Rattle.spec_replies.proofs.Lines.{line_pieces, bare_table}
+use Rattle.spec_replies.specs.Models.{definition_tree, definition_line, indented, model_text}
 use Rattle.term_core.specs.declared.values.Table.{Table as CodeTable}
 use Rattle.term_core.specs.declared.values.Interp.{Interp}
 use Rattle.term_core.specs.Tables.{truth_symbol, no_symbol, AreTruths}
-use Rattle.term_core.specs.Valuations.{value_meant, table_meant, tables_meant, no_table, Stands}
-use Rattle.model_text.specs.Lines.{constant_line}
+use Rattle.term_core.specs.Valuations.{value_meant, table_meant, tables_meant, no_table, Stands, HasTables}
+use Rattle.model_text.specs.Lines.{constant_line, default_lines, default_text}
 
--- the line was written, if its pieces were
-pub line_sent : (n : Name) (v : Value) (r : Result (Unit {0}) Failed) (a b : Option (List ℕ)) (f g : ℕ) → Sends (pieces_of n v) r a b f g → Sends (constant_line n v) r a b f g
-line_sent n v r a b f g h = let P : List ℕ → Type 0 = λ t. Sends t r a b f g in subst P (sym (line_pieces n v)) h
+-- the pieces of a line, before the first
+pub line_begun : (n : Name) (v : Value) (a : SinkView) → IsSending (constant_line n v) (codes "  (define-fun " ∷ name_text n ∷ codes " () Bool " ∷ value_text v ∷ codes ")\n" ∷ []) a a
+line_begun n v a = start _ _ a (sym (line_pieces n v))
 
--- the line of a symbol under an interpretation that stands for the tables
-pub line_of : (i : Interpretation) (symbols : List Symbol) (interp : Interp) (k : ℕ) (n : Name) (t : CodeTable) → k < length symbols → AreTruths symbols → Stands symbols interp i → Interprets i symbols → n ≡ (slice_index_or symbols k no_symbol).name → table_meant t ≡ slice_index_or (tables_meant interp) k no_table → definition_line i (slice_index_or symbols k no_symbol) ≡ constant_line n (value_meant t.default)
-line_of i symbols interp k n t l truths stands interprets named meant =
-    let s : Symbol = slice_index_or symbols k no_symbol in
-    let truth : s ≡ truth_symbol s.name = All-get_or (λ x. x ≡ truth_symbol x.name) symbols k no_symbol l truths in
-    let tabled : IsTableOf s (i.table s.name) = All-get_or (λ x. IsTableOf x (i.table x.name)) symbols k no_symbol l interprets in
+-- the pieces of a model, before the first
+pub model_begun : (ss : List Symbol) (ts : List Table) (a : SinkView) → IsSending (default_text ss ts) (codes "(\n" ∷ joined (default_lines ss ts) ∷ codes ")\n" ∷ []) a a
+model_begun ss ts a = start _ _ a refl
+
+-- the lines from a number on are its own and the others
+lines_from : (ss : List Symbol) (ts : List Table) (k : ℕ) (n : Name) (v : Value) → k < length ss → k < length ts → n ≡ (get_or ss k no_symbol).name → v ≡ (get_or ts k no_table).default → default_lines (drop k ss) (drop k ts) ≡ constant_line n v ∷ default_lines (drop (k + 1) ss) (drop (k + 1) ts)
+lines_from ss ts k n v l m named valued =
+    ap (λ xs. default_lines xs (drop k ts)) (drop_more ss k no_symbol l)
+    ∙ ap (λ ys. default_lines (get_or ss k no_symbol ∷ drop (k + 1) ss) ys) (drop_more ts k no_table m)
+    ∙ ap (λ x. constant_line x (get_or ts k no_table).default ∷ default_lines (drop (k + 1) ss) (drop (k + 1) ts)) (sym named)
+    ∙ ap (λ x. constant_line n x ∷ default_lines (drop (k + 1) ss) (drop (k + 1) ts)) (sym valued)
+
+-- the next line to come is that of the symbol and the table that the code reads
+pub line_next : (whole : List ℕ) (ss : List Symbol) (interp : Interp) (k : ℕ) (n : Name) (t : CodeTable) (a b : SinkView) → k < length ss → k < length interp.tables.items → n ≡ (slice_index_or ss k no_symbol).name → table_meant t ≡ slice_index_or (tables_meant interp) k no_table → IsSending whole (default_lines (drop k ss) (drop k (tables_meant interp))) a b → IsSending whole (constant_line n (value_meant t.default) ∷ default_lines (drop (k + 1) ss) (drop (k + 1) (tables_meant interp))) a b
+line_next whole ss interp k n t a b l m named read s =
+    let there : k < length (tables_meant interp) = omega (arith, m, length-map interp.tables.items table_meant) in
+    subst (λ rest. IsSending whole rest a b) (lines_from ss (tables_meant interp) k n (value_meant t.default) l there named (ap (λ (x : Table). x.default) read)) s
+
+-- no line is to come after the last symbol
+pub no_lines : (whole : List ℕ) (ss : List Symbol) (ts : List Table) (k : ℕ) (a b : SinkView) → length ss ≤ k → IsSending whole (default_lines (drop k ss) (drop k ts)) a b → IsSending whole [] a b
+no_lines whole ss ts k a b l s = subst (λ rest. IsSending whole rest a b) (ap (λ xs. default_lines xs (drop k ts)) (drop_all k ss l)) s
+
+-- the line of a symbol under an interpretation that has its table
+line_meant : (i : Interpretation) (s : Symbol) (t : Table) → s ≡ truth_symbol s.name → IsTableOf s (i.table s.name) → i.table s.name ≡ t → constant_line s.name t.default ≡ definition_line i s
+line_meant i s t truth tabled same =
     let rows : (i.table s.name).rows ≡ [] = tabled.bare (ap (λ (x : Symbol). x.parameters) truth) in
-    let default : (i.table s.name).default ≡ value_meant t.default = ap (λ (x : Table). x.default) (stands k l ∙ sym meant) in
     let with_default : Value → Table = λ d. record { rows = []; default = d } in
-    ap (λ (x : Symbol). indented (definition_tree x (i.table s.name))) truth
-    ∙ ap (λ (x : Table). indented (definition_tree (truth_symbol s.name) x)) (bare_table (i.table s.name) rows ∙ ap with_default default)
-    ∙ ap (λ m. constant_line m (value_meant t.default)) (sym named)
+    sym (ap (λ (x : Symbol). indented (definition_tree x (i.table s.name))) truth
+    ∙ ap (λ (x : Table). indented (definition_tree (truth_symbol s.name) x)) (bare_table (i.table s.name) rows ∙ ap (λ (x : Table). with_default x.default) same))
 
-module _ {X : Type 0} (text : X → List ℕ) (xs : List X) (k : ℕ) (d : X) (l : k < length xs) (line : List ℕ) (e : text (get_or xs k d) ≡ line) where
-  -- the texts so far, one more, and the others
-  split_at : flat_map text xs ≡ flat_map text (take k xs) ++ (line ++ flat_map text (drop (k + 1) xs))
-  split_at = pieces_split text xs k d l ∙ ap (λ ys. flat_map text (take k xs) ++ (ys ++ flat_map text (drop (k + 1) xs))) e
+lines_meant : (i : Interpretation) (ss : List Symbol) (ts : List Table) → AreTruths ss → Interprets i ss → length ss ≤ length ts → ((k : ℕ) → k < length ss → i.table (slice_index_or ss k no_symbol).name ≡ slice_index_or ts k no_table) → joined (default_lines ss ts) ≡ flat_map (definition_line i) ss
+lines_meant i [] ts truths tabled l h = refl
+lines_meant i (s ∷ ss) [] truths tabled l h = absurd (omega arith)
+lines_meant i (s ∷ ss) (t ∷ ts) truths tabled l h =
+    let later = lines_meant i ss ts (λ k d m. truths (suc k) d (omega arith)) (λ k d m. tabled (suc k) d (omega arith)) (omega arith) (λ k m. h (suc k) (omega arith)) in
+    ap (λ x. x ++ joined (default_lines ss ts)) (line_meant i s t (truths 0 s (omega arith)) (tabled 0 s (omega arith)) (h 0 (omega arith))) ∙ ap (λ x. definition_line i s ++ x) later
 
-  up_to : flat_map text (take (k + 1) xs) ≡ flat_map text (take k xs) ++ line
-  up_to = pieces_up_to text xs k d l ∙ ap (λ ys. flat_map text (take k xs) ++ ys) e
-
-  -- one more text failed
-  pub texts_fail : (r : Result (Unit {0}) Failed) (a b c : Option (List ℕ)) (f g h : ℕ) → Sends (flat_map text (take k xs)) (Ok tt) a b f g → IsErr r → AppendsPrefix b c line × Rose g h → Sends (flat_map text xs) r a c f h
-  texts_fail r a b c f g h before err one =
-      let P : List ℕ → Type 0 = λ t. Sends t r a c f h in
-      subst P (sym split_at) (first_then (flat_map text (take k xs)) (line ++ flat_map text (drop (k + 1) xs)) r a b c f g h before (first_fails line (flat_map text (drop (k + 1) xs)) r b c g h err one))
-
-  -- where there was room it does not
-  pub texts_room : (r : Result (Unit {0}) Failed) (failed : Failed) (p q s t : ℕ → Type 0) → SendsWithin (flat_map text (take k xs)) (Ok tt) p q → SendsWithin line (Err failed) q s → SendsWithin (flat_map text xs) r p t
-  texts_room r failed p q s t before one =
-      let P : List ℕ → Type 0 = λ ys. SendsWithin ys r p t in
-      subst P (sym split_at) (within_then (flat_map text (take k xs)) (line ++ flat_map text (drop (k + 1) xs)) r p q t before (within_fails line (flat_map text (drop (k + 1) xs)) r failed q s t one))
-
-  -- one more text was written
-  pub texts_more : (a b c : Option (List ℕ)) (f g h : ℕ) → Sends (flat_map text (take k xs)) (Ok tt) a b f g → Sends line (Ok tt) b c g h → Sends (flat_map text (take (k + 1) xs)) (Ok tt) a c f h
-  texts_more a b c f g h before one =
-      let P : List ℕ → Type 0 = λ t. Sends t (Ok tt) a c f h in
-      subst P (sym up_to) (first_then (flat_map text (take k xs)) line (Ok tt) a b c f g h before one)
-
-  -- and room is left for so many bytes fewer
-  pub texts_more_room : (p q s : ℕ → Type 0) → SendsWithin (flat_map text (take k xs)) (Ok tt) p q → SendsWithin line (Ok tt) q s → SendsWithin (flat_map text (take (k + 1) xs)) (Ok tt) p s
-  texts_more_room p q s before one =
-      let P : List ℕ → Type 0 = λ t. SendsWithin t (Ok tt) p s in
-      subst P (sym up_to) (within_then (flat_map text (take k xs)) line (Ok tt) p q s before one)
+-- under an interpretation that stands for the tables, their text is the model's
+pub text_meant : (i : Interpretation) (ss : List Symbol) (interp : Interp) → AreTruths ss → HasTables ss interp → Stands ss interp i → Interprets i ss → default_text ss (tables_meant interp) ≡ model_text i ss
+text_meant i ss interp truths there stands tabled =
+    let lines = lines_meant i ss (tables_meant interp) truths tabled (omega (arith, there, length-map interp.tables.items table_meant)) stands in
+    ap (λ x. 40 ∷ 10 ∷ x ++ 41 ∷ 10 ∷ []) lines
 
 -- the table of a number that the code reads
 pub table_read : (interp : Interp) (k : ℕ) (t : CodeTable) → k < length interp.tables.items → t ≡ slice_index_or interp.tables.items k t → table_meant t ≡ slice_index_or (tables_meant interp) k no_table
