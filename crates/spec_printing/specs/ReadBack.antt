@@ -1,13 +1,12 @@
 -- What is read back of a printed proof.
 use Rattle.std.specs.Prelude.{ℕ, suc, List, [], ◌∷◌, length, All}
 use Rattle.spec_text.specs.Bytes.{Name, is_in_bars}
-use Rattle.spec_text.specs.Lexemes.{lexemes}
 use Rattle.spec_text.specs.Lexicon.{Consists}
 use Rattle.spec_text.specs.Trees.{Trees}
 use Rattle.spec_terms.specs.Terms.{Symbol, Head, Apply, Term}
 use Rattle.spec_terms.specs.Reading.{scope_of}
 use Rattle.spec_proofs.specs.Commands.{Known}
-use Rattle.spec_proofs.specs.Texts.{complete, behind_unsat, begins_listed, AreCommands}
+use Rattle.spec_proofs.specs.Texts.{complete, begins_listed, AreCommands, all_lexemes}
 use Rattle.spec_printing.specs.Lines.{Argument, symbol, Line, defines, assumes, steps}
 
 -- a name without bar and backslash: it can be written between bars
@@ -36,7 +35,7 @@ IsWritableLine (steps n items r ps) = All IsWritableArgument items
 
 -- the whole text is these commands and nothing else, however long it is
 abbrev pub AreCommandsOf : List ℕ → Trees → Type 0
-AreCommandsOf text ts = AreCommands (begins_listed (behind_unsat (lexemes 0 0 text))) (length text) (behind_unsat (lexemes 0 0 text)) ts complete
+AreCommandsOf text ts = AreCommands (begins_listed (all_lexemes text)) (length text) (all_lexemes text) ts complete
 
 -- how many of the lines are definitions
 abbrev pub definitions_in : List Line → ℕ

@@ -28,7 +28,8 @@ pub fn planned_lines_are_right()
 /// lines but for offsets and the bars of symbols.
 pub fn printed_proofs_are_read()
     ensures { (lines : List Line) → All IsWritableLine lines
-        → (commands : Trees) × AreCommandsOf (proof_text lines) commands × SameTrees (row (map line_tree lines)) commands }
+        → (commands : Trees) × AreCommandsOf (proof_text lines) commands
+        × SameTrees (row (map line_tree lines)) commands }
 {}
 
 /// States that the names which are declared at a check of a script can be printed, and that they are no more than a fifth
@@ -38,24 +39,26 @@ pub fn declared_names_can_be_written()
         → AreWritable s.symbols × (5 * length s.symbols ≤ text_limit) }
 {}
 
-/// States that lines which are right under declared symbols are read back, the whole of their text, as good commands, and
-/// within a limit, where there is room for the truth values, the symbols and the terms that are defined, all together; and
-/// that under what is current at a check of a script, whatever the limit on terms is, their text is a good proof of that
-/// check, alone and behind the answer `unsat`. The names of lines are numbers that are told apart below 2^64.
+/// States that lines which are right under declared symbols are read back, the whole of their text, as good commands,
+/// also within a limit, where there is room for the truth values, the symbols and the terms that are defined, all
+/// together; and that under what is current at a check of a script, whatever the limit on terms is, their text is a good
+/// proof of that check, alone and after the answer `unsat`. The numbers in the names of lines differ below 2^64.
 pub fn printed_proofs_are_good()
-    ensures commands { (symbols : List Symbol) (asserted : List Term) (lines : List Line) → AreDeclared symbols → AreWritable symbols
-        → AreRightLines symbols asserted lines → length lines < 2 ^ 64
-        → (commands : Trees) × AreCommandsOf (proof_text lines) commands × AreGood None (known_before symbols asserted) commands }
-    ensures within { (limit : ℕ) (symbols : List Symbol) (asserted : List Term) (lines : List Line) → AreDeclared symbols
-        → AreWritable symbols → AreRightLines symbols asserted lines → length symbols + definitions_in lines + 2 ≤ limit
-        → length lines < 2 ^ 64
-        → (commands : Trees) × AreCommandsOf (proof_text lines) commands × AreGood (Some limit) (known_before symbols asserted) commands }
-    ensures alone { (limit : ℕ) (script : List ℕ) (k : ℕ) (s : Stack) (lines : List Line) → IsCurrent limit script k s
-        → AreRightLines s.symbols (map (λ (a : Assertion). a.term) s.assertions) lines → length lines < 2 ^ 64
-        → IsGood limit script k (proof_text lines) }
-    ensures answered { (limit : ℕ) (script : List ℕ) (k : ℕ) (s : Stack) (lines : List Line) → IsCurrent limit script k s
-        → AreRightLines s.symbols (map (λ (a : Assertion). a.term) s.assertions) lines → length lines < 2 ^ 64
-        → IsGood limit script k (codes "unsat\n" ++ proof_text lines) }
+    ensures commands { (symbols : List Symbol) (asserted : List Term) (lines : List Line) → AreDeclared symbols
+        → AreWritable symbols → AreRightLines symbols asserted lines → length lines < 2 ^ 64
+        → (commands : Trees) × AreCommandsOf (proof_text lines) commands
+        × AreGood None (known_before symbols asserted) commands }
+    ensures within { (limit : ℕ) (symbols : List Symbol) (asserted : List Term) (lines : List Line)
+        → AreDeclared symbols → AreWritable symbols → AreRightLines symbols asserted lines
+        → length symbols + definitions_in lines + 2 ≤ limit → length lines < 2 ^ 64
+        → (commands : Trees) × AreCommandsOf (proof_text lines) commands
+        × AreGood (Some limit) (known_before symbols asserted) commands }
+    ensures alone { (limit : ℕ) (script : List ℕ) (k : ℕ) (s : Stack) (lines : List Line)
+        → IsCurrent limit script k s → AreRightLines s.symbols (map (λ (a : Assertion). a.term) s.assertions) lines
+        → length lines < 2 ^ 64 → IsGood limit script k (proof_text lines) }
+    ensures answered { (limit : ℕ) (script : List ℕ) (k : ℕ) (s : Stack) (lines : List Line)
+        → IsCurrent limit script k s → AreRightLines s.symbols (map (λ (a : Assertion). a.term) s.assertions) lines
+        → length lines < 2 ^ 64 → IsGood limit script k (codes "unsat\n" ++ proof_text lines) }
 {
     spec_scripts::laws::assertions_are_read();
     declared_names_can_be_written();
@@ -65,7 +68,8 @@ pub fn printed_proofs_are_good()
 /// and behind the answer `unsat`, where the text is no longer than it may be.
 pub fn printed_proofs_are_accepted()
     ensures alone { (script : List ℕ) (k : ℕ) (s : Stack) (lines : List Line) → IsCurrent term_limit script k s
-        → AreRightLines s.symbols (map (λ (a : Assertion). a.term) s.assertions) lines → is_long (proof_text lines) ≡ false
+        → AreRightLines s.symbols (map (λ (a : Assertion). a.term) s.assertions) lines
+        → is_long (proof_text lines) ≡ false
         → IsAccepted script k (proof_text lines) }
     ensures answered { (script : List ℕ) (k : ℕ) (s : Stack) (lines : List Line) → IsCurrent term_limit script k s
         → AreRightLines s.symbols (map (λ (a : Assertion). a.term) s.assertions) lines

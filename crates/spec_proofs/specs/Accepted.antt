@@ -10,7 +10,8 @@ use Rattle.spec_proofs.specs.Texts.{Ending, complete, IsProofText, ending_fault}
 use Rattle.spec_proofs.specs.Judging.{FirstFault}
 use Rattle.spec_proofs.specs.Good.{AreGood}
 
--- a proof of the k-th check of a script, within the limits: its whole text is commands, each right after those before it, and one clause is empty
+-- a proof of the k-th check of a script, within the limits: its whole text is commands, each right after those before it,
+-- and one clause is empty
 pub record IsAccepted (script : List ℕ) (k : ℕ) (proof : List ℕ) : Type 0 where
   -- what is current at the check
   pub stack : Stack
@@ -42,4 +43,6 @@ no_such_check = fault_at 0 NoSuchCheck
 
 -- the first fault of a proof of the k-th check of a script, or none; that there is no such check comes before all others
 abbrev pub IsVerdict : List ℕ → ℕ → List ℕ → Option Fault → Type 0
-IsVerdict script k proof found = ((s : Stack) × IsCurrent term_limit script k s × IsJudged s proof found) ⊎ (HasNoCheck term_limit script k × (found ≡ Some no_such_check))
+IsVerdict script k proof found =
+    ((s : Stack) × IsCurrent term_limit script k s × IsJudged s proof found)
+    ⊎ (HasNoCheck term_limit script k × (found ≡ Some no_such_check))

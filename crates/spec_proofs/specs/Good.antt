@@ -1,4 +1,4 @@
--- When the commands of a proof are good, and a proof's text, apart from any fault: within a limit on terms, or with none. Source: Alethe specification, proofs as lists of commands; limits are own.
+-- When the commands of a proof are good, and a proof's text, apart from any fault, within a limit or with none. Source: Alethe specification, proofs as lists of commands; limits are own.
 use Rattle.std.specs.Prelude.{◌≡◌, ℕ, List, [], ◌∷◌, ◌++◌, Option, None, Ok}
 use Rattle.spec_text.specs.Answers.{◌>>=◌}
 use Rattle.spec_text.specs.Trees.{Trees, none, more}
@@ -12,7 +12,8 @@ use Rattle.spec_proofs.specs.Judging.{with_command, IsRightAfter, HasEmptyClause
 -- the commands that trees are, each within a limit and under the names before it
 unfoldable pub commands_in : Option ℕ → Known → Trees → Read (List Command)
 commands_in limit k none = Ok []
-commands_in limit k (more t ts) = command_of limit k t >>= λ c. commands_in limit (with_command k c) ts >>= λ cs. Ok (c ∷ cs)
+commands_in limit k (more t ts) =
+    command_of limit k t >>= λ c. commands_in limit (with_command k c) ts >>= λ cs. Ok (c ∷ cs)
 
 -- what is known after commands
 abbrev pub known_after : Known → List Command → Known
@@ -21,7 +22,8 @@ known_after k (c ∷ cs) = known_after (with_command k c) cs
 
 -- each of the commands is right after those before it
 abbrev pub AreRight : Known → List Command → Type 0
-AreRight k commands = (before : List Command) (c : Command) (after : List Command) → commands ≡ before ++ c ∷ after → IsRightAfter (known_after k before) c
+AreRight k commands =
+    (before : List Command) (c : Command) (after : List Command) → commands ≡ before ++ c ∷ after → IsRightAfter (known_after k before) c
 
 -- the trees are commands that are right, within a limit, and at the end some clause is empty
 pub record AreGood (limit : Option ℕ) (k : Known) (ts : Trees) : Type 0 where
@@ -34,7 +36,8 @@ pub record AreGood (limit : Option ℕ) (k : Known) (ts : Trees) : Type 0 where
   -- one has the empty clause
   pub empty : HasEmptyClause (known_after k commands)
 
--- a good proof of the k-th check of a script, under whose limit on terms that is current: of the proof's own length, nesting and terms nothing is asked
+-- a good proof of what is current at the k-th check of a script, under the script's limit on terms; of the length, the
+-- nesting and the terms of the proof itself nothing is asked
 pub record IsGood (limit : ℕ) (script : List ℕ) (k : ℕ) (proof : List ℕ) : Type 0 where
   -- what is current at the check
   pub stack : Stack

@@ -55,4 +55,5 @@ FaultBy k (Ok c) rest found = (IsRightAfter k c × rest (with_command k c)) ⊎ 
 -- the first fault of a proof's commands and of what ends them, or none; each command within a limit
 unfoldable pub FirstFault : Option ℕ → Known → ℕ → Option Fault → Trees → Option Fault → Type 0
 FirstFault limit k end ending none found = EndsBy k end ending found
-FirstFault limit k end ending (more t ts) found = FaultBy k (command_of limit k t) (λ next. FirstFault limit next end ending ts found) found
+FirstFault limit k end ending (more t ts) found =
+    FaultBy k (command_of limit k t) (λ next. FirstFault limit next end ending ts found) found

@@ -47,7 +47,7 @@ unfoldable pub in_proof : {A : Type 0} → Answer A → Read A
 in_proof (Ok a) = Ok a
 in_proof (Err f) = Err (term_fault f)
 
--- the terms of trees, and where there is a limit, the fault at an offset if their different subterms are more, all together
+-- the terms of trees; where there is a limit, the fault at an offset if their different subterms are more, all together
 abbrev pub terms_within : Option ℕ → Scope → ℕ → Trees → Answer (List Term)
 terms_within None scope at ts = terms_in scope ts
 terms_within (Some limit) scope at ts = roomy_terms scope limit at ts
@@ -90,9 +90,11 @@ term_alone at _ = wrong at BadShape
 -- where there is a limit, room for one name more beside those that are declared and defined
 abbrev pub name_room : Option ℕ → Known → ℕ → Read (Unit {0})
 name_room None k at = Ok tt
-name_room (Some limit) k at = in_proof (require (nat_lt (length k.scope.symbols + length k.scope.defined) limit) at Full)
+name_room (Some limit) k at =
+    in_proof (require (nat_lt (length k.scope.symbols + length k.scope.defined) limit) at Full)
 
--- a command by its shape, which stands at an offset, within a limit; in a definition the term has the sort that is stated, since Bool is the one sort so far
+-- a command by its shape, which stands at an offset, within a limit; in a definition the term has the sort that is
+-- stated, since Bool is the one sort so far
 unfoldable pub read_shape : Option ℕ → Known → ℕ → Shape → Read Command
 read_shape limit k at (assumes h t) = do
   n ← fresh_name k h

@@ -55,13 +55,17 @@ abbrev pub AreAllCommands : Bool → List (ℕ × Lexeme) → Trees → Type 0
 AreAllCommands false xs ts = xs ≡ spelled_all ts
 AreAllCommands true xs ts = (at : ℕ) × (end : ℕ) × (xs ≡ (at, opens) ∷ spelled_all ts ++ (end, closes) ∷ [])
 
+-- the lexemes of a whole proof, after the word
+abbrev pub all_lexemes : List ℕ → List (ℕ × Lexeme)
+all_lexemes text = behind_unsat (lexemes 0 0 text)
+
 -- the whole text is these commands and nothing else, however long it is
 abbrev pub IsWholeText : List ℕ → Trees → Type 0
-IsWholeText text ts = AreAllCommands (begins_listed (behind_unsat (lexemes 0 0 text))) (behind_unsat (lexemes 0 0 text)) ts
+IsWholeText text ts = AreAllCommands (begins_listed (all_lexemes text)) (all_lexemes text) ts
 
--- the lexemes of the part of a proof that is read, behind the word
+-- the lexemes of the part of a proof that is read, after the word
 abbrev pub proof_lexemes : List ℕ → List (ℕ × Lexeme)
-proof_lexemes text = behind_unsat (lexemes 0 0 (kept text))
+proof_lexemes text = all_lexemes (kept text)
 
 -- the text is these commands with this ending
 abbrev pub IsProofText : List ℕ → Trees → Ending → Type 0

@@ -36,22 +36,27 @@ pub fn commands_are_read()
     ensures name { IsVerdict contradiction 1 same_name (Some (fault_at 22 TwiceName)) × IsAt same_name 22 2 9 }
     ensures term { IsVerdict contradiction 1 unknown_symbol (Some (fault_at 30 (Term faults.UnknownSymbol)))
         × IsAt unknown_symbol 30 2 17 }
-    ensures rule { IsVerdict contradiction 1 unknown_rule (Some (fault_at 54 UnknownRule)) × IsAt unknown_rule 54 3 21 }
+    ensures rule { IsVerdict contradiction 1 unknown_rule (Some (fault_at 54 UnknownRule))
+        × IsAt unknown_rule 54 3 21 }
     ensures premise { IsVerdict contradiction 1 unknown_premise (Some (fault_at 79 UnknownPremise))
         × IsAt unknown_premise 79 3 46 }
 {}
 
 /// States where a command is told that is read, but not right.
 pub fn commands_are_judged()
-    ensures assumed { IsVerdict contradiction 1 not_asserted (Some (fault_at 25 NotAsserted)) × IsAt not_asserted 25 2 12 }
+    ensures assumed { IsVerdict contradiction 1 not_asserted (Some (fault_at 25 NotAsserted))
+        × IsAt not_asserted 25 2 12 }
     ensures resolved { IsVerdict contradiction 1 one_premise (Some (fault_at 34 RuleFails)) × IsAt one_premise 34 3 1 }
-    ensures dropped { IsVerdict contradiction 1 dropped_literal (Some (fault_at 14 RuleFails)) × IsAt dropped_literal 14 2 1 }
+    ensures dropped { IsVerdict contradiction 1 dropped_literal (Some (fault_at 14 RuleFails))
+        × IsAt dropped_literal 14 2 1 }
 {}
 
 /// States that a proof without an empty clause is none, though its commands are right, and even where there are none.
 pub fn empty_clause_is_wanted()
-    ensures assumption { IsVerdict contradiction 1 assumption (Some (fault_at 14 NoEmptyClause)) × IsAt assumption 14 2 1 }
-    ensures tautology { IsVerdict contradiction 1 tautology (Some (fault_at 41 NoEmptyClause)) × IsAt tautology 41 1 42 }
+    ensures assumption { IsVerdict contradiction 1 assumption (Some (fault_at 14 NoEmptyClause))
+        × IsAt assumption 14 2 1 }
+    ensures tautology { IsVerdict contradiction 1 tautology (Some (fault_at 41 NoEmptyClause))
+        × IsAt tautology 41 1 42 }
     ensures nothing { IsVerdict contradiction 1 nothing (Some (fault_at 0 NoEmptyClause)) }
 {}
 
@@ -59,7 +64,8 @@ pub fn empty_clause_is_wanted()
 pub fn texts_end_with_their_commands()
     ensures unclosed { IsVerdict contradiction 1 unclosed (Some (fault_at 26 (Lexical faults.UnclosedList)))
         × IsAt unclosed 26 2 13 }
-    ensures behind_list { IsVerdict contradiction 1 behind_list (Some (fault_at 16 BadShape)) × IsAt behind_list 16 2 1 }
+    ensures behind_list { IsVerdict contradiction 1 behind_list (Some (fault_at 16 BadShape))
+        × IsAt behind_list 16 2 1 }
 {}
 
 /// States that a proof of a check which the script does not have has that fault, at its start, whatever it is.

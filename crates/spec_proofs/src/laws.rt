@@ -25,8 +25,8 @@ ghost use Rattle.spec_proofs.specs.Accepted.{IsAccepted, IsVerdict};
 /// States that what follows by a rule from clauses that are true is true, under the same interpretation, where this gives
 /// each of its terms a truth value. Source: Alethe specification, rules; SMT-LIB 2.6, theory Core.
 pub fn rules_are_sound()
-    ensures { (rule : Rule) (premises : List Clause) (clause : Clause) (i : Interpretation) → All (λ c. clause_true i c ≡ true) premises
-        → All (HasTruth i) clause → IsRight rule premises clause → clause_true i clause ≡ true }
+    ensures { (rule : Rule) (premises : List Clause) (clause : Clause) (i : Interpretation)
+        → All (λ c. clause_true i c ≡ true) premises → All (HasTruth i) clause → IsRight rule premises clause → clause_true i clause ≡ true }
 {}
 
 /// States that each chain of binary resolutions passes, where each resolves the clause so far with a premise: premises
@@ -44,7 +44,8 @@ pub fn chains_are_resolvents()
 /// States that commands are good exactly where they have no first fault, wherever the text ends: the two are stated apart,
 /// goodness of the whole list, the first fault by going through it.
 pub fn good_proofs_have_no_fault()
-    ensures { (limit : Option ℕ) (k : Known) (end : ℕ) (ts : Trees) → AreGood limit k ts ↔ FirstFault limit k end None ts None }
+    ensures { (limit : Option ℕ) (k : Known) (end : ℕ) (ts : Trees)
+        → AreGood limit k ts ↔ FirstFault limit k end None ts None }
 {}
 
 /// States that the verdict has no fault exactly where the proof is accepted.
@@ -54,19 +55,20 @@ pub fn accepted_proofs_have_no_fault()
     good_proofs_have_no_fault();
 }
 
-/// States that limits only refuse: what is good within a limit on terms is good without one, and so an accepted proof is a
-/// good one.
+/// States that limits only refuse: what is good within a limit on terms is good without one, and so an accepted proof is
+/// a good one.
 pub fn accepted_proofs_are_good()
     ensures commands { (limit : Option ℕ) (k : Known) (ts : Trees) → AreGood limit k ts → AreGood None k ts }
     ensures whole { (script proof : List ℕ) (k : ℕ) → IsAccepted script k proof → IsGood term_limit script k proof }
 {}
 
-/// States that no interpretation makes true what is current at a check, under any limit on terms, of which commands or a whole
-/// text are a good proof, however long it is, however deep it is nested, and however many terms it has.
+/// States that no interpretation makes true what is current at a check, under any limit on terms, of which commands or a
+/// whole text are a good proof, however long it is, however deep it is nested, and however many terms it has.
 pub fn good_proofs_are_sound()
     ensures commands { (limit : ℕ) (script : List ℕ) (k : ℕ) (s : Stack) (ts : Trees) → IsCurrent limit script k s
         → AreGood None (known_at s) ts → HasNoModel limit script k }
-    ensures whole { (limit : ℕ) (script proof : List ℕ) (k : ℕ) → IsGood limit script k proof → HasNoModel limit script k }
+    ensures whole { (limit : ℕ) (script proof : List ℕ) (k : ℕ) → IsGood limit script k proof
+        → HasNoModel limit script k }
 {
     rules_are_sound();
     spec_scripts::laws::checks_have_one_stack();
@@ -90,14 +92,16 @@ pub fn first_fault_is_one()
 
 /// States that a proof's text is one row of commands with one ending.
 pub fn proofs_have_one_reading()
-    ensures { (text : List ℕ) (ts us : Trees) (e f : Ending) → IsProofText text ts e → IsProofText text us f → (ts ≡ us) × (e ≡ f) }
+    ensures { (text : List ℕ) (ts us : Trees) (e f : Ending) → IsProofText text ts e → IsProofText text us f
+        → (ts ≡ us) × (e ≡ f) }
 {
     spec_text::laws::lexemes_are_read_up_to_one_end();
 }
 
 /// States that a script and a proof have at most one verdict at a check.
 pub fn verdict_is_one()
-    ensures { (script proof : List ℕ) (k : ℕ) (a b : Option Fault) → IsVerdict script k proof a → IsVerdict script k proof b → a ≡ b }
+    ensures { (script proof : List ℕ) (k : ℕ) (a b : Option Fault) → IsVerdict script k proof a
+        → IsVerdict script k proof b → a ≡ b }
 {
     first_fault_is_one();
     proofs_have_one_reading();
@@ -136,7 +140,8 @@ pub fn unsatisfiable_scripts_have_a_proof()
 /// States that the fault of a command of a proof stands at the offset of one of its atoms or lists: that of reading it,
 /// and that of a command that is read and isn't right.
 pub fn faults_stand_in_their_command()
-    ensures reading { (limit : Option ℕ) (k : Known) (t : Tree) (f : Fault) → command_of limit k t ≡ Err f → HasOffset t f.offset }
+    ensures reading { (limit : Option ℕ) (k : Known) (t : Tree) (f : Fault) → command_of limit k t ≡ Err f
+        → HasOffset t f.offset }
     ensures judging { (limit : Option ℕ) (k : Known) (t : Tree) (c : Command) → command_of limit k t ≡ Ok c
         → HasOffset t (fault_of c).offset }
 {
@@ -145,7 +150,8 @@ pub fn faults_stand_in_their_command()
 
 /// States that the fault of a verdict lies in the proof, or at its end.
 pub fn faults_stand_in_their_proof()
-    ensures { (script proof : List ℕ) (k : ℕ) (f : Fault) → IsVerdict script k proof (Some f) → f.offset ≤ length proof }
+    ensures { (script proof : List ℕ) (k : ℕ) (f : Fault) → IsVerdict script k proof (Some f)
+        → f.offset ≤ length proof }
 {
     spec_text::laws::trees_stand_in_their_text();
     spec_text::laws::lexical_faults_stand_in_their_text();

@@ -117,7 +117,8 @@ abbrev pub with_assertions : Stack → Tree → List Term → Stack
 with_assertions s t [] = s
 with_assertions s t (u ∷ us) = with_assertion s t u
 
--- what a command leaves, or its first fault: `limit` bounds the names that are declared and the different subterms of a command's terms; `at` is the command's offset
+-- what a command leaves, or its first fault: `limit` bounds the names that are declared and the different subterms of a
+-- command's terms; `at` is the command's offset
 abbrev pub performed : (limit at : ℕ) → Stack → Command → Answer Stack
 performed limit at s (SetOption k v) = if is_known_option k then with_success at s (truth_in v) else Ok s
 performed limit at s (DeclareConst w t) =
@@ -177,7 +178,7 @@ stack_at limit s k (more t ts) = at_check s k (step limit s t) (λ next n. stack
 abbrev pub term_limit : ℕ
 term_limit = 2 ^ 24
 
--- what is current at the k-th check of a text, under a limit on terms
+-- what is current at the k-th check of a text, where commands are taken under this limit on their terms and on names
 pub record IsCurrent (limit : ℕ) (text : List ℕ) (k : ℕ) (s : Stack) : Type 0 where
   -- the s-expressions of the text
   pub commands : Trees
@@ -210,6 +211,7 @@ pub record MakesTrue (limit : ℕ) (i : Interpretation) (text : List ℕ) (k : �
   -- each current expression is true
   pub each : All (λ (a : Assertion). value_under i a.text ≡ truth true) stack.assertions
 
--- no interpretation makes them true, whatever its tables of the right sorts are; it says nothing where there is no such check
+-- no interpretation makes them true, whatever its tables of the right sorts are; it says nothing where there is no such
+-- check
 abbrev pub HasNoModel : ℕ → List ℕ → ℕ → Type 0
 HasNoModel limit text k = (i : Interpretation) → MakesTrue limit i text k → ⊥

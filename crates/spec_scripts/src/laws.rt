@@ -15,8 +15,10 @@ ghost use Rattle.spec_scripts.specs.Current.{IsReadStack, IsKeptStack};
 /// check's number, and that a text which ends
 /// before the check has nothing current there.
 pub fn checks_have_one_stack()
-    ensures one { (limit : ℕ) (text : List ℕ) (k : ℕ) (s t : Stack) → IsCurrent limit text k s → IsCurrent limit text k t → s ≡ t }
-    ensures other { (limit : ℕ) (text : List ℕ) (k : ℕ) (s : Stack) → IsCurrent limit text k s → HasNoCheck limit text k → ⊥ }
+    ensures one { (limit : ℕ) (text : List ℕ) (k : ℕ) (s t : Stack) → IsCurrent limit text k s → IsCurrent limit text k t
+        → s ≡ t }
+    ensures other { (limit : ℕ) (text : List ℕ) (k : ℕ) (s : Stack) → IsCurrent limit text k s → HasNoCheck limit text k
+        → ⊥ }
 {
     spec_text::laws::a_text_is_read_up_to_one_end();
 }
@@ -34,7 +36,8 @@ pub fn assertions_are_read()
 /// command that is taken the terms of the assertions are again those of their texts, and fit in.
 pub fn commands_keep_stacks()
     ensures first { (limit : ℕ) → IsKeptStack limit empty_stack }
-    ensures next { (limit : ℕ) (s : Stack) (t : Tree) (d : Taken) → step limit s t ≡ Ok d → IsKeptStack limit s → IsKeptStack limit d.stack }
+    ensures next { (limit : ℕ) (s : Stack) (t : Tree) (d : Taken) → step limit s t ≡ Ok d → IsKeptStack limit s
+        → IsKeptStack limit d.stack }
     ensures value { (limit : ℕ) (s : Stack) (i : Interpretation) → IsKeptStack limit s
         → All (λ (a : Assertion). value_under i a.text ≡ value_at i a.term) s.assertions }
 {
