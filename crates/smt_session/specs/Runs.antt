@@ -10,7 +10,6 @@ use Rattle.spec_runs.specs.Evidence.{Limits}
 use Rattle.spec_runs.specs.Responses.{Mode, Answered}
 use Rattle.spec_runs.specs.Transcripts.{IsTranscript, IsBegun, checks_in}
 use Rattle.spec_runs.specs.Meaning.{AllSay}
-use Rattle.spec_scripts.specs.Stack.{term_limit}
 use Rattle.smt_lexer.specs.declared.Refusal.{Refusal}
 use Rattle.smt_lexer.specs.declared.Refused.{Refused}
 use Rattle.smt_lexer.specs.declared.Refused.TheVariants as refusals
@@ -49,9 +48,9 @@ RunsText limits mode text statuses.Memory out = HasStopped limits mode text out
 RunsText limits mode text statuses.WriteFault out = HasBegun limits mode text out × Rose out.faults_old out.faults_new
 RunsText limits mode text _ out = ⊥
 
--- what answers say of the checks of a text is so, under the limit on terms under which proofs are checked
+-- what answers say of the checks of a text is so
 abbrev pub AnswersSay : Limits → List ℕ → List Answered → Type 0
-AnswersSay limits text answers = limits.terms ≡ term_limit → AllSay limits text 0 (checks_in answers)
+AnswersSay limits text answers = AllSay limits text 0 (checks_in answers)
 
 -- P is true of a transcript of the text, and what its answers say is so; whether something is refused in it
 abbrev pub OnTranscript : Limits → Mode → List ℕ → Bool → (List ℕ → Type 0) → Type 0

@@ -15,7 +15,6 @@ use assertion_stack::laws::stacks_stand_in_grown_tables;
 use proof_log::ProofLog;
 use sat_budget::{Budget, Limits, Reason};
 use solve_core::{Answer, Outcome, decide};
-use spec_printing::laws::planned_lines_are_right;
 use spec_scripts::laws::commands_keep_stacks;
 use std::alloc::Global;
 use term_core::{Interp, TermTable};
@@ -43,7 +42,6 @@ fn evidence_of(
     ensures { IfOk result (λ x. (limits : SpokenLimits) (s : Stack) → IsKeptStack limits.terms s → s.symbols ≡ table.now.symbols → IsJustified table.now (terms_of s) limits.conflicts outcome → IsShown limits table.now s x.0 x.1 × HasLearned table.now s x.1) }
 {
     commands_keep_stacks();
-    planned_lines_are_right();
     logs_are_over_their_terms();
     terms_are_printable(table);
     let Outcome {

@@ -3,3 +3,4 @@ pub mod Checks
 pub mod Running
 pub mod Soundness
 pub mod Models
+pub mod Refuted

@@ -1,15 +1,16 @@
 -- What shows that the answer of a check is right. Source: SMT-LIB 2.6, section 4.2.5; what counts as shown is own.
-use Rattle.std.specs.Prelude.{◌≡◌, ℕ, true, List, map, All}
+use Rattle.std.specs.Prelude.{◌≡◌, ℕ, true, List, [], map, All}
 use Rattle.spec_terms.specs.Terms.{Term}
 use Rattle.spec_terms.specs.Values.{truth, Interpretation, Interprets}
 use Rattle.spec_terms.specs.Meaning.{value_under}
 use Rattle.spec_terms.specs.Literals.{Literal}
 use Rattle.spec_scripts.specs.Stack.{Stack, Assertion}
-use Rattle.spec_search.specs.Derivations.{Derivation}
+use Rattle.spec_search.specs.Derivations.{Derivation, conclusion_at, IsDerivation, IsDerivedFrom}
 use Rattle.spec_search.specs.Spent.{IsConflictBudgetSpent, IsConflict}
 use Rattle.spec_replies.specs.Lines.{Reason, conflicts}
-use Rattle.spec_printing.specs.Lines.{Line, proof_text}
-use Rattle.spec_printing.specs.Meaning.{AreRightLines}
+use Rattle.spec_printing.specs.Lines.{proof_text}
+use Rattle.spec_printing.specs.Plans.{Plan, lines_of, IsPlan}
+use Rattle.spec_printing.specs.Printable.{ArePrintable, AreOver}
 
 -- What a check may spend, and how much a script may name.
 pub record Limits : Type 0 where
@@ -38,14 +39,28 @@ pub record IsModelOf (s : Stack) (i : Interpretation) : Type 0 where
   -- each assertion is true, as it is written
   pub each : All (λ (a : Assertion). value_under i a.text ≡ truth true) s.assertions
 
--- The text is lines of a proof from the current assertions: each line is right after those before it, and the last states the empty clause.
+-- The text is the proof of an empty clause that is derived from the current assertions: each term with arguments that it needs is
+-- defined once, before its first use, and of the clauses those that the empty one rests on are printed, each after its premises.
 pub record IsProofOf (s : Stack) (text : List ℕ) : Type 0 where
-  -- its lines
-  pub lines : List Line
-  -- it is their text
-  pub written : text ≡ proof_text lines
-  -- they are right
-  pub right : AreRightLines s.symbols (terms_of s) lines
+  -- terms, each after its arguments
+  pub terms : List Term
+  -- they can be printed
+  pub printable : ArePrintable s.symbols terms
+  -- clauses of these terms
+  pub derivation : Derivation
+  pub over : AreOver terms derivation
+  -- each follows from those before it
+  pub right : IsDerivation derivation
+  -- the number of one that is derived from the assertions
+  pub number : ℕ
+  pub derived : IsDerivedFrom (terms_of s) derivation number
+  -- it is empty
+  pub empty : conclusion_at derivation number ≡ []
+  -- which of the terms and of the clauses are printed for it, and under which numbers
+  pub plan : Plan
+  pub planned : IsPlan terms derivation number plan
+  -- the text is that of their lines
+  pub written : text ≡ proof_text (lines_of terms derivation plan)
 
 -- The budget is spent at a conflict more.
 pub record IsSpentOn (s : Stack) (limit carried : ℕ) (d : Derivation) (learned : List (List Literal)) : Type 0 where

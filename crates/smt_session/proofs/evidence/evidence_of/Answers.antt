@@ -1,9 +1,9 @@
 -- By the answer.
 use Rattle.std.proofs.Common.{refl, sym, subst}
 use Rattle.spec_printing.specs.Lines.{proof_text}
-use Rattle.spec_printing.specs.Meaning.{AreRightLines}
 use Rattle.spec_printing.specs.Plans.{lines_of}
-use Rattle.spec_runs.specs.Evidence.{proof, terms_of}
+use Rattle.spec_printing.specs.Printable.{ArePrintable}
+use Rattle.spec_runs.specs.Evidence.{proof, terms_of, IsProofOf}
 use Rattle.proof_log.specs.Logs.{derivation_in}
 use Rattle.solve_core.specs.Rounds.{HasEvidence}
 use Rattle.smt_session.proofs.Showing.{model_shown, any_reason_shown}
@@ -26,10 +26,22 @@ returns-in_ok-plan-in-Unsat c = λ limits s kept symbols h.
     let p = c.in_ok-plan-in-Unsat.plan in
     let n = c.in-Unsat.step.0 in
     let shown = subst (HasEvidence t (terms_of s) o.log o.budget) c.in-Unsat.is h.evidence in
-    let right = c.planned_lines_are_right.ensures t.symbols t.terms (terms_of s) d n p c.terms_are_printable.ensures (c.logs_are_over_their_terms.ensures t o.log h.log_right) h.log_right.right shown.1 shown.0 c.in_ok-plan-in-Unsat.ensures.plan in (
+    let is_proof : IsProofOf s (proof_text (lines_of t.terms d p)) = record {
+      terms = t.terms;
+      printable = subst (λ ss. ArePrintable ss t.terms) (sym symbols) c.terms_are_printable.ensures;
+      derivation = d;
+      over = c.logs_are_over_their_terms.ensures t o.log h.log_right;
+      right = h.log_right.right;
+      number = n;
+      derived = shown.1;
+      empty = shown.0;
+      plan = p;
+      planned = c.in_ok-plan-in-Unsat.ensures.plan;
+      written = refl;
+    } in (
       (
         proof (proof_text (lines_of t.terms d p)),
-        record { lines = lines_of t.terms d p; written = refl; right = subst (λ ss. AreRightLines ss (terms_of s) (lines_of t.terms d p)) (sym symbols) right },
+        is_proof,
         (h.log_right, c.in_ok-plan-in-Unsat.ensures.fits, refl),
       ),
       (d, h.learning.learns),

@@ -15,14 +15,11 @@ use Rattle.spec_scripts.specs.Stack.{Stack, with_assertion, step}
 use Rattle.spec_scripts.specs.Examples.{contradiction, contradiction_stack, contradiction_is_read}
 use Rattle.spec_printing.specs.Lines.{proof_text}
 use Rattle.spec_printing.specs.Examples.{refutation}
-use Rattle.spec_printing.proofs.Refutation.{right}
-use Rattle.spec_runs.specs.Evidence.{proof, IsProofOf}
+use Rattle.spec_runs.specs.Evidence.{proof}
 use Rattle.spec_runs.specs.Responses.{success, answered}
 use Rattle.spec_runs.specs.Transcripts.{Runs}
+use Rattle.spec_runs.proofs.Refuted.{shown}
 use Rattle.spec_runs.proofs.examples.contradiction_is_refuted.Goals as goal
-
-shown : IsProofOf contradiction_stack (proof_text refutation)
-shown = record { lines = refutation; written = refl; right = right }
 
 -- what stands behind the declaration, and behind the first assertion
 abbrev declared : Stack

@@ -1,9 +1,9 @@
 -- That each answer says what is so of its check.
-use Rattle.std.proofs.Common.{◌≡◌, ℕ, suc, length, List, Option, Some, subst, arith}
+use Rattle.std.proofs.Common.{ℕ, suc, length, List, Option, subst, arith}
 use Rattle.spec_text.specs.Faults.{Located}
 use Rattle.spec_text.specs.Trees.{Trees}
 use Rattle.spec_text.specs.Readings.{IsReadUpTo}
-use Rattle.spec_scripts.specs.Stack.{empty_stack, stack_at, term_limit, IsCurrent}
+use Rattle.spec_scripts.specs.Stack.{empty_stack, IsCurrent}
 use Rattle.spec_runs.specs.Evidence.{Limits, Justifies}
 use Rattle.spec_runs.specs.Responses.{Answered}
 use Rattle.spec_runs.specs.Transcripts.{Begins, Checked, checks_in}
@@ -13,14 +13,14 @@ use Rattle.spec_runs.proofs.Checks.{each_is_its_check, all_say}
 use Rattle.spec_runs.proofs.laws.answers_say_what_is_so.Goals as goal
 
 -- of what the first of the commands are answered
-begun : (limits : Limits) (text : List ℕ) → ((k : ℕ) (c : Checked) → IsCurrent term_limit text k c.stack → Justifies limits c.stack c.found → Says limits text k c)
-    → (commands : Trees) (end : Option Located) → IsReadUpTo text commands end → (given : List Answered) → Begins limits empty_stack commands given → limits.terms ≡ term_limit → AllSay limits text 0 (checks_in given)
-begun limits text says commands end read given begins terms = all_say limits text (checks_in given) 0 (λ before c after e.
+begun : (limits : Limits) (text : List ℕ) → ((k : ℕ) (c : Checked) → IsCurrent limits.terms text k c.stack → Justifies limits c.stack c.found → Says limits text k c)
+    → (commands : Trees) (end : Option Located) → IsReadUpTo text commands end → (given : List Answered) → Begins limits empty_stack commands given → AllSay limits text 0 (checks_in given)
+begun limits text says commands end read given begins = all_say limits text (checks_in given) 0 (λ before c after e.
     let is = each_is_its_check limits commands empty_stack given begins before c after e in
-    subst (λ n. Says limits text n c) (omega arith) (says (suc (length before)) c (record { commands = commands; end = end; read = read; here = subst (λ n. stack_at n empty_stack (suc (length before)) commands ≡ Some c.stack) terms is.0 }) is.1))
+    subst (λ n. Says limits text n c) (omega arith) (says (suc (length before)) c (record { commands = commands; end = end; read = read; here = is.0 }) is.1))
 
 pub returns-clause-whole : goal.returns-clause-whole
-returns-clause-whole c = λ limits mode text out refused t terms. begun limits text (c.what_is_shown_is_so.ensures limits text) t.commands t.end t.read t.answers (begins_all limits empty_stack t.commands t.answers t.runs) terms
+returns-clause-whole c = λ limits mode text out refused t. begun limits text (c.what_is_shown_is_so.ensures.text limits text) t.commands t.end t.read t.answers (begins_all limits empty_stack t.commands t.answers t.runs)
 
 pub returns-clause-begun : goal.returns-clause-begun
-returns-clause-begun c = λ limits mode text out t terms. begun limits text (c.what_is_shown_is_so.ensures limits text) t.commands t.end t.read t.answers t.begins terms
+returns-clause-begun c = λ limits mode text out t. begun limits text (c.what_is_shown_is_so.ensures.text limits text) t.commands t.end t.read t.answers t.begins
