@@ -153,7 +153,7 @@ performed_named limit at size extra parts s (Assert t) r within p e h =
 performed_named limit at size extra parts s CheckSat r within p e h = subst (IsNamed (size + extra)) (answer (Ok s) r e) (more_named size extra s h)
 performed_named limit at size extra parts s Exit r within p e h = subst (IsNamed (size + extra)) (answer (Ok s) r e) (more_named size extra s h)
 
-step_named : (limit size : ℕ) (s : Stack) (t : Tree) (d : Taken) → HasWords t → step limit s t ≡ Ok d → IsNamed size s → IsNamed (size + length (spelled t)) d.stack
+pub step_named : (limit size : ℕ) (s : Stack) (t : Tree) (d : Taken) → HasWords t → step limit s t ≡ Ok d → IsNamed size s → IsNamed (size + length (spelled t)) d.stack
 unfolding step
 step_named limit size s t d words e h =
     let a = went (command_of t) _ d e in

@@ -1,11 +1,12 @@
 //! What the definitions imply. Each law is a function whose contract is the law; it computes nothing.
 
-ghost use Rattle.std.specs.Prelude.{◌≡◌, ℕ, ◌+◌, ◌*◌, ◌<◌, ◌≤◌, ◌^◌, false, List, [], ◌++◌, length, map, All, Some, None, codes};
-ghost use Rattle.spec_text.specs.Trees.{Trees};
+ghost use Rattle.std.specs.Prelude.{◌≡◌, ℕ, ◌+◌, ◌*◌, ◌<◌, ◌≤◌, ◌^◌, false, List, [], ◌++◌, length, map, All, Some, None, Ok, codes};
+ghost use Rattle.spec_text.specs.Lexemes.{Lexeme, lexemes_from};
+ghost use Rattle.spec_text.specs.Trees.{Tree, Trees, spelled};
 ghost use Rattle.spec_text.specs.Printed.{SameTrees};
 ghost use Rattle.spec_text.specs.Readings.{text_limit, is_long};
 ghost use Rattle.spec_terms.specs.Terms.{Symbol, Term};
-ghost use Rattle.spec_scripts.specs.Stack.{Stack, Assertion, term_limit, IsCurrent};
+ghost use Rattle.spec_scripts.specs.Stack.{Stack, Assertion, Taken, empty_stack, step, term_limit, IsCurrent};
 ghost use Rattle.spec_scripts.specs.Current.{AreDeclared};
 ghost use Rattle.spec_proofs.specs.Good.{AreGood, IsGood};
 ghost use Rattle.spec_proofs.specs.Accepted.{IsAccepted};
@@ -63,6 +64,15 @@ pub fn printed_proofs_are_good()
     spec_scripts::laws::assertions_are_read();
     declared_names_can_be_written();
 }
+
+/// States that declared names can be printed after each command: none is declared at first, and a command that stands in a
+/// text leaves names that can be printed where those before it can.
+pub fn commands_keep_names_that_can_be_written()
+    ensures first { AreWritable empty_stack.symbols }
+    ensures next { (limit : ℕ) (s : Stack) (text : List ℕ) (from : ℕ) (t : Tree) (rest : List (ℕ × Lexeme)) (d : Taken)
+        → lexemes_from text from ≡ spelled t ++ rest → step limit s t ≡ Ok d
+        → AreWritable s.symbols → AreWritable d.stack.symbols }
+{}
 
 /// States that lines which are right under what is current at a check of a script are an accepted proof of that check, alone
 /// and behind the answer `unsat`, where the text is no longer than it may be.
