@@ -1,21 +1,29 @@
 -- What a term gives by a scheme, over numbers of the table.
-use Rattle.std.specs.Prelude.{◌≡◌, ◌<◌, ℕ, Bool, true, List, Contains}
+use Rattle.std.specs.Prelude.{◌≡◌, ◌<◌, ℕ, Bool, true, List, map, Contains, Result, MatchResult}
 use Rattle.spec_terms.specs.Terms.{Symbol, Head, Term, negated}
 use Rattle.spec_terms.specs.Subsets.{arguments_of}
 use Rattle.spec_terms.specs.Literals.{Clause}
 use Rattle.spec_proofs.specs.declared.Rule.{Rule}
 use Rattle.spec_proofs.specs.declared.Rest.{Rest}
 use Rattle.spec_proofs.specs.declared.Rest.TheVariants.{One, Two}
-use Rattle.spec_proofs.specs.Schemes.{Scheme, Kind, turns, signed, rests_of, is_formula_of, kind_of}
-use Rattle.spec_proofs.specs.Rules.{flipped}
+use Rattle.spec_proofs.specs.Schemes.{Scheme, Kind, states, turns, signed, rests_of, is_formula_of, kind_of}
+use Rattle.spec_proofs.specs.Rules.{flipped, IsRight}
 use Rattle.term_core.specs.declared.ids.TermId.{TermId}
 use Rattle.term_core.specs.declared.nodes.Head.{Head as NodeHead}
 use Rattle.term_core.specs.declared.nodes.Head.TheVariants as heads
-use Rattle.term_core.specs.Tables.{TableView, IsIn, term_at, head_meant}
+use Rattle.term_core.specs.Tables.{TableView, IsIn, term_at, clause_at, head_meant}
+use Rattle.term_core.specs.declared.rule_fails.RuleFails.{RuleFails}
+use Rattle.rule_bool.specs.declared.rule_stop.RuleStop.{RuleStop}
+use Rattle.rule_bool.specs.declared.scheme_table.Scheme.{Scheme as CodeScheme}
+use Rattle.rule_bool.specs.Resolvents.{Stops}
 
 -- the scheme that the code's words mean under these symbols
 abbrev pub scheme_meant : List Symbol → NodeHead → Bool → Rest → Scheme
 scheme_meant symbols head positive rest = record { head = head_meant symbols head; positive = positive; rest = rest }
+
+-- the scheme that the code's means under these symbols
+abbrev pub scheme_seen : List Symbol → CodeScheme → Scheme
+scheme_seen symbols s = scheme_meant symbols s.head s.positive s.rest
 
 -- The term is that of a number, as it stands or negated.
 pub record IsSigned (table : TableView) (positive : Bool) (t : Term) (id : TermId) : Type 0 where
@@ -64,11 +72,60 @@ pub record GivesRest (head : Head) (rest : Rest) (t : Term) (behind : Clause) : 
   -- the literals are as its arguments say
   pub by_arguments : Contains (rests_of rest (arguments_of t)) behind
 
--- the rules of that kind are by a premise that is turned
-abbrev pub turns_by : Kind → Type 0
-turns_by (turns s) = Unit {0}
-turns_by k = ⊥
+-- a result is a success exactly where the statement is so
+abbrev pub IsExact : Type 0 → Result (Unit {0}) RuleFails → Type 0
+IsExact P result = MatchResult result (λ _. P) (λ _. P → ⊥)
 
--- the rule takes a premise that is turned
-abbrev pub IsTurn : Rule → Type 0
-IsTurn rule = turns_by (kind_of rule)
+-- a step of the rule, by the table's numbers, is right
+abbrev pub IsRightIn : TableView → Rule → List (List TermId) → List TermId → Type 0
+IsRightIn table rule premises clause = IsRight rule (map (clause_at table) premises) (clause_at table clause)
+
+-- a success exactly where the step is right
+abbrev pub Judges : TableView → Rule → List (List TermId) → List TermId → Result (Unit {0}) RuleFails → Type 0
+Judges table rule premises clause result = IsExact (IsRightIn table rule premises clause) result
+
+-- a success only where the step is right, and a failure only where it isn't; out of memory tells nothing
+abbrev pub JudgesOrStops : TableView → Rule → List (List TermId) → List TermId → Result (Unit {0}) RuleStop → Type 0
+JudgesOrStops table rule premises clause result = MatchResult result (λ _. IsRightIn table rule premises clause) (λ stop. Stops stop (IsRightIn table rule premises clause))
+
+-- the rules of that kind state no scheme's clauses
+abbrev pub states_nothing : Kind → Type 0
+states_nothing (states s) = ⊥
+states_nothing k = Unit {0}
+
+-- the rules of that kind turn no scheme's terms
+abbrev pub turns_nothing : Kind → Type 0
+turns_nothing (turns s) = ⊥
+turns_nothing k = Unit {0}
+
+-- the rules of that kind have a scheme
+abbrev pub has_scheme : Kind → Type 0
+has_scheme (states s) = Unit {0}
+has_scheme (turns s) = Unit {0}
+has_scheme k = ⊥
+
+-- the rule states no scheme's clauses
+abbrev pub StatesNothing : Rule → Type 0
+StatesNothing rule = states_nothing (kind_of rule)
+
+-- the rule turns no scheme's terms
+abbrev pub TurnsNothing : Rule → Type 0
+TurnsNothing rule = turns_nothing (kind_of rule)
+
+-- the rule has a scheme
+abbrev pub HasScheme : Rule → Type 0
+HasScheme rule = has_scheme (kind_of rule)
+
+-- The rule states the clauses of the scheme.
+pub record States (rule : Rule) (s : CodeScheme) : Type 0 where
+  -- the definitions say so, whatever symbols there are
+  pub same : (symbols : List Symbol) → kind_of rule ≡ states (scheme_seen symbols s)
+  -- the head takes the arguments that are meant
+  pub form : IsStating s.head s.rest
+
+-- The rule turns the terms of the scheme.
+pub record Turns (rule : Rule) (s : CodeScheme) : Type 0 where
+  -- the definitions say so, whatever symbols there are
+  pub same : (symbols : List Symbol) → kind_of rule ≡ turns (scheme_seen symbols s)
+  -- the head takes the arguments that are meant, and is not that of negations
+  pub form : IsTurning s.head s.rest

@@ -1,9 +1,12 @@
 //! Rules of Alethe on clauses of the table of terms.
 //!
-//! There is a call for each rule, and `judge` calls the one of a rule that is named. The rules on one connective are judged by the
-//! table of schemes of `spec_proofs`: `stated` and `turned` of `schemes.rt`. A rule on one premise, or on none, looks for terms by
-//! their numbers and takes no memory. `resolution` takes terms by their numbers too, and makes literals of them, over which
-//! `resolves` propagates units in time in proportion to them; a plain slow body beside it is what tests compare it with.
+//! There is a call for each rule, and `judge` judges by the rule that is named. Premises and clause give their terms by their numbers
+//! in the table, and terms are compared as they are read. `RuleFails` comes exactly where the step is not right. But for resolution
+//! no rule takes memory, and where a rule's comment says nothing of time, it takes the same time for all terms.
+//!
+//! Which clauses a rule states of a term says one table, `scheme_of`; by the same schemes go the rules that turn the term in front
+//! into a premise. `resolution` makes literals of the terms, over which `resolves` propagates units in time in proportion to them; a
+//! plain slow body beside it is what tests compare it with.
 #![tactic(auto)]
 
 mod and_or_rules;
@@ -24,6 +27,7 @@ mod rule_stop;
 mod rule_tests;
 mod rules;
 mod scan;
+mod scheme_table;
 mod schemes;
 #[cfg(test)]
 mod stated_tests;
@@ -58,6 +62,7 @@ pub use propagation::resolves;
 pub use resolvent::{literals_of, resolution};
 pub use rule_stop::RuleStop;
 pub use rules::{rule_contraction, rule_or, rule_reordering, rule_weakening};
+pub use scheme_table::{Scheme, scheme_of};
 pub use status::{ClauseStatus, clause_status};
 pub use term_core::{Lit, TermId};
 pub use truth_rules::{rule_false, rule_not_not, rule_true};

@@ -1,6 +1,6 @@
 //! The literals that may stand behind a term, by its arguments.
 
-ghost use Rattle.std.specs.Prelude.{◌≡◌, ◌≢◌, ◌<◌, length, Contains, MatchBool, Bool};
+ghost use Rattle.std.specs.Prelude.{◌≡◌, ◌≢◌, ◌<◌, length, Contains, MatchBool};
 ghost use Rattle.spec_proofs.specs.Schemes.{side_of, rests_of};
 ghost use Rattle.spec_proofs.specs.declared.Rest.TheVariants as rests;
 ghost use Rattle.term_core.specs.Tables.{IsIn, AreIn, term_at, clause_at};

@@ -2,9 +2,10 @@
 
 ghost use Rattle.std.specs.Prelude.{map, All, MatchOption, MatchResult};
 ghost use Rattle.spec_proofs.specs.declared.Rule.TheVariants as rules;
-ghost use Rattle.spec_proofs.specs.Rules.{IsOr, IsWeakening, IsRight};
+ghost use Rattle.spec_proofs.specs.Rules.{IsWeakening};
 ghost use Rattle.term_core.specs.Tables.{AreIn, clause_at};
 ghost use Rattle.rule_bool.specs.Premises.{IsDisjunctionAlone, HasNoDisjunctionAlone};
+ghost use Rattle.rule_bool.specs.Schemes.{Judges};
 
 use crate::within::has_each;
 use term_core::{Clause, Head, Node, RuleFails, TermId, TermTable};
@@ -30,19 +31,17 @@ fn disjunction<'a>(table: &'a TermTable, premises: &[Clause]) -> Option<&'a Node
 /// Judges a step of the rule `or`, which opens a disjunction into its arguments.
 ///
 /// One premise, whose one literal is a term `(or t1 .. tn)` as it stands, with one argument or more; the conclusion has each of
-/// them, in any order, maybe more than once, and maybe others. It is sound, since where the disjunction is true, one of its arguments
-/// is, and with it the conclusion. Premises and clause give their terms by their numbers in the table.
+/// them, in any order, maybe more than once, and maybe others. It is sound, since where the disjunction is true, one of its
+/// arguments is, and with it the conclusion.
 ///
-/// It takes no memory. Time goes in proportion to the lengths where the terms stand in the clause's order, with gaps or repeats, and
-/// is their product at worst.
+/// Time goes in proportion to the lengths where the terms stand in the clause's order, with gaps or repeats, and is their product
+/// at worst.
 ///
-/// `RuleFails` comes exactly where the step is not right.
 /// Source: Alethe specification, rule `or`; that order, repeats and further literals are free is own.
 pub fn rule_or(table: &TermTable, premises: &[Clause], clause: &[TermId]) -> Result<(), RuleFails>
     requires premises { All (AreIn table.now) premises.now }
     requires clause { AreIn table.now clause.now }
-    ensures { MatchResult result (λ _. IsRight rules.Or (map (clause_at table.now) premises.now) (clause_at table.now clause.now))
-        (λ _. IsRight rules.Or (map (clause_at table.now) premises.now) (clause_at table.now clause.now) → ⊥) }
+    ensures { Judges table.now rules.Or premises.now clause.now result }
 {
     table.ids_are_unique();
     let Some(node) = disjunction(table, premises) else {
@@ -77,14 +76,12 @@ fn keeps_literals(
 
 /// Judges a step of the rule `contraction`, which leaves out literals that stand twice.
 ///
-/// One premise; the conclusion has each of its literals, as the same terms, in any order, and maybe others. It is sound, since where
-/// the premise is true, one of its literals is, and with it the conclusion. Premises and clause give their terms by their numbers in
-/// the table.
+/// One premise; the conclusion has each of its literals, as the same terms, in any order, and maybe others. It is sound, since
+/// where the premise is true, one of its literals is, and with it the conclusion.
 ///
-/// It takes no memory. Time goes in proportion to the lengths where the terms stand in the clause's order, with gaps or repeats, and
-/// is their product at worst.
+/// Time goes in proportion to the lengths where the terms stand in the clause's order, with gaps or repeats, and is their product
+/// at worst.
 ///
-/// `RuleFails` comes exactly where the step is not right.
 /// Source: Alethe specification, rule `contraction`; that order and further literals are free is own.
 pub fn rule_contraction(
     table: &TermTable,
@@ -93,21 +90,19 @@ pub fn rule_contraction(
 ) -> Result<(), RuleFails>
     requires premises { All (AreIn table.now) premises.now }
     requires clause { AreIn table.now clause.now }
-    ensures { MatchResult result (λ _. IsRight rules.Contraction (map (clause_at table.now) premises.now) (clause_at table.now clause.now))
-        (λ _. IsRight rules.Contraction (map (clause_at table.now) premises.now) (clause_at table.now clause.now) → ⊥) }
+    ensures { Judges table.now rules.Contraction premises.now clause.now result }
 {
     keeps_literals(table, premises, clause)
 }
 
 /// Judges a step of the rule `reordering`, which gives the literals in another order.
 ///
-/// One premise; the conclusion has each of its literals, as the same terms, and maybe others. It is sound, since where the premise is
-/// true, one of its literals is, and with it the conclusion. Premises and clause give their terms by their numbers in the table.
+/// One premise; the conclusion has each of its literals, as the same terms, and maybe others. It is sound, since where the
+/// premise is true, one of its literals is, and with it the conclusion.
 ///
-/// It takes no memory. Time goes in proportion to the lengths where the terms stand in the clause's order, with gaps or repeats, and
-/// is their product at worst.
+/// Time goes in proportion to the lengths where the terms stand in the clause's order, with gaps or repeats, and is their product
+/// at worst.
 ///
-/// `RuleFails` comes exactly where the step is not right.
 /// Source: Alethe specification, rule `reordering`; that repeats and further literals are free is own.
 pub fn rule_reordering(
     table: &TermTable,
@@ -116,22 +111,19 @@ pub fn rule_reordering(
 ) -> Result<(), RuleFails>
     requires premises { All (AreIn table.now) premises.now }
     requires clause { AreIn table.now clause.now }
-    ensures { MatchResult result (λ _. IsRight rules.Reordering (map (clause_at table.now) premises.now) (clause_at table.now clause.now))
-        (λ _. IsRight rules.Reordering (map (clause_at table.now) premises.now) (clause_at table.now clause.now) → ⊥) }
+    ensures { Judges table.now rules.Reordering premises.now clause.now result }
 {
     keeps_literals(table, premises, clause)
 }
 
 /// Judges a step of the rule `weakening`, which adds literals.
 ///
-/// One premise; the conclusion has each of its literals, as the same terms, at any places among others. It is sound, since where the
-/// premise is true, one of its literals is, and with it the conclusion. Premises and clause give their terms by their numbers in the
-/// table.
+/// One premise; the conclusion has each of its literals, as the same terms, at any places among others. It is sound, since where
+/// the premise is true, one of its literals is, and with it the conclusion.
 ///
-/// It takes no memory. Time goes in proportion to the lengths where the terms stand in the clause's order, with gaps or repeats, and
-/// is their product at worst.
+/// Time goes in proportion to the lengths where the terms stand in the clause's order, with gaps or repeats, and is their product
+/// at worst.
 ///
-/// `RuleFails` comes exactly where the step is not right.
 /// Source: Alethe specification, rule `weakening`; that the added literals may stand anywhere, and that repeats may be left out,
 /// is own.
 pub fn rule_weakening(
@@ -141,8 +133,7 @@ pub fn rule_weakening(
 ) -> Result<(), RuleFails>
     requires premises { All (AreIn table.now) premises.now }
     requires clause { AreIn table.now clause.now }
-    ensures { MatchResult result (λ _. IsRight rules.Weakening (map (clause_at table.now) premises.now) (clause_at table.now clause.now))
-        (λ _. IsRight rules.Weakening (map (clause_at table.now) premises.now) (clause_at table.now clause.now) → ⊥) }
+    ensures { Judges table.now rules.Weakening premises.now clause.now result }
 {
     keeps_literals(table, premises, clause)
 }

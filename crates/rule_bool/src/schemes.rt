@@ -1,52 +1,17 @@
 //! Steps by which a clause is stated, and those that turn the term in front into a premise.
 
-ghost use Rattle.std.specs.Prelude.{◌≡◌, ◌≢◌, [], ◌∷◌, map, All, MatchBool, MatchOption, MatchResult};
+ghost use Rattle.std.specs.Prelude.{◌≡◌, ◌≢◌, [], ◌∷◌, map, All, MatchBool, MatchOption};
 ghost use Rattle.spec_proofs.specs.Rules.{IsStated, IsTurned};
 ghost use Rattle.term_core.specs.declared.ids.TermId.{TermId as Number};
 ghost use Rattle.term_core.specs.Tables.{IsIn, AreIn, term_at, clause_at, head_meant};
-ghost use Rattle.rule_bool.specs.Schemes.{scheme_meant, IsStating, IsTurning, GivesRest};
+ghost use Rattle.rule_bool.specs.Schemes.{scheme_seen, IsStating, IsTurning, GivesRest, HasScheme, IsExact, Judges};
 
 use crate::polarity::{turned_without_sign, without_sign};
 use crate::rests::has_rest;
+use crate::scheme_table::{Scheme, scheme_of, turned_scheme_of};
 use crate::within::alone;
-use spec_proofs::{Rest, Side};
+use spec_proofs::{Rest, Rule};
 use term_core::{Clause, Head, RuleFails, TermId, TermTable};
-
-/// The first argument as it stands.
-pub(crate) const FIRST: Side = Side {
-    place: 0,
-    positive: true,
-};
-
-/// The negation of the first argument.
-pub(crate) const NOT_FIRST: Side = Side {
-    place: 0,
-    positive: false,
-};
-
-/// The second argument as it stands.
-pub(crate) const SECOND: Side = Side {
-    place: 1,
-    positive: true,
-};
-
-/// The negation of the second argument.
-pub(crate) const NOT_SECOND: Side = Side {
-    place: 1,
-    positive: false,
-};
-
-/// The third argument as it stands.
-pub(crate) const THIRD: Side = Side {
-    place: 2,
-    positive: true,
-};
-
-/// The negation of the third argument.
-pub(crate) const NOT_THIRD: Side = Side {
-    place: 2,
-    positive: false,
-};
 
 /// Tells whether two heads are one.
 fn same_head(a: Head, b: Head) -> bool
@@ -74,16 +39,13 @@ fn gives_rest(table: &TermTable, head: Head, rest: Rest, id: TermId, behind: &[T
 /// Judges a step without premises, whose clause a term of the head gives.
 pub(crate) fn stated(
     table: &TermTable,
-    head: Head,
-    positive: bool,
-    rest: Rest,
+    scheme: Scheme,
     premises: &[Clause],
     clause: &[TermId],
 ) -> Result<(), RuleFails>
-    requires form { IsStating head rest }
+    requires form { IsStating scheme.head scheme.rest }
     requires clause { AreIn table.now clause.now }
-    ensures { MatchResult result (λ _. IsStated (scheme_meant table.now.symbols head positive rest) (map (clause_at table.now) premises.now) (clause_at table.now clause.now))
-        (λ _. IsStated (scheme_meant table.now.symbols head positive rest) (map (clause_at table.now) premises.now) (clause_at table.now clause.now) → ⊥) }
+    ensures { IsExact (IsStated (scheme_seen table.now.symbols scheme) (map (clause_at table.now) premises.now) (clause_at table.now clause.now)) result }
 {
     if !premises.is_empty() {
         return Err(RuleFails);
@@ -91,10 +53,10 @@ pub(crate) fn stated(
     let Some((front, behind)) = clause.split_first() else {
         return Err(RuleFails);
     };
-    let Some(id) = without_sign(table, positive, *front) else {
+    let Some(id) = without_sign(table, scheme.positive, *front) else {
         return Err(RuleFails);
     };
-    if gives_rest(table, head, rest, id, behind) {
+    if gives_rest(table, scheme.head, scheme.rest, id, behind) {
         return Ok(());
     }
     Err(RuleFails)
@@ -113,26 +75,44 @@ fn term_alone(premises: &[Clause]) -> Option<TermId>
 /// Judges a step by one premise of one term, whose complement in front of the clause gives what a term of the head gives.
 pub(crate) fn turned(
     table: &TermTable,
-    head: Head,
-    positive: bool,
-    rest: Rest,
+    scheme: Scheme,
     premises: &[Clause],
     clause: &[TermId],
 ) -> Result<(), RuleFails>
-    requires form { IsTurning head rest }
+    requires form { IsTurning scheme.head scheme.rest }
     requires premises { All (AreIn table.now) premises.now }
     requires clause { AreIn table.now clause.now }
-    ensures { MatchResult result (λ _. IsTurned (scheme_meant table.now.symbols head positive rest) (map (clause_at table.now) premises.now) (clause_at table.now clause.now))
-        (λ _. IsTurned (scheme_meant table.now.symbols head positive rest) (map (clause_at table.now) premises.now) (clause_at table.now clause.now) → ⊥) }
+    ensures { IsExact (IsTurned (scheme_seen table.now.symbols scheme) (map (clause_at table.now) premises.now) (clause_at table.now clause.now)) result }
 {
     let Some(front) = term_alone(premises) else {
         return Err(RuleFails);
     };
-    let Some(id) = turned_without_sign(table, positive, front) else {
+    let Some(id) = turned_without_sign(table, scheme.positive, front) else {
         return Err(RuleFails);
     };
-    if gives_rest(table, head, rest, id, clause) {
+    if gives_rest(table, scheme.head, scheme.rest, id, clause) {
         return Ok(());
     }
     Err(RuleFails)
+}
+
+/// Judges a step of a rule that has a scheme.
+pub(crate) fn by_scheme(
+    table: &TermTable,
+    rule: Rule,
+    premises: &[Clause],
+    clause: &[TermId],
+) -> Result<(), RuleFails>
+    requires rule { HasScheme rule }
+    requires premises { All (AreIn table.now) premises.now }
+    requires clause { AreIn table.now clause.now }
+    ensures { Judges table.now rule premises.now clause.now result }
+{
+    if let Some(scheme) = scheme_of(rule) {
+        return stated(table, scheme, premises, clause);
+    }
+    let Some(scheme) = turned_scheme_of(rule) else {
+        return Err(RuleFails);
+    };
+    turned(table, scheme, premises, clause)
 }
