@@ -15,8 +15,8 @@ use Rattle.smt_sexpr.specs.declared.sexpr.Sexpr.{Sexpr}
 use Rattle.smt_sexpr.specs.Items.{tree_of}
 use Rattle.smt_sexpr.specs.Reads.{Reads, Breaks}
 use Rattle.assertion_stack.specs.declared.script.Script.{Script}
-use Rattle.assertion_stack.specs.declared.script.Took.{Took}
-use Rattle.assertion_stack.specs.declared.script.Took.TheVariants as took
+use Rattle.assertion_stack.specs.declared.script.Effect.{Effect as CodeEffect}
+use Rattle.assertion_stack.specs.declared.script.Effect.TheVariants as effects
 use Rattle.assertion_stack.specs.Scripts.{IsStack, Steps, effect_meant}
 use Rattle.alethe_check.specs.Loads.{Loads}
 use Rattle.alethe_check.proofs.Rows.{nothing_first, read_first}
@@ -92,14 +92,14 @@ module _ (text bytes : List ℕ) (k : ℕ) (x : Script) (from : Place) (left : �
     next_tree us rest a = l.onward (more (tree_of s) us) rest (read_first bytes from 0 s after (omega arith) r us rest a)
 
     -- the check, or the end of the script
-    pub check_here : (new : Script) → left ≡ 1 → Steps term_limit l.stack s (Ok took.Check) new → EachIsRead bytes after.offset → Loads text k (Ok (Some new))
+    pub check_here : (new : Script) → left ≡ 1 → Steps term_limit l.stack s (Ok effects.Check) new → EachIsRead bytes after.offset → Loads text k (Ok (Some new))
     check_here new one d b =
         let o = next_tree b.0 b.1 b.2 in
         let stop = stop_of (length bytes) b.1 b.3 in
         let here = taken_is l.stack (tree_of s) b.0 left d.0 (Some d.0.stack) d.1 (behind_by check d.0.effect d.0.stack left _ d.2 ∙ ap (λ n. behind check d.0.stack n (λ next m. stack_at term_limit next m b.0)) one) in
         (d.0.stack, record { commands = o.0; end = limited (is_long text) stop.0; read = read_whole text bytes o.0 b.1 stop.0 e o.1 stop.1; here = o.2 ∙ here }, d.3)
 
-    pub leaves_here : (new : Script) → Steps term_limit l.stack s (Ok took.Exit) new → EachIsRead bytes after.offset → HasNoCheck term_limit text k
+    pub leaves_here : (new : Script) → Steps term_limit l.stack s (Ok effects.Exit) new → EachIsRead bytes after.offset → HasNoCheck term_limit text k
     leaves_here new d b =
         let o = next_tree b.0 b.1 b.2 in
         let stop = stop_of (length bytes) b.1 b.3 in
@@ -114,7 +114,7 @@ module _ (text bytes : List ℕ) (k : ℕ) (x : Script) (from : Place) (left : �
       onward = λ us rest a. let o = next_tree us rest a in (o.0, o.1, o.2 ∙ refused_is l.stack (tree_of s) us left _ d.0);
     }
 
-    pub taken_here : (answer : Took) (next : ℕ) (new : Script) → ((z : Stack) (rest : Stack → ℕ → Option Stack) → behind (effect_meant answer) z left rest ≡ rest z next) → Steps term_limit l.stack s (Ok answer) new → Loading bytes k new after.offset next
+    pub taken_here : (answer : CodeEffect) (next : ℕ) (new : Script) → ((z : Stack) (rest : Stack → ℕ → Option Stack) → behind (effect_meant answer) z left rest ≡ rest z next) → Steps term_limit l.stack s (Ok answer) new → Loading bytes k new after.offset next
     taken_here answer next new goes d = record {
       stack = d.0.stack;
       stated = d.3;

@@ -7,7 +7,7 @@ ghost use Rattle.spec_scripts.specs.Stack.{Stack, term_limit};
 ghost use Rattle.assertion_stack.specs.Scripts.{IsStack, Steps};
 ghost use Rattle.alethe_check.specs.Loads.{Loads};
 
-use assertion_stack::{Script, TERM_LIMIT, Took};
+use assertion_stack::{Effect, Script, TERM_LIMIT};
 use smt_lexer::{Refused, start};
 use smt_sexpr::read_one;
 use std::alloc::Global;
@@ -51,15 +51,15 @@ pub fn current_at(alloc: Global, text: &[u8], at: u64) -> Result<Option<Script>,
             Err(Refused::Memory) => return Err(NoMemory),
         };
         match script.command(alloc, &sexpr, TERM_LIMIT) {
-            Ok(Took::Check) => {
+            Ok(Effect::Check) => {
                 if left == 1 {
                     return Ok(Some(script));
                 }
                 left = left.saturating_sub(1);
             }
-            Ok(Took::Exit) => return Ok(None),
-            Ok(Took::Done) => {}
-            Ok(Took::Unsupported) => {}
+            Ok(Effect::Exit) => return Ok(None),
+            Ok(Effect::Done) => {}
+            Ok(Effect::Unsupported) => {}
             Err(Refused::Fault(_)) => {}
             Err(Refused::Memory) => return Err(NoMemory),
         }

@@ -2,3 +2,4 @@
 pub mod CommandTrees
 pub mod Stacks
 pub mod Members
+pub mod TheoryNames

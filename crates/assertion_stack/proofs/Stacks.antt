@@ -1,8 +1,8 @@
 -- What a script states, command by command.
-use Rattle.std.proofs.Common.{◌≡◌, ◌<◌, ◌≤◌, ℕ, Bool, true, false, not, cond, ◌||◌, List, [], ◌∷◌, ◌++◌, map, length, Option, Some, None, refl, sym, ap, ◌∙◌, subst, arith}
+use Rattle.std.proofs.Common.{◌≡◌, ◌<◌, ◌≤◌, ℕ, Bool, true, false, not, cond, ◌||◌, List, [], ◌∷◌, ◌++◌, map, length, take, Option, Some, None, refl, sym, ap, ◌∙◌, subst, arith}
 use Rattle.std.specs.Prelude.{Result, Ok, Err, nat_lt, slice_index_or}
 use Rattle.std.specs.Str.{bytes_eq}
-use Rattle.std.proofs.lemmas.List.{map-append}
+use Rattle.std.proofs.lemmas.List.{map-append, take_at}
 use Rattle.std.proofs.lemmas.List.Elements.{All-push}
 use Rattle.spec_text.specs.declared.Fault.TheVariants.{Full, Reserved, Twice, UnknownSymbol}
 use Rattle.spec_text.specs.declared.Kind.TheVariants.{Numeral}
@@ -18,20 +18,20 @@ use Rattle.spec_scripts.specs.Commands.{Command, DeclareConst, Assert, command_o
 use Rattle.spec_scripts.specs.Stack.{Stack, Assertion, Taken, names_of, theory_names, is_taken, is_barred, new_name, sort_in, with_success, with_symbol, with_assertion, with_assertions, performed, effect_of, step}
 use Rattle.term_core.specs.declared.ids.TermId.{TermId}
 use Rattle.term_core.specs.Tables.{TableView, truth_symbol, term_at, no_term, IsIn, AreIn, Extends}
-use Rattle.sort_check.specs.declared.faults.TermStop.{TermStop}
-use Rattle.sort_check.specs.declared.faults.TermStop.TheVariants as term_stops
+use Rattle.sort_check.specs.declared.faults.ReadError.{ReadError}
+use Rattle.sort_check.specs.declared.faults.ReadError.TheVariants as read_errors
+use Rattle.sort_check.specs.Building.{Keeps}
 use Rattle.sort_check.specs.Reads.{HasTerms, AnswersTerms}
 use Rattle.term_core.proofs.TermsExtend.{AreIn-kept, clause_at-kept}
 use Rattle.spec_text.specs.declared.Fault.{Fault}
 use Rattle.spec_text.specs.declared.Place.{Place}
 use Rattle.spec_text.specs.Offsets.{AllOffsets, HasOffset, at_offset}
-use Rattle.smt_sexpr.specs.declared.items.Item.{Item}
 use Rattle.smt_sexpr.specs.declared.sexpr.Sexpr.{Sexpr}
-use Rattle.smt_sexpr.specs.Items.{split_first, text_of, items_of, start_of, tree_of, tree_in}
+use Rattle.smt_sexpr.specs.Items.{split_first, text_of, start_of, tree_of}
 use Rattle.smt_sexpr.specs.Means.{first_of}
 use Rattle.assertion_stack.specs.Views.{located, Fails}
 use Rattle.assertion_stack.specs.declared.script.Script.{Script}
-use Rattle.assertion_stack.specs.Scripts.{IsStack, Becomes, roomy_symbol}
+use Rattle.assertion_stack.specs.Scripts.{IsStack, Becomes, limited_symbol}
 
 -- a name that no symbol has finds none
 pub not_named : (ss : List Symbol) (n : Name) → among (names_of ss) n ≡ false → symbol_named ss n ≡ None
@@ -87,25 +87,25 @@ module _ (limit at : ℕ) (s : Stack) (w : Word) (t : Tree) where
   unfolding ◌>>=◌
   not_sorted n f e g = (λ i. e i >>= λ n. g i >>= λ sort. require (nat_lt (length s.symbols) limit) at Full >>= λ room. Ok (with_symbol s (constant n sort)))
 
-  pub declared_so : (n : Name) → new_name s.symbols w ≡ Ok n → sort_in t ≡ Ok Truth → performed limit at s (DeclareConst w t) ≡ roomy_symbol limit at s n
+  pub declared_so : (n : Name) → new_name s.symbols w ≡ Ok n → sort_in t ≡ Ok Truth → performed limit at s (DeclareConst w t) ≡ limited_symbol limit at s n
   unfolding ◌>>=◌
   declared_so n e g = (λ i. e i >>= λ n. g i >>= λ sort. require (nat_lt (length s.symbols) limit) at Full >>= λ room. Ok (with_symbol s (constant n sort)))
 
 -- a declaration, where its parts answer so
 module _ (limit at : ℕ) (x : Script) (s : Stack) (w : Word) (t : Tree) (h : IsStack x s) where
-  pub name_refused : (stop : TermStop) → Fails stop (new_name x.table.symbols w) → Becomes (performed limit at s (DeclareConst w t)) s (Err stop) x
-  name_refused (term_stops.Fault f) e = (not_named_so limit at s w t (located f) (ap (λ ss. new_name ss w) h.symbols ∙ e), h)
-  name_refused term_stops.Memory e = (tt, h)
+  pub name_refused : (stop : ReadError) → Fails stop (new_name x.table.symbols w) → Becomes (performed limit at s (DeclareConst w t)) s (Err stop) x
+  name_refused (read_errors.Fault f) e = (not_named_so limit at s w t (located f) (ap (λ ss. new_name ss w) h.symbols ∙ e), h)
+  name_refused read_errors.Memory e = (tt, h)
 
-  pub sort_refused : (n : Name) (stop : TermStop) → new_name x.table.symbols w ≡ Ok n → Fails stop (sort_in t) → Becomes (performed limit at s (DeclareConst w t)) s (Err stop) x
-  sort_refused n (term_stops.Fault f) e g = (not_sorted limit at s w t n (located f) (ap (λ ss. new_name ss w) h.symbols ∙ e) g, h)
-  sort_refused n term_stops.Memory e g = (tt, h)
+  pub sort_refused : (n : Name) (stop : ReadError) → new_name x.table.symbols w ≡ Ok n → Fails stop (sort_in t) → Becomes (performed limit at s (DeclareConst w t)) s (Err stop) x
+  sort_refused n (read_errors.Fault f) e g = (not_sorted limit at s w t n (located f) (ap (λ ss. new_name ss w) h.symbols ∙ e) g, h)
+  sort_refused n read_errors.Memory e g = (tt, h)
 
-  pub name_declared : (n : Name) (r : Result (Unit {0}) TermStop) (new : Script) → new_name x.table.symbols w ≡ Ok n → sort_in t ≡ Ok Truth → Becomes (roomy_symbol limit at s n) s r new → Becomes (performed limit at s (DeclareConst w t)) s r new
+  pub name_declared : (n : Name) (r : Result (Unit {0}) ReadError) (new : Script) → new_name x.table.symbols w ≡ Ok n → sort_in t ≡ Ok Truth → Becomes (limited_symbol limit at s n) s r new → Becomes (performed limit at s (DeclareConst w t)) s r new
   name_declared n r new e g b = subst (λ (a : Answer Stack). Becomes a s r new) (sym (declared_so limit at s w t n (ap (λ ss. new_name ss w) h.symbols ∙ e) g)) b
 
 -- where there is no room for a name
-pub no_room : (limit at : ℕ) (x : Script) (s : Stack) (n : Name) → nat_lt (length x.table.symbols) limit ≡ false → IsStack x s → Becomes (roomy_symbol limit at s n) s (Err (term_stops.Fault (record { offset = at; fault = Full }))) x
+pub no_room : (limit at : ℕ) (x : Script) (s : Stack) (n : Name) → nat_lt (length x.table.symbols) limit ≡ false → IsStack x s → Becomes (limited_symbol limit at s n) s (Err (read_errors.Fault (record { offset = at; fault = Full }))) x
 unfolding require ◌>>=◌
 no_room limit at x s n e h = (ap (λ b. require b at Full >>= λ room. Ok (with_symbol s (constant n Truth))) (ap (λ ss. nat_lt (length ss) limit) h.symbols ∙ e), h)
 
@@ -115,7 +115,7 @@ terms_at t u e (id ∷ ids) = λ i. slice_index_or (e i) id.0 no_term ∷ terms_
 
 -- one name more
 pub name_more : (limit at : ℕ) (old new : Script) (s : Stack) (n : Name) → nat_lt (length old.table.symbols) limit ≡ true → new.table.symbols ≡ old.table.symbols ++ truth_symbol n ∷ [] → new.table.terms ≡ old.table.terms → new.asserted ≡ old.asserted → new.print_success ≡ old.print_success
-    → IsStack old s → Becomes (roomy_symbol limit at s n) s (Ok tt) new
+    → IsStack old s → Becomes (limited_symbol limit at s n) s (Ok tt) new
 unfolding require ◌>>=◌
 name_more limit at old new s n e symbols terms asserted option h = (
   with_symbol s (constant n Truth),
@@ -146,13 +146,13 @@ module _ (limit at : ℕ) (old : Script) (s : Stack) (t : Tree) (h : IsStack old
   unfolding ◌>>=◌
   after us e = ap (λ a. a >>= λ vs. Ok (with_assertions s t vs)) (under (Ok us) e)
 
-  pub term_refused : (stop : TermStop) (new : Script) → new.table ≡ old.table → new.asserted ≡ old.asserted → new.print_success ≡ old.print_success → Fails stop (roomy_terms (scope_of old.table.symbols) limit at (more t none)) → Becomes (performed limit at s (Assert t)) s (Err stop) new
+  pub term_refused : (stop : ReadError) (new : Script) → new.table ≡ old.table → new.asserted ≡ old.asserted → new.print_success ≡ old.print_success → Fails stop (roomy_terms (scope_of old.table.symbols) limit at (more t none)) → Becomes (performed limit at s (Assert t)) s (Err stop) new
   unfolding ◌>>=◌
   term_refused stop new table asserted option e = (by stop e, subst (λ x. IsStack x s) (λ i. record { table = sym table i; asserted = sym asserted i; print_success = sym option i }) h)
     where
-      by : (stop : TermStop) → Fails stop (roomy_terms (scope_of old.table.symbols) limit at (more t none)) → Fails stop (performed limit at s (Assert t))
-      by (term_stops.Fault f) e = ap (λ a. a >>= λ vs. Ok (with_assertions s t vs)) (under (Err (located f)) e)
-      by term_stops.Memory e = tt
+      by : (stop : ReadError) → Fails stop (roomy_terms (scope_of old.table.symbols) limit at (more t none)) → Fails stop (performed limit at s (Assert t))
+      by (read_errors.Fault f) e = ap (λ a. a >>= λ vs. Ok (with_assertions s t vs)) (under (Err (located f)) e)
+      by read_errors.Memory e = tt
 
   pub none_asserted : (new : Script) → Extends old.table new.table → new.table.symbols ≡ old.table.symbols → new.asserted ≡ old.asserted → new.print_success ≡ old.print_success → roomy_terms (scope_of old.table.symbols) limit at (more t none) ≡ Ok [] → Becomes (performed limit at s (Assert t)) s (Ok tt) new
   none_asserted new grows symbols asserted option e = (s, after [] e, stack_kept old new s h grows symbols asserted option)
@@ -172,13 +172,13 @@ module _ (limit at : ℕ) (old : Script) (s : Stack) (t : Tree) (h : IsStack old
       )
 
 -- a fault of reading terms is that of the answer
-fails_of : (stop : TermStop) (a : Answer (List Term)) (old new : TableView) → AnswersTerms a old new (Err stop) → Fails stop a
-fails_of (term_stops.Fault f) a old new e = e
-fails_of term_stops.Memory a old new e = tt
+fails_of : (stop : ReadError) (a : Answer (List Term)) (old new : TableView) → AnswersTerms a old new (Err stop) → Fails stop a
+fails_of (read_errors.Fault f) a old new e = e
+fails_of read_errors.Memory a old new e = tt
 
 -- what asserting comes to, by what reading the terms of one tree gave
 module _ (limit at : ℕ) (t : TableView) (asserted : List TermId) (print : Bool) (s : Stack) (tree : Tree) (ts : Trees) (alone : ts ≡ more tree none) (h : IsStack (record { table = t; asserted = asserted; print_success = print }) s) where
-  pub not_read : (stop : TermStop) (u : TableView) → u ≡ t → AnswersTerms (roomy_terms (scope_of t.symbols) limit at ts) t u (Err stop) → Becomes (performed limit at s (Assert tree)) s (Err stop) (record { table = u; asserted = asserted; print_success = print })
+  pub not_read : (stop : ReadError) (u : TableView) → u ≡ t → AnswersTerms (roomy_terms (scope_of t.symbols) limit at ts) t u (Err stop) → Becomes (performed limit at s (Assert tree)) s (Err stop) (record { table = u; asserted = asserted; print_success = print })
   not_read stop u same e =
       let old : Script = record { table = t; asserted = asserted; print_success = print } in
       term_refused limit at old s tree h stop (record { table = u; asserted = asserted; print_success = print }) same refl refl (subst (λ us. Fails stop (roomy_terms (scope_of t.symbols) limit at us)) alone (fails_of stop (roomy_terms (scope_of t.symbols) limit at ts) t u e))
@@ -193,10 +193,19 @@ module _ (limit at : ℕ) (t : TableView) (asserted : List TermId) (print : Bool
       let old : Script = record { table = t; asserted = asserted; print_success = print } in
       one_asserted limit at old s tree h (record { table = u; asserted = more_ids; print_success = print }) id (map (term_at u) rest) r.keeps.extends r.keeps.symbols added refl (subst (λ xs. AreIn u xs) e r.there 0 id (omega arith)) (ap (roomy_terms (scope_of t.symbols) limit at) (sym alone) ∙ r.terms ∙ ap (λ xs. Ok (map (term_at u) xs)) e)
 
-  pub no_memory : (u : TableView) (ids same_ids : List TermId) → HasTerms (roomy_terms (scope_of t.symbols) limit at ts) t u ids → same_ids ≡ asserted → IsStack (record { table = u; asserted = same_ids; print_success = print }) s
-  no_memory u ids same_ids r same =
-      let old : Script = record { table = t; asserted = asserted; print_success = print } in
-      stack_kept old (record { table = u; asserted = same_ids; print_success = print }) s h r.keeps.extends r.keeps.symbols same refl
+-- a table that is cut back is as it was
+pub cut_back : (t u v : TableView) (n : ℕ) → Keeps t u → n ≡ length t.terms → v.terms ≡ take n u.terms → v.symbols ≡ u.symbols → v ≡ t
+cut_back t u v n k e terms symbols =
+    let back : v.terms ≡ t.terms = terms ∙ (λ i. take (e i) (k.extends.terms i)) ∙ take_at t.terms k.extends.more_terms (length t.terms) refl in
+    λ i. record { symbols = (symbols ∙ k.symbols) i; terms = back i }
+
+-- a script of the same parts is the same
+pub same_script : (t u : TableView) (a b : List TermId) (print : Bool) → u ≡ t → b ≡ a → (let x : Script = record { table = u; asserted = b; print_success = print } in x) ≡ record { table = t; asserted = a; print_success = print }
+same_script t u a b print e f = λ i. record { table = e i; asserted = f i; print_success = print }
+
+-- a script that is as it was stands for the same stack
+pub stack_same : (x y : Script) (s : Stack) → y ≡ x → IsStack x s → IsStack y s
+stack_same x y s e h = subst (λ z. IsStack z s) (sym e) h
 
 -- where there is no tree the first is none that is a term
 pub no_first : (ts : Trees) → None ≡ split_first ts → first_of ts ≡ atom 0 Numeral []
@@ -213,25 +222,25 @@ nothing_asserted limit at s t e = ap (λ x. performed limit at s (Assert x)) e �
 
 -- a command, by its parts
 module _ (limit : ℕ) (s : Stack) (t : Tree) where
-  pub not_a_command : (stop : TermStop) → Fails stop (command_of t) → Fails stop (step limit s t)
+  pub not_a_command : (stop : ReadError) → Fails stop (command_of t) → Fails stop (step limit s t)
   unfolding step ◌>>=◌
-  not_a_command (term_stops.Fault f) e = ap (λ a. a >>= λ c. performed limit (offset_of t) s c >>= λ next. Ok (let d : Taken = record { effect = effect_of c; stack = next } in d)) e
-  not_a_command term_stops.Memory e = tt
+  not_a_command (read_errors.Fault f) e = ap (λ a. a >>= λ c. performed limit (offset_of t) s c >>= λ next. Ok (let d : Taken = record { effect = effect_of c; stack = next } in d)) e
+  not_a_command read_errors.Memory e = tt
 
   pub command_done : (c : Command) (at : ℕ) (next : Stack) → command_of t ≡ Ok c → at ≡ offset_of t → performed limit at s c ≡ Ok next → step limit s t ≡ Ok (record { effect = effect_of c; stack = next })
   unfolding step ◌>>=◌
   command_done c at next e here p = ap (λ a. a >>= λ c. performed limit (offset_of t) s c >>= λ next. Ok (let d : Taken = record { effect = effect_of c; stack = next } in d)) e ∙ ap (λ a. a >>= λ next. Ok (let d : Taken = record { effect = effect_of c; stack = next } in d)) (ap (λ n. performed limit n s c) (sym here) ∙ p)
 
-  pub command_refused : (c : Command) (at : ℕ) (stop : TermStop) → command_of t ≡ Ok c → at ≡ offset_of t → Fails stop (performed limit at s c) → Fails stop (step limit s t)
+  pub command_refused : (c : Command) (at : ℕ) (stop : ReadError) → command_of t ≡ Ok c → at ≡ offset_of t → Fails stop (performed limit at s c) → Fails stop (step limit s t)
   unfolding step ◌>>=◌
-  command_refused c at (term_stops.Fault f) e here p = ap (λ a. a >>= λ c. performed limit (offset_of t) s c >>= λ next. Ok (let d : Taken = record { effect = effect_of c; stack = next } in d)) e ∙ ap (λ a. a >>= λ next. Ok (let d : Taken = record { effect = effect_of c; stack = next } in d)) (ap (λ n. performed limit n s c) (sym here) ∙ p)
-  command_refused c at term_stops.Memory e here p = tt
+  command_refused c at (read_errors.Fault f) e here p = ap (λ a. a >>= λ c. performed limit (offset_of t) s c >>= λ next. Ok (let d : Taken = record { effect = effect_of c; stack = next } in d)) e ∙ ap (λ a. a >>= λ next. Ok (let d : Taken = record { effect = effect_of c; stack = next } in d)) (ap (λ n. performed limit n s c) (sym here) ∙ p)
+  command_refused c at read_errors.Memory e here p = tt
 
 -- a fault of a command stands in its s-expression, so the place that was made of its offset has that offset
-pub placed_fault : (limit : ℕ) (s : Stack) (x : Sexpr) (text : List ℕ) (items : List Item) (n : ℕ) (f : Fault) (p : Place) → text ≡ text_of x → items ≡ items_of x → step limit s (tree_in text items) ≡ Err (record { offset = n; fault = f })
+pub placed_fault : (limit : ℕ) (s : Stack) (x : Sexpr) (t : Tree) (n : ℕ) (f : Fault) (p : Place) → t ≡ tree_of x → step limit s t ≡ Err (record { offset = n; fault = f })
     → ((l : ℕ) (u : Stack) (t : Tree) (g : Located) → step l u t ≡ Err g → HasOffset t g.offset)
     → AllOffsets (λ m. (start_of x ≤ m) × (m < length (text_of x))) (tree_of x) → (start_of x ≤ n → n < length (text_of x) → p.offset ≡ n) → step limit s (tree_of x) ≡ Err (record { offset = p.offset; fault = f })
-placed_fault limit s x text items n f p same_text same_items e stands all placed =
-    let here : step limit s (tree_of x) ≡ Err (record { offset = n; fault = f }) = (λ i. step limit s (tree_in (sym same_text i) (sym same_items i))) ∙ e in
+placed_fault limit s x t n f p same e stands all placed =
+    let here : step limit s (tree_of x) ≡ Err (record { offset = n; fault = f }) = ap (step limit s) (sym same) ∙ e in
     let within = at_offset (λ m. (start_of x ≤ m) × (m < length (text_of x))) (tree_of x) n all (stands limit s (tree_of x) (record { offset = n; fault = f }) here) in
     here ∙ (λ i. Err (record { offset = sym (placed within.0 within.1) i; fault = f }))

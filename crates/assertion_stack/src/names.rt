@@ -1,47 +1,38 @@
 //! Names that a script declares, and its sorts.
 
 ghost use Rattle.std.specs.Prelude.{◌≡◌, Bool, true, false, IfOk};
-ghost use Rattle.spec_text.specs.Bytes.{among, one_of};
+ghost use Rattle.spec_text.specs.Bytes.{among};
 ghost use Rattle.spec_terms.specs.Terms.{Truth};
-ghost use Rattle.spec_scripts.specs.Stack.{theory_names, names_of, is_kept_name, is_barred, is_taken, new_name, sort_named, atom_sort, sort_in};
-ghost use Rattle.smt_sexpr.specs.Items.{tree_in};
+ghost use Rattle.spec_scripts.specs.Stack.{theory_names, reals_names, names_of, is_kept_name, is_barred, is_taken, new_name, sort_named, sort_in};
+ghost use Rattle.smt_sexpr.specs.Items.{tree_meant};
 ghost use Rattle.smt_sexpr.specs.Views.{word_view};
 ghost use Rattle.assertion_stack.specs.Views.{Gives};
 
 use crate::commands::refused;
 use smt_lexer::is_one_of;
-use smt_sexpr::{Item, Kind, View, Word, is_reserved, look, same_bytes};
-use sort_check::TermStop;
+use smt_sexpr::{Kind, Trees, View, Word, is_reserved, look, same_bytes};
+use sort_check::ReadError;
 use spec_text::Fault;
-use term_core::TermTable;
+use term_core::{CoreHead, TermTable};
 
-/// The names that the theories have. Source: SMT-LIB 2.6, theories Core and Reals.
-const THEORY_NAMES: [&[u8]; 18] = [
-    b"true",
-    b"false",
-    b"not",
-    b"and",
-    b"or",
-    b"xor",
-    b"=>",
-    b"=",
-    b"distinct",
-    b"ite",
-    b"-",
-    b"+",
-    b"*",
-    b"/",
-    b"<",
-    b"<=",
-    b">",
-    b">=",
-];
+/// The names of theory Reals. Source: SMT-LIB 2.6, theory Reals.
+const REALS_NAMES: [&[u8]; 8] = [b"-", b"+", b"*", b"/", b"<", b"<=", b">", b">="];
+
+/// Tells whether a name is one of theory Reals.
+fn is_reals_name(name: &[u8]) -> bool
+    ensures { result ≡ among reals_names name.now }
+{
+    is_one_of(&REALS_NAMES, name)
+}
 
 /// Tells whether a name is a theory's.
 fn is_theory_name(name: &[u8]) -> bool
     ensures { result ≡ among theory_names name.now }
 {
-    is_one_of(&THEORY_NAMES, name)
+    match CoreHead::named(name) {
+        Some(_) => true,
+        None => is_reals_name(name),
+    }
 }
 
 /// Tells whether a name begins like those that are kept for solvers.
@@ -78,8 +69,8 @@ pub fn is_taken(table: &TermTable, name: &[u8]) -> bool
     is_theory_name(name) || is_declared(table, name)
 }
 
-/// The name that a word may declare.
-pub fn new_name<'a>(table: &TermTable, word: Word<'a>) -> Result<&'a [u8], TermStop>
+/// Gives the name that a word may declare.
+pub fn new_name<'a>(table: &TermTable, word: Word<'a>) -> Result<&'a [u8], ReadError>
     ensures gives { Gives (λ b. b.now) result (new_name table.now.symbols (word_view word.entry)) }
     ensures new { IfOk result (λ b. is_taken table.now.symbols b.now ≡ false) }
 {
@@ -93,7 +84,7 @@ pub fn new_name<'a>(table: &TermTable, word: Word<'a>) -> Result<&'a [u8], TermS
 }
 
 /// Asks that a name is that of a sort: Bool alone so far.
-fn sort_named(at: u64, name: &[u8]) -> Result<(), TermStop>
+fn sort_named(at: u64, name: &[u8]) -> Result<(), ReadError>
     ensures { Gives (λ u. Truth) result (sort_named at name.now) }
 {
     if same_bytes(name, b"Bool") {
@@ -102,11 +93,11 @@ fn sort_named(at: u64, name: &[u8]) -> Result<(), TermStop>
     Err(refused(at, Fault::UnknownSort))
 }
 
-/// Asks that the first tree of the items is a sort.
-pub fn sort_in(text: &[u8], items: &[Item]) -> Result<(), TermStop>
-    ensures { Gives (λ u. Truth) result (sort_in (tree_in text.now items.now)) }
+/// Asks that the first tree is a sort.
+pub fn sort_in(trees: Trees<'_>) -> Result<(), ReadError>
+    ensures { Gives (λ u. Truth) result (sort_in (tree_meant trees.entry)) }
 {
-    match look(text, items) {
+    match look(trees) {
         View::Atom(at, kind, bytes) => match kind {
             Kind::Simple | Kind::Quoted => sort_named(u64::from(at), bytes),
             Kind::Reserved => Err(refused(u64::from(at), Fault::Reserved)),

@@ -2,28 +2,24 @@
 //!
 //! The commands are `set-option`, `declare-const` of sort Bool, `assert`, `check-sat` and `exit`.
 
-ghost use Rattle.std.specs.Prelude.{◌≡◌, ℕ, ◌≤◌, ◌<◌, [], Bool, true, false, List, length, option_map, IfOk, MatchOption, ◌∷◌};
-ghost use Rattle.spec_text.specs.Bytes.{among, one_of};
+ghost use Rattle.std.specs.Prelude.{◌≡◌, ℕ, ◌≤◌, ◌<◌, [], true, false, List, length, OnErr, MatchOption, ◌∷◌};
 ghost use Rattle.spec_text.specs.Places.{IsPlaceOf};
-ghost use Rattle.spec_text.specs.Trees.{Tree, more, none, offset_of};
-ghost use Rattle.spec_terms.specs.Terms.{Truth};
-ghost use Rattle.spec_scripts.specs.Stack.{with_success, performed, Stack, empty_stack, theory_names, names_of, is_kept_name, is_barred, is_taken, new_name, sort_named, atom_sort, sort_in, truth_named, truth_in, is_known_option};
+ghost use Rattle.spec_text.specs.Trees.{more, none};
+ghost use Rattle.spec_scripts.specs.Stack.{with_success, performed, Stack, empty_stack, is_taken, new_name, sort_in, truth_named, truth_in, is_known_option};
 ghost use Rattle.spec_scripts.specs.Commands.{SetOption, DeclareConst, Assert};
-ghost use Rattle.smt_sexpr.specs.Items.{tree_of, text_of, start_of};
-ghost use Rattle.smt_sexpr.specs.Items.{trees_in, tree_in};
+ghost use Rattle.smt_sexpr.specs.Items.{text_of, start_of};
+ghost use Rattle.smt_sexpr.specs.Items.{trees_meant, tree_meant};
 ghost use Rattle.smt_sexpr.specs.Views.{word_view};
-ghost use Rattle.term_core.specs.Tables.{term_at, AreIn};
 ghost use Rattle.term_core.specs.declared.ids.TermId.{TermId};
-ghost use Rattle.assertion_stack.specs.Views.{Gives};
 ghost use Rattle.spec_scripts.specs.Stack.{effect_of};
-ghost use Rattle.assertion_stack.specs.Scripts.{command_view, effect_meant, IsStack, Becomes, roomy_symbol, Takes, Steps};
+ghost use Rattle.assertion_stack.specs.Scripts.{command_view, effect_meant, IsStack, Becomes, limited_symbol, Takes, Steps};
 
-use crate::asserted::Asserted;
+use crate::assertions::Assertions;
 use crate::commands::{ScriptCommand, refused, script_command};
 use crate::names::{new_name, sort_in};
 use smt_lexer::{Place, Refusal, Refused};
-use smt_sexpr::{Item, Sexpr, View, Word, is_symbol, look, offset, same_bytes, split};
-use sort_check::{TermStop, terms};
+use smt_sexpr::{Sexpr, Trees, View, Word, is_symbol, look, offset, same_bytes, split};
+use sort_check::{ReadError, terms};
 use spec_text::Fault;
 use std::alloc::Global;
 use term_core::{TermId, TermTable};
@@ -41,7 +37,7 @@ pub struct Script {
     /// The terms, and the declared symbols.
     pub table: TermTable,
     /// The assertions, oldest first.
-    pub asserted: Asserted,
+    pub asserted: Assertions,
     /// Whether commands that are taken are answered `success`.
     pub print_success: bool,
 }
@@ -50,7 +46,7 @@ pub struct Script {
 ///
 /// Source: SMT-LIB 2.6, section 4.1.
 #[derive(Clone, Copy, Debug, PartialEq, Eq)]
-pub enum Took {
+pub enum Effect {
     /// It is done: the answer is `success`, where that is printed.
     Done,
     /// Its option is not known: the answer is `unsupported`.
@@ -68,7 +64,7 @@ impl Script {
     {
         Script {
             table: TermTable::new(alloc),
-            asserted: Asserted::new(alloc),
+            asserted: Assertions::new(alloc),
             print_success: true,
         }
     }
@@ -79,25 +75,31 @@ impl Script {
     /// may have. `Fault` has the command's first fault and its place in the text: its head (`UnknownCommand`), then its own
     /// shape (`BadShape` at its parenthesis), then its parts in reading order (for a new name `Reserved`, `Twice`; for a
     /// sort `UnknownSort`, `Reserved`, `BadShape`; for a term `BadShape`, `Reserved`, `UnknownSymbol`, `WrongCount`), then
-    /// `Full` at its parenthesis. A command that is refused, or for which memory ran out, changes nothing.
-    /// Source: SMT-LIB 2.6, sections 3.9 and 4.2; the order of faults is own.
-    pub fn command(&mut self, alloc: Global, sexpr: &Sexpr<'_>, limit: u64) -> Result<Took, Refused>
+    /// `Full` at its parenthesis. `Memory` may come at any allocation, and says nothing of the command. After each of these
+    /// the script is as it was, its table too. Source: SMT-LIB 2.6, sections 3.9 and 4.2.
+    pub fn command(
+        &mut self,
+        alloc: Global,
+        sexpr: &Sexpr<'_>,
+        limit: u64,
+    ) -> Result<Effect, Refused>
         ensures steps { (s : Stack) → IsStack self.old s → Steps limit s sexpr.now result self.new }
+        ensures same { OnErr result (self.new ≡ self.old) }
     {
         spec_scripts::laws::faults_stand_in_their_command();
         sexpr.offsets_have_places();
-        match take(self, alloc, sexpr.text(), sexpr.items(), limit) {
-            Ok(took) => Ok(took),
-            Err(TermStop::Fault(fault)) => Err(Refused::Fault(Refusal {
+        match take(self, alloc, sexpr.trees(), limit) {
+            Ok(effect) => Ok(effect),
+            Err(ReadError::Fault(fault)) => Err(Refused::Fault(Refusal {
                 place: place_in(sexpr, fault.offset),
                 fault: fault.fault,
             })),
-            Err(TermStop::Memory) => Err(Refused::Memory),
+            Err(ReadError::Memory) => Err(Refused::Memory),
         }
     }
 }
 
-/// The place of an offset that stands in an s-expression; of any other offset, where the s-expression begins.
+/// Gives the place of an offset that stands in an s-expression; of any other offset, where the s-expression begins.
 fn place_in(sexpr: &Sexpr<'_>, offset: u64) -> Place
     ensures place { IsPlaceOf (text_of sexpr.now) result }
     ensures offset { start_of sexpr.now ≤ offset → offset < length (text_of sexpr.now) → result.offset ≡ offset }
@@ -109,7 +111,7 @@ fn place_in(sexpr: &Sexpr<'_>, offset: u64) -> Place
     start
 }
 
-/// The truth value of a name, where it is one.
+/// Finds the truth value of a name, where it is one.
 fn truth_named(name: &[u8]) -> Option<bool>
     ensures { result ≡ truth_named name.now }
 {
@@ -122,11 +124,11 @@ fn truth_named(name: &[u8]) -> Option<bool>
     None
 }
 
-/// The truth value that the first tree of the items is, where it is one.
-fn truth_in(text: &[u8], items: &[Item]) -> Option<bool>
-    ensures { result ≡ truth_in (tree_in text.now items.now) }
+/// Finds the truth value that the first tree is, where it is one.
+fn truth_in(trees: Trees<'_>) -> Option<bool>
+    ensures { result ≡ truth_in (tree_meant trees.entry) }
 {
-    match look(text, items) {
+    match look(trees) {
         View::Atom(_, kind, bytes) => {
             if is_symbol(kind) {
                 return truth_named(bytes);
@@ -145,8 +147,9 @@ fn is_known_option(name: &[u8]) -> bool
 }
 
 /// Sets the option that is known, by a command at an offset.
-fn set_success(script: &mut Script, at: u64, value: Option<bool>) -> Result<(), TermStop>
-    ensures { (s : Stack) → IsStack script.old s → Becomes (with_success at s value) s result script.new }
+fn set_success(script: &mut Script, at: u64, value: Option<bool>) -> Result<(), ReadError>
+    ensures becomes { (s : Stack) → IsStack script.old s → Becomes (with_success at s value) s result script.new }
+    ensures same { OnErr result (script.new ≡ script.old) }
 {
     match value {
         Some(print) => {
@@ -158,57 +161,55 @@ fn set_success(script: &mut Script, at: u64, value: Option<bool>) -> Result<(), 
 }
 
 /// Sets an option of a command at an offset.
-fn set_option(
-    script: &mut Script,
-    text: &[u8],
-    at: u64,
-    name: &[u8],
-    value: &[Item],
-) -> Result<(), TermStop>
-    ensures { (limit : ℕ) (s : Stack) → IsStack script.old s → Becomes (performed limit at s (SetOption name.now (tree_in text.now value.now))) s result script.new }
+fn set_option(script: &mut Script, at: u64, name: &[u8], value: Trees<'_>) -> Result<(), ReadError>
+    ensures becomes { (limit : ℕ) (s : Stack) → IsStack script.old s
+        → Becomes (performed limit at s (SetOption name.now (tree_meant value.entry))) s result script.new }
+    ensures same { OnErr result (script.new ≡ script.old) }
 {
     if is_known_option(name) {
-        return set_success(script, at, truth_in(text, value));
+        return set_success(script, at, truth_in(value));
     }
     Ok(())
 }
 
-/// Declares a constant of sort Bool under a new name, by a command at an offset, if there is room for it.
-fn declare_name(script: &mut Script, at: u64, name: &[u8], limit: u64) -> Result<(), TermStop>
+/// Declares a constant of sort Bool under a new name, by a command at an offset, if the limit allows one more.
+fn declare_name(script: &mut Script, at: u64, name: &[u8], limit: u64) -> Result<(), ReadError>
     requires { is_taken script.old.table.symbols name.now ≡ false }
-    ensures { (s : Stack) → IsStack script.old s → Becomes (roomy_symbol limit at s name.now) s result script.new }
+    ensures becomes { (s : Stack) → IsStack script.old s → Becomes (limited_symbol limit at s name.now) s result script.new }
+    ensures same { OnErr result (script.new ≡ script.old) }
 {
     if script.table.symbols().len() >= limit {
         return Err(refused(at, Fault::Full));
     }
     match script.table.declare(name) {
         Ok(_) => Ok(()),
-        Err(_) => Err(TermStop::Memory),
+        Err(_) => Err(ReadError::Memory),
     }
 }
 
 /// Declares a constant by a command at an offset.
 fn declare(
     script: &mut Script,
-    text: &[u8],
     at: u64,
     word: Word<'_>,
-    sort: &[Item],
+    sort: Trees<'_>,
     limit: u64,
-) -> Result<(), TermStop>
-    ensures { (s : Stack) → IsStack script.old s → Becomes (performed limit at s (DeclareConst (word_view word.entry) (tree_in text.now sort.now))) s result script.new }
+) -> Result<(), ReadError>
+    ensures becomes { (s : Stack) → IsStack script.old s
+        → Becomes (performed limit at s (DeclareConst (word_view word.entry) (tree_meant sort.entry))) s result script.new }
+    ensures same { OnErr result (script.new ≡ script.old) }
 {
     let name = match new_name(&script.table, word) {
         Ok(name) => name,
         Err(stop) => return Err(stop),
     };
-    match sort_in(text, sort) {
+    match sort_in(sort) {
         Ok(()) => declare_name(script, at, name, limit),
         Err(stop) => Err(stop),
     }
 }
 
-/// The first of numbers.
+/// Gives the first of numbers.
 pub(crate) fn first_of(ids: &[TermId]) -> Option<TermId>
     ensures { MatchOption result (ids.now ≡ []) (λ id. (rest : List TermId) × (ids.now ≡ id ∷ rest)) }
 {
@@ -218,19 +219,21 @@ pub(crate) fn first_of(ids: &[TermId]) -> Option<TermId>
     }
 }
 
-/// Asserts the term that items mean that are of one tree, by a command at an offset.
+/// Asserts the term that is the one tree that there is, by a command at an offset.
 fn assert_alone(
     script: &mut Script,
     alloc: Global,
-    text: &[u8],
     at: u64,
-    items: &[Item],
+    trees: Trees<'_>,
     limit: u64,
-) -> Result<(), TermStop>
-    requires { trees_in text.now items.now ≡ more (tree_in text.now items.now) none }
-    ensures { (s : Stack) → IsStack script.old s → Becomes (performed limit at s (Assert (tree_in text.now items.now))) s result script.new }
+) -> Result<(), ReadError>
+    requires { trees_meant trees ≡ more (tree_meant trees) none }
+    ensures becomes { (s : Stack) → IsStack script.old s
+        → Becomes (performed limit at s (Assert (tree_meant trees.entry))) s result script.new }
+    ensures same { OnErr result (script.new ≡ script.old) }
 {
-    let read = match terms(alloc, &mut script.table, text, items, at, limit) {
+    let before = script.table.len();
+    let read = match terms(alloc, &mut script.table, trees, at, limit) {
         Ok(read) => read,
         Err(stop) => return Err(stop),
     };
@@ -238,24 +241,28 @@ fn assert_alone(
         None => Ok(()),
         Some(id) => match script.asserted.add(id) {
             Ok(()) => Ok(()),
-            Err(_) => Err(TermStop::Memory),
+            Err(_) => {
+                script.table.cut(before);
+                Err(ReadError::Memory)
+            }
         },
     }
 }
 
-/// Asserts the term that the first tree of the items is, by a command at an offset.
+/// Asserts the term that the first tree is, by a command at an offset.
 fn assert_term(
     script: &mut Script,
     alloc: Global,
-    text: &[u8],
     at: u64,
-    items: &[Item],
+    trees: Trees<'_>,
     limit: u64,
-) -> Result<(), TermStop>
-    ensures { (s : Stack) → IsStack script.old s → Becomes (performed limit at s (Assert (tree_in text.now items.now))) s result script.new }
+) -> Result<(), ReadError>
+    ensures becomes { (s : Stack) → IsStack script.old s
+        → Becomes (performed limit at s (Assert (tree_meant trees.entry))) s result script.new }
+    ensures same { OnErr result (script.new ≡ script.old) }
 {
-    match split(items) {
-        Some((first, _)) => assert_alone(script, alloc, text, at, first, limit),
+    match split(trees) {
+        Some((first, _)) => assert_alone(script, alloc, at, first, limit),
         None => Err(refused(0, Fault::UnknownSymbol)),
     }
 }
@@ -264,54 +271,55 @@ fn assert_term(
 fn perform(
     script: &mut Script,
     alloc: Global,
-    text: &[u8],
     at: u64,
     command: ScriptCommand<'_>,
     limit: u64,
-) -> Result<(), TermStop>
-    ensures { (s : Stack) → IsStack script.old s → Becomes (performed limit at s (command_view text.now command.entry)) s result script.new }
+) -> Result<(), ReadError>
+    ensures becomes { (s : Stack) → IsStack script.old s
+        → Becomes (performed limit at s (command_view command.entry)) s result script.new }
+    ensures same { OnErr result (script.new ≡ script.old) }
 {
     match command {
-        ScriptCommand::SetOption(name, value) => set_option(script, text, at, name, value),
-        ScriptCommand::DeclareConst(word, sort) => declare(script, text, at, word, sort, limit),
-        ScriptCommand::Assert(items) => assert_term(script, alloc, text, at, items, limit),
+        ScriptCommand::SetOption(name, value) => set_option(script, at, name, value),
+        ScriptCommand::DeclareConst(word, sort) => declare(script, at, word, sort, limit),
+        ScriptCommand::Assert(term) => assert_term(script, alloc, at, term, limit),
         ScriptCommand::CheckSat => Ok(()),
         ScriptCommand::Exit => Ok(()),
     }
 }
 
-/// What a command is answered that was taken.
-fn answer(command: &ScriptCommand<'_>) -> Took
-    ensures { (text : List ℕ) → effect_meant result ≡ effect_of (command_view text command.now) }
+/// Says what a command is answered that was taken.
+fn answer(command: &ScriptCommand<'_>) -> Effect
+    ensures { effect_meant result ≡ effect_of (command_view command.now) }
 {
     match command {
         ScriptCommand::SetOption(name, _) => {
             if is_known_option(name) {
-                return Took::Done;
+                return Effect::Done;
             }
-            Took::Unsupported
+            Effect::Unsupported
         }
-        ScriptCommand::DeclareConst(_, _) | ScriptCommand::Assert(_) => Took::Done,
-        ScriptCommand::CheckSat => Took::Check,
-        ScriptCommand::Exit => Took::Exit,
+        ScriptCommand::DeclareConst(_, _) | ScriptCommand::Assert(_) => Effect::Done,
+        ScriptCommand::CheckSat => Effect::Check,
+        ScriptCommand::Exit => Effect::Exit,
     }
 }
 
-/// Takes the command that the first tree of the items is.
+/// Takes the command that the first tree is.
 fn take(
     script: &mut Script,
     alloc: Global,
-    text: &[u8],
-    items: &[Item],
+    trees: Trees<'_>,
     limit: u64,
-) -> Result<Took, TermStop>
-    ensures { (s : Stack) → IsStack script.old s → Takes limit s (tree_in text.now items.now) result script.new }
+) -> Result<Effect, ReadError>
+    ensures takes { (s : Stack) → IsStack script.old s → Takes limit s (tree_meant trees.entry) result script.new }
+    ensures same { OnErr result (script.new ≡ script.old) }
 {
-    let command = match script_command(text, items) {
+    let command = match script_command(trees) {
         Ok(command) => command,
         Err(stop) => return Err(stop),
     };
-    match perform(script, alloc, text, offset(items), command, limit) {
+    match perform(script, alloc, offset(trees), command, limit) {
         Ok(()) => Ok(answer(&command)),
         Err(stop) => Err(stop),
     }

@@ -1,6 +1,6 @@
 //! What the commands of scripts are answered, with places.
 
-use crate::script::{Script, TERM_LIMIT, Took};
+use crate::script::{Effect, Script, TERM_LIMIT};
 use smt_lexer::{Refused, start};
 use smt_sexpr::read_one;
 use std::alloc::{AllocError, Global};
@@ -13,7 +13,7 @@ const BEFORE: &str = "(declare-const p Bool)(declare-const q Bool)";
 /// What is answered to a command: its fault with line and column, or what it is answered where it is taken.
 #[derive(Clone, Copy, Debug, PartialEq, Eq)]
 enum Answer {
-    Took(Took),
+    Effect(Effect),
     Fault(&'static str, u64, u64),
 }
 
@@ -36,7 +36,7 @@ fn run(
             Err(Refused::Memory) => return Err(AllocError),
         };
         last = match script.command(alloc, &sexpr, limit) {
-            Ok(took) => Some(Answer::Took(took)),
+            Ok(took) => Some(Answer::Effect(took)),
             Err(Refused::Fault(r)) => Some(Answer::Fault(
                 r.fault.name(),
                 r.place.line,
@@ -153,27 +153,27 @@ fn commands_have_their_first_faults(rt: HostRuntime) -> Result<(), Fail> {
 }
 
 /// Commands that are taken, with what they are answered.
-const TAKEN: [(&str, Took); 20] = [
-    ("(set-option :print-success false)", Took::Done),
-    ("(set-option :print-success |true|)", Took::Done),
-    ("(set-option :other 1)", Took::Unsupported),
-    ("(set-option :other (a (b)))", Took::Unsupported),
-    ("(declare-const |a b| Bool)", Took::Done),
-    ("(declare-const |let| |Bool|)", Took::Done),
-    ("(declare-const a.b Bool)", Took::Done),
-    ("(assert p)", Took::Done),
-    ("(assert |p|)", Took::Done),
-    ("(assert true)", Took::Done),
-    ("(assert (and p))", Took::Done),
-    ("(assert (or p q p))", Took::Done),
-    ("(assert (= p q p))", Took::Done),
-    ("(assert (distinct p q p))", Took::Done),
-    ("(assert (=> p q p))", Took::Done),
-    ("(assert (xor p q p))", Took::Done),
-    ("(assert (ite p q p))", Took::Done),
-    ("(assert (|and| p q))", Took::Done),
-    ("(check-sat)", Took::Check),
-    ("(exit)", Took::Exit),
+const TAKEN: [(&str, Effect); 20] = [
+    ("(set-option :print-success false)", Effect::Done),
+    ("(set-option :print-success |true|)", Effect::Done),
+    ("(set-option :other 1)", Effect::Unsupported),
+    ("(set-option :other (a (b)))", Effect::Unsupported),
+    ("(declare-const |a b| Bool)", Effect::Done),
+    ("(declare-const |let| |Bool|)", Effect::Done),
+    ("(declare-const a.b Bool)", Effect::Done),
+    ("(assert p)", Effect::Done),
+    ("(assert |p|)", Effect::Done),
+    ("(assert true)", Effect::Done),
+    ("(assert (and p))", Effect::Done),
+    ("(assert (or p q p))", Effect::Done),
+    ("(assert (= p q p))", Effect::Done),
+    ("(assert (distinct p q p))", Effect::Done),
+    ("(assert (=> p q p))", Effect::Done),
+    ("(assert (xor p q p))", Effect::Done),
+    ("(assert (ite p q p))", Effect::Done),
+    ("(assert (|and| p q))", Effect::Done),
+    ("(check-sat)", Effect::Check),
+    ("(exit)", Effect::Exit),
 ];
 
 #[test]
@@ -182,14 +182,14 @@ fn commands_are_answered(rt: HostRuntime) -> Result<(), Fail> {
         let mut script = Script::new(rt.alloc());
         run(rt.alloc(), &mut script, BEFORE.as_bytes(), 100)?;
         let got = run(rt.alloc(), &mut script, text.as_bytes(), 100)?;
-        assert!(rt; got == Some(Answer::Took(*took)), "{}", text);
+        assert!(rt; got == Some(Answer::Effect(*took)), "{}", text);
     }
     Ok(())
 }
 
 /// Limits, commands, and the answer to the last of them.
 const LIMITS: [(u64, &str, Answer); 8] = [
-    (4, "(assert (or p q (not p)))", Answer::Took(Took::Done)),
+    (4, "(assert (or p q (not p)))", Answer::Effect(Effect::Done)),
     (
         4,
         "(assert (or p q (not p)))(assert (and p (or p q (not p))))",
@@ -198,14 +198,14 @@ const LIMITS: [(u64, &str, Answer); 8] = [
     (
         4,
         "(assert (and p (or p q (not p))))(assert p)",
-        Answer::Took(Took::Done),
+        Answer::Effect(Effect::Done),
     ),
     (
         4,
         "(assert (and r (or p q (not p))))",
         Answer::Fault("UnknownSymbol", 1, 14),
     ),
-    (3, "(declare-const a Bool)", Answer::Took(Took::Done)),
+    (3, "(declare-const a Bool)", Answer::Effect(Effect::Done)),
     (2, "(declare-const a Bool)", Answer::Fault("Full", 1, 1)),
     (
         2,

@@ -8,7 +8,7 @@ ghost use Rattle.smt_session.specs.Sessions.{limits_meant, IsHeld, IsSession, Ta
 use crate::evidence::check;
 use crate::mode::Mode;
 use crate::responses::{Response, after_of, send_response};
-use assertion_stack::{Script, Took};
+use assertion_stack::{Effect, Script};
 use sat_budget::{Budget, Limits};
 use smt_lexer::Refused;
 use smt_sexpr::Sexpr;
@@ -140,13 +140,13 @@ fn take(
 {
     commands_keep_stacks();
     match script.command(alloc, command, limits.terms) {
-        Ok(Took::Done) => Ok(Response::Success),
-        Ok(Took::Unsupported) => Ok(Response::Unsupported),
-        Ok(Took::Check) => match check(alloc, script, budget, limits) {
+        Ok(Effect::Done) => Ok(Response::Success),
+        Ok(Effect::Unsupported) => Ok(Response::Unsupported),
+        Ok(Effect::Check) => match check(alloc, script, budget, limits) {
             Ok(evidence) => Ok(Response::Answered(evidence)),
             Err(NoMemory) => Err(NoMemory),
         },
-        Ok(Took::Exit) => Ok(Response::Ended),
+        Ok(Effect::Exit) => Ok(Response::Ended),
         Err(stop) => rejected(stop),
     }
 }

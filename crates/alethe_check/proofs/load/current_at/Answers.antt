@@ -1,5 +1,5 @@
 use Rattle.std.proofs.Common.{sym, ap, ◌∙◌, arith}
-use Rattle.assertion_stack.specs.declared.script.Took.TheVariants as took
+use Rattle.assertion_stack.specs.declared.script.Effect.TheVariants as effects
 use Rattle.alethe_check.proofs.Loading.{script_finishes, script_breaks, check_here, leaves_here, one_less, taken_here, refused_here}
 use Rattle.alethe_check.proofs.load.current_at.Goals.{in-Ok-Check+else-left-eq1, in-Ok-Done, in-Ok-Unsupported, in-Err-Fault-command}
 use Rattle.alethe_check.proofs.load.current_at.Goals as goal
@@ -31,13 +31,13 @@ commands-preserved c =
       loading = elim c.match-command.branch [
         | in-Ok-Check+else-left-eq1 w ↦
             let d = rw w.in-Ok-Check.field-0-is at (w.in-Ok-Check.ensures.steps l.stack l.stated) in
-            taken_here c.args.text.now _ _ _ c.commands.place _ c.kept-text.ensures l c.in-Ok-Some.read.0 c.in-Ok-Some.read.1 r took.Check c.match-command.left c.command.new.self (one_less c.commands.left c.match-command.left w.if-left-eq1.false (w.left-is ∙ w.saturating_sub-left.ensures)) d
+            taken_here c.args.text.now _ _ _ c.commands.place _ c.kept-text.ensures l c.in-Ok-Some.read.0 c.in-Ok-Some.read.1 r effects.Check c.match-command.left c.command.new.self (one_less c.commands.left c.match-command.left w.if-left-eq1.false (w.left-is ∙ w.saturating_sub-left.ensures)) d
         | in-Ok-Done w ↦
             let d = rw w.in-Ok-Done.field-0-is at (w.in-Ok-Done.ensures.steps l.stack l.stated) in
-            taken_here c.args.text.now _ _ _ c.commands.place _ c.kept-text.ensures l c.in-Ok-Some.read.0 c.in-Ok-Some.read.1 r took.Done c.match-command.left c.command.new.self (λ s rest. ap (rest s) (sym w.left-is)) d
+            taken_here c.args.text.now _ _ _ c.commands.place _ c.kept-text.ensures l c.in-Ok-Some.read.0 c.in-Ok-Some.read.1 r effects.Done c.match-command.left c.command.new.self (λ s rest. ap (rest s) (sym w.left-is)) d
         | in-Ok-Unsupported w ↦
             let d = rw w.in-Ok-Unsupported.field-0-is at (w.in-Ok-Unsupported.ensures.steps l.stack l.stated) in
-            taken_here c.args.text.now _ _ _ c.commands.place _ c.kept-text.ensures l c.in-Ok-Some.read.0 c.in-Ok-Some.read.1 r took.Unsupported c.match-command.left c.command.new.self (λ s rest. ap (rest s) (sym w.left-is)) d
+            taken_here c.args.text.now _ _ _ c.commands.place _ c.kept-text.ensures l c.in-Ok-Some.read.0 c.in-Ok-Some.read.1 r effects.Unsupported c.match-command.left c.command.new.self (λ s rest. ap (rest s) (sym w.left-is)) d
         | in-Err-Fault-command w ↦ rw w.left-is (
             let d = rw w.in-Err-Fault-command.field-0-is at (w.in-Err-Fault-command.ensures.steps l.stack l.stated) in
             refused_here c.args.text.now _ _ _ c.commands.place _ c.kept-text.ensures l c.in-Ok-Some.read.0 c.in-Ok-Some.read.1 r _ c.command.new.self d)

@@ -11,12 +11,12 @@ use term_core::TermId;
 ///
 /// Contracts see it as the list of these numbers.
 #[derive(Drop)]
-pub struct Asserted {
+pub struct Assertions {
     list: Vec<TermId>,
     set: IndexSet<TermId>,
 }
 
-impl Model for Asserted {
+impl Model for Assertions {
     ghost use Rattle.std.specs.Prelude.{List};
     ghost use Rattle.term_core.specs.declared.ids.TermId.{TermId};
     ghost use Rattle.assertion_stack.specs.Members.{HaveSameMembers};
@@ -28,12 +28,12 @@ impl Model for Asserted {
     ghost invariant = { λ a. HaveSameMembers a.list.items a.set.keys };
 }
 
-impl Asserted {
+impl Assertions {
     /// Makes the list of no terms. It takes no memory.
-    pub fn new(alloc: Global) -> Asserted
+    pub fn new(alloc: Global) -> Assertions
         ensures { result ≡ [] }
     {
-        Asserted {
+        Assertions {
             list: Vec::new(alloc),
             set: IndexSet::new(alloc),
         }

@@ -1,0 +1,11 @@
+use Rattle.std.proofs.Common.{sym, subst}
+use Rattle.smt_sexpr.specs.Items.{trees_meant, tree_meant}
+use Rattle.sort_check.proofs.Reading.{split_more}
+use Rattle.assertion_stack.specs.Views.{Gives}
+use Rattle.assertion_stack.specs.Scripts.{command_view, listed}
+use Rattle.assertion_stack.proofs.commands.in_list.Goals as goal
+
+pub returns-in-Some : goal.returns-in-Some
+returns-in-Some c =
+    let split = split_more (trees_meant c.args.trees) (trees_meant c.in-Some.rest) (tree_meant c.in-Some.head) c.in-Some.ensures.first in
+    subst (λ ts. Gives command_view c.command_as.result (listed c.args.at ts)) (sym split) c.command_as.ensures
