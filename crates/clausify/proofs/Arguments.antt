@@ -4,14 +4,13 @@ use Rattle.std.proofs.lemmas.List.{length-map, get_or-map, map-append, take_more
 use Rattle.std.proofs.lemmas.List.Elements.{All-push}
 use Rattle.spec_terms.specs.Terms.{Symbol, Not, Term, Terms, app, nil, cons, terms_of, of, negated, head_takes, sort_of}
 use Rattle.spec_terms.specs.Subsets.{arguments_of}
-use Rattle.spec_terms.proofs.General.{not_takes}
+use Rattle.spec_terms.proofs.General.{not_takes, list_of-terms_of}
 use Rattle.spec_proofs.specs.Schemes.{innermost}
 use Rattle.term_core.specs.declared.ids.TermId.{TermId}
 use Rattle.term_core.specs.declared.nodes.Head.{Head as NodeHead}
 use Rattle.term_core.specs.declared.nodes.Head.TheVariants as heads
 use Rattle.term_core.specs.Tables.{TableView, term_at, IsIn, AreIn, clause_at, head_meant, Shape, Fits, shape_term}
 use Rattle.term_core.proofs.TermsExtend.{Extends-self, Extends-trans, AreIn-kept, clause_at-kept}
-use Rattle.term_core.proofs.TermsApart.{list_back}
 use Rattle.clausify.specs.Stating.{Widens}
 
 pub Widens-self : (t : TableView) → Widens t t
@@ -23,7 +22,7 @@ Widens-trans s t u a b = record { terms = Extends-trans s t u a.terms b.terms; s
 module _ (t : TableView) (s : Shape) (term : Term) (means : term ≡ shape_term t s) where
   -- the arguments of a term by its node
   pub arguments_are : arguments_of term ≡ clause_at t s.arguments
-  arguments_are = ap arguments_of means ∙ list_back (clause_at t s.arguments)
+  arguments_are = ap arguments_of means ∙ list_of-terms_of (clause_at t s.arguments)
 
   -- as many as the node has
   pub arguments_count : length (arguments_of term) ≡ length s.arguments

@@ -10,7 +10,7 @@ use Rattle.spec_terms.specs.Terms.{Symbol, Sort, Truth, same_sort, same_head, Te
 use Rattle.spec_terms.specs.Literals.{Clause}
 use Rattle.spec_terms.specs.Subsets.{arguments_of}
 use Rattle.spec_terms.proofs.SameTerms.{terms_decide}
-use Rattle.spec_terms.proofs.General.{not_takes, xor_takes, implies_takes, equal_takes, ite_takes}
+use Rattle.spec_terms.proofs.General.{not_takes, xor_takes, implies_takes, equal_takes, ite_takes, list_of-terms_of}
 use Rattle.spec_proofs.specs.declared.Rule.{Rule}
 use Rattle.spec_proofs.specs.declared.Rest.{Rest}
 use Rattle.spec_proofs.specs.declared.Rest.TheVariants.{Nothing, One, Two, AnyOne, Each, Innermost}
@@ -22,7 +22,6 @@ use Rattle.term_core.specs.declared.ids.TermId.{TermId}
 use Rattle.term_core.specs.declared.nodes.Head.{Head as NodeHead}
 use Rattle.term_core.specs.declared.nodes.Head.TheVariants as heads
 use Rattle.term_core.specs.Tables.{TableView, term_at, IsIn, AreIn, clause_at, head_meant, Shape, Fits, shape_term}
-use Rattle.term_core.proofs.TermsApart.{list_back}
 use Rattle.clausify.specs.declared.schemes.Stating.{Stating}
 use Rattle.clausify.specs.Stating.{head_of, scheme_by, rest_by, IsRuleOf, HasPlaces, single, IsSingle, least_of, before, clauses_in, AreSchemesOf}
 use Rattle.clausify.proofs.Arguments.{arguments_are}
@@ -55,14 +54,14 @@ all_truths t (id ∷ ids) truths there = ap (λ s. same_sort Truth s && all_same
 -- a term of a table is a formula
 pub is_formula : (t : TableView) (s : Shape) (term : Term) → term ≡ shape_term t s → Fits t s → ((id : TermId) → IsIn t id → sort_of (term_at t id) ≡ Truth) → is_formula_of (head_of term) term ≡ true
 is_formula t s term means fits truths =
-    let same : is_formula_of (head_meant t.symbols s.head) (shape_term t s) ≡ same_head (head_meant t.symbols s.head) (head_meant t.symbols s.head) && head_takes (head_meant t.symbols s.head) (map sort_of (clause_at t s.arguments)) && all_same Truth (map sort_of (clause_at t s.arguments)) = ap (λ (ts : List Term). same_head (head_meant t.symbols s.head) (head_meant t.symbols s.head) && head_takes (head_meant t.symbols s.head) (map sort_of ts) && all_same Truth (map sort_of ts)) (list_back (clause_at t s.arguments)) in
+    let same : is_formula_of (head_meant t.symbols s.head) (shape_term t s) ≡ same_head (head_meant t.symbols s.head) (head_meant t.symbols s.head) && head_takes (head_meant t.symbols s.head) (map sort_of (clause_at t s.arguments)) && all_same Truth (map sort_of (clause_at t s.arguments)) = ap (λ (ts : List Term). same_head (head_meant t.symbols s.head) (head_meant t.symbols s.head) && head_takes (head_meant t.symbols s.head) (map sort_of ts) && all_same Truth (map sort_of ts)) (list_of-terms_of (clause_at t s.arguments)) in
     ap (λ (u : Term). is_formula_of (head_of u) u) means ∙ same ∙ (λ i. same_itself (shape_term t s) i && fits.sorts i && all_truths t s.arguments truths fits.arguments i)
 
 -- whatever head it is asked about
 pub head_formula : (t : TableView) (s : Shape) (term : Term) → term ≡ shape_term t s → Fits t s → ((id : TermId) → IsIn t id → sort_of (term_at t id) ≡ Truth) → is_formula_alone term ≡ true
 head_formula t s term means fits truths =
     let takes : List Term → Bool = λ ts. head_takes (head_meant t.symbols s.head) (map sort_of ts) && all_same Truth (map sort_of ts) in
-    ap is_formula_alone means ∙ ap takes (list_back (clause_at t s.arguments)) ∙ (λ i. fits.sorts i && all_truths t s.arguments truths fits.arguments i)
+    ap is_formula_alone means ∙ ap takes (list_of-terms_of (clause_at t s.arguments)) ∙ (λ i. fits.sorts i && all_truths t s.arguments truths fits.arguments i)
 
 module _ (s : Scheme) (term front : Term) (formula : is_formula_of s.head term ≡ true) (in_front : signed s.positive term ≡ front) where
   -- the clauses that it gives by a scheme

@@ -10,6 +10,7 @@ use Rattle.term_core.proofs.TermsExtend.{Extends-trans}
 use Rattle.proof_log.specs.declared.premises.StepId.{StepId}
 use Rattle.proof_log.specs.Logs.{Logged, assumed, stepped, named, inference_of, derivation_in, IsLogOf}
 use Rattle.proof_log.proofs.Tables.{grown_same}
+use Rattle.proof_log.proofs.Logged.{conclusion_of}
 use Rattle.clausify.specs.Clausified.{stated, AssumesOneOf, Grows}
 use Rattle.clausify.specs.Stating.{Widens, Says, Tells}
 use Rattle.clausify.proofs.Arguments.{Widens-self}
@@ -64,11 +65,6 @@ Grows-weaker roots t u old new g = record {
     weaker : (l : Logged) → AssumesOneOf [] l → AssumesOneOf roots l
     weaker (assumed id) h = absurd (omega (arith, h.1))
     weaker (stepped r ps c) h = h
-
--- the clause that is stated
-pub conclusion_of : (t : TableView) (l : Logged) → conclusion (inference_of t l) ≡ clause_at t (named l)
-conclusion_of t (assumed id) = refl
-conclusion_of t (stepped r ps c) = refl
 
 module _ (roots : List TermId) (t u : TableView) (old new : List Logged) (g : Grows roots t u old new) (right : IsLogOf t old) where
   -- a number says what it said

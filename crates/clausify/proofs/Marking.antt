@@ -2,13 +2,13 @@
 use Rattle.std.proofs.Common.{◌≡◌, ℕ, zero, suc, ◌<◌, ◌≤◌, inl, inr, Bool, true, List, length, get_or, All, Contains, sym, ap, ◌∙◌, subst, arith}
 use Rattle.std.proofs.lemmas.Bool.{cases_eq}
 use Rattle.std.proofs.lemmas.List.Elements.{All-contains, Contains-get_or}
+use Rattle.spec_text.proofs.Members.{to_image, from_image}
 use Rattle.spec_terms.specs.Terms.{Term}
 use Rattle.spec_terms.specs.Subterms.{subterms_of}
 use Rattle.spec_terms.specs.Subsets.{arguments_of, AreAmong, IsClosed}
 use Rattle.spec_search.specs.Models.{is_formula}
 use Rattle.term_core.specs.declared.ids.TermId.{TermId}
 use Rattle.term_core.specs.Tables.{TableView, AreDifferent, no_term, term_at, clause_at, Shape, shape_term}
-use Rattle.term_core.proofs.Images.{to_image, from_image}
 use Rattle.term_core.proofs.TermsClosed.{argument_of, argument_in}
 use Rattle.clausify.specs.Marks.{IsMarked, Marks, marked, AreMarksOf}
 use Rattle.clausify.proofs.Marked.{marked_below, in_marked, HasMarked, from_marked, marked_once}

@@ -1,17 +1,16 @@
 -- Clauses of a log are true where the assumed terms that they rest on are.
-use Rattle.std.proofs.Common.{◌≡◌, true, ℕ, ◌<◌, List, [], length, take, get_or, All, Contains, refl, sym, ap, ◌∙◌, subst, arith, length-take}
+use Rattle.std.proofs.Common.{◌≡◌, true, ℕ, ◌<◌, List, length, get_or, All, Contains, refl, sym, ap, ◌∙◌, subst}
 use Rattle.std.proofs.lemmas.List.{length-map, get_or-map}
-use Rattle.std.proofs.lemmas.List.Elements.{All-map, All-contains, All-from_get_or, Contains-get_or}
+use Rattle.std.proofs.lemmas.List.Elements.{All-map, All-from_get_or, Contains-get_or}
 use Rattle.spec_terms.specs.Terms.{Term}
 use Rattle.spec_terms.specs.Values.{Interpretation}
 use Rattle.spec_proofs.specs.Clauses.{term_true, clause_true, HasTruth}
-use Rattle.spec_search.specs.Derivations.{Derivation, Inference, «assumption», by_rule, conclusion, premises_of, no_inference, inference_at, conclusion_at, FollowsFrom, IsDerivation, RestsOn, itself, by_premise}
+use Rattle.spec_search.specs.Derivations.{Derivation, «assumption», conclusion, no_inference, inference_at, conclusion_at, IsDerivation, RestsOn}
 use Rattle.spec_search.proofs.Spending.{rests_there}
 use Rattle.term_core.specs.declared.ids.TermId.{TermId}
 use Rattle.term_core.specs.Tables.{TableView, no_term, term_at, clause_at}
 use Rattle.proof_log.specs.declared.premises.StepId.{StepId}
 use Rattle.proof_log.specs.Logs.{Logged, assumed, stepped, named, no_logged, logged_at, inference_of, derivation_in, IsLogOf}
-use Rattle.proof_log.proofs.Derivations.{follows_at}
 use Rattle.proof_log.proofs.Logged.{conclusion_of, conclusion_there}
 
 -- A term that was assumed under a number.

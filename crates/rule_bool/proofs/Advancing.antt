@@ -1,6 +1,6 @@
 -- What is held grows by what follows.
 use Rattle.std.proofs.Common.{◌≡◌, ℕ, ◌<◌, ◌≤◌, Bool, true, false, List, [], ◌∷◌, ◌++◌, length, get_or, Contains, inl, inr, sym, ap, ◌∙◌, subst, refl, cond, arith, zero, suc}
-use Rattle.std.proofs.lemmas.Bool.{false≢true}
+use Rattle.std.proofs.lemmas.Bool.{false≢true, false_from_ne_true}
 use Rattle.std.specs.List.{list_any}
 use Rattle.std.proofs.lemmas.List.{append_assoc, append-nil, length-append}
 use Rattle.std.proofs.lemmas.List.Elements.{Contains-push, Contains-push_cases, Contains-append_left}
@@ -48,13 +48,9 @@ touched_by held c t = list_any_at (has held) c t.there.0 t.literal t.there.1 (ap
 touching : (held c : List Lit) → touched held c ≡ true → IsSatisfied held c
 touching held c e = let a = Any-from_list_any (has held) c e in record { literal = a.1; there = (a.0, a.2, a.3); holds = Contains-from_has held a.1 a.4 }
 
-unsure : (b : Bool) → (b ≡ true → ⊥) → b ≡ false
-unsure true h = absurd (h refl)
-unsure false h = refl
-
 -- a unit clause wasn't touched
 was_untouched : (held : List Lit) → IsConsistent held → (c : List Lit) (l : Lit) → IsUnit held c l → touched held c ≡ false
-was_untouched held ok c l u = unsure (touched held c) λ e.
+was_untouched held ok c l u = false_from_ne_true (touched held c) λ e.
     let t = touching held c e in
     elim (decide t.literal l) [ inl s ↦ u.not_held (subst (λ (x : Lit). Contains held x) s t.holds) | inr d ↦ ok t.literal t.holds (u.others_false t.literal t.there d) ]
 

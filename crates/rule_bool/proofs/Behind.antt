@@ -1,8 +1,9 @@
 -- What may stand behind a term, by the numbers of its arguments.
-use Rattle.std.proofs.Common.{◌≡◌, ◌≢◌, ℕ, zero, suc, ◌+◌, ◌<◌, Bool, true, false, List, [], ◌∷◌, ◌++◌, map, length, get_or, take, Contains, sym, ap, ◌∙◌, subst, arith}
+use Rattle.std.proofs.Common.{◌≡◌, ◌≢◌, ℕ, ◌+◌, ◌<◌, Bool, true, false, List, [], ◌∷◌, ◌++◌, map, length, get_or, take, Contains, sym, ap, ◌∙◌, subst}
 use Rattle.std.specs.Prelude.{MatchBool}
 use Rattle.std.proofs.lemmas.List.{map_more, map-append, get_or-map, length-map}
 use Rattle.std.proofs.lemmas.List.Elements.{All-contains}
+use Rattle.spec_text.proofs.Members.{to_image, from_image, only}
 use Rattle.spec_terms.specs.Terms.{Term}
 use Rattle.spec_terms.specs.Theory.{no_term}
 use Rattle.spec_terms.specs.Literals.{Clause}
@@ -10,12 +11,6 @@ use Rattle.spec_proofs.specs.Schemes.{signed}
 use Rattle.term_core.specs.declared.ids.TermId.{TermId}
 use Rattle.term_core.specs.Tables.{TableView, term_at, IsIn, AreIn, AreDifferent, clause_at}
 use Rattle.rule_bool.specs.Schemes.{IsSigned, HasNoSign}
-use Rattle.rule_bool.proofs.Transport.{to_image, from_image}
-
--- what a list of one holds
-pub held_alone : {X : Type 0} (x y : X) → Contains (x ∷ []) y → x ≡ y
-held_alone x y (zero, lt, e) = e
-held_alone x y (suc k, lt, e) = absurd (omega (arith, lt))
 
 -- terms are one where they are with a sign
 pub signed_apart : (p : Bool) (t u : Term) → signed p t ≡ signed p u → t ≡ u
@@ -81,4 +76,4 @@ module _ (t : TableView) where
     pub not_each : signed p (get_or (clause_at t arguments) k no_term) ≢ term_at t (get_or ids k d)
         → Contains (map (signed p) (clause_at t arguments) ∷ []) (clause_at t ids) → ⊥
     not_each differ i = differ (sym (get_or-map (signed p) (clause_at t arguments) k no_term no_term (rw length-map in_arguments))
-        ∙ ap (λ (xs : Clause). get_or xs k no_term) (held_alone _ _ i) ∙ get_or-map (term_at t) ids k d no_term in_ids)
+        ∙ ap (λ (xs : Clause). get_or xs k no_term) (only _ _ i) ∙ get_or-map (term_at t) ids k d no_term in_ids)

@@ -4,9 +4,12 @@ use Rattle.std.specs.Prelude.{MatchBool}
 use Rattle.std.specs.Cmp.Derive.{both_true}
 use Rattle.std.proofs.lemmas.Bool.{false≢true}
 use Rattle.std.proofs.lemmas.List.Elements.{All-contains}
-use Rattle.spec_terms.specs.Terms.{Truth, Symbol, Head, Term, of, negated, sort_of, all_same, head_takes, same_head, same_sort}
+use Rattle.std.proofs.lemmas.List.{nil_from_length}
+use Rattle.spec_text.proofs.Members.{to_image, from_image}
+use Rattle.spec_terms.specs.Terms.{Truth, Symbol, Head, Term, of, negated, sort_of, all_same, head_takes, same_head}
 use Rattle.spec_terms.specs.Subsets.{arguments_of}
 use Rattle.spec_terms.specs.Literals.{Clause}
+use Rattle.spec_terms.proofs.General.{list_of-terms_of, all_truths}
 use Rattle.spec_proofs.specs.declared.Rest.{Rest}
 use Rattle.spec_proofs.specs.Schemes.{Scheme, signed, rests_of, is_formula_of}
 use Rattle.spec_proofs.specs.Rules.{IsGiven, IsStated, IsTurned, flipped}
@@ -15,14 +18,7 @@ use Rattle.term_core.specs.declared.nodes.Head.{Head as NodeHead}
 use Rattle.term_core.specs.declared.nodes.Head.TheVariants as heads
 use Rattle.term_core.specs.Tables.{TableView, term_at, IsIn, AreIn, clause_at, head_meant, Shape, shape_term, Fits}
 use Rattle.rule_bool.specs.Schemes.{scheme_meant, IsSigned, HasNoSign, HasNoTurn, IsStating, IsTurning, GivesRest}
-use Rattle.rule_bool.proofs.Transport.{to_image, from_image}
-use Rattle.rule_bool.proofs.OnePremise.{list_of-terms_of}
 use Rattle.rule_bool.proofs.Behind.{signed_apart}
-
--- the arguments of terms of sort Bool
-all_truths : (xs : List Term) → ((x : Term) → Contains xs x → sort_of x ≡ Truth) → all_same Truth (map sort_of xs) ≡ true
-all_truths [] h = refl
-all_truths (x ∷ xs) h = both_true (ap (same_sort Truth) (h x (0, omega arith, refl))) (all_truths xs (λ y i. h y (suc i.0, omega (arith, i.1), i.2)))
 
 -- a head before arguments of sort Bool that it takes
 formula_of : (g : Head) (xs : List Term) → same_head g g ≡ true → head_takes g (map sort_of xs) ≡ true → all_same Truth (map sort_of xs) ≡ true → is_formula_of g (of g xs) ≡ true
@@ -57,11 +53,6 @@ module _ (s : Scheme) (x : Term) (ls : Clause) where
         (subst (λ (y : Term). Contains (map (λ (ls : Clause). signed s.positive t ∷ ls) (rests_of s.rest (arguments_of t))) (y ∷ ls)) (sym e)
         (to_image (λ (ls : Clause). signed s.positive t ∷ ls) (rests_of s.rest (arguments_of t)) ls h.by_arguments)),
   )
-
--- a list without elements
-empty : {X : Type 0} (xs : List X) → length xs ≡ 0 → xs ≡ []
-empty [] e = refl
-empty (x ∷ xs) e = absurd (omega (arith, e))
 
 -- what stands behind the first number is the table's too
 pub behind_in : (t : TableView) (clause : List TermId) (front : TermId) (behind : List TermId) → clause ≡ front ∷ behind → AreIn t clause → AreIn t behind
@@ -144,7 +135,7 @@ module _ (t : TableView) (head : NodeHead) (positive : Bool) (rest : Rest) where
     -- the clause is empty
     pub not_stated_empty : length clause ≡ 0 → IsStated (scheme_meant t.symbols head positive rest) (map (clause_at t) premises) (clause_at t clause) → ⊥
     not_stated_empty none r = none_given (scheme_meant t.symbols head positive rest)
-        (subst (λ (c : List TermId). IsGiven (scheme_meant t.symbols head positive rest) (clause_at t c)) (empty clause none) (stated_given (scheme_meant t.symbols head positive rest) (map (clause_at t) premises) (clause_at t clause) r))
+        (subst (λ (c : List TermId). IsGiven (scheme_meant t.symbols head positive rest) (clause_at t c)) (nil_from_length clause none) (stated_given (scheme_meant t.symbols head positive rest) (map (clause_at t) premises) (clause_at t clause) r))
 
     module _ (front : TermId) (behind : List TermId) (is : clause ≡ front ∷ behind) where
       -- a clause that is stated is given
@@ -162,7 +153,7 @@ module _ (t : TableView) (head : NodeHead) (positive : Bool) (rest : Rest) where
         -- what stands behind it is as the term says
         pub stated_there : length premises ≡ 0 → GivesRest (head_meant t.symbols head) rest (term_at t id) (clause_at t behind)
             → IsStated (scheme_meant t.symbols head positive rest) (map (clause_at t) premises) (clause_at t clause)
-        stated_there none h = subst (λ (ps : List (List TermId)). IsStated (scheme_meant t.symbols head positive rest) (map (clause_at t) ps) (clause_at t clause)) (sym (empty premises none))
+        stated_there none h = subst (λ (ps : List (List TermId)). IsStated (scheme_meant t.symbols head positive rest) (map (clause_at t) ps) (clause_at t clause)) (sym (nil_from_length premises none))
             (subst (λ (c : List TermId). IsGiven (scheme_meant t.symbols head positive rest) (clause_at t c)) (sym is) (given_there (term_at t front) id has (clause_at t behind) h))
 
         -- and where it isn't

@@ -1,9 +1,9 @@
 -- Literals: their equality, their complements, and sets of them.
-use Rattle.std.proofs.Common.{◌≡◌, ◌≢◌, Bool, true, false, not, ◌&&◌, List, [], ◌∷◌, ◌++◌, Contains, ◌⊎◌, inl, inr, sym, ap, ◌∙◌, subst, refl, cond, rules, if◌then◌else◌, ℕ}
+use Rattle.std.proofs.Common.{◌≡◌, ◌≢◌, Bool, true, false, not, List, [], ◌∷◌, ◌++◌, Contains, ◌⊎◌, inl, inr, sym, ap, ◌∙◌, subst, refl, cond, rules, if◌then◌else◌, ℕ}
 use Rattle.std.specs.Prelude.{nat_eq, MatchBool}
 use Rattle.std.specs.List.{list_any}
 use Rattle.std.specs.Cmp.Derive.{both_true}
-use Rattle.std.proofs.lemmas.Bool.{false≢true, eqb-true, eq-eqb}
+use Rattle.std.proofs.lemmas.Bool.{false≢true, eqb-true, eq-eqb, and_parts}
 use Rattle.std.proofs.lemmas.List.Folds.{Any-from_list_any, list_any_at}
 use Rattle.indexmap.specs.IndexSet.{insert_key}
 use Rattle.indexmap.proofs.CallerLemmas.{Contains-list_any}
@@ -46,13 +46,9 @@ sign_refl : (p : Bool) → cond p p (not p) ≡ true
 sign_refl true = refl
 sign_refl false = refl
 
-both_are : (a b : Bool) → (a && b) ≡ true → (a ≡ true) × (b ≡ true)
-both_are true b e = (refl, e)
-both_are false b e = absurd (false≢true e)
-
 same_is : (a b : Lit) → same_lit a b ≡ true → a ≡ b
 same_is a b e =
-    let s = both_are (nat_eq a.term.0 b.term.0) (cond a.positive b.positive (not b.positive)) e in
+    let s = and_parts (nat_eq a.term.0 b.term.0) (cond a.positive b.positive (not b.positive)) e in
     let id : ℕ → TermId = λ n. record { 0 = n } in
     let make : ℕ → Bool → Lit = λ n p. record { term = id n; positive = p } in
     ap (λ n. make n a.positive) (eqb-true a.term.0 b.term.0 s.0) ∙ ap (make b.term.0) (sign_is a.positive b.positive s.1)

@@ -1,15 +1,16 @@
 -- That a clause has terms, by their numbers, and what rules on one premise say then.
-use Rattle.std.proofs.Common.{◌≡◌, ℕ, ◌+◌, ◌<◌, List, [], ◌∷◌, map, length, get_or, take, All, Contains, inl, inr, refl, sym, ap, subst, arith}
+use Rattle.std.proofs.Common.{◌≡◌, ℕ, ◌+◌, ◌<◌, List, [], ◌∷◌, map, length, get_or, take, All, Contains, inl, inr, sym, ap, subst, arith}
 use Rattle.std.proofs.lemmas.List.{take_more}
 use Rattle.std.proofs.lemmas.List.Elements.{All-contains, Contains-push_cases}
-use Rattle.spec_terms.specs.Terms.{Term, terms_of, list_of}
+use Rattle.spec_text.proofs.Members.{to_image, from_image}
+use Rattle.spec_terms.specs.Terms.{Term}
 use Rattle.spec_terms.specs.Literals.{Clause}
+use Rattle.spec_terms.proofs.General.{list_of-terms_of}
 use Rattle.spec_proofs.specs.Resolution.{IsWithin}
 use Rattle.spec_proofs.specs.Rules.{IsOr, IsWeakening}
 use Rattle.term_core.specs.declared.ids.TermId.{TermId}
 use Rattle.term_core.specs.Tables.{TableView, term_at, IsIn, AreIn, AreDifferent, clause_at}
 use Rattle.rule_bool.specs.Premises.{IsDisjunctionAlone}
-use Rattle.rule_bool.proofs.Transport.{to_image, from_image}
 
 -- a term that is at none of the places so far, nor at the next
 pub not_yet : (ids : List TermId) (k : ℕ) (d id : TermId) → k < length ids → (get_or ids k d ≡ id → ⊥) → (Contains (take k ids) id → ⊥) → Contains (take (k + 1) ids) id → ⊥
@@ -33,11 +34,6 @@ module _ (t : TableView) (ids clause : List TermId) where
       let number : ℕ → TermId = λ n. record { 0 = n } in
       let same = differ other.0.0 id.0 (All-contains (IsIn t) clause other.0 clause_in other.1) (All-contains (IsIn t) ids id ids_in i) other.2 in
       subst (λ (x : TermId). Contains clause x) (ap number same) other.1
-
--- the terms of a list are those of the list
-pub list_of-terms_of : (ts : List Term) → list_of (terms_of ts) ≡ ts
-list_of-terms_of [] = refl
-list_of-terms_of (t ∷ ts) = λ i. t ∷ list_of-terms_of ts i
 
 -- a list of one
 single : {X : Type 0} (xs : List X) (x : X) → length xs ≡ 1 → x ≡ get_or xs 0 x → xs ≡ x ∷ []

@@ -1,6 +1,7 @@
 -- What one more literal does to the status of a clause.
-use Rattle.std.proofs.Common.{◌≡◌, ◌≢◌, List, [], ◌∷◌, ◌++◌, Contains, inl, inr, sym, subst, refl}
-use Rattle.std.proofs.lemmas.List.Elements.{Contains-push, Contains-push_cases, Contains-append_left}
+use Rattle.std.proofs.Common.{◌≡◌, ◌≢◌, List, [], ◌∷◌, ◌++◌, Contains, sym, subst, refl}
+use Rattle.std.proofs.lemmas.List.Elements.{Contains-push, Contains-append_left}
+use Rattle.spec_text.proofs.Members.{each_pushed}
 use Rattle.term_core.specs.declared.ids.Lit.{Lit}
 use Rattle.rule_bool.specs.declared.status.ClauseStatus.{ClauseStatus}
 use Rattle.rule_bool.specs.declared.status.ClauseStatus.TheVariants.{Falsified, Unit as Single, Unresolved, Satisfied}
@@ -8,10 +9,6 @@ use Rattle.rule_bool.specs.Literals.{lit_complement}
 use Rattle.rule_bool.specs.Statuses.{IsUnit, IsUnresolved, IsSatisfied, HasStatus}
 
 module _ (held : List Lit) (front : List Lit) (m : Lit) where
-  -- what is the case of each literal of the front and of m is the case of each of both
-  each_of_both : (P : Lit → Type 0) → ((k : Lit) → Contains front k → P k) → P m → (k : Lit) → Contains (front ++ m ∷ []) k → P k
-  each_of_both P each here k in_both = elim (Contains-push_cases front m k in_both) [ inl old ↦ each k old | inr e ↦ subst P e here ]
-
   in_more : (k : Lit) → Contains front k → Contains (front ++ m ∷ []) k
   in_more k i = Contains-append_left front (m ∷ []) k i
 
@@ -22,11 +19,11 @@ module _ (held : List Lit) (front : List Lit) (m : Lit) where
   touched_more h = record { literal = h.literal; there = in_more h.literal h.there; holds = h.holds }
 
   unit_more : (l : Lit) → (m ≢ l → Contains held (lit_complement m)) → IsUnit held front l → IsUnit held (front ++ m ∷ []) l
-  unit_more l here h = record { there = in_more l h.there; not_held = h.not_held; not_false = h.not_false; others_false = each_of_both (λ k. k ≢ l → Contains held (lit_complement k)) h.others_false here }
+  unit_more l here h = record { there = in_more l h.there; not_held = h.not_held; not_false = h.not_false; others_false = each_pushed (λ k. k ≢ l → Contains held (lit_complement k)) front m h.others_false here }
 
   -- a literal that is false changes nothing
   pub false_more : (f : ClauseStatus) → Contains held (lit_complement m) → HasStatus held front f → HasStatus held (front ++ m ∷ []) f
-  false_more Falsified here h = each_of_both (λ k. Contains held (lit_complement k)) h here
+  false_more Falsified here h = each_pushed (λ k. Contains held (lit_complement k)) front m h here
   false_more (Single l) here h = unit_more l (λ _. here) h
   false_more Unresolved here h = open_more h
   false_more Satisfied here h = touched_more h
@@ -43,7 +40,7 @@ module _ (held : List Lit) (front : List Lit) (m : Lit) where
         there = Contains-push front m;
         not_held = no_m;
         not_false = no_n;
-        others_false = each_of_both (λ k. k ≢ m → Contains held (lit_complement k)) (λ k i _. each k i) (λ ne. absurd (ne refl));
+        others_false = each_pushed (λ k. k ≢ m → Contains held (lit_complement k)) front m (λ k i _. each k i) (λ ne. absurd (ne refl));
       }
 
   -- the open one again

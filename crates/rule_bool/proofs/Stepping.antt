@@ -19,10 +19,10 @@ to_items w = w.items
 
 -- a premise, by its number
 module _ (vs : List (Vec Lit Global)) (i : ℕ) (v : Vec Lit Global) (lt : i < length vs) (e : v ≡ get_or vs i v) where
-  item : get_or (lists vs) i [] ≡ v.items
+  pub item : get_or (lists vs) i [] ≡ v.items
   item = get_or-map to_items vs i v [] lt ∙ ap to_items (sym e)
 
-  item_in : Contains (lists vs) v.items
+  pub item_in : Contains (lists vs) v.items
   item_in = (i, rw length-map lt, get_or-map to_items vs i v v.items lt ∙ ap to_items (sym e))
 
 -- the first i premises were taken up

@@ -1,5 +1,5 @@
 -- One lexeme more of a text.
-use Rattle.std.proofs.Common.{◌≡◌, ℕ, zero, suc, ◌+◌, ◌-◌, ◌<◌, ◌≤◌, List, [], ◌∷◌, length, get_or, drop, sym, ap, ◌∙◌, refl, add-zero, arith, Bor}
+use Rattle.std.proofs.Common.{◌≡◌, ℕ, ◌+◌, ◌-◌, ◌<◌, ◌≤◌, List, [], ◌∷◌, length, get_or, drop, sym, ap, ◌∙◌, refl, arith, Bor}
 use Rattle.std.proofs.lemmas.List.{drop_more, drop_all, drop-drop}
 use Rattle.spec_text.specs.declared.Kind.{Kind}
 use Rattle.spec_text.specs.declared.Fault.{Fault}
@@ -11,12 +11,7 @@ use Rattle.smt_lexer.specs.declared.TokenKind.TheVariants as kinds
 use Rattle.smt_lexer.specs.Pieces.{lexeme_of, IsWithin}
 use Rattle.smt_lexer.specs.Tokens.{Stands, IsToken, piece_from}
 use Rattle.spec_text.specs.Lexemes.{Lexeme, blank, opens, closes, word, wrong, Piece, piece, first_piece, before, lexemes, lexemes_from}
-
-lexemes_skip : (n at : ℕ) (bs : List ℕ) → lexemes n at bs ≡ lexemes 0 (at + n) (drop n bs)
-unfolding lexemes
-lexemes_skip zero at bs = ap (λ k. lexemes 0 k bs) (sym (add-zero at))
-lexemes_skip (suc n) at [] = refl
-lexemes_skip (suc n) at (b ∷ bs) = lexemes_skip n (at + 1) bs ∙ ap (λ k. lexemes 0 k (drop n bs)) (omega arith)
+use Rattle.spec_text.proofs.Printing.{lexemes_skip}
 
 pub nothing_left : (text : List ℕ) (at : ℕ) → length text ≤ at → lexemes_from text at ≡ []
 unfolding lexemes

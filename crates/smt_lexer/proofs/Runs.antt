@@ -4,14 +4,6 @@ use Rattle.std.specs.Prelude.{◌&&◌, not}
 use Rattle.spec_text.specs.Bytes.{Name, is_digit, is_symbol_byte, front, among, reserved_words}
 use Rattle.spec_text.specs.Printed.{all_pass, is_bare}
 
-pub front_within : (test : ℕ → Bool) (bs : List ℕ) → length (front test bs) ≤ length bs
-front_within test [] = omega arith
-front_within test (b ∷ bs) = go (test b) (front_within test bs)
-  where
-    go : (t : Bool) → length (front test bs) ≤ length bs → length (cond t (b ∷ front test bs) []) ≤ suc (length bs)
-    go true h = omega arith
-    go false h = omega arith
-
 -- as many bytes as the front has are the front
 pub front_is_taken : (test : ℕ → Bool) (bs : List ℕ) → take (length (front test bs)) bs ≡ front test bs
 front_is_taken test [] = refl

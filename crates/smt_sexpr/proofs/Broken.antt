@@ -1,5 +1,5 @@
 -- Before what stops the reading stands no whole tree.
-use Rattle.std.proofs.Common.{◌≡◌, ℕ, zero, suc, false, ◌+◌, ◌<◌, ◌≤◌, List, [], ◌∷◌, ◌++◌, length, sym, ap, ◌∙◌, refl, subst, append_assoc, length-append, add-zero, arith}
+use Rattle.std.proofs.Common.{◌≡◌, ℕ, zero, suc, false, ◌+◌, ◌<◌, ◌≤◌, List, [], ◌∷◌, ◌++◌, length, sym, ◌∙◌, refl, subst, append_assoc, length-append, add-zero, arith}
 use Rattle.std.specs.Prelude.{nat_lt}
 use Rattle.std.proofs.lemmas.Bool.Decides.{nat_tests}
 use Rattle.std.proofs.Math.Nat.{le-max_left, le-max_right}
@@ -9,7 +9,7 @@ use Rattle.spec_text.specs.Lexemes.{Lexeme, opens, closes, wrong}
 use Rattle.spec_text.specs.Trees.{Tree, Trees, atom, list, none, more, spelled, spelled_all}
 use Rattle.spec_text.specs.Faults.{Located, located, first_fault, nesting_limit}
 use Rattle.spec_text.specs.Readings.{depth, depth_all, IsBroken}
-use Rattle.spec_text.proofs.Reading.{same_first}
+use Rattle.spec_text.proofs.Reading.{same_first, heads}
 use Rattle.smt_sexpr.specs.Open.{Context, top, inside, spelled_in, flat_in, open_in, IsUnfinished}
 
 -- behind n open lists the lexemes begin with no tree that may stand there, and with no end of a list
@@ -20,12 +20,6 @@ record Stuck (n : ℕ) (xs : List (ℕ × Lexeme)) : Type 0 where
 -- behind n open lists, the last of them among these, the lexemes do not go on to its end
 abbrev Blocks : ℕ → List (ℕ × Lexeme) → Type 0
 Blocks n xs = (ts : Trees) (end : ℕ) (ys : List (ℕ × Lexeme)) → xs ≡ spelled_all ts ++ (end, closes) ∷ ys → nesting_limit < n + depth_all ts
-
--- equal lists begin alike
-pub heads : {a b : ℕ} {x y : Lexeme} {xs ys : List (ℕ × Lexeme)} → (a, x) ∷ xs ≡ (b, y) ∷ ys → (a ≡ b) × (x ≡ y) × (xs ≡ ys)
-heads {a} {b} {x} {y} {xs} {ys} e =
-    let p : (let z : ℕ × Lexeme = (a, x) in z) ≡ (b, y) = cc in
-    (ap (λ (z : ℕ × Lexeme). z.0) p, ap (λ (z : ℕ × Lexeme). z.1) p, cc)
 
 stuck_blocks : (n : ℕ) (xs : List (ℕ × Lexeme)) → 0 < n → Stuck n xs → Blocks n xs
 stuck_blocks n xs some h none end ys e = absurd (omega (arith, h.no_end end ys e))

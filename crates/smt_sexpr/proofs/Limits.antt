@@ -10,7 +10,7 @@ use Rattle.smt_sexpr.specs.Reads.{Breaks}
 use Rattle.smt_sexpr.specs.Limited.{refusal_meant, CutsOff, IsStopped}
 
 -- a prefix of a list that has more
-long_prefix : (n : ℕ) (text : List ℕ) → nat_lt n (length text) ≡ true → length (take n text) ≡ n
+pub long_prefix : (n : ℕ) (text : List ℕ) → nat_lt n (length text) ≡ true → length (take n text) ≡ n
 long_prefix n text h = grind (arith, nat_tests, length-take n text)
 
 -- of a text that is too long as many bytes are read as the limit says

@@ -3,9 +3,9 @@ use Rattle.std.proofs.Common.{◌≡◌, ℕ, zero, suc, ◌+◌, ◌-◌, ◌<�
 use Rattle.std.specs.Prelude.{⊤}
 use Rattle.spec_text.specs.Lexemes.{Lexeme, blank, opens, closes, word, wrong, Piece, piece, first_piece, before, lexemes, lexemes_from}
 use Rattle.spec_text.specs.Trees.{Tree, Trees, atom, list, none, more, spelled, spelled_all}
+use Rattle.spec_text.proofs.Reading.{heads}
+use Rattle.spec_text.proofs.Offsets.{next_here}
 use Rattle.smt_sexpr.specs.Items.{IsWithin, AreWithin}
-use Rattle.smt_sexpr.proofs.Broken.{heads}
-use Rattle.smt_sexpr.proofs.Words.{next_here}
 
 -- a lexeme that is no fault
 abbrev pub IsToken : Lexeme → Type 0

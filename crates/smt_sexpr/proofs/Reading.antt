@@ -11,6 +11,7 @@ use Rattle.spec_text.specs.Places.{IsPlaceOf}
 use Rattle.spec_text.specs.Trees.{Tree, Trees, atom, list, none, more, spelled, offset_of}
 use Rattle.spec_text.specs.Faults.{Located, first_fault, nesting_limit}
 use Rattle.spec_text.specs.Readings.{depth, depth_all, IsBroken}
+use Rattle.spec_text.proofs.Reading.{heads}
 use Rattle.smt_sexpr.specs.Means.{trees_in, first_of, tree_in, flat, AreRead}
 use Rattle.smt_sexpr.specs.declared.items.Item.{Item}
 use Rattle.smt_sexpr.specs.declared.items.Item.TheVariants.{List as Group}
@@ -18,7 +19,7 @@ use Rattle.smt_sexpr.specs.declared.sexpr.Sexpr.{Sexpr}
 use Rattle.smt_sexpr.specs.Items.{text_of, items_of, start_of, tree_of, IsWithin}
 use Rattle.smt_sexpr.specs.Open.{Context, top, inside, add, push, closed, spelled_in, flat_in, open_in, IsUnfinished, Holds}
 use Rattle.smt_sexpr.specs.Reads.{BeginsWith, IsFirst}
-use Rattle.smt_sexpr.proofs.Broken.{heads, broken_in}
+use Rattle.smt_sexpr.proofs.Broken.{broken_in}
 use Rattle.smt_sexpr.proofs.Contexts.{spelled_push, open_push, holds_word, holds_begun}
 use Rattle.smt_sexpr.proofs.Offsets.{IsToken, resumes, within_text}
 use Rattle.smt_sexpr.proofs.Meaning.{means_tree}

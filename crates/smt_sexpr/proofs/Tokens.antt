@@ -5,13 +5,13 @@ use Rattle.spec_text.specs.declared.Place.{Place}
 use Rattle.spec_text.specs.Lexemes.{Lexeme, blank, opens, closes, word, wrong, lexemes_from}
 use Rattle.spec_text.specs.Trees.{Tree, Trees, atom, list, none, more, spelled, spelled_all}
 use Rattle.spec_text.specs.Printed.{printed_word, printed, printed_all}
+use Rattle.spec_text.proofs.Reading.{heads}
 use Rattle.world_io.specs.Writing.{SinkView, Sent, NotSent}
 use Rattle.world_io.proofs.Sending.{first_fails, second_fails}
 use Rattle.smt_lexer.specs.declared.TokenKind.{TokenKind}
 use Rattle.smt_lexer.specs.declared.TokenKind.TheVariants as kinds
 use Rattle.smt_lexer.specs.Tokens as lexer
 use Rattle.smt_sexpr.specs.Printing.{gap, token_bytes, wants_space, last_of, HasNoToken, IsTreeFrom}
-use Rattle.smt_sexpr.proofs.Broken.{heads}
 use Rattle.smt_sexpr.proofs.Offsets.{IsToken, Rise, lexemes_rise}
 
 -- what is written of lexemes, the first of them behind a space where one is wanted

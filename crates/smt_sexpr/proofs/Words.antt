@@ -7,6 +7,7 @@ use Rattle.spec_text.specs.declared.Kind.{Kind}
 use Rattle.spec_text.specs.declared.Kind.TheVariants.{Numeral, Decimal, Simple, Reserved}
 use Rattle.spec_text.specs.Bytes.{is_blank, is_digit, is_symbol_byte, is_in_bars, among, front, reserved_words}
 use Rattle.spec_text.specs.Lexemes.{Lexeme, blank, opens, closes, word, wrong, Piece, piece, ended, decimal, number, string_body, after_quote, string, quoted, keyword, symbol, first_piece, before, lexemes}
+use Rattle.spec_text.proofs.Offsets.{next_here}
 use Rattle.smt_sexpr.specs.Means.{marks, bytes_at}
 
 -- a word's bytes stand behind its marks
@@ -133,14 +134,11 @@ module _ (text : List ℕ) where
       go (word k w) h = (h ∙ ap (λ xs. take (length w) (drop (marks k) xs)) (sym here) ∙ ap (take (length w)) (drop-drop (marks k) at text), more)
       go (wrong f) h = tt
 
-  pub next_here : (at b : ℕ) (bs : List ℕ) → drop at text ≡ b ∷ bs → drop (at + 1) text ≡ bs
-  next_here at b bs e = sym (drop-drop 1 at text) ∙ ap (drop 1) e
-
   words_from : (n at : ℕ) (bs : List ℕ) → drop at text ≡ bs → AreWordsOf text (lexemes n at bs)
   unfolding lexemes
   words_from n at [] e = tt
-  words_from (suc n) at (b ∷ bs) e = words_from n (at + 1) bs (next_here at b bs e)
-  words_from zero at (b ∷ bs) e = stands at b bs (first_piece b bs) _ e (first_spelt b bs) (words_from ((first_piece b bs).size - 1) (at + 1) bs (next_here at b bs e))
+  words_from (suc n) at (b ∷ bs) e = words_from n (at + 1) bs (next_here text at b bs e)
+  words_from zero at (b ∷ bs) e = stands at b bs (first_piece b bs) _ e (first_spelt b bs) (words_from ((first_piece b bs).size - 1) (at + 1) bs (next_here text at b bs e))
 
   pub words_stand : (at : ℕ) → AreWordsOf text (lexemes 0 at (drop at text))
   words_stand at = words_from 0 at (drop at text) refl

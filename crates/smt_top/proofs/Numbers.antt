@@ -1,7 +1,7 @@
 -- Words as numbers.
 use Rattle.std.proofs.Common.{◌≡◌, ◌∙◌, ap, sym, refl, subst, arith, ℕ, List, Option, Some, None, Bool, true, false, cond, ◌&&◌, nat_le, decimal, unwrap_or, Result, Ok}
 use Rattle.std.proofs.lemmas.Option.{none-some}
-use Rattle.std.proofs.lemmas.Bool.{leb-true, le-leb, false≢true}
+use Rattle.std.proofs.lemmas.Bool.{leb-true, le-leb, and_parts}
 use Rattle.std.proofs.lemmas.Slice.Eq.{bytes_eq-Decides}
 use Rattle.std.proofs.lemmas.Fmt.{decimal_is_IsNumeral, parse-decimal}
 use Rattle.std.specs.Result.{result_unwrap_or}
@@ -11,10 +11,6 @@ use Rattle.smt_top.specs.Words.{IsNumber, number_of, most_number}
 
 abbrev test : List ℕ → ℕ → Bool
 test word n = bytes_eq word (decimal n) && (nat_le 1 n && nat_le n most_number)
-
-both : (a b : Bool) → (a && b) ≡ true → (a ≡ true) × (b ≡ true)
-both true b e = (refl, e)
-both false b e = absurd (false≢true e)
 
 -- such a number is the word's
 pub is_its_number : (word : List ℕ) (n : ℕ) → IsNumber word n → Some n ≡ number_of word
@@ -31,8 +27,8 @@ its_number_is word n e = go (digits_value 10 word) (test word (digits_value 10 w
     go : (m : ℕ) (b : Bool) → test word m ≡ b → cond b (Some m) None ≡ Some n → IsNumber word n
     go m false h e = absurd (none-some n e)
     go m true h e =
-        let outer = both _ _ h in
-        let inner = both _ _ outer.1 in
+        let outer = and_parts _ _ h in
+        let inner = and_parts _ _ outer.1 in
         subst (IsNumber word) (ap (λ o. unwrap_or o 0) e) ((bytes_eq-Decides word (decimal m)).0 outer.0, leb-true 1 m inner.0, leb-true m most_number inner.1)
 
 -- without such a number it has none

@@ -8,10 +8,10 @@ use Rattle.std.proofs.lemmas.List.Elements.{All-push, Contains-push, Contains-pu
 use Rattle.term_core.specs.declared.ids.Lit.{Lit}
 use Rattle.rule_bool.specs.Literals.{lit_complement, lists}
 use Rattle.rule_bool.proofs.LiteralLists.{negation_twice}
+use Rattle.rule_bool.proofs.Stepping.{item}
 use Rattle.solve_core.specs.Search.{IsTrail, IsAdded, IsForced, IsClash}
 use Rattle.solve_core.specs.Analyses.{MarksEach, MarksOthers, IsExplained, IsDecision, HasTwo, RestsAt, Cuts, Notes, Follows, IsNeeded, by_clash, by_reason}
 use Rattle.solve_core.specs.declared.analysis.Analysis.{Analysis}
-use Rattle.solve_core.proofs.SearchPasses.{item}
 
 -- a place holds one thing
 pub same_place : (xs : List Lit) (k : ℕ) (a b : Lit) → k < length xs → get_or xs k a ≡ a → get_or xs k b ≡ b → a ≡ b

@@ -1,7 +1,8 @@
 -- That a learned clause is over atoms of the terms.
 use Rattle.std.proofs.Common.{◌≡◌, ◌≢◌, true, false, not, List, [], ◌∷◌, map, Contains, inl, inr, refl, sym, ◌∙◌, subst, arith}
 use Rattle.std.specs.Prelude.{flat_map}
-use Rattle.std.proofs.lemmas.List.Elements.{Contains-append_left, Contains-append_right}
+use Rattle.std.proofs.lemmas.List.Elements.{Contains-append_right}
+use Rattle.spec_text.proofs.Members.{to_image, in_flat}
 use Rattle.spec_terms.specs.Terms.{True, False, Truth, Term, of, negated, sort_of}
 use Rattle.spec_terms.specs.Literals.{Clause, Literal, literal_of, literals_of}
 use Rattle.spec_terms.specs.Subterms.{subterms_of}
@@ -12,21 +13,12 @@ use Rattle.term_core.specs.Tables.{TableView, IsIn, AreDifferent, term_at, liter
 use Rattle.rule_bool.specs.Literals.{lit_complement}
 use Rattle.rule_bool.specs.Statuses.{IsSettled}
 use Rattle.rule_bool.proofs.Counting.{Contains-cons_cases}
-use Rattle.rule_bool.proofs.Transport.{to_image}
 use Rattle.rule_bool.proofs.Resolvents.{literals_apart}
 use Rattle.solve_core.specs.Search.{IsQuiet}
 
--- what one item gives, the list gives
-pub in_flat_map : {A B : Type 0} (f : A → List B) (xs : List A) (x : A) (y : B) → Contains xs x → Contains (f x) y → Contains (flat_map f xs) y
-in_flat_map f [] x y i j = absurd (omega (arith, i.1))
-in_flat_map f (a ∷ xs) x y i j = elim (Contains-cons_cases xs a x i) [
-  | inl e ↦ Contains-append_left (f a) (flat_map f xs) y (subst (λ z. Contains (f z) y) (sym e) j)
-  | inr k ↦ Contains-append_right (f a) (flat_map f xs) y (in_flat_map f xs x y k j)
-]
-
 -- a clause of a subterm is one of the base clauses
 pub in_base : (terms : List Term) (u : Term) (c : Clause) → Contains (subterms_of terms) u → Contains (clauses_of u) c → Contains (base_clauses terms) c
-in_base terms u c i j = Contains-append_right (map (λ (x : Term). x ∷ []) terms) (flat_map clauses_of (subterms_of terms)) c (in_flat_map clauses_of (subterms_of terms) u c i j)
+in_base terms u c i j = Contains-append_right (map (λ (x : Term). x ∷ []) terms) (flat_map clauses_of (subterms_of terms)) c (in_flat clauses_of (subterms_of terms) u c i j)
 
 true_clause : Contains (clauses_of (of True [])) (of True [] ∷ [])
 true_clause = (0, omega arith, refl)

@@ -4,20 +4,17 @@ use Rattle.std.specs.Prelude.{false, Option, Some, None, MatchOption}
 use Rattle.std.specs.Option.{is_some}
 use Rattle.std.proofs.lemmas.Bool.{false≢true}
 use Rattle.std.proofs.lemmas.List.Elements.{Contains-push, Contains-push_cases, Contains-append_left}
+use Rattle.spec_text.proofs.Members.{each_pushed}
 use Rattle.term_core.specs.declared.ids.Lit.{Lit}
 use Rattle.rule_bool.specs.Literals.{lit_complement}
 use Rattle.rule_bool.specs.Statuses.{IsFalsified, IsSatisfied}
 use Rattle.solve_core.specs.Search.{Opens, IsOpenOf, AreSettled}
 
 module _ (held front : List Lit) (m : Lit) where
-  -- what is so of a literal of the front or of this one
-  in_both : (P : Lit → Type 0) → ((k : Lit) → Contains front k → P k) → P m → (k : Lit) → Contains (front ++ m ∷ []) k → P k
-  in_both P old new k i = elim (Contains-push_cases front m k i) [ inl was ↦ old k was | inr is ↦ subst P is new ]
-
   pub false_next : (first : Option Lit) → first ≡ None → Contains held (lit_complement m) → Opens held front first → IsFalsified held (front ++ m ∷ [])
   false_next first e i h =
       let old : IsFalsified held front = let P : Option Lit → Type 0 = Opens held front in subst P e h in
-      in_both (λ k. Contains held (lit_complement k)) old i
+      each_pushed (λ k. Contains held (lit_complement k)) front m old i
 
   pub open_next : (Contains held m → ⊥) → (Contains held (lit_complement m) → ⊥) → IsOpenOf held (front ++ m ∷ []) m
   open_next a b = record { there = Contains-push front m; is_open = record { not_held = a; not_false = b } }

@@ -1,11 +1,9 @@
 -- What a log says with one step more.
-use Rattle.std.proofs.Common.{◌≡◌, ℕ, ◌<◌, List, [], ◌∷◌, ◌++◌, length, get_or, take, drop, All, Contains, sym, ap, ◌∙◌, subst, arith, suc}
-use Rattle.std.proofs.Math.Seq.{drop-cons}
-use Rattle.std.proofs.lemmas.List.{length-append, length-map, map-append, take-append-drop, length-take-le}
-use Rattle.std.proofs.lemmas.List.Elements.{All-contains}
+use Rattle.std.proofs.Common.{◌≡◌, ℕ, ◌<◌, List, [], ◌∷◌, ◌++◌, length, get_or, All, sym, ap, ◌∙◌, subst, arith}
+use Rattle.std.proofs.lemmas.List.{length-append, length-map, map-append}
 use Rattle.spec_terms.specs.Terms.{Term}
 use Rattle.spec_terms.specs.Literals.{Clause, Literal, literals_of}
-use Rattle.spec_search.specs.Derivations.{Inference, «assumption», by_rule, Derivation, premises_of, no_inference, inference_at, conclusion, conclusion_at, FollowsFrom, IsDerivation, RestsOn, itself, by_premise, AssumesAmong, IsDerivedFrom}
+use Rattle.spec_search.specs.Derivations.{Inference, Derivation, no_inference, conclusion, conclusion_at, IsDerivation, AssumesAmong, IsDerivedFrom}
 use Rattle.spec_search.specs.Spent.{IsLearnedFrom}
 use Rattle.spec_search.proofs.Spending.{rests_there}
 use Rattle.term_core.specs.declared.ids.Lit.{Lit}

@@ -1,9 +1,9 @@
 -- What is marked, literal by literal.
-use Rattle.std.proofs.Common.{◌≡◌, ◌≢◌, ℕ, ◌+◌, ◌<◌, List, [], ◌∷◌, ◌++◌, length, get_or, take, Contains, ◌⊎◌, inl, inr, sym, ap, ◌∙◌, subst}
-use Rattle.std.proofs.lemmas.List.{take_more}
+use Rattle.std.proofs.Common.{◌≡◌, ◌≢◌, ℕ, ◌+◌, ◌<◌, List, [], ◌∷◌, length, get_or, take, Contains, ◌⊎◌, inl, inr, sym, ◌∙◌, subst}
 use Rattle.std.proofs.lemmas.List.Elements.{Contains-push, Contains-push_cases, Contains-append_left}
 use Rattle.term_core.specs.declared.ids.Lit.{Lit}
 use Rattle.rule_bool.specs.Literals.{lit_complement, AddsLast}
+use Rattle.rule_bool.proofs.Start.{taken_more}
 use Rattle.solve_core.specs.Analyses.{Marks, MarksEach, MarksOthers}
 
 -- what a list has after a literal was added
@@ -41,17 +41,14 @@ marks_more P Q old mid new m to from here h a =
     }
 
 module _ (clause : List Lit) (n : ℕ) (m : Lit) (lt : n < length clause) (e : m ≡ get_or clause n m) where
-  taken : take (n + 1) clause ≡ take n clause ++ m ∷ []
-  taken = take_more clause n m lt ∙ ap (λ (x : Lit). take n clause ++ x ∷ []) (sym e)
-
   to_front : (k : Lit) → Contains (take (n + 1) clause) k → Contains (take n clause) k ⊎ (k ≡ m)
-  to_front k i = elim (Contains-push_cases (take n clause) m k (subst (λ (h : List Lit). Contains h k) taken i)) [ inl was ↦ inl was | inr s ↦ inr (sym s) ]
+  to_front k i = elim (Contains-push_cases (take n clause) m k (subst (λ (h : List Lit). Contains h k) (taken_more clause n m lt e) i)) [ inl was ↦ inl was | inr s ↦ inr (sym s) ]
 
   from_front : (k : Lit) → Contains (take n clause) k → Contains (take (n + 1) clause) k
-  from_front k i = subst (λ (h : List Lit). Contains h k) (sym taken) (Contains-append_left (take n clause) (m ∷ []) k i)
+  from_front k i = subst (λ (h : List Lit). Contains h k) (sym (taken_more clause n m lt e)) (Contains-append_left (take n clause) (m ∷ []) k i)
 
   this_one : Contains (take (n + 1) clause) m
-  this_one = subst (λ (h : List Lit). Contains h m) (sym taken) (Contains-push (take n clause) m)
+  this_one = subst (λ (h : List Lit). Contains h m) (sym (taken_more clause n m lt e)) (Contains-push (take n clause) m)
 
   pub each_more : (old mid new : List Lit) → MarksEach (take n clause) old mid → AddsLast mid (lit_complement m) new → MarksEach (take (n + 1) clause) old new
   each_more old mid new h a = marks_more (λ k. Contains (take n clause) k) (λ k. Contains (take (n + 1) clause) k) old mid new m to_front from_front this_one h a

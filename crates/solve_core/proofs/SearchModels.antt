@@ -1,13 +1,13 @@
 -- The truths of the literals that hold meet the clauses, and an interpretation by them makes the terms true.
-use Rattle.std.proofs.Common.{◌≡◌, ℕ, Bool, true, false, not, List, [], ◌∷◌, get_or, map, All, Contains, refl, sym, ap, ◌∙◌, subst, arith, if◌then◌else◌}
+use Rattle.std.proofs.Common.{◌≡◌, Bool, true, false, not, List, [], get_or, map, All, Contains, refl, sym, ap, ◌∙◌, subst, arith, if◌then◌else◌}
 use Rattle.std.specs.List.{list_any}
 use Rattle.std.specs.Cmp.Derive.{both_true}
 use Rattle.std.proofs.lemmas.Bool.{false≢true, and_parts}
 use Rattle.std.proofs.lemmas.List.{get_or_default}
 use Rattle.std.proofs.lemmas.List.Elements.{All-contains, Contains-get_or}
 use Rattle.std.proofs.lemmas.List.Folds.{Any-from_list_any, list_any_at}
-use Rattle.spec_text.proofs.Members.{first, later}
-use Rattle.spec_terms.specs.Terms.{Truth, Symbol, Head, Apply, Term, Terms, app, nil, cons, list_of, sort_of, same_term, same_sort, same_sorts, all_same, head_takes, constant_term}
+use Rattle.spec_text.proofs.Members.{to_image, from_image}
+use Rattle.spec_terms.specs.Terms.{Truth, Symbol, Head, Apply, Term, Terms, app, nil, cons, list_of, sort_of, same_term, same_sort, same_sorts, head_takes, constant_term}
 use Rattle.spec_terms.specs.Values.{Table, truth, Interpretation, first_fit, Interprets, IsTableOf}
 use Rattle.spec_terms.specs.Agreement.{value_at, values_at}
 use Rattle.spec_terms.specs.Literals.{Clause, literal_of}
@@ -15,6 +15,7 @@ use Rattle.spec_terms.specs.Subterms.{subterms_of}
 use Rattle.spec_terms.specs.Subsets.{AreAmong, IsClosed}
 use Rattle.spec_terms.proofs.SameTerms.{terms_decide}
 use Rattle.spec_terms.proofs.LeastSubterms.{least_of}
+use Rattle.spec_terms.proofs.General.{all_truths}
 use Rattle.spec_proofs.specs.Truths.{Truths, literal_true, term_true_by}
 use Rattle.spec_search.specs.Base.{base_clauses}
 use Rattle.spec_search.specs.Models.{Meets, is_formula, AreFormulas, Realizes}
@@ -23,27 +24,21 @@ use Rattle.term_core.specs.declared.ids.Lit.{Lit}
 use Rattle.term_core.specs.declared.values.Interp.{Interp}
 use Rattle.term_core.specs.Tables.{TableView, no_symbol, no_term, term_at, IsIn, AreIn, clause_at, literal_at, AreDifferent, truth_symbol, AreDeclared}
 use Rattle.term_core.specs.Valuations.{Stands}
+use Rattle.term_core.proofs.TermsCounted.{clause_there}
 use Rattle.rule_bool.specs.Literals.{lit_complement, IsConsistent}
 use Rattle.rule_bool.specs.Statuses.{IsSatisfied}
 use Rattle.rule_bool.specs.Resolvents.{AreOf, Means}
-use Rattle.rule_bool.proofs.Transport.{to_image, from_image}
+use Rattle.rule_bool.proofs.Behind.{same_numbers}
 use Rattle.solve_core.specs.SearchModels.{affirms, truths_of, constant_table, IsModelOf}
 
 -- a term of the table has a number
 numbered : (t : TableView) (u : Term) → Contains t.terms u → (id : TermId) × IsIn t id × (term_at t id ≡ u)
 numbered t u c = (record { 0 = c.0 }, c.1, sym (get_or_default t.terms c.0 u no_term c.1) ∙ c.2)
 
--- the term of a number is one of the table's
-term_there : (t : TableView) (id : TermId) → IsIn t id → Contains t.terms (term_at t id)
-term_there t id lt = Contains-get_or t.terms id.0 no_term lt
-
 module _ (t : TableView) (held : List Lit) (different : AreDifferent t.terms) (there : AreOf t held) (consistent : IsConsistent held) where
   -- the truths of what holds
   abbrev v : Truths
   v = truths_of t held
-
-  one_number : (a b : TermId) → IsIn t a → IsIn t b → term_at t a ≡ term_at t b → a ≡ b
-  one_number a b a_in b_in e = ap (λ (n : ℕ). let id : TermId = record { 0 = n } in id) (different a.0 b.0 a_in b_in e)
 
   -- what holds as it stands is true
   affirmed : (l : Lit) → Contains held l → l.positive ≡ true → v (term_at t l.term) ≡ true
@@ -61,7 +56,7 @@ module _ (t : TableView) (held : List Lit) (different : AreDifferent t.terms) (t
           let a = Any-from_list_any (λ m. affirms t m (term_at t l.term)) held f in
           let m : Lit = a.1 in
           let parts = and_parts m.positive (same_term (term_at t m.term) (term_at t l.term)) a.4 in
-          let same : m.term ≡ l.term = one_number m.term l.term (All-contains (λ (x : Lit). IsIn t x.term) held m there (a.0, a.2, a.3)) (All-contains (λ (x : Lit). IsIn t x.term) held l there c)
+          let same : m.term ≡ l.term = same_numbers t different m.term l.term (All-contains (λ (x : Lit). IsIn t x.term) held m there (a.0, a.2, a.3)) (All-contains (λ (x : Lit). IsIn t x.term) held l there c)
           ((terms_decide (term_at t m.term) (term_at t l.term)).0 parts.1) in
           let sign : m.positive ≡ not l.positive = parts.0 ∙ ap not (sym e) in
           let is : m ≡ lit_complement l = λ i. record { term = same i; positive = sign i } in
@@ -90,21 +85,11 @@ module _ (t : TableView) (held : List Lit) (different : AreDifferent t.terms) (t
       let b = base (get_or cs k e) (Contains-get_or cs k e lt) in
       clause_met (get_or cs k e) b.0 b.2 (touched b.0 b.1)
 
--- a list of sorts, all Bool
-all_truths : (ts : List Term) → ((u : Term) → Contains ts u → sort_of u ≡ Truth) → all_same Truth (map sort_of ts) ≡ true
-all_truths [] sorts = refl
-all_truths (t ∷ ts) sorts = both_true (ap (same_sort Truth) (sorts t (first t ts))) (all_truths ts (λ u c. sorts u (later t ts u c)))
-
 module _ (t : TableView) (roots : List TermId) (closed : IsClosed t.terms) (sorts : (id : TermId) → IsIn t id → sort_of (term_at t id) ≡ Truth)
     (takes : (h : Head) (ts : Terms) → Contains t.terms (app h ts) → head_takes h (map sort_of (list_of ts)) ≡ true) (there : AreIn t roots) where
-  roots_there : AreAmong (clause_at t roots) t.terms
-  roots_there u c =
-      let r = from_image (term_at t) roots u c in
-      subst (Contains t.terms) r.2 (term_there t r.0 (All-contains (IsIn t) roots r.0 there r.1))
-
   -- the subterms are of the table
   pub subterm_there : AreAmong (subterms_of (clause_at t roots)) t.terms
-  subterm_there = (least_of (clause_at t roots)).least t.terms roots_there closed
+  subterm_there = (least_of (clause_at t roots)).least t.terms (clause_there t roots there) closed
 
   sort_there : (u : Term) → Contains t.terms u → sort_of u ≡ Truth
   sort_there u c = let n = numbered t u c in ap sort_of (sym n.2) ∙ sorts n.0 n.1

@@ -7,12 +7,12 @@ use Rattle.std.proofs.lemmas.List.{get_or-map, length-map, length-set, get_or-se
 use Rattle.std.proofs.lemmas.List.Folds.{list_any-append}
 use Rattle.spec_terms.specs.Terms.{Symbol, Term, Apply, app, nil, terms_of, sort_of, constant_term, same_head, same_term, same_terms, head_takes}
 use Rattle.spec_terms.proofs.SameTerms.{terms_decide}
+use Rattle.spec_terms.proofs.General.{list_of-terms_of}
 use Rattle.term_core.specs.declared.ids.SymbolId.{SymbolId}
 use Rattle.term_core.specs.declared.ids.Lit.{Lit}
 use Rattle.term_core.specs.declared.nodes.Head.{Head as NodeHead}
 use Rattle.term_core.specs.declared.nodes.Head.TheVariants as heads
 use Rattle.term_core.specs.Tables.{TableView, no_symbol, symbol_at, IsSymbol, term_at, clause_at, head_meant, HasHead, Shape, shape_term, Fits, AreTruths, AreDeclared}
-use Rattle.term_core.proofs.TermsApart.{list_back}
 use Rattle.solve_core.specs.SearchModels.{affirms, truths_of, IsApplied, AffirmsSymbol, AreTruthsOf}
 use Rattle.solve_core.proofs.SearchModels.{no_arguments}
 
@@ -34,7 +34,7 @@ affirms_by t l s (Some k) truths sign is fits e =
     let k_in : IsSymbol t.symbols k = subst (HasHead t.symbols) e fits.head in
     let bare : f.parameters ≡ [] = ap (λ (x : Symbol). x.parameters) (truths k.0 no_symbol k_in) in
     let takes : head_takes (Apply f) (map sort_of us) ≡ true = subst (λ h. head_takes (head_meant t.symbols h) (map sort_of us) ≡ true) e fits.sorts in
-    let none : terms_of us ≡ nil = no_arguments f (terms_of us) bare (subst (λ ts. head_takes (Apply f) (map sort_of ts) ≡ true) (sym (list_back us)) takes) in
+    let none : terms_of us ≡ nil = no_arguments f (terms_of us) bare (subst (λ ts. head_takes (Apply f) (map sort_of ts) ≡ true) (sym (list_of-terms_of us)) takes) in
     (k_in, sign, is ∙ (λ i. app (head_meant t.symbols (e i)) (none i)))
 
 -- the symbol in front, if there is one

@@ -2,6 +2,7 @@
 use Rattle.std.proofs.Common.{◌≡◌, ℕ, ◌<◌, Bool, true, false, not, List, [], ◌∷◌, ◌++◌, length, get_or, take, map, Contains, ◌⊎◌, inl, inr, refl, sym, ap, ◌∙◌, subst, arith, zero, suc}
 use Rattle.std.specs.Prelude.{Option}
 use Rattle.std.proofs.lemmas.List.{append_assoc}
+use Rattle.spec_text.proofs.Members.{to_image, from_image}
 use Rattle.spec_terms.specs.Literals.{Literal, complement}
 use Rattle.spec_proofs.specs.Resolution.{Derives, given, unit, Conflicts, false_clause, both_ways}
 use Rattle.spec_search.specs.Learned.{IsNew, AreNew, IsSettled, IsQuiet, IsConsistent}
@@ -11,7 +12,6 @@ use Rattle.term_core.specs.Tables.{TableView, IsIn, AreDifferent, literal_at}
 use Rattle.rule_bool.specs.Literals.{lit_complement}
 use Rattle.rule_bool.specs.Statuses.{IsSettled as LitSettled}
 use Rattle.rule_bool.proofs.LiteralLists.{negation_twice}
-use Rattle.rule_bool.proofs.Transport.{to_image, from_image}
 use Rattle.rule_bool.proofs.Resolvents.{literals_apart}
 use Rattle.solve_core.specs.Search.{IsTrail, IsQuiet as LitQuiet}
 use Rattle.solve_core.specs.Analyses.{IsDecision, RestsAt}

@@ -2,13 +2,14 @@
 use Rattle.std.proofs.Common.{◌≡◌, ℕ, ◌+◌, ◌<◌, Bool, true, false, List, [], ◌∷◌, ◌++◌, length, get_or, take, Contains, ◌⊎◌, inl, inr, refl, sym, ap, ◌∙◌, subst, arith, zero, suc}
 use Rattle.std.specs.Prelude.{Option, Some, Vec}
 use Rattle.std.specs.declared.alloc.Global.{Global}
-use Rattle.std.proofs.lemmas.List.{length-append, append-nil, append_assoc, take_more, length-map, get_or-map}
+use Rattle.std.proofs.lemmas.List.{length-append, append-nil, append_assoc, take_more, length-map}
 use Rattle.std.proofs.lemmas.List.Elements.{Contains-push_cases}
 use Rattle.term_core.specs.declared.ids.Lit.{Lit}
 use Rattle.rule_bool.specs.Literals.{lists}
 use Rattle.rule_bool.specs.Statuses.{IsFalsified, IsUnit, IsSettled}
 use Rattle.rule_bool.specs.declared.status.ClauseStatus.{ClauseStatus}
 use Rattle.rule_bool.specs.declared.status.ClauseStatus.TheVariants as statuses
+use Rattle.rule_bool.proofs.Stepping.{item}
 use Rattle.solve_core.specs.Search.{IsQuiet, IsOpen, Advances, TakesUp, IsClash}
 use Rattle.solve_core.proofs.SearchTrails.{trail_more, open_fewer}
 
@@ -17,17 +18,11 @@ to_items v = v.items
 
 -- the clause of a number, and those up to it
 module _ (vs : List (Vec Lit Global)) (n : ℕ) (v : Vec Lit Global) (lt : n < length vs) (e : v ≡ get_or vs n v) where
-  pub item : get_or (lists vs) n [] ≡ v.items
-  item = get_or-map to_items vs n v [] lt ∙ ap to_items (sym e)
-
   pub in_lists : n < length (lists vs)
   in_lists = rw length-map lt
 
-  pub in_all : Contains (lists vs) v.items
-  in_all = (n, in_lists, get_or-map to_items vs n v v.items lt ∙ ap to_items (sym e))
-
   pub taken_next : take (n + 1) (lists vs) ≡ take n (lists vs) ++ v.items ∷ []
-  taken_next = take_more (lists vs) n [] in_lists ∙ ap (λ (c : List Lit). take n (lists vs) ++ c ∷ []) item
+  taken_next = take_more (lists vs) n [] in_lists ∙ ap (λ (c : List Lit). take n (lists vs) ++ c ∷ []) (item vs n v lt e)
 
 -- an open or a true clause
 pub settles : (c old new : List Lit) (before after : List (Option ℕ)) (number : ℕ) (f : ClauseStatus) → (f ≡ statuses.Unresolved) ⊎ (f ≡ statuses.Satisfied) → TakesUp c number old new before after f → IsSettled old c × (new ≡ old) × (after ≡ before)

@@ -2,6 +2,7 @@
 use Rattle.std.proofs.Common.{◌≡◌, ℕ, ◌<◌, Bool, true, false, not, List, [], ◌∷◌, length, get_or, take, map, Contains, refl, sym, ap, ◌∙◌, subst, arith, zero, suc}
 use Rattle.std.specs.Prelude.{Option, Some, None}
 use Rattle.std.proofs.lemmas.List.Elements.{All-contains, Contains-get_or}
+use Rattle.spec_text.proofs.Members.{to_image, from_image}
 use Rattle.spec_terms.specs.Terms.{Not, Term, app, nil, cons}
 use Rattle.spec_terms.specs.Literals.{Clause, Literal, literal_of}
 use Rattle.spec_proofs.specs.Resolution.{Derives, given, unit, false_clause, Resolves}
@@ -10,7 +11,6 @@ use Rattle.term_core.specs.Tables.{TableView, IsIn, term_at, literal_at, positiv
 use Rattle.rule_bool.specs.Literals.{lit_complement}
 use Rattle.rule_bool.specs.Resolvents.{Means}
 use Rattle.rule_bool.proofs.LiteralLists.{negation_twice}
-use Rattle.rule_bool.proofs.Transport.{to_image, from_image}
 use Rattle.proof_log.specs.declared.premises.StepId.{StepId}
 use Rattle.proof_log.specs.Logs.{Logged}
 use Rattle.clausify.specs.Clausified.{stated}

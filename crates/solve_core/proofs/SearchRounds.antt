@@ -4,6 +4,7 @@ use Rattle.std.specs.Prelude.{Option, ◌==◌}
 use Rattle.std.proofs.lemmas.Bool.{false≢true, eqb-true, eq-eqb}
 use Rattle.std.proofs.lemmas.List.{length-append, length-map, map-append, get_or_default}
 use Rattle.std.proofs.lemmas.List.Elements.{All-push, All-map, All-contains, Contains-get_or, Contains-push_cases, Contains-push, Contains-append_left, Contains-append_right, Contains-append_cases}
+use Rattle.spec_text.proofs.Members.{from_image}
 use Rattle.spec_terms.specs.Terms.{Truth, Term, sort_of}
 use Rattle.spec_terms.specs.Literals.{Clause, Literal, complement, literals_of}
 use Rattle.spec_terms.specs.Subterms.{subterms_of}
@@ -18,7 +19,7 @@ use Rattle.term_core.specs.declared.ids.Lit.{Lit}
 use Rattle.term_core.specs.Tables.{TableView, IsIn, AreDifferent, term_at, literal_at}
 use Rattle.rule_bool.specs.Literals.{lit_complement}
 use Rattle.rule_bool.proofs.LiteralLists.{negation_twice}
-use Rattle.rule_bool.proofs.Transport.{from_image, resolves_there}
+use Rattle.rule_bool.proofs.Transport.{resolves_there}
 use Rattle.proof_log.specs.declared.premises.StepId.{StepId}
 use Rattle.proof_log.specs.Logs.{Logged, stepped, inference_of, derivation_in, IsLogOf}
 use Rattle.clausify.specs.Clausified.{stated}

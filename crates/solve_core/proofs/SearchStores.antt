@@ -1,5 +1,5 @@
 -- Stores: a clause more, and what a step of the log states.
-use Rattle.std.proofs.Common.{◌≡◌, ℕ, ◌<◌, List, [], ◌∷◌, ◌++◌, length, get_or, inl, inr, refl, sym, ap, ◌∙◌, subst, arith}
+use Rattle.std.proofs.Common.{◌≡◌, ℕ, ◌<◌, List, [], ◌∷◌, ◌++◌, length, get_or, inl, inr, sym, ap, ◌∙◌, subst, arith}
 use Rattle.std.specs.Prelude.{Vec}
 use Rattle.std.specs.declared.alloc.Global.{Global}
 use Rattle.std.proofs.lemmas.List.{length-append, get_or-map, map-append}
@@ -9,20 +9,16 @@ use Rattle.term_core.specs.Tables.{TableView, AreIn, clause_at}
 use Rattle.rule_bool.specs.Literals.{lists}
 use Rattle.rule_bool.specs.Resolvents.{Means}
 use Rattle.proof_log.specs.declared.premises.StepId.{StepId}
-use Rattle.proof_log.specs.Logs.{Logged, assumed, stepped, named, logged_at, no_logged, inference_of, IsLogOf}
+use Rattle.proof_log.specs.Logs.{Logged, named, logged_at, no_logged, inference_of, IsLogOf}
+use Rattle.proof_log.proofs.Logged.{conclusion_of}
 use Rattle.clausify.specs.Clausified.{stated}
 use Rattle.solve_core.specs.Stores.{no_step, Derives, IsStoreOf}
 use Rattle.solve_core.specs.declared.store.Store.{Store}
 use Rattle.solve_core.proofs.SearchTrails.{get_early, get_last, early_or_last}
 
--- what an inference concludes is the clause of what is logged
-concludes : (t : TableView) (l : Logged) → conclusion (inference_of t l) ≡ clause_at t (named l)
-concludes t (assumed id) = refl
-concludes t (stepped r ps c) = refl
-
 -- what a step states
 pub stated_is : (t : TableView) (log : List Logged) (s : StepId) → s.0 < length log → stated t log s ≡ clause_at t (named (logged_at log s))
-stated_is t log s lt = ap conclusion (get_or-map (inference_of t) log s.0 no_logged no_inference lt) ∙ concludes t (logged_at log s)
+stated_is t log s lt = ap conclusion (get_or-map (inference_of t) log s.0 no_logged no_inference lt) ∙ conclusion_of t (logged_at log s)
 
 -- its literals are terms of the table
 pub named_in : (t : TableView) (log : List Logged) → IsLogOf t log → (s : StepId) → s.0 < length log → AreIn t (named (logged_at log s))

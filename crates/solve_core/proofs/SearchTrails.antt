@@ -1,11 +1,11 @@
 -- Trails: one more literal, and fewer of them.
 use Rattle.std.proofs.Common.{◌≡◌, ℕ, ◌+◌, ◌<◌, ◌≤◌, Bool, true, false, ◌||◌, List, [], ◌∷◌, ◌++◌, length, get_or, take, map, Contains, ◌⊎◌, inl, inr, refl, sym, ap, ◌∙◌, subst, arith, zero, suc}
 use Rattle.std.specs.Prelude.{Option, None}
-use Rattle.std.proofs.lemmas.Bool.{false≢true}
+use Rattle.std.proofs.lemmas.Bool.{false≢true, false_from_ne_true}
 use Rattle.std.proofs.lemmas.List.{length-append}
 use Rattle.std.proofs.lemmas.List.Elements.{Contains-push, Contains-append_left, Contains-append_right}
+use Rattle.spec_text.proofs.Members.{to_image}
 use Rattle.rule_bool.proofs.Counting.{Contains-cons_cases}
-use Rattle.rule_bool.proofs.Transport.{to_image}
 use Rattle.term_core.specs.declared.ids.TermId.{TermId}
 use Rattle.term_core.specs.declared.ids.Lit.{Lit}
 use Rattle.rule_bool.specs.Literals.{lit_complement, has}
@@ -105,10 +105,6 @@ assigned_as held t e = go (has held (record { term = t; positive = true })) refl
     go true h e = inl (Contains-from_has held (record { term = t; positive = true }) h)
     go false h e = inr (Contains-from_has held (record { term = t; positive = false }) e)
 
-unsure : (b : Bool) → (b ≡ true → ⊥) → b ≡ false
-unsure true h = absurd (h refl)
-unsure false h = refl
-
 -- a literal of one term is this one or its complement
 pub one_of_two : (l : Lit) (p : Bool) → (P : Lit → Type 0) → P (record { term = l.term; positive = p }) → P l ⊎ P (lit_complement l)
 one_of_two l p P h = go l.positive p h refl
@@ -133,7 +129,7 @@ one_of_two l p P h = go l.positive p h refl
 -- one more literal leaves fewer terms open
 pub open_fewer : (atoms : List TermId) (held : List Lit) (l : Lit) → IsOpen held l → Contains atoms l.term → open_count atoms (held ++ l ∷ []) < open_count atoms held
 open_fewer atoms held l o (k, lt, e) =
-    let was : is_assigned held l.term ≡ false = unsure (is_assigned held l.term) (λ yes. elim (assigned_as held l.term yes) [
+    let was : is_assigned held l.term ≡ false = false_from_ne_true (is_assigned held l.term) (λ yes. elim (assigned_as held l.term yes) [
       | inl h ↦ elim (one_of_two l true (λ x. Contains held x) h) [ inl a ↦ o.not_held a | inr b ↦ o.not_false b ]
       | inr h ↦ elim (one_of_two l false (λ x. Contains held x) h) [ inl a ↦ o.not_held a | inr b ↦ o.not_false b ]
     ]) in

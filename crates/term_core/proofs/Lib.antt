@@ -11,7 +11,6 @@ pub mod TermsLiteral
 pub mod TermsSorted
 pub mod ValueRows
 pub mod ValuesTaken
-pub mod Images
 pub mod TermsClosed
 pub mod NumbersAdded
 pub mod TermsCounted

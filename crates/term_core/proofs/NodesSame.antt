@@ -1,9 +1,10 @@
 -- What the derived `==` of nodes says.
-use Rattle.std.proofs.Common.{◌≡◌, true, false, ◌&&◌, Bool, List, refl, ap, subst, sym, ◌∙◌, true≢false}
+use Rattle.std.proofs.Common.{◌≡◌, true, ◌&&◌, List, refl, ap, subst, ◌∙◌}
 use Rattle.std.specs.Bool.{Decides}
 use Rattle.std.specs.Cmp.Lexicographic.{pointwise}
 use Rattle.std.proofs.lemmas.Bool.Decides.{Decides-like, Decides-eqb}
 use Rattle.std.proofs.lemmas.Slice.Eq.{slice_eq-Decides}
+use Rattle.std.proofs.lemmas.Bool.{and_parts}
 use Rattle.term_core.specs.declared.ids.TermId.{TermId}
 use Rattle.term_core.specs.declared.ids.SymbolId.{SymbolId}
 use Rattle.term_core.specs.declared.nodes.Head.{Head}
@@ -50,13 +51,9 @@ head_itself : (h : Head) → head_ghosts.eq h h ≡ true
 head_itself (Apply a) = (symbols_decide a a).1 refl
 head_itself _ = refl
 
-both : (a b : Bool) → a && b ≡ true → (a ≡ true) × (b ≡ true)
-both true b e = (refl, e)
-both false b e = absurd (true≢false (sym e))
-
 pub same_node : (x y : Node) → ghosts.eq x y ≡ true → shape_of x ≡ shape_of y
 same_node x y e =
-    let parts = both (head_ghosts.eq x.head y.head) (pointwise id_ghosts.eq x.arguments.items y.arguments.items) e in
+    let parts = and_parts (head_ghosts.eq x.head y.head) (pointwise id_ghosts.eq x.arguments.items y.arguments.items) e in
     let head = same_head x.head y.head parts.0 in
     let arguments = (lists_decide x.arguments.items y.arguments.items).0 parts.1 in
     λ i. record { head = head i; arguments = arguments i }

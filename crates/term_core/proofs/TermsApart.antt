@@ -1,7 +1,8 @@
 -- Different numbers mean different terms.
 use Rattle.std.proofs.Common.{◌≡◌, ℕ, zero, suc, ◌<◌, List, [], ◌∷◌, length, get_or, refl, sym, ap, ◌∙◌, subst, arith}
 use Rattle.std.proofs.lemmas.List.{length-map, get_or-map}
-use Rattle.spec_terms.specs.Terms.{Symbol, Head, True, False, Not, And, Or, Xor, Implies, Equal, Ite, Apply, Term, app, terms_of, list_of}
+use Rattle.spec_terms.specs.Terms.{Symbol, Head, True, False, Not, And, Or, Xor, Implies, Equal, Ite, Apply, Term, app, list_of}
+use Rattle.spec_terms.proofs.General.{list_of-terms_of}
 use Rattle.term_core.specs.declared.ids.TermId.{TermId}
 use Rattle.term_core.specs.declared.ids.SymbolId.{SymbolId}
 use Rattle.term_core.specs.declared.nodes.Head.{Head as NodeHead}
@@ -53,10 +54,6 @@ head_in (app h ts) = h
 abbrev terms_in : Term → List Term
 terms_in (app h ts) = list_of ts
 
-pub list_back : (ts : List Term) → list_of (terms_of ts) ≡ ts
-list_back [] = refl
-list_back (t ∷ ts) = ap (λ us. t ∷ us) (list_back ts)
-
 abbrev first_of : List Term → Term
 first_of [] = no_term
 first_of (t ∷ ts) = t
@@ -82,7 +79,7 @@ module _ (terms : List Term) (k : ℕ) (told : (i j : ℕ) → i < k → j < len
       → HasHead symbols s.head → Fits (view symbols terms) u → shape_term (view symbols terms) s ≡ shape_term (view symbols terms) u → s ≡ u
   one_shape symbols s u apart low here fits e =
       let heads_one = one_head symbols s.head u.head apart here fits.head (ap head_in e) in
-      let lists_one = one_list symbols s.arguments u.arguments low fits.arguments (sym (list_back _) ∙ ap terms_in e ∙ list_back _) in
+      let lists_one = one_list symbols s.arguments u.arguments low fits.arguments (sym (list_of-terms_of _) ∙ ap terms_in e ∙ list_of-terms_of _) in
       λ i. record { head = heads_one i; arguments = lists_one i }
 
 module _ (symbols : List Symbol) (nodes : List Node) (whole : IsWhole symbols nodes) where

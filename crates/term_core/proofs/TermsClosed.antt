@@ -3,24 +3,25 @@ use Rattle.std.proofs.Common.{◌≡◌, true, List, [], ◌∷◌, ◌++◌, le
 use Rattle.std.proofs.Math.Seq.{get_or-append_seam, take-append_seam}
 use Rattle.std.proofs.lemmas.List.{get_or_default}
 use Rattle.std.proofs.lemmas.List.Elements.{All-contains, Contains-get_or}
+use Rattle.spec_text.proofs.Members.{to_image, from_image}
 use Rattle.spec_terms.specs.Terms.{Symbol, Head, Apply, Term, Terms, app, list_of, sort_of, head_takes}
 use Rattle.spec_terms.specs.Subsets.{arguments_of, AreAmong, IsClosed}
+use Rattle.spec_terms.proofs.General.{list_of-terms_of}
 use Rattle.term_core.specs.declared.ids.TermId.{TermId}
 use Rattle.term_core.specs.declared.nodes.Head.{Head as NodeHead}
 use Rattle.term_core.specs.declared.nodes.Head.TheVariants as heads
 use Rattle.term_core.specs.declared.nodes.Node.{Node}
 use Rattle.term_core.specs.Tables.{TableView, no_symbol, no_term, term_at, IsIn, HasHead, head_meant, clause_at, Shape, shapes_of, no_shape, shape_term, Fits, grown, IsWhole}
-use Rattle.term_core.proofs.Images.{to_image, from_image}
 use Rattle.term_core.proofs.ShapesGrown.{view, at-term, at-fits}
-use Rattle.term_core.proofs.TermsApart.{list_back, at}
+use Rattle.term_core.proofs.TermsApart.{at}
 
 -- an argument of what is written has a number among those that are written
 pub argument_of : (t : TableView) (s : Shape) (u : Term) → Contains (arguments_of (shape_term t s)) u → (id : TermId) × Contains s.arguments id × (term_at t id ≡ u)
-argument_of t s u c = from_image (term_at t) s.arguments u (subst (λ ts. Contains ts u) (list_back (clause_at t s.arguments)) c)
+argument_of t s u c = from_image (term_at t) s.arguments u (subst (λ ts. Contains ts u) (list_of-terms_of (clause_at t s.arguments)) c)
 
 -- and each of those numbers is of an argument
 pub argument_in : (t : TableView) (s : Shape) (id : TermId) → Contains s.arguments id → Contains (arguments_of (shape_term t s)) (term_at t id)
-argument_in t s id c = subst (λ ts. Contains ts (term_at t id)) (sym (list_back (clause_at t s.arguments))) (to_image (term_at t) s.arguments id c)
+argument_in t s id c = subst (λ ts. Contains ts (term_at t id)) (sym (list_of-terms_of (clause_at t s.arguments))) (to_image (term_at t) s.arguments id c)
 
 -- the term of a number is a term of the table
 pub term_there : (t : TableView) (id : TermId) → IsIn t id → Contains t.terms (term_at t id)
@@ -51,7 +52,7 @@ pub heads_take : (symbols : List Symbol) (nodes : List Node) → IsWhole symbols
 heads_take symbols nodes whole h ts c =
     let tv : TableView = view symbols (grown symbols [] (shapes_of nodes)) in
     let w = is_written symbols nodes whole (app h ts) c in
-    subst TakesItsOwn (sym w.2) (subst (λ us. head_takes (head_meant symbols w.0.head) (map sort_of us) ≡ true) (sym (list_back (clause_at tv w.0.arguments))) w.1.sorts)
+    subst TakesItsOwn (sym w.2) (subst (λ us. head_takes (head_meant symbols w.0.head) (map sort_of us) ≡ true) (sym (list_of-terms_of (clause_at tv w.0.arguments))) w.1.sorts)
 
 -- the symbol in front, if there is one, is among these
 abbrev IsDeclared : List Symbol → Head → Type 0

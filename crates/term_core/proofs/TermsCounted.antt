@@ -4,13 +4,13 @@ use Rattle.std.proofs.lemmas.List.{length-map, get_or-map, get_or_append_left, g
 use Rattle.std.proofs.lemmas.List.Elements.{All-contains, Contains-append_left, Contains-get_or}
 use Rattle.std.proofs.lemmas.Bool.{cases_lt}
 use Rattle.std.proofs.lemmas.Bool.Decides.{nat_tests}
+use Rattle.spec_text.proofs.Members.{to_image, from_image}
 use Rattle.spec_terms.specs.Terms.{Term}
 use Rattle.spec_terms.specs.Subterms.{subterms_of, fit_in}
 use Rattle.spec_terms.specs.Subsets.{arguments_of, AreAmong, IsClosed, AreOnce}
 use Rattle.term_core.specs.declared.ids.TermId.{TermId}
 use Rattle.term_core.specs.Tables.{TableView, term_at, IsIn, AreIn, clause_at, Shape, shape_term, Fits, AreDifferent}
 use Rattle.term_core.specs.Counting.{no_number, AreNumbersOnce, Adds}
-use Rattle.term_core.proofs.Images.{to_image, from_image}
 use Rattle.term_core.proofs.TermsClosed.{argument_of, argument_in, term_there}
 
 -- The numbers seen: of the terms and some of their subterms, with the arguments of the first of them.

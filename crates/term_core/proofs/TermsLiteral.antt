@@ -2,6 +2,7 @@
 use Rattle.std.proofs.Common.{◌≡◌, Bool, true, false, List, not, if◌then◌else◌, refl, ap, sym, ◌∙◌}
 use Rattle.spec_terms.specs.Terms.{Term, of, negated}
 use Rattle.spec_terms.specs.Literals.{Literal, complement, literal_of}
+use Rattle.spec_terms.proofs.General.{complement-twice}
 use Rattle.term_core.specs.declared.nodes.Head.{Head as NodeHead}
 use Rattle.term_core.specs.declared.nodes.Head.TheVariants as heads
 use Rattle.term_core.specs.Tables.{TableView, head_meant, clause_at, positive_literal}
@@ -14,13 +15,6 @@ with_parity b l = if b then l else complement l
 literal_of-negated : (t : Term) → literal_of (negated t) ≡ complement (literal_of t)
 unfolding literal_of
 literal_of-negated t = refl
-
-complement-twice : (l : Literal) → complement (complement l) ≡ l
-complement-twice l = ap (λ b. record { atom = l.atom; positive = b }) (twice l.positive)
-  where
-    twice : (b : Bool) → not (not b) ≡ b
-    twice true = refl
-    twice false = refl
 
 -- one negation less turns the parity
 pub less : (b : Bool) (t u : Term) (l : Literal) → t ≡ negated u → with_parity b (literal_of t) ≡ l → with_parity (not b) (literal_of u) ≡ l

@@ -3,8 +3,8 @@ use Rattle.std.proofs.Common.{◌≡◌, ◌+◌, ◌-◌, subst, sym, get_or, L
 use Rattle.std.proofs.lemmas.List.{length-map}
 use Rattle.term_core.specs.declared.ids.Lit.{Lit}
 use Rattle.rule_bool.specs.Literals.{lists}
+use Rattle.rule_bool.proofs.Stepping.{item}
 use Rattle.solve_core.specs.Analyses.{MarksEach, HasFound}
-use Rattle.solve_core.proofs.SearchPasses.{item}
 use Rattle.solve_core.proofs.SearchAnalysis.{begins}
 use Rattle.solve_core.proofs.analysis.analyze.Goals as goal
 

@@ -1,7 +1,8 @@
 -- That the literal is open in one of the clauses.
 use Rattle.std.proofs.lemmas.List.{take_all, length-map}
 use Rattle.rule_bool.specs.Literals.{lists}
-use Rattle.solve_core.proofs.SearchPasses.{in_all, taken_next}
+use Rattle.rule_bool.proofs.Stepping.{item_in}
+use Rattle.solve_core.proofs.SearchPasses.{taken_next}
 use Rattle.solve_core.proofs.SearchDecisions.{settled_next}
 use Rattle.solve_core.proofs.decision.next_open.Goals as goal
 
@@ -11,7 +12,7 @@ returns-in-Some c =
     let n = c.loop-clause.clause-index in
     let v = c.clause-item.result in
     let h = rw c.deref.ensures.value at c.in-Some.ensures in
-    record { clause = v.items; has_clause = in_all vs n v c.loop-clause-test.true c.clause-item.is; there = h.there; is_open = h.is_open }
+    record { clause = v.items; has_clause = item_in vs n v c.loop-clause-test.true c.clause-item.is; there = h.there; is_open = h.is_open }
 
 pub loop-clause-preserved : goal.loop-clause-preserved
 loop-clause-preserved c =

@@ -4,7 +4,8 @@ use Rattle.std.proofs.lemmas.List.{take_all, length-map}
 use Rattle.term_core.specs.declared.ids.Lit.{Lit}
 use Rattle.rule_bool.specs.Literals.{lists}
 use Rattle.rule_bool.specs.Statuses.{IsFalsified, IsUnit}
-use Rattle.solve_core.proofs.SearchPasses.{item, in_lists, taken_next, settles, to_unit, to_settled, to_false}
+use Rattle.rule_bool.proofs.Stepping.{item}
+use Rattle.solve_core.proofs.SearchPasses.{in_lists, taken_next, settles, to_unit, to_settled, to_false}
 use Rattle.solve_core.proofs.propagate.pass_over.Goals as goal
 use Rattle.solve_core.proofs.propagate.pass_over.Goals.{in-Unit, in-Unresolved}
 
