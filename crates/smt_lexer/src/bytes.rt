@@ -43,7 +43,7 @@ pub fn has(class: Class, b: u8) -> bool
     }
 }
 
-/// Counts the bytes of the longest front that is of a class.
+/// Counts the bytes of the longest prefix that is of a class.
 pub fn front_len(bytes: &[u8], class: Class) -> usize
     ensures length { result ≡ length (front (test_of class) bytes.now) }
     ensures within { result ≤ length bytes.now }

@@ -1,6 +1,6 @@
 //! What bytes begin with.
 
-ghost use Rattle.std.specs.Prelude.{◌≡◌, ℕ, ◌+◌, ◌-◌, ◌^◌, ◌<◌, ◌≤◌, ◌∷◌, length, take, drop, slice_index, Some, None, MatchOption, true};
+ghost use Rattle.std.specs.Prelude.{◌≡◌, ℕ, ◌+◌, ◌-◌, ◌^◌, ◌<◌, ◌≤◌, length, take, drop, slice_index, Some, None};
 ghost use Rattle.spec_text.specs.Bytes as names;
 ghost use Rattle.spec_text.specs.Lexemes as lexicon;
 ghost use Rattle.smt_lexer.specs.Pieces.{piece_of, head_at, IsBody, IsWithin};
@@ -9,7 +9,7 @@ use crate::bytes::{Class, front_len, is_blank_byte, is_of_symbols};
 use crate::words::is_reserved;
 use spec_text::{Fault, Kind};
 
-/// What stands at the front of bytes.
+/// What bytes begin with.
 #[derive(Clone, Copy, Debug)]
 pub enum What<'a> {
     /// White space, or a comment.
@@ -24,7 +24,7 @@ pub enum What<'a> {
     Wrong(Fault),
 }
 
-/// What stands at the front of bytes, and how many of them it has; of a fault, how many stand before it.
+/// What bytes begin with, and how many of them it has; of a fault, how many stand before it.
 #[derive(Clone, Copy, Debug)]
 pub struct Found<'a> {
     /// What it is.
@@ -81,7 +81,7 @@ fn head_of(b: u8) -> Head
     }
 }
 
-/// Gives a fault behind so many bytes.
+/// Gives a fault after so many bytes.
 fn fault_at<'a>(fault: Fault, size: usize) -> Found<'a>
     ensures within { (n : ℕ) → size ≤ n → IsWithin result.what result.size n }
     ensures piece { piece_of result ≡ lexicon.piece (lexicon.wrong fault) size }
@@ -92,12 +92,13 @@ fn fault_at<'a>(fault: Fault, size: usize) -> Found<'a>
     }
 }
 
-/// Ends a number behind so many bytes: there stands no byte of symbols. Source: SMT-LIB 2.6, section 3.1.
+/// Ends a number after so many bytes: there stands no byte of symbols. Source: SMT-LIB 2.6, section 3.1.
 fn ended<'a>(bytes: &'a [u8], size: usize, kind: Kind) -> Found<'a>
     requires some { 0 < size }
     requires within { size ≤ length bytes.now }
     ensures within { IsWithin result.what result.size (length bytes.now) }
-    ensures piece { piece_of result ≡ lexicon.ended (drop size bytes.now) size (lexicon.word kind (take size bytes.now)) }
+    ensures piece { piece_of result
+        ≡ lexicon.ended (drop size bytes.now) size (lexicon.word kind (take size bytes.now)) }
 {
     if size < bytes.len() && is_of_symbols(bytes[size]) {
         return fault_at(Fault::BadChar, size);
@@ -125,7 +126,7 @@ fn number<'a>(bytes: &'a [u8], digits: usize) -> Found<'a>
     ended(bytes, digits + 1 + places, Kind::Decimal)
 }
 
-/// Counts the bytes behind an opening quote up to the closing one; two quotes stand for one and close nothing.
+/// Counts the bytes after an opening quote up to the closing one; two quotes stand for one and close nothing.
 /// `None` where no quote closes. Source: SMT-LIB 2.6, section 3.1.
 fn body_len(bytes: &[u8]) -> Option<usize>
     ensures { IsBody bytes.now result }
@@ -143,7 +144,7 @@ fn body_len(bytes: &[u8]) -> Option<usize>
     None
 }
 
-/// Reads a string behind its opening quote. Source: SMT-LIB 2.6, section 3.1.
+/// Reads a string after its opening quote. Source: SMT-LIB 2.6, section 3.1.
 fn string<'a>(rest: &'a [u8]) -> Found<'a>
     requires { length rest.now + 1 < 2 ^ 64 }
     ensures within { (n : ℕ) → 1 + length rest.now ≤ n → IsWithin result.what result.size n }
@@ -158,10 +159,12 @@ fn string<'a>(rest: &'a [u8]) -> Found<'a>
     }
 }
 
-/// Reads a quoted symbol behind its opening bar. Source: SMT-LIB 2.6, section 3.1.
+/// Reads a quoted symbol after its opening bar. Source: SMT-LIB 2.6, section 3.1.
 fn quoted<'a>(rest: &'a [u8]) -> Found<'a>
     ensures within { (n : ℕ) → 1 + length rest.now ≤ n → IsWithin result.what result.size n }
-    ensures piece { piece_of result ≡ lexicon.quoted (names.front names.is_in_bars rest.now) (drop (length (names.front names.is_in_bars rest.now)) rest.now) }
+    ensures piece { piece_of result
+        ≡ lexicon.quoted (names.front names.is_in_bars rest.now)
+        (drop (length (names.front names.is_in_bars rest.now)) rest.now) }
 {
     let n = front_len(rest, Class::InBars);
     if n == rest.len() {
@@ -176,7 +179,7 @@ fn quoted<'a>(rest: &'a [u8]) -> Found<'a>
     }
 }
 
-/// Reads a keyword behind its colon. Source: SMT-LIB 2.6, section 3.1.
+/// Reads a keyword after its colon. Source: SMT-LIB 2.6, section 3.1.
 fn keyword<'a>(rest: &'a [u8]) -> Found<'a>
     ensures within { (n : ℕ) → 1 + length rest.now ≤ n → IsWithin result.what result.size n }
     ensures piece { piece_of result ≡ lexicon.keyword (names.front names.is_symbol_byte rest.now) }

@@ -39,7 +39,7 @@ fn one_further(bytes: &[u8], place: Place) -> Place
     }
 }
 
-/// Gives the place so many bytes behind a place of the bytes, which is a byte's or the end's. It takes time linear in
+/// Gives the place so many bytes after a place of the bytes, which is a byte's or the end's. It takes time linear in
 /// the number of bytes between them.
 pub fn place_after(bytes: &[u8], from: Place, distance: usize) -> Place
     requires place { IsPlaceOf bytes.now from }

@@ -3,7 +3,7 @@
 use super::*;
 use std::test::Fail;
 
-/// From an offset of a text on: the token's letter, its offset, line and column, its bytes, and the offset behind it.
+/// From an offset of a text on: the token's letter, its offset, line and column, its bytes, and the offset after it.
 /// The letters are `(` and `)`, the first of the kind's name (`X` for reserved words), `$` for the end, and of a fault
 /// the digit of its number; a fault has no bytes, and its own offset again.
 #[derive(Drop)]
