@@ -1,5 +1,5 @@
 -- The bytes of a word are those of the text.
-use Rattle.std.proofs.Common.{◌≡◌, ℕ, zero, suc, ◌+◌, ◌-◌, ◌==◌, Bool, true, false, List, [], ◌∷◌, ◌++◌, length, take, drop, Option, Some, None, refl, sym, ap, ◌∙◌, cond, append_assoc, subst}
+use Rattle.std.proofs.Common.{◌≡◌, ℕ, zero, suc, ◌+◌, ◌-◌, ◌==◌, Bool, true, false, List, [], ◌∷◌, ◌++◌, length, length-take, length-drop, ◌≤◌, arith, take, drop, Option, Some, None, refl, sym, ap, ◌∙◌, cond, append_assoc, subst}
 use Rattle.std.specs.Prelude.{option_map, ⊤}
 use Rattle.std.proofs.lemmas.List.{take_at, drop-drop, take-append-drop}
 use Rattle.std.proofs.lemmas.Bool.{eqb-true}
@@ -142,6 +142,12 @@ module _ (text : List ℕ) where
 
   pub words_stand : (at : ℕ) → AreWordsOf text (lexemes 0 at (drop at text))
   words_stand at = words_from 0 at (drop at text) refl
+
+-- a word in front has no more bytes than the text
+pub word_size : (text : List ℕ) (from at : ℕ) (k : Kind) (w : List ℕ) (rest : List (ℕ × Lexeme)) → lexemes 0 from (drop from text) ≡ (at, word k w) ∷ rest → length w ≤ length text
+word_size text from at k w rest e =
+    let s = subst (AreWordsOf text) e (words_stand text from) in
+    omega (arith, ap length s.0, length-take (length w) (drop (at + marks k) text), length-drop (at + marks k) text)
 
 -- the end of a list is one byte
 abbrev IsOneBy : Lexeme → ℕ → Type 0

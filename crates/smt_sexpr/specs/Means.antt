@@ -38,7 +38,7 @@ first_of (more t ts) = t
 abbrev pub tree_in : List ℕ → List Item → Tree
 tree_in text is = first_of (trees_in text is)
 
--- an item, and behind a list's its items, whose number it has
+-- an item, and after a list's its items, whose number it has
 abbrev mutual
   -- of a tree
   pub flat : Tree → List Item

@@ -24,7 +24,7 @@ token_bytes wanted Close = 41 ∷ []
 token_bytes wanted (Word k bytes) = gap wanted ++ printed_word k bytes.now
 token_bytes wanted End = []
 
--- whether a token wants a space behind it
+-- whether a space has to stand after a token
 abbrev pub wants_space : TokenKind → Bool
 wants_space Open = false
 wants_space Close = true
@@ -35,7 +35,7 @@ wants_space End = false
 abbrev pub HasNoToken : List ℕ → ℕ → Type 0
 HasNoToken text from = (lexemes_from text from ≡ []) ⊎ ((at : ℕ) × (f : Fault) × (lexemes_from text from ≡ (at, wrong f) ∷ []))
 
--- the next token from a place on, and the place behind it, where there is one
+-- the next token from a place on, and the place after it, where there is one
 abbrev pub IsTokenAt : List ℕ → Place → Option (TokenKind × Place) → Type 0
 IsTokenAt text place (Some x) = (at : Place) × IsToken text place.offset at x.1 x.0 × (place.offset < x.1.offset) × IsPlaceOf text x.1
 IsTokenAt text place None = HasNoToken text place.offset

@@ -1,4 +1,4 @@
--- What reading the next s-expression comes to. Source: SMT-LIB 2.6, section 3.2; limits and faults are own.
+-- What reading the next s-expression comes to. Source: SMT-LIB 2.6, section 3.2.
 use Rattle.std.specs.Prelude.{◌≡◌, ◌+◌, ◌-◌, ◌<◌, ◌≤◌, ℕ, List, [], ◌∷◌, ◌++◌, length, Option, Some, None, Result, Ok, Err, Vec}
 use Rattle.std.specs.Global.{Global}
 use Rattle.spec_text.specs.declared.Place.{Place}
@@ -17,7 +17,7 @@ use Rattle.smt_sexpr.specs.declared.reader.Next.TheVariants as next
 use Rattle.smt_sexpr.specs.declared.sexpr.Sexpr.{Sexpr}
 use Rattle.smt_sexpr.specs.Items.{text_of, items_of, start_of, tree_of, IsWithin}
 
--- behind n open lists the lexemes begin with the tree that an s-expression is, up to a place
+-- in n open lists the lexemes begin with the tree that an s-expression is, up to a place
 pub record IsFirst (text : List ℕ) (n : ℕ) (xs : List (ℕ × Lexeme)) (s : Sexpr) (after : Place) : Type 0 where
   -- it stands in this text
   pub text_is : text_of s ≡ text
@@ -31,17 +31,17 @@ pub record IsFirst (text : List ℕ) (n : ℕ) (xs : List (ℕ × Lexeme)) (s : 
   pub start : offset_of (tree_of s) ≡ start_of s
   -- each of its offsets has a place, from the s-expression's own on
   pub offsets : IsWithin (start_of s) (length text) (tree_of s)
-  -- the place behind it is one of the text
+  -- the place after it is one of the text
   pub place : IsPlaceOf text after
 
--- behind n open lists an s-expression stands from a place on up to another
+-- in n open lists an s-expression stands from a place on up to another
 pub record Reads (text : List ℕ) (from : Place) (n : ℕ) (s : Sexpr) (after : Place) : Type 0 where
   -- its tree is the first from there on
   pub is : IsFirst text n (lexemes_from text from.offset) s after
   -- it has one byte at least
   pub longer : from.offset < after.offset
 
--- behind n open lists the innermost ends, right before a place
+-- in n open lists the innermost ends, right before a place
 pub record Closes (text : List ℕ) (from : Place) (n : ℕ) (after : Place) : Type 0 where
   -- there is one
   pub some : 0 < n
@@ -53,10 +53,10 @@ pub record Closes (text : List ℕ) (from : Place) (n : ℕ) (after : Place) : T
   pub size : after.offset ≡ at + 1
   -- the place is one of the text
   pub place : IsPlaceOf text after
-  -- it stands behind the one that was read from
+  -- it stands after the one that was read from
   pub longer : from.offset < after.offset
 
--- behind n open lists the lexemes have a fault before a whole tree and before the end of a list, at this place
+-- in n open lists the lexemes have a fault before a whole tree and before the end of a list, at this place
 abbrev pub Breaks : List ℕ → ℕ → List (ℕ × Lexeme) → Refusal → Type 0
 Breaks text n xs r = IsBroken (length text) n xs (record { offset = r.place.offset; fault = r.fault }) × IsPlaceOf text r.place
 
@@ -75,7 +75,7 @@ ReadsOne text from (Ok None) = lexemes_from text from.offset ≡ []
 ReadsOne text from (Err (refused.Fault r)) = Breaks text 0 (lexemes_from text from.offset) r
 ReadsOne text from (Err refused.Memory) = Unit {0}
 
--- behind n open lists the lexemes begin with the tree whose items these are, up to a place
+-- in n open lists the lexemes begin with the tree whose items these are, up to a place
 pub record BeginsWith (text : List ℕ) (n : ℕ) (xs : List (ℕ × Lexeme)) (is : List Item) (after : Place) : Type 0 where
   -- the tree
   pub tree : Tree
@@ -85,7 +85,7 @@ pub record BeginsWith (text : List ℕ) (n : ℕ) (xs : List (ℕ × Lexeme)) (i
   pub first : xs ≡ spelled tree ++ lexemes_from text after.offset
   -- it is nested no deeper than it may be
   pub within : depth tree ≤ nesting_limit - n
-  -- the place behind it is one of the text
+  -- the place after it is one of the text
   pub place : IsPlaceOf text after
 
 -- a list that began at an offset, and was read up to a place, comes to its end, or a fault stands before

@@ -7,7 +7,7 @@ ghost use Rattle.smt_sexpr.specs.Items.{trees_meant, tree_meant, size_of, split_
 
 use smt_lexer::Kind;
 
-/// An item of a flat list: an atom, or a list with as many items behind it as it counts. Offsets and sizes are in bytes.
+/// An item of a flat list: an atom, or a list with as many items after it as it counts. Offsets and sizes are in bytes.
 #[derive(Clone, Copy, Debug, PartialEq, Eq)]
 pub enum Item {
     /// The kind, the offset of the first byte, and the number of bytes without quotes, bars or colon.
@@ -85,7 +85,7 @@ fn part(text: &[u8], from: usize, size: usize) -> &[u8]
     &[]
 }
 
-/// How many bytes stand before a word's own.
+/// Counts the bytes that stand before a word's own.
 fn marks_of(kind: Kind) -> usize
     ensures { result ≡ marks kind }
 {

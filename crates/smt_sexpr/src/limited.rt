@@ -5,7 +5,7 @@ ghost use Rattle.spec_text.specs.Places.{IsPlaceOf};
 ghost use Rattle.spec_text.specs.Readings.{kept, is_long, is_of_end, too_long};
 ghost use Rattle.smt_sexpr.specs.Limited.{whole_of, refusal_meant, CutsOff, ReadsNextOf, ReadsOneOf};
 
-use crate::reader::{Next, read_next};
+use crate::reader::{Next, read_small};
 use crate::sexpr::Sexpr;
 use smt_lexer::{Fault, Place, Refusal, Refused, place_after};
 use std::alloc::Global;
@@ -89,16 +89,23 @@ impl<'a> LimitedText<'a> {
         refusal
     }
 
-    /// Reads what stands next from a place of the bytes on that are read, where so many lists are open, as `read_next`
-    /// does. Where the text has more bytes, `TooLong` comes at the first of them in the place of the end, and of a string,
-    /// a quoted symbol or a list that does not end before it.
+    /// Reads what stands next from a place of the bytes on that are read, where so many lists are open: an s-expression, or
+    /// the end of the innermost of them, or, where none is open, nothing but white space and comments up to the end.
+    ///
+    /// - `Fault` has the first fault after the place, of those that stand before the end of an s-expression: a byte that
+    ///   begins no token or cannot follow one (`BadChar`), a string or a quoted symbol that does not end (`UnclosedString`,
+    ///   `UnclosedQuote`, at its first byte), the end of the text where a list is open (`UnclosedList`), a closing
+    ///   parenthesis where none is (`StrayClose`), or the opening parenthesis that would be the 501st open one, those of
+    ///   before counted (`TooDeep`). Where the text has more bytes than are read, `TooLong` comes at the first of the others
+    ///   in the place of the end, and of a string, a quoted symbol or a list that does not end before it.
+    /// - `Memory` may come at any allocation, and nowhere else. It says nothing of the text.
     ///
     /// The text may be read on from any place that an `Ok` has. Source: SMT-LIB 2.6, section 3.2.
     pub fn next(&self, alloc: Global, at: Place, open_lists: usize) -> Result<Next<'a>, Refused>
         requires { IsPlaceOf (kept (whole_of self.now)) at }
         ensures { ReadsNextOf (whole_of self.now) at open_lists result }
     {
-        match read_next(alloc, self.bytes(), at, open_lists) {
+        match read_small(alloc, self.bytes(), at, open_lists) {
             Ok(Next::One(s, after)) => Ok(Next::One(s, after)),
             Ok(Next::Close(after)) => Ok(Next::Close(after)),
             Ok(Next::End) => {

@@ -1,6 +1,6 @@
 //! Reads s-expressions from bytes.
 
-ghost use Rattle.std.specs.Prelude.{◌≡◌, ℕ, ◌+◌, ◌<◌, ◌∷◌, [], ◌++◌, List, length, IfOk, OnOk};
+ghost use Rattle.std.specs.Prelude.{◌≡◌, ℕ, ◌+◌, ◌^◌, ◌<◌, ◌∷◌, [], ◌++◌, List, length, IfOk, OnOk};
 ghost use Rattle.spec_text.specs.Places.{IsPlaceOf};
 ghost use Rattle.spec_text.specs.Trees.{atom};
 ghost use Rattle.spec_text.specs.Faults.{nesting_limit};
@@ -18,9 +18,9 @@ use std::alloc::{AllocError, Global};
 /// What stands next in a text. Source: SMT-LIB 2.6, section 3.2.
 #[derive(Drop)]
 pub enum Next<'a> {
-    /// An s-expression, and the place right behind it.
+    /// An s-expression, and the place right after it.
     One(Sexpr<'a>, Place),
-    /// The parenthesis that closes the innermost open list: the place right behind it.
+    /// The parenthesis that closes the innermost open list: the place right after it.
     Close(Place),
     /// The end of the text, where no list is open.
     End,
@@ -29,49 +29,41 @@ pub enum Next<'a> {
 /// How many lists may be open at once.
 const NESTING_LIMIT: usize = 500;
 
-/// A number of 32 bits. Items are kept small; what stands beyond 4 GiB of a text is answered out of memory.
-fn narrow(n: u64) -> Result<u32, AllocError>
-    ensures { IfOk result (λ m. m ≡ n) }
-{
-    match u32::try_from(n) {
-        Ok(m) => Ok(m),
-        Err(_) => Err(AllocError),
-    }
-}
-
 /// Adds a word.
 fn add_word(items: &mut Vec<Item>, at: u64, kind: Kind, bytes: &[u8]) -> Result<(), AllocError>
+    requires at { at < 2 ^ 32 }
+    requires size { length bytes.now < 2 ^ 32 }
     ensures { OnOk result (items.new.items ≡ items.old.items ++ flat (atom at kind bytes.now)) }
 {
-    let at = narrow(at)?;
-    let size = narrow(bytes.len() as u64)?;
-    items.push(Item::Atom(kind, at, size))?;
+    items.push(Item::Atom(kind, at as u32, bytes.len() as u32))?;
     Ok(())
 }
 
 /// Begins a list, and gives the index of its item, which has no end and no number yet.
 fn begin_list(items: &mut Vec<Item>, at: u64) -> Result<usize, AllocError>
+    requires { at < 2 ^ 32 }
     ensures index { IfOk result (λ n. n ≡ length items.old.items) }
     ensures items { OnOk result (items.new.items ≡ items.old.items ++ item.List at 0 0 ∷ []) }
 {
-    let at = narrow(at)?;
     let index = items.len();
-    items.push(Item::List(at, 0, 0))?;
+    items.push(Item::List(at as u32, 0, 0))?;
     Ok(index)
 }
 
 /// Ends the list whose item has an index.
-fn end_list(items: &mut Vec<Item>, index: usize, end: u64) -> Result<(), AllocError>
-    ensures { OnOk result ((context : Context) (open_at : List ℕ) → Holds context items.old.items (open_at ++ index ∷ []) → Holds (closed context end) items.new.items open_at) }
+fn end_list(items: &mut Vec<Item>, index: usize, end: u64)
+    requires end { end < 2 ^ 32 }
+    requires few { length items.old.items < 2 ^ 32 }
+    ensures ended { (context : Context) (open_at : List ℕ) → Holds context items.old.items (open_at ++ index ∷ [])
+        → Holds (closed context end) items.new.items open_at }
+    ensures count { length items.new.items ≡ length items.old.items }
 {
-    let end = narrow(end)?;
     if index < items.len() {
-        let below = narrow((items.len() - index - 1) as u64)?;
+        let below = items.len() - index - 1;
         if let Item::List(at, _, _) = items[index] {
-            items[index] = Item::List(at, end, below);
+            items[index] = Item::List(at, end as u32, below as u32);
         }
     }
-    Ok(())
 }
 
 /// A refusal at a place.
@@ -81,23 +73,25 @@ fn refused(place: Place, fault: Fault) -> Refused
     Refused::Fault(Refusal { place, fault })
 }
 
-/// Reads the rest of a list, of which the opening parenthesis was read, behind so many others that are open. Gives its
-/// items, and the place right behind it.
+/// Reads the rest of a list, of which the opening parenthesis was read, in so many others that are open. Gives its items,
+/// and the place right after it.
 fn read_list(
     alloc: Global,
     text: &[u8],
     start: u64,
-    behind: Place,
+    after: Place,
     open_lists: usize,
 ) -> Result<(Vec<Item>, Place), Refused>
-    requires behind { IsPlaceOf text.now behind }
-    requires room { open_lists < nesting_limit }
-    ensures { ReadsList text.now open_lists start behind result }
+    requires small { length text.now < 2 ^ 32 }
+    requires start { start < after.offset }
+    requires after { IsPlaceOf text.now after }
+    requires few { open_lists < nesting_limit }
+    ensures { ReadsList text.now open_lists start after result }
 {
     let mut items = Vec::new(alloc);
     let mut outer: Vec<usize> = Vec::new(alloc);
     let mut innermost = begin_list(&mut items, start)?;
-    let mut place = behind;
+    let mut place = after;
     'tokens: loop {
         let (token, after) = match next(text, place) {
             Ok(read) => read,
@@ -113,7 +107,7 @@ fn read_list(
                 innermost = begin_list(&mut items, token.place.offset)?;
             }
             TokenKind::Close => {
-                end_list(&mut items, innermost, token.place.offset)?;
+                end_list(&mut items, innermost, token.place.offset);
                 let Some(list) = outer.pop() else {
                     return Ok((items, after));
                 };
@@ -129,6 +123,8 @@ fn read_list(
 
 /// Gives the items of a word.
 fn read_word(alloc: Global, at: u64, kind: Kind, bytes: &[u8]) -> Result<Vec<Item>, AllocError>
+    requires at { at < 2 ^ 32 }
+    requires size { length bytes.now < 2 ^ 32 }
     ensures { IfOk result (λ v. v.items ≡ flat (atom at kind bytes.now)) }
 {
     let mut items = Vec::new(alloc);
@@ -138,19 +134,20 @@ fn read_word(alloc: Global, at: u64, kind: Kind, bytes: &[u8]) -> Result<Vec<Ite
 
 /// Reads what stands next in a text from a place on, where so many lists are open: an s-expression, or the end of the
 /// innermost of them, or, where none is open, nothing but white space and comments up to the end. An `Err` has the first
-/// fault behind the place, of those that stand before the end of an s-expression: a byte that begins no token or cannot
+/// fault after the place, of those that stand before the end of an s-expression: a byte that begins no token or cannot
 /// follow one (`BadChar`), a string or a quoted symbol that does not end (`UnclosedString`, `UnclosedQuote`, at its first
 /// byte), the end of the text where a list is open (`UnclosedList`), a closing parenthesis where none is (`StrayClose`),
 /// or the opening parenthesis that would be the 501st open one, those of before counted (`TooDeep`). Or it is out of
-/// memory, which also comes where an offset or a size is 2^32 or more. The text may be read on from any place that an
-/// `Ok` has. Source: SMT-LIB 2.6, section 3.2; limits and faults are own.
-pub fn read_next<'a>(
+/// memory, which comes at any allocation. The text may be read on from any place that an `Ok` has. Items are kept small:
+/// no offset and no size may be 2^32 or more. Source: SMT-LIB 2.6, section 3.2.
+pub(crate) fn read_small<'a>(
     alloc: Global,
     text: &'a [u8],
     at: Place,
     open_lists: usize,
 ) -> Result<Next<'a>, Refused>
-    requires { IsPlaceOf text.now at }
+    requires small { length text.now < 2 ^ 32 }
+    requires place { IsPlaceOf text.now at }
     ensures { ReadsNext text.now at open_lists result }
 {
     let (token, after) = match next(text, at) {
@@ -188,9 +185,25 @@ pub fn read_next<'a>(
     }
 }
 
-/// Reads the next s-expression from a place of a text on, where no list is open, and gives it with the place right behind
+/// Reads as `read_small` does. Of a text of 2^32 bytes or more it reads nothing, and answers out of memory.
+pub fn read_next<'a>(
+    alloc: Global,
+    text: &'a [u8],
+    at: Place,
+    open_lists: usize,
+) -> Result<Next<'a>, Refused>
+    requires { IsPlaceOf text.now at }
+    ensures { ReadsNext text.now at open_lists result }
+{
+    if text.len() as u64 >= 1 << 32 {
+        return Err(Refused::Memory);
+    }
+    read_small(alloc, text, at, open_lists)
+}
+
+/// Reads the next s-expression from a place of a text on, where no list is open, and gives it with the place right after
 /// it, or `None` where only white space and comments are left. An `Err` is that of `read_next` with no open list.
-/// Source: SMT-LIB 2.6, section 3.2; limits and faults are own.
+/// Source: SMT-LIB 2.6, section 3.2.
 pub fn read_one<'a>(
     alloc: Global,
     text: &'a [u8],

@@ -9,9 +9,9 @@ use world_io::{MemSink, NoMemory};
 /// What a text has next.
 #[derive(Clone, Copy)]
 enum Want {
-    /// An s-expression: how it is printed, the offset, line and column of its first byte, and the offset behind it.
+    /// An s-expression: how it is printed, the offset, line and column of its first byte, and the offset after it.
     One(&'static str, (u64, u64, u64), u64),
-    /// The end of the innermost open list, and the offset behind it.
+    /// The end of the innermost open list, and the offset after it.
     Close(u64),
     /// The end of the text.
     End,
@@ -144,7 +144,7 @@ fn nested(alloc: Global, count: usize) -> Result<Vec<u8>, AllocError> {
     Ok(text)
 }
 
-/// Whether lists nested so deep are read, behind so many that are open; else they are refused at this place.
+/// Whether lists nested so deep are read, where so many are open; else they are refused at this place.
 fn nests(
     alloc: Global,
     count: usize,

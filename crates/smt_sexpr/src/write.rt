@@ -13,7 +13,7 @@ use crate::sexpr::Sexpr;
 use smt_lexer::{Kind, Place, TokenKind, bars_of, next};
 use world_io::{Failed, Sink, write_all, write_pieces};
 
-/// What stands before a word and behind it: quotes, bars where the name wants them, or a colon.
+/// Lends what stands before a word and after it: quotes, bars where the name wants them, or a colon.
 fn marks_of<'a>(kind: Kind, bytes: &'a [u8]) -> (&'a [u8], &'a [u8])
     ensures { result.0.now ++ (bytes.now ++ result.1.now) ≡ printed_word kind bytes.now }
 {
@@ -43,7 +43,8 @@ fn write_word<'a, K: Sink>(
     behind: &'a [u8],
     out: &mut K,
 ) -> Result<(), Failed>
-    ensures { Sends (space.now ++ (before.now ++ (bytes.now ++ behind.now))) result (K.state out.old) (K.state out.new) }
+    ensures { Sends (space.now ++ (before.now ++ (bytes.now ++ behind.now))) result (K.state out.old)
+        (K.state out.new) }
 {
     write_pieces(out, &[space, before, bytes, behind])
 }
@@ -63,7 +64,7 @@ fn write_token<K: Sink>(token: TokenKind<'_>, wanted: bool, out: &mut K) -> Resu
     }
 }
 
-/// Whether a space is wanted behind a token, before a word or a list.
+/// Tells whether a space has to stand after a token, before a word or a list.
 fn wants_space(token: TokenKind<'_>) -> bool
     ensures { result ≡ wants_space token.entry }
 {
@@ -73,7 +74,7 @@ fn wants_space(token: TokenKind<'_>) -> bool
     }
 }
 
-/// The token behind a place of a text, and the place right behind it; `None` at the end of the text and at a fault.
+/// The token after a place of a text, and the place right after it; `None` at the end of the text and at a fault.
 fn token_at<'a>(text: &'a [u8], place: Place) -> Option<(TokenKind<'a>, Place)>
     requires { IsPlaceOf text.now place }
     ensures { IsTokenAt text.now place result }
@@ -90,7 +91,8 @@ fn token_at<'a>(text: &'a [u8], place: Place) -> Option<(TokenKind<'a>, Place)>
 /// Writes the tokens of a text from a place on up to the one at an offset.
 fn write_tokens<K: Sink>(text: &[u8], first: Place, last: u64, out: &mut K) -> Result<(), Failed>
     requires { IsPlaceOf text.now first }
-    ensures { (t : Tree) → IsTreeFrom text.now first.offset last t → Sends (printed t) result (K.state out.old) (K.state out.new) }
+    ensures { (t : Tree) → IsTreeFrom text.now first.offset last t
+        → Sends (printed t) result (K.state out.old) (K.state out.new) }
 {
     let mut place = first;
     let mut wanted = false;
@@ -120,10 +122,11 @@ fn ends_of(item: Item) -> (u64, u64)
 /// printed as it is written, a string with its quotes and a keyword with its colon, but a symbol in bars by its name: with
 /// bars only where it is no symbol without them. It takes no memory, and time linear in the s-expression. `Failed` comes only
 /// where the sink's count of faults rose in this call; a prefix of the printed bytes was then appended.
-/// Source: SMT-LIB 2.6, sections 3.1 and 3.2; the white space is own.
+/// Source: SMT-LIB 2.6, sections 3.1 and 3.2.
 pub fn print<K: Sink>(s: &Sexpr<'_>, item: u64, out: &mut K) -> Result<(), Failed>
     requires { item < length (items_of s.now) }
-    ensures { Sends (printed (tree_in (text_of s.now) (drop item (items_of s.now)))) result (K.state out.old) (K.state out.new) }
+    ensures { Sends (printed (tree_in (text_of s.now) (drop item (items_of s.now)))) result (K.state out.old)
+        (K.state out.new) }
 {
     let (first, last) = ends_of(s.items()[item as usize]);
     write_tokens(s.text(), s.place(first), last, out)

@@ -8,10 +8,11 @@ use Rattle.smt_sexpr.proofs.reader.read_list.Given as goal
 
 abbrev pub invariant-tokens : goal.invariant-tokens
 invariant-tokens l = record {
-  reading : Reading l.text l.open_lists ((l.start, opens) ∷ lexemes_from l.text l.fn.behind.offset) l.items.items (l.outer.items ++ l.innermost ∷ []) l.place.offset;
-  room : l.open_lists + length l.outer.items < nesting_limit;
+  reading : Reading l.text l.open_lists ((l.start, opens) ∷ lexemes_from l.text l.fn.after.offset) l.items.items (l.outer.items ++ l.innermost ∷ []) l.place.offset;
+  few : l.open_lists + length l.outer.items < nesting_limit;
   place : IsPlaceOf l.text l.place;
-  later : l.fn.behind.offset ≤ l.place.offset;
+  count : length l.items.items ≤ l.place.offset;
+  later : l.fn.after.offset ≤ l.place.offset;
 }
 
 abbrev pub decreases-tokens : goal.decreases-tokens

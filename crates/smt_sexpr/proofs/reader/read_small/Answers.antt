@@ -2,8 +2,8 @@
 use Rattle.std.proofs.Common.{◌+◌, arith, ◌∙◌, ap, refl}
 use Rattle.smt_sexpr.proofs.Broken.{nothing_broken, wrong_broken, deep_broken, stray_broken}
 use Rattle.smt_sexpr.proofs.Reading.{begins_with_word, read_there, first_is}
-use Rattle.smt_sexpr.proofs.Words.{close_size}
-use Rattle.smt_sexpr.proofs.reader.read_next.Goals as goal
+use Rattle.smt_sexpr.proofs.Words.{close_size, word_size}
+use Rattle.smt_sexpr.proofs.reader.read_small.Goals as goal
 
 pub returns-in-Err : goal.returns-in-Err
 returns-in-Err c = (wrong_broken _ _ _ _ _ c.in-Err.ensures.0, c.in-Err.ensures.1)
@@ -54,3 +54,14 @@ pub returns-in_ok-items-in-Word : goal.returns-in_ok-items-in-Word
 returns-in_ok-items-in-Word c =
     let t = rw c.in-Word.is at c.in-Ok.ensures.0 in
     record { is = first_is _ _ _ _ _ _ _ _ tt refl refl t.first (begins_with_word _ c.args.open_lists _ _ _ _ _ _ c.in_ok-items-in-Word.ensures t.first c.in-Ok.ensures.2); longer = omega (arith, t.behind, t.longer) }
+
+pub read_list-requires-clause-start : goal.read_list-requires-clause-start
+read_list-requires-clause-start c = let t = rw c.in-Open.is at c.in-Ok.ensures.0 in t.longer
+
+pub read_word-requires-clause-at : goal.read_word-requires-clause-at
+read_word-requires-clause-at c = omega (arith, c.requires.small, c.in-Ok.ensures.1.within)
+
+pub read_word-requires-clause-size : goal.read_word-requires-clause-size
+read_word-requires-clause-size c =
+    let t = rw c.in-Word.is at c.in-Ok.ensures.0 in
+    omega (arith, c.requires.small, word_size c.args.text.now c.args.at.offset _ c.in-Word.kind c.in-Word.bytes.now _ t.first)
