@@ -12,13 +12,11 @@ use crate::output::write_usage;
 use crate::read::{read_both, read_text};
 use crate::verdict::{judge, report};
 use crate::words::{CheckRequest, Request, RunRequest, WordsStop, words_of};
+use assertion_stack::TERM_LIMIT;
 use sat_budget::Limits;
 use smt_session::{Status, run_text};
 use std::alloc::Global;
 use world_io::{ReadStop, Shelf, Sink};
-
-/// How many names a script may have at once, and how many different subterms a command may have.
-const MOST_TERMS: u64 = 1 << 24;
 
 /// Judges the proof of a request against its script, and writes the verdict.
 ///
@@ -68,7 +66,7 @@ fn run_script<F: Shelf, K: Sink>(
             let limits = Limits {
                 conflicts: request.conflicts,
                 pivots: request.pivots,
-                terms: MOST_TERMS,
+                terms: TERM_LIMIT,
             };
             run_text(alloc, bytes.as_slice(), &limits, request.mode, out)
         }
