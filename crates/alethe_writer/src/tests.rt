@@ -5,7 +5,7 @@ ghost use Rattle.proof_log.specs.Logs.{IsLogOf};
 
 use crate::{prepare, send};
 use proof_log::laws::empty_logs_are_right;
-use proof_log::{Clause, Premises, ProofLog, Rule, Step, StepId, TermId};
+use proof_log::{Clause, ProofLog, Rule, Step, StepId, StepIds, TermId};
 use std::alloc::{AllocError, Global};
 use std::test::Fail;
 use term_core::{Head, Node, SymbolId, TermTable};
@@ -70,7 +70,7 @@ fn step_of(
     let clause = Vec::from_slice(alloc, clause)?;
     Ok(Step {
         rule,
-        premises: Premises::from(premises),
+        premises: StepIds::from(premises),
         clause: Clause::from(clause),
     })
 }

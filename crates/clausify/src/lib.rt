@@ -2,15 +2,14 @@
 //! state, as steps of a log, and each term itself is assumed.
 #![tactic(auto)]
 
-mod clause_list;
+mod head_rules;
 mod marks;
 mod roots;
-mod schemes;
 mod signs;
 mod statements;
 mod steps;
 #[cfg(test)]
 mod tests;
 
-pub use clause_list::ClauseList;
+pub use proof_log::StepIds;
 pub use roots::{clauses_of, clauses_of_all};

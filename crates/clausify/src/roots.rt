@@ -10,10 +10,9 @@ ghost use Rattle.clausify.specs.Clausified.{HasClauses, Grows, AreAllMade};
 ghost use Rattle.clausify.specs.Stating.{Tells};
 ghost use Rattle.clausify.specs.Marks.{marked};
 
-use crate::clause_list::ClauseList;
 use crate::marks::marks_of;
 use crate::statements::state_term;
-use proof_log::{ProofLog, StepId};
+use proof_log::{ProofLog, StepId, StepIds};
 use spec_terms::subterms::subterms_are_least;
 use std::alloc::Global;
 use std::slice;
@@ -38,7 +37,7 @@ pub fn clauses_of(
     table: &mut TermTable,
     log: &mut ProofLog,
     root: TermId,
-) -> Result<ClauseList, NoMemory>
+) -> Result<StepIds, NoMemory>
     requires root { IsIn table.old root }
     requires log { IsLogOf table.old log.old }
     ensures clauses { IfOk result (λ list. HasClauses table.new log.new (clause_at table.old (root ∷ [])) list) }
@@ -67,7 +66,7 @@ pub fn clauses_of_all(
     table: &mut TermTable,
     log: &mut ProofLog,
     roots: &[TermId],
-) -> Result<ClauseList, NoMemory>
+) -> Result<StepIds, NoMemory>
     requires roots { AreIn table.old roots.now }
     requires log { IsLogOf table.old log.old }
     ensures clauses { IfOk result (λ list. HasClauses table.new log.new (clause_at table.old roots.now) list) }
@@ -94,7 +93,7 @@ fn stated_of(
     table: &mut TermTable,
     log: &mut ProofLog,
     roots: &[TermId],
-) -> Result<ClauseList, NoMemory>
+) -> Result<StepIds, NoMemory>
     requires roots { AreIn table.old roots.now }
     requires log { IsLogOf table.old log.old }
     ensures clauses { IfOk result (λ list. HasClauses table.new log.new (clause_at table.old roots.now) list) }
@@ -107,7 +106,7 @@ fn stated_of(
     let mut steps = Vec::new(alloc);
     assume_each(table, log, roots, &mut steps)?;
     state_marked(alloc, table, log, &marks, &mut steps)?;
-    Ok(ClauseList::from(steps))
+    Ok(StepIds::from(steps))
 }
 
 /// Assumes terms, and puts the numbers of their clauses behind the others.

@@ -1,6 +1,6 @@
 //! The clauses of a term, stated by its rules without premises.
 
-ghost use Rattle.std.specs.Prelude.{◌≡◌, List, [], ◌∷◌, length, map, Contains, OnOk};
+ghost use Rattle.std.specs.Prelude.{List, [], ◌∷◌, length, map, Contains, OnOk};
 ghost use Rattle.spec_terms.specs.Terms.{Term};
 ghost use Rattle.spec_terms.specs.Subsets.{arguments_of};
 ghost use Rattle.spec_proofs.specs.Schemes.{signed, innermost, rests_of, clauses_by};
@@ -9,12 +9,13 @@ ghost use Rattle.spec_search.specs.Base.{clauses_of};
 ghost use Rattle.term_core.specs.Tables.{term_at, IsIn};
 ghost use Rattle.proof_log.specs.Logs.{IsLogOf};
 ghost use Rattle.clausify.specs.Clausified.{Grows};
-ghost use Rattle.clausify.specs.Stating.{Tells, head_of, scheme_by, IsRuleOf, HasPlaces, IsSingle, single, rest_by, before};
+ghost use Rattle.clausify.specs.Stating.{Tells, head_of, scheme_by, IsRuleOf, HasPlaces, IsSingle, single, before};
 
-use crate::schemes::{Stating, schemes_of};
+use crate::head_rules::rules_of;
 use crate::signs::{argument_count, innermost, signed, with_rest};
 use crate::steps::state;
 use proof_log::{ProofLog, Rule, StepId};
+use rule_bool::scheme_of;
 use spec_proofs::{Rest, Side};
 use std::alloc::Global;
 use term_core::{TermId, TermTable};
@@ -33,39 +34,37 @@ pub(crate) fn state_term(
     ensures grows { Grows [] table.old table.new log.old log.new }
     ensures tells { OnOk result (Tells table.old table.new log.old log.new steps.old.items steps.new.items (clauses_of (term_at table.old id))) }
 {
-    let list = schemes_of(table.node(id).head);
-    'schemes: for by in list.iter() {
-        state_scheme(alloc, table, log, steps, id, *by)?;
+    let list = rules_of(table.node(id).head);
+    'rules: for rule in list.iter() {
+        state_scheme(alloc, table, log, steps, id, *rule)?;
     }
     Ok(())
 }
 
-/// States the clauses that a term gives by one scheme.
+/// States the clauses that a term gives by one rule.
 fn state_scheme(
     alloc: Global,
     table: &mut TermTable,
     log: &mut ProofLog,
     steps: &mut Vec<StepId>,
     id: TermId,
-    by: Stating,
+    rule: Rule,
 ) -> Result<(), NoMemory>
     requires there { IsIn table.old id }
     requires log { IsLogOf table.old log.old }
-    requires rule { IsRuleOf (head_of (term_at table.old id)) by }
-    requires places { HasPlaces (length (arguments_of (term_at table.old id))) (rest_by by) }
+    requires rule { IsRuleOf (head_of (term_at table.old id)) rule }
+    requires places { HasPlaces (length (arguments_of (term_at table.old id))) (scheme_by rule).rest }
     ensures grows { Grows [] table.old table.new log.old log.new }
-    ensures tells { OnOk result (Tells table.old table.new log.old log.new steps.old.items steps.new.items (clauses_by (scheme_by (head_of (term_at table.old id)) by) (term_at table.old id))) }
+    ensures tells { OnOk result (Tells table.old table.new log.old log.new steps.old.items steps.new.items (clauses_by (scheme_by rule) (term_at table.old id))) }
 {
     proof_log::laws::logs_stand_in_grown_tables();
     table.all_terms_are_bool();
     let _ = table.node(id);
-    match by {
-        Stating::Plain(rule, rest) => state_rests(alloc, table, log, steps, id, id, rule, rest),
-        Stating::Refuted(rule, rest) => {
-            let front = signed(alloc, table, id, false)?;
-            state_rests(alloc, table, log, steps, id, front, rule, rest)
-        }
-    }
+    let Some(scheme) = scheme_of(rule) else {
+        unreachable!();
+    };
+    let front = signed(alloc, table, id, scheme.positive)?;
+    state_rests(alloc, table, log, steps, id, front, rule, scheme.rest)
 }
 
 /// States the clauses that have a term in front and behind it what a scheme says by the arguments of a term.

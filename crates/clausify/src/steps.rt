@@ -7,7 +7,7 @@ ghost use Rattle.proof_log.specs.Logs.{IsLogOf};
 ghost use Rattle.clausify.specs.Clausified.{Grows};
 ghost use Rattle.clausify.specs.Stating.{Tells};
 
-use proof_log::{Clause, LogFault, Premises, ProofLog, Rule, Step, StepId};
+use proof_log::{Clause, LogFault, ProofLog, Rule, Step, StepId, StepIds};
 use std::alloc::Global;
 use term_core::{TermId, TermTable};
 use world_io::NoMemory;
@@ -29,7 +29,7 @@ pub(crate) fn state(
 {
     let step = Step {
         rule,
-        premises: Premises::from(Vec::new(alloc)),
+        premises: StepIds::from(Vec::new(alloc)),
         clause: Clause::from(clause),
     };
     match log.add(table, step) {

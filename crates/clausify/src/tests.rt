@@ -4,7 +4,7 @@ ghost use Rattle.std.specs.Prelude.{IfOk};
 ghost use Rattle.term_core.specs.Tables.{AreIn};
 ghost use Rattle.proof_log.specs.Logs.{IsLogOf};
 
-use crate::{ClauseList, clauses_of, clauses_of_all};
+use crate::{StepIds, clauses_of, clauses_of_all};
 use proof_log::laws::{empty_logs_are_right, logs_stand_in_grown_tables};
 use proof_log::{ProofLog, TermId};
 use std::alloc::Global;
@@ -89,7 +89,7 @@ fn printed(
     alloc: Global,
     table: &TermTable,
     log: &ProofLog,
-    list: &ClauseList,
+    list: &StepIds,
 ) -> Result<Vec<u8>, NoMemory> {
     let mut text = Vec::new(alloc);
     for step in list.as_slice() {

@@ -12,7 +12,7 @@ mod tests;
 
 pub use log::ProofLog;
 pub use log_fault::LogFault;
-pub use premises::{Premises, StepId};
+pub use premises::{StepId, StepIds};
 pub use spec_proofs::Rule;
 pub use step::Step;
 pub use term_core::{Clause, TermId};

@@ -1,6 +1,6 @@
 //! The log: clauses in the order in which they came.
 
-ghost use Rattle.std.specs.Prelude.{◌≡◌, ◌<◌, ◌≤◌, [], length, take, MatchOption};
+ghost use Rattle.std.specs.Prelude.{◌≡◌, ◌<◌, [], length, take, MatchOption};
 ghost use Rattle.term_core.specs.Tables.{TableView, AreIn};
 ghost use Rattle.proof_log.specs.Logs.{IsLogOf, named, stepped, logged_at, IsAssumed, AreEarlier};
 ghost use Rattle.proof_log.specs.Adding.{Assumes, Adds, Judges, Collects};
@@ -144,11 +144,10 @@ impl ProofLog {
         Ok(clauses)
     }
 
-    /// Takes away all clauses but the first `len`. It takes no memory.
+    /// Takes away all clauses but the first `len`; where there are no more than so many, it changes nothing. It takes no memory.
     ///
     /// What is left is right over each table over which the whole was.
     pub fn cut(&mut self, len: u64)
-        requires { len ≤ length self.old }
         ensures clauses { self.new ≡ take len self.old }
         ensures right { (t : TableView) → IsLogOf t self.old → IsLogOf t self.new }
     {

@@ -10,32 +10,32 @@ use std::marker::Model;
 #[derive(Clone, Copy, Debug, Default, PartialEq, Eq, Hash)]
 pub struct StepId(pub u64);
 
-/// Owns a list of clauses of a log by their numbers: the premises of a step.
+/// Owns a list of clauses of a log by their numbers, as the premises of a step are.
 ///
 /// Contracts see it as the list. Source: Alethe specification, `:premises`.
 #[derive(Drop)]
-pub struct Premises {
+pub struct StepIds {
     steps: Vec<StepId>,
 }
 
-impl Model for Premises {
+impl Model for StepIds {
     ghost use Rattle.std.specs.Prelude.{List};
     ghost use Rattle.proof_log.specs.declared.premises.StepId.{StepId};
 
     ghost Value = { List StepId };
 
-    ghost view = { λ p. p.steps.items };
+    ghost view = { λ l. l.steps.items };
 }
 
-impl From<Vec<StepId>> for Premises {
-    ghost from_gives = { λ v p. p ≡ v.items };
+impl From<Vec<StepId>> for StepIds {
+    ghost from_gives = { λ v l. l ≡ v.items };
 
-    fn from(steps: Vec<StepId>) -> Premises {
-        Premises { steps }
+    fn from(steps: Vec<StepId>) -> StepIds {
+        StepIds { steps }
     }
 }
 
-impl Premises {
+impl StepIds {
     /// Gives the numbers back as a `Vec`. It takes no memory.
     pub fn into_vec(self) -> Vec<StepId>
         ensures { result.items ≡ self }

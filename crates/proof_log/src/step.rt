@@ -1,6 +1,6 @@
 //! Steps of a proof.
 
-use crate::premises::Premises;
+use crate::premises::StepIds;
 use spec_proofs::Rule;
 use term_core::Clause;
 
@@ -12,7 +12,7 @@ pub struct Step {
     /// The rule.
     pub rule: Rule,
     /// The premises, in the rule's order, by their numbers in the log.
-    pub premises: Premises,
+    pub premises: StepIds,
     /// The clause, whose terms are of a table.
     pub clause: Clause,
 }

@@ -4,7 +4,7 @@ ghost use Rattle.std.specs.Prelude.{◌≡◌, IfOk};
 ghost use Rattle.proof_log.specs.Logs.{IsLogOf};
 
 use crate::laws::empty_logs_are_right;
-use crate::{Clause, LogFault, Premises, ProofLog, Rule, Step, StepId, TermId};
+use crate::{Clause, LogFault, ProofLog, Rule, Step, StepId, StepIds, TermId};
 use std::alloc::{AllocError, Global};
 use std::test::Fail;
 use term_core::{Head, Node, SymbolId, TermTable};
@@ -62,7 +62,7 @@ fn step_of(
     let clause = Vec::from_slice(alloc, clause)?;
     Ok(Step {
         rule,
-        premises: Premises::from(premises),
+        premises: StepIds::from(premises),
         clause: Clause::from(clause),
     })
 }
@@ -177,14 +177,11 @@ fn add_all(alloc: Global, table: &TermTable, log: &mut ProofLog) -> Result<bool,
     Ok(true)
 }
 
-/// Cuts the log, where it is so long.
+/// Cuts the log, which is one over the table before and after.
 fn cut(table: &TermTable, log: &mut ProofLog, len: u64)
     requires { IsLogOf table.now log.old }
     ensures { IsLogOf table.now log.new }
 {
-    if len > log.len() {
-        return;
-    }
     log.cut(len);
 }
 
@@ -225,6 +222,8 @@ fn what_is_cut_can_be_added_anew(rt: HostRuntime) -> Result<(), Fail> {
     assert!(rt; states(&log, StepId(1), None, &[], &[NOT_A]));
     assert!(rt; add_all(alloc, &table, &mut log)?);
     assert!(rt; log.len() == 8);
+    log.cut(9);
+    assert!(rt; log.len() == 8);
     log.cut(0);
     assert!(rt; log.len() == 0);
     Ok(())
@@ -232,7 +231,7 @@ fn what_is_cut_can_be_added_anew(rt: HostRuntime) -> Result<(), Fail> {
 
 #[test]
 fn lists_of_premises_are_given_back(rt: HostRuntime) -> Result<(), Fail> {
-    let premises = Premises::from(Vec::from_slice(rt.alloc(), &[StepId(4), StepId(4)])?);
+    let premises = StepIds::from(Vec::from_slice(rt.alloc(), &[StepId(4), StepId(4)])?);
     assert!(rt; premises.len() == 2);
     assert!(rt; premises.as_slice() == [StepId(4), StepId(4)].as_slice());
     assert!(rt; premises.into_vec().as_slice() == [StepId(4), StepId(4)].as_slice());

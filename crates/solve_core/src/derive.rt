@@ -7,7 +7,7 @@ ghost use Rattle.solve_core.specs.Stores.{Derives};
 ghost use Rattle.solve_core.specs.Rounds.{steps_at, IsResolved, LogsClause};
 
 use crate::store::Store;
-use proof_log::{Clause, LogFault, Premises, ProofLog, Rule, Step, StepId};
+use proof_log::{Clause, LogFault, ProofLog, Rule, Step, StepId, StepIds};
 use std::alloc::{AllocError, Global};
 use term_core::{Lit, TermId, TermTable};
 use world_io::NoMemory;
@@ -53,7 +53,7 @@ pub(crate) fn derive(
     let clause = terms_of(alloc, clause)?;
     let step = Step {
         rule: Rule::Resolution,
-        premises: Premises::from(premises),
+        premises: StepIds::from(premises),
         clause: Clause::from(clause),
     };
     match log.add(table, step) {
