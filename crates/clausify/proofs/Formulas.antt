@@ -22,8 +22,7 @@ use Rattle.term_core.specs.declared.ids.TermId.{TermId}
 use Rattle.term_core.specs.declared.nodes.Head.{Head as NodeHead}
 use Rattle.term_core.specs.declared.nodes.Head.TheVariants as heads
 use Rattle.term_core.specs.Tables.{TableView, term_at, IsIn, AreIn, clause_at, head_meant, Shape, Fits, shape_term}
-use Rattle.clausify.specs.declared.schemes.Stating.{Stating}
-use Rattle.clausify.specs.Stating.{head_of, scheme_by, rest_by, IsRuleOf, HasPlaces, single, IsSingle, least_of, before, clauses_in, AreSchemesOf}
+use Rattle.clausify.specs.Stating.{head_of, scheme_in, scheme_by, IsRuleOf, HasPlaces, single, IsSingle, least_of, before, clauses_in, AreRulesOf}
 use Rattle.clausify.proofs.Arguments.{arguments_are}
 
 -- what is none of the others has one clause
@@ -96,23 +95,27 @@ least symbols heads.Equal ss e = omega (arith, equal_takes ss e)
 least symbols heads.Ite ss e = omega (arith, ite_takes ss e)
 least symbols _ ss e = omega arith
 
-module _ (t : TableView) (s : Shape) (term : Term) (means : term ≡ shape_term t s) (list : List Stating) (schemes : AreSchemesOf s.head list) where
-  -- the rule of each scheme
-  pub rule_at : (k : ℕ) (d : Stating) → k < length list → IsRuleOf (head_of term) (get_or list k d)
-  rule_at k d lt = subst (λ (u : Term). IsRuleOf (head_of u) (get_or list k d)) (sym means) (each_at (IsRuleOf (head_meant t.symbols s.head)) list k d lt (schemes.rules t.symbols))
+-- a rule that states a scheme states no other
+pub same_scheme : (rule : Rule) (s : Scheme) → kind_of rule ≡ states s → scheme_by rule ≡ s
+same_scheme rule s kind = ap scheme_in kind
+
+module _ (t : TableView) (s : Shape) (term : Term) (means : term ≡ shape_term t s) (list : List Rule) (rules : AreRulesOf s.head list) where
+  -- each rule
+  pub rule_at : (k : ℕ) (d : Rule) → k < length list → IsRuleOf (head_of term) (get_or list k d)
+  rule_at k d lt = subst (λ (u : Term). IsRuleOf (head_of u) (get_or list k d)) (sym means) (each_at (IsRuleOf (head_meant t.symbols s.head)) list k d lt (rules.rules t.symbols))
 
   -- and its places
-  pub places_at : Fits t s → (k : ℕ) (d : Stating) → k < length list → HasPlaces (length (arguments_of term)) (rest_by (get_or list k d))
+  pub places_at : Fits t s → (k : ℕ) (d : Rule) → k < length list → HasPlaces (length (arguments_of term)) (scheme_by (get_or list k d)).rest
   places_at fits k d lt =
       let count : length (arguments_of term) ≡ length (map sort_of (clause_at t s.arguments)) = ap length (arguments_are t s term means) ∙ sym (length-map (clause_at t s.arguments) sort_of) in
-      more_places (least_of s.head) (length (arguments_of term)) (rest_by (get_or list k d)) (omega (arith, count, least t.symbols s.head (map sort_of (clause_at t s.arguments)) fits.sorts)) (each_at (λ by. HasPlaces (least_of s.head) (rest_by by)) list k d lt schemes.places)
+      more_places (least_of s.head) (length (arguments_of term)) (scheme_by (get_or list k d)).rest (omega (arith, count, least t.symbols s.head (map sort_of (clause_at t s.arguments)) fits.sorts)) (each_at (λ rule. HasPlaces (least_of s.head) (scheme_by rule).rest) list k d lt rules.places)
 
   -- all together they give the term's clauses
   pub all_clauses : clauses_in term list ≡ clauses_of term
-  all_clauses = ap (λ (u : Term). clauses_in u list) means ∙ schemes.whole t.symbols (terms_of (clause_at t s.arguments)) ∙ ap clauses_of (sym means)
+  all_clauses = ap (λ (u : Term). clauses_in u list) means ∙ rules.whole t.symbols (terms_of (clause_at t s.arguments)) ∙ ap clauses_of (sym means)
 
--- the clauses of one scheme more
-pub schemes_more : (term : Term) (list : List Stating) (k : ℕ) (d : Stating) → k < length list → clauses_in term (take k list) ++ clauses_by (scheme_by (head_of term) (get_or list k d)) term ≡ clauses_in term (take (k + 1) list)
-schemes_more term list k d lt =
-    let f : Stating → List Clause = λ by. clauses_by (scheme_by (head_of term) by) term in
+-- the clauses of one rule more
+pub rules_more : (term : Term) (list : List Rule) (k : ℕ) (d : Rule) → k < length list → clauses_in term (take k list) ++ clauses_by (scheme_by (get_or list k d)) term ≡ clauses_in term (take (k + 1) list)
+rules_more term list k d lt =
+    let f : Rule → List Clause = λ rule. clauses_by (scheme_by rule) term in
     ap (λ cs. clauses_in term (take k list) ++ cs) (sym (append-nil (f (get_or list k d)))) ∙ sym (flat_map-append f (take k list) (get_or list k d ∷ [])) ∙ ap (flat_map f) (sym (take_more list k d lt))

@@ -6,15 +6,13 @@ use Rattle.spec_terms.specs.Literals.{Clause}
 use Rattle.spec_proofs.specs.declared.Rule.{Rule}
 use Rattle.spec_proofs.specs.declared.Rest.{Rest}
 use Rattle.spec_proofs.specs.declared.Rest.TheVariants.{Nothing, One, Two, AnyOne, Each, Innermost}
-use Rattle.spec_proofs.specs.Schemes.{signed, side_of, Scheme, plain, refuted, states, kind_of, clauses_by}
+use Rattle.spec_proofs.specs.Schemes.{signed, side_of, Scheme, true_scheme, Kind, states, kind_of, clauses_by}
 use Rattle.spec_search.specs.Base.{clauses_of}
 use Rattle.term_core.specs.declared.nodes.Head.{Head as NodeHead}
 use Rattle.term_core.specs.declared.nodes.Head.TheVariants as heads
 use Rattle.term_core.specs.Tables.{TableView, head_meant, Extends}
 use Rattle.proof_log.specs.declared.premises.StepId.{StepId}
 use Rattle.proof_log.specs.Logs.{Logged}
-use Rattle.clausify.specs.declared.schemes.Stating.{Stating}
-use Rattle.clausify.specs.declared.schemes.Stating.TheVariants.{Plain, Refuted}
 use Rattle.clausify.specs.Clausified.{stated, AreAllMade}
 
 -- The table has more terms, and the same symbols.
@@ -51,24 +49,18 @@ pub record Tells (t u : TableView) (old new : List Logged) (before after : List 
 abbrev pub head_of : Term → Head
 head_of (app h ts) = h
 
--- the scheme of a head that a rule states
-abbrev pub scheme_by : Head → Stating → Scheme
-scheme_by h (Plain rule rest) = plain h rest
-scheme_by h (Refuted rule rest) = refuted h rest
+-- the scheme of a kind that states one
+abbrev pub scheme_in : Kind → Scheme
+scheme_in (states s) = s
+scheme_in k = true_scheme
 
--- the rule that states it
-abbrev pub rule_by : Stating → Rule
-rule_by (Plain rule rest) = rule
-rule_by (Refuted rule rest) = rule
+-- the scheme that a rule states
+abbrev pub scheme_by : Rule → Scheme
+scheme_by rule = scheme_in (kind_of rule)
 
--- what stands behind the term
-abbrev pub rest_by : Stating → Rest
-rest_by (Plain rule rest) = rest
-rest_by (Refuted rule rest) = rest
-
--- the rule states that scheme
-abbrev pub IsRuleOf : Head → Stating → Type 0
-IsRuleOf h by = kind_of (rule_by by) ≡ states (scheme_by h by)
+-- the rule states a scheme of that head
+abbrev pub IsRuleOf : Head → Rule → Type 0
+IsRuleOf h rule = (kind_of rule ≡ states (scheme_by rule)) × ((scheme_by rule).head ≡ h)
 
 -- so many arguments have the places that are named
 abbrev pub HasPlaces : ℕ → Rest → Type 0
@@ -103,15 +95,15 @@ least_of h = 0
 abbrev pub before : Term → List Clause → List Clause
 before t rests = map (λ ls. t ∷ ls) rests
 
--- the clauses of a term by schemes, in their order
-abbrev pub clauses_in : Term → List Stating → List Clause
-clauses_in t list = flat_map (λ by. clauses_by (scheme_by (head_of t) by) t) list
+-- the clauses of a term by rules, in their order
+abbrev pub clauses_in : Term → List Rule → List Clause
+clauses_in t list = flat_map (λ rule. clauses_by (scheme_by rule) t) list
 
--- The schemes of a head, with their rules.
-pub record AreSchemesOf (head : NodeHead) (list : List Stating) : Type 0 where
-  -- each rule states its scheme
+-- The rules that state the schemes of a head.
+pub record AreRulesOf (head : NodeHead) (list : List Rule) : Type 0 where
+  -- each states a scheme of the head
   pub rules : (symbols : List Symbol) → AllByRecursion (IsRuleOf (head_meant symbols head)) list
   -- the head takes the arguments that are named
-  pub places : AllByRecursion (λ by. HasPlaces (least_of head) (rest_by by)) list
+  pub places : AllByRecursion (λ rule. HasPlaces (least_of head) (scheme_by rule).rest) list
   -- the clauses of a term with that head are theirs
   pub whole : (symbols : List Symbol) (ts : Terms) → clauses_in (app (head_meant symbols head) ts) list ≡ clauses_of (app (head_meant symbols head) ts)

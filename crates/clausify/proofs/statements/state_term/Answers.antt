@@ -1,28 +1,26 @@
--- One scheme after the other.
+-- One rule after the other.
 use Rattle.std.proofs.Common.{◌≡◌, ◌+◌, ◌++◌, List, [], length, take, get_or, ap, sym, ◌∙◌, subst, arith}
 use Rattle.std.proofs.lemmas.List.{take_all}
 use Rattle.spec_terms.specs.Terms.{Term}
 use Rattle.spec_terms.specs.Literals.{Clause}
 use Rattle.spec_terms.specs.Subsets.{arguments_of}
 use Rattle.spec_proofs.specs.declared.Rule.TheVariants as rules
-use Rattle.spec_proofs.specs.declared.Rest.TheVariants.{Nothing}
 use Rattle.spec_proofs.specs.Schemes.{clauses_by}
 use Rattle.spec_search.specs.Base.{clauses_of}
 use Rattle.term_core.specs.Tables.{term_at, shape_of}
 use Rattle.term_core.proofs.TermsExtend.{term_at-kept}
-use Rattle.clausify.specs.declared.schemes.Stating.{Stating}
-use Rattle.clausify.specs.declared.schemes.Stating.TheVariants.{Plain}
-use Rattle.clausify.specs.Stating.{Tells, head_of, scheme_by, rest_by, IsRuleOf, HasPlaces, clauses_in}
+use Rattle.spec_proofs.specs.declared.Rule.{Rule}
+use Rattle.clausify.specs.Stating.{Tells, head_of, scheme_by, IsRuleOf, HasPlaces, clauses_in}
 use Rattle.clausify.proofs.Growing.{Grows-self, Grows-trans, Tells-none, Tells-trans, Tells-same}
-use Rattle.clausify.proofs.Formulas.{rule_at, places_at, all_clauses, schemes_more}
+use Rattle.clausify.proofs.Formulas.{rule_at, places_at, all_clauses, rules_more}
 use Rattle.clausify.proofs.statements.state_term.Goals as goal
 
--- what no number of schemes means
-abbrev no_stating : Stating
-no_stating = Plain rules.Or Nothing
+-- what no number of rules means
+abbrev no_rule : Rule
+no_rule = rules.Or
 
-pub schemes-init : goal.schemes-init
-schemes-init c = record {
+pub rules-init : goal.rules-init
+rules-init c = record {
   grows = Grows-self [] c.args.table.now c.args.log.now c.requires.log;
   tells = Tells-none c.args.table.now c.args.log.now c.args.steps.now.items;
 }
@@ -30,47 +28,47 @@ schemes-init c = record {
 pub state_scheme-requires-clause-rule : goal.state_scheme-requires-clause-rule
 state_scheme-requires-clause-rule c =
     let t = c.args.table.now in
-    let list = c.schemes_of-list.result.now in
-    let kept = term_at-kept t c.schemes.table c.schemes.invariant.grows.table c.args.id c.requires.there in
-    subst (λ (u : Term). IsRuleOf (head_of u) (get_or list c.schemes.by-index no_stating)) (sym kept)
-    (rule_at t (shape_of c.node.result.now) (term_at t c.args.id) c.node.ensures.means list c.schemes_of-list.ensures c.schemes.by-index no_stating c.schemes-test.true)
+    let list = c.rules_of-list.result.now in
+    let kept = term_at-kept t c.rules.table c.rules.invariant.grows.table c.args.id c.requires.there in
+    subst (λ (u : Term). IsRuleOf (head_of u) (get_or list c.rules.rule-index no_rule)) (sym kept)
+    (rule_at t (shape_of c.node.result.now) (term_at t c.args.id) c.node.ensures.means list c.rules_of-list.ensures c.rules.rule-index no_rule c.rules-test.true)
 
 pub state_scheme-requires-clause-places : goal.state_scheme-requires-clause-places
 state_scheme-requires-clause-places c =
     let t = c.args.table.now in
-    let list = c.schemes_of-list.result.now in
-    let kept = term_at-kept t c.schemes.table c.schemes.invariant.grows.table c.args.id c.requires.there in
-    subst (λ (u : Term). HasPlaces (length (arguments_of u)) (rest_by (get_or list c.schemes.by-index no_stating))) (sym kept)
-    (places_at t (shape_of c.node.result.now) (term_at t c.args.id) c.node.ensures.means list c.schemes_of-list.ensures c.node.ensures.placed c.schemes.by-index no_stating c.schemes-test.true)
+    let list = c.rules_of-list.result.now in
+    let kept = term_at-kept t c.rules.table c.rules.invariant.grows.table c.args.id c.requires.there in
+    subst (λ (u : Term). HasPlaces (length (arguments_of u)) (scheme_by (get_or list c.rules.rule-index no_rule)).rest) (sym kept)
+    (places_at t (shape_of c.node.result.now) (term_at t c.args.id) c.node.ensures.means list c.rules_of-list.ensures c.node.ensures.placed c.rules.rule-index no_rule c.rules-test.true)
 
 pub returns-in_err-state_scheme-clause-grows : goal.returns-in_err-state_scheme-clause-grows
-returns-in_err-state_scheme-clause-grows c = Grows-trans [] c.args.table.now c.schemes.table c.state_scheme.new.table c.args.log.now c.schemes.log c.state_scheme.new.log c.schemes.invariant.grows c.state_scheme.ensures.grows
+returns-in_err-state_scheme-clause-grows c = Grows-trans [] c.args.table.now c.rules.table c.state_scheme.new.table c.args.log.now c.rules.log c.state_scheme.new.log c.rules.invariant.grows c.state_scheme.ensures.grows
 
-pub schemes-preserved : goal.schemes-preserved
-schemes-preserved c =
+pub rules-preserved : goal.rules-preserved
+rules-preserved c =
     let t = c.args.table.now in
-    let now = c.schemes.table in
+    let now = c.rules.table in
     let new = c.state_scheme.new.table in
-    let h = c.schemes.invariant in
-    let k = c.schemes.by-index in
-    let list = c.schemes_of-list.result.now in
-    let by = get_or list k no_stating in
+    let h = c.rules.invariant in
+    let k = c.rules.rule-index in
+    let list = c.rules_of-list.result.now in
+    let rule = get_or list k no_rule in
     let term = term_at t c.args.id in
-    let f : Term → List Clause = λ u. clauses_by (scheme_by (head_of u) by) u in
+    let f : Term → List Clause = λ u. clauses_by (scheme_by rule) u in
     let told = clauses_in term (take k list) in
     let same : f (term_at now c.args.id) ≡ f term = ap f (term_at-kept t now h.grows.table c.args.id c.requires.there) in
-    let one : Tells now new c.schemes.log c.state_scheme.new.log c.schemes.steps.items c.state_scheme.new.steps.items (f term) = Tells-same now new c.schemes.log c.state_scheme.new.log c.schemes.steps.items c.state_scheme.new.steps.items (f (term_at now c.args.id)) (f term) same c.in_ok-state_scheme.ensures.tells in
+    let one : Tells now new c.rules.log c.state_scheme.new.log c.rules.steps.items c.state_scheme.new.steps.items (f term) = Tells-same now new c.rules.log c.state_scheme.new.log c.rules.steps.items c.state_scheme.new.steps.items (f (term_at now c.args.id)) (f term) same c.in_ok-state_scheme.ensures.tells in
     record {
-      grows = Grows-trans [] t now new c.args.log.now c.schemes.log c.state_scheme.new.log h.grows c.state_scheme.ensures.grows;
-      tells = Tells-same t new c.args.log.now c.state_scheme.new.log c.args.steps.now.items c.state_scheme.new.steps.items (told ++ f term) (clauses_in term (take (k + 1) list)) (schemes_more term list k no_stating c.schemes-test.true)
-          (Tells-trans t now new c.args.log.now c.schemes.log c.state_scheme.new.log c.args.steps.now.items c.schemes.steps.items c.state_scheme.new.steps.items told (f term) h.tells one);
+      grows = Grows-trans [] t now new c.args.log.now c.rules.log c.state_scheme.new.log h.grows c.state_scheme.ensures.grows;
+      tells = Tells-same t new c.args.log.now c.state_scheme.new.log c.args.steps.now.items c.state_scheme.new.steps.items (told ++ f term) (clauses_in term (take (k + 1) list)) (rules_more term list k no_rule c.rules-test.true)
+          (Tells-trans t now new c.args.log.now c.rules.log c.state_scheme.new.log c.args.steps.now.items c.rules.steps.items c.state_scheme.new.steps.items told (f term) h.tells one);
     }
 
 pub returns-clause-tells : goal.returns-clause-tells
 returns-clause-tells c =
     let t = c.args.table.now in
     let term = term_at t c.args.id in
-    let list = c.schemes_of-list.result.now in
-    let front : take c.schemes.by-index list ≡ list = take_all c.schemes.by-index list (omega (arith, c.schemes-test.false)) in
-    let whole = ap (clauses_in term) front ∙ all_clauses t (shape_of c.node.result.now) term c.node.ensures.means list c.schemes_of-list.ensures in
-    Tells-same t c.schemes.table c.args.log.now c.schemes.log c.args.steps.now.items c.schemes.steps.items (clauses_in term (take c.schemes.by-index list)) (clauses_of term) whole c.schemes.invariant.tells
+    let list = c.rules_of-list.result.now in
+    let front : take c.rules.rule-index list ≡ list = take_all c.rules.rule-index list (omega (arith, c.rules-test.false)) in
+    let whole = ap (clauses_in term) front ∙ all_clauses t (shape_of c.node.result.now) term c.node.ensures.means list c.rules_of-list.ensures in
+    Tells-same t c.rules.table c.args.log.now c.rules.log c.args.steps.now.items c.rules.steps.items (clauses_in term (take c.rules.rule-index list)) (clauses_of term) whole c.rules.invariant.tells

@@ -1,12 +1,12 @@
--- The clauses of the schemes so far are stated.
+-- The clauses of the rules so far are stated.
 use Rattle.std.proofs.Common.{[], take}
 use Rattle.term_core.specs.Tables.{term_at}
 use Rattle.clausify.specs.Clausified.{Grows}
 use Rattle.clausify.specs.Stating.{Tells, clauses_in}
 use Rattle.clausify.proofs.statements.state_term.Given as goal
 
-abbrev pub invariant-schemes : goal.invariant-schemes
-invariant-schemes l = record {
+abbrev pub invariant-rules : goal.invariant-rules
+invariant-rules l = record {
   grows : Grows [] l.fn.table l.table l.fn.log l.log;
-  tells : Tells l.fn.table l.table l.fn.log l.log l.fn.steps.items l.steps.items (clauses_in (term_at l.fn.table l.id) (take l.by-index l.list));
+  tells : Tells l.fn.table l.table l.fn.log l.log l.fn.steps.items l.steps.items (clauses_in (term_at l.fn.table l.id) (take l.rule-index l.list));
 }
