@@ -50,7 +50,7 @@ module _ (limit : Option ℕ) (symbols : List Symbol) (asserted : List Term) (de
   line_goes : (told next : Told) (names : List (Name × Term)) (entries : List Entry) → Stands symbols told names entries → (l : Line) (at : ℕ) → IsLineAfter symbols asserted told l next → HasRoom limit symbols told l → Goes limit symbols asserted told next names entries l at
   line_goes told next names entries s (defines n h items) at x room = subst (λ k. Goes limit symbols asserted told k names entries (defines n h items) at) (sym x.2) (define_goes limit symbols asserted declared told names entries s n h items at x.0 x.1 room)
   line_goes told next names entries s (assumes n a) at x room = subst (λ k. Goes limit symbols asserted told k names entries (assumes n a) at) (sym x.2) (assume_goes limit symbols asserted declared told names entries s n a x.0 at x.1 room)
-  line_goes told next names entries s (steps n items r ps) at x room = subst (λ k. Goes limit symbols asserted told k names entries (steps n items r ps) at) (sym x.2) (step_goes limit symbols asserted declared told names entries s n items r ps x.0 at x.1 room)
+  line_goes told next names entries s (steps n items r ps) at x room = subst (λ k. Goes limit symbols asserted told k names entries (steps n items r ps) at) (sym x.1) (step_goes limit symbols asserted declared told names entries s n items r ps at x.0 room)
 
   good_lines : (told end : Told) (names : List (Name × Term)) (entries : List Entry) (lines : List Line) (at : ℕ) → Stands symbols told names entries → AreLinesAfter symbols asserted told lines end
       → IsWithin limit (length symbols + length told.terms + definitions_in lines + 2) → length told.terms + length lines < 2 ^ 64 → length told.assumes + length lines < 2 ^ 64 → length told.steps + length lines < 2 ^ 64
@@ -112,7 +112,7 @@ module _ (symbols : List Symbol) (writable : AreWritable symbols) where
   line_writable : (asserted : List Term) (told next : Told) (l : Line) → IsLineAfter symbols asserted told l next → IsWritableLine l
   line_writable asserted told next (defines n h items) x = (head_writable h x.1.head, arguments_writable told items x.1.arguments x.1.told)
   line_writable asserted told next (assumes n a) x = argument_writable told a x.0 x.1.told
-  line_writable asserted told next (steps n items r ps) x = arguments_writable told items x.0 x.1.literals
+  line_writable asserted told next (steps n items r ps) x = arguments_writable told items x.0.clause x.0.literals
 
   pub lines_writable : (asserted : List Term) (told end : Told) (lines : List Line) → AreLinesAfter symbols asserted told lines end → All IsWritableLine lines
   lines_writable asserted told end [] right = All-nil IsWritableLine

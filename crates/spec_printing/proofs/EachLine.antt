@@ -92,20 +92,20 @@ module _ (limit : Option ℕ) (symbols : List Symbol) (asserted : List Term) (de
         empty = λ m r ps e. absurd cc;
       }
 
-  pub step_goes : (n : ℕ) (items : List Argument) (r : Rule) (ps : List Reference) (c : Clause) (at : ℕ) → IsStep symbols told n items r ps c → HasRoom limit symbols told (steps n items r ps) → Goes limit symbols asserted told (with_step told c) names entries (steps n items r ps) at
-  step_goes n items r ps c at d room = record {
-    command = Step at (step_name n) c r d.premises;
+  pub step_goes : (n : ℕ) (items : List Argument) (r : Rule) (ps : List Reference) (at : ℕ) (d : IsStep symbols told n items r ps) → HasRoom limit symbols told (steps n items r ps) → Goes limit symbols asserted told (with_step told d.clause) names entries (steps n items r ps) at
+  step_goes n items r ps at d room = record {
+    command = Step at (step_name n) d.clause r d.premises;
     later_names = names;
-    later_entries = entries ++ entry (step_name n) c ∷ [];
+    later_entries = entries ++ entry (step_name n) d.clause ∷ [];
     reads = by ps d.earlier;
     right = d.right;
     after = refl;
-    stands = step_stands symbols told names entries s n c d.number small;
-    kept = λ e h. Contains-append_left entries (entry (step_name n) c ∷ []) e h;
+    stands = step_stands symbols told names entries s n d.clause d.number small;
+    kept = λ e h. Contains-append_left entries (entry (step_name n) d.clause ∷ []) e h;
     more_terms = omega arith;
     more_assumes = omega arith;
-    more_steps = omega (arith, length-append told.steps (c ∷ []));
-    empty = λ m q qs e. (entry (step_name n) c, Contains-push entries (entry (step_name n) c), nothing items c d.literals (items_of e));
+    more_steps = omega (arith, length-append told.steps (d.clause ∷ []));
+    empty = λ m q qs e. (entry (step_name n) d.clause, Contains-push entries (entry (step_name n) d.clause), nothing items d.clause d.literals (items_of e));
   }
     where
       few : length told.terms < 2 ^ 64
@@ -117,19 +117,19 @@ module _ (limit : Option ℕ) (symbols : List Symbol) (asserted : List Term) (de
       fresh : among (entry_names entries) (step_name n) ≡ false
       fresh = new_step symbols told names entries s n d.number small
 
-      literals : (i : ℕ) → terms_in here.scope (moved_all i (row (map argument_tree items))) ≡ Ok c
-      literals i = (arguments_read symbols declared told names few s.terms items c d.literals i).0
+      literals : (i : ℕ) → terms_in here.scope (moved_all i (row (map argument_tree items))) ≡ Ok d.clause
+      literals i = (arguments_read symbols declared told names few s.terms items d.clause d.literals i).0
 
-      fits : fit_within limit c ≡ true
-      fits = known_fits symbols told names entries s limit c (arguments_read symbols declared told names few s.terms items c d.literals 0).1 (no_more limit _ _ (omega arith) room.within)
+      fits : fit_within limit d.clause ≡ true
+      fits = known_fits symbols told names entries s limit d.clause (arguments_read symbols declared told names few s.terms items d.clause d.literals 0).1 (no_more limit _ _ (omega arith) room.within)
 
-      none_read : (cs : List Clause) → ArePremises told [] cs → command_of limit here (moved at (line_tree (steps n items r []))) ≡ Ok (Step at (step_name n) c r cs)
-      none_read [] e = bare_step_read limit here at _ _ _ _ _ _ _ _ (step_name n) _ (rule_name r) c r fresh (literals _) fits (named r).1
+      none_read : (cs : List Clause) → ArePremises told [] cs → command_of limit here (moved at (line_tree (steps n items r []))) ≡ Ok (Step at (step_name n) d.clause r cs)
+      none_read [] e = bare_step_read limit here at _ _ _ _ _ _ _ _ (step_name n) _ (rule_name r) d.clause r fresh (literals _) fits (named r).1
       none_read (x ∷ cs) e = cc
 
-      by : (qs : List Reference) → ArePremises told qs d.premises → command_of limit here (moved at (line_tree (steps n items r qs))) ≡ Ok (Step at (step_name n) c r d.premises)
+      by : (qs : List Reference) → ArePremises told qs d.premises → command_of limit here (moved at (line_tree (steps n items r qs))) ≡ Ok (Step at (step_name n) d.clause r d.premises)
       by [] e = none_read d.premises e
-      by (q ∷ qs) e = full_step_read limit here at _ _ _ _ _ _ _ _ _ _ _ (step_name n) _ (rule_name r) _ c r d.premises (references_are_symbols _ (q ∷ qs)) fresh (literals _) fits (named r).1 (references_read symbols told names entries s (omega (arith, room.more_assumes)) (omega (arith, room.more_steps)) here refl (q ∷ qs) d.premises e _)
+      by (q ∷ qs) e = full_step_read limit here at _ _ _ _ _ _ _ _ _ _ _ (step_name n) _ (rule_name r) _ d.clause r d.premises (references_are_symbols _ (q ∷ qs)) fresh (literals _) fits (named r).1 (references_read symbols told names entries s (omega (arith, room.more_assumes)) (omega (arith, room.more_steps)) here refl (q ∷ qs) d.premises e _)
 
       items_of : {m : ℕ} {q : Rule} {qs : List Reference} → steps n items r ps ≡ steps m [] q qs → items ≡ []
       items_of e = cc

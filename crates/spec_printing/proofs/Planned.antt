@@ -197,8 +197,8 @@ module _ (symbols : List Symbol) (terms asserted : List Term) (d : Derivation) (
         let t_next : suc (length (steps_of (fm ++ true ∷ []) (front ++ by_rule r ps c ∷ []))) ≡ suc (suc t) = omega (arith, ap length more_s, length-append (steps_of fm front) (c ∷ []), t_is) in (
           with_step (told_clauses fm front) c,
           (
-            c,
             record {
+              clause = c;
               number = omega (arith, t_is);
               literals = all_told symbols (told_clauses fm front) name c (λ u u_in. literal_told (told_clauses fm front) j (by_rule r ps c) u refl at on u_in);
               premises = map (conclusion_at front) ps;

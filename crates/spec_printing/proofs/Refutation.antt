@@ -32,7 +32,7 @@ right =
           (
             three,
             (negated p, record { number = refl; told = refl; there = later p (negated p ∷ []) (negated p) (first (negated p) []) }, refl),
-            (with_step three [], ([], record { number = refl; literals = refl; premises = (p ∷ []) ∷ (negated p ∷ []) ∷ []; earlier = refl; right = units_resolve }, refl), refl),
+            (with_step three [], (record { clause = []; number = refl; literals = refl; premises = (p ∷ []) ∷ (negated p ∷ []) ∷ []; earlier = refl; right = units_resolve }, refl), refl),
           ),
         ),
       );

@@ -97,23 +97,25 @@ pub record IsAssume (symbols : List Symbol) (asserted : List Term) (k : Told) (n
   pub there : Contains asserted t
 
 -- A step under the next number: its clause follows by its rule from those of its premises.
-pub record IsStep (symbols : List Symbol) (k : Told) (n : ℕ) (items : List Argument) (r : Rule) (ps : List Reference) (c : Clause) : Type 0 where
+pub record IsStep (symbols : List Symbol) (k : Told) (n : ℕ) (items : List Argument) (r : Rule) (ps : List Reference) : Type 0 where
+  -- its clause
+  pub clause : Clause
   -- the number is the next
   pub number : n ≡ length k.steps + 1
   -- the literals are printed so
-  pub literals : AreTold symbols k items c
+  pub literals : AreTold symbols k items clause
   -- the premises' clauses
   pub premises : List Clause
   -- the premises are earlier
   pub earlier : ArePremises k ps premises
   -- the clause follows
-  pub right : IsRight r premises c
+  pub right : IsRight r premises clause
 
 -- a line is right after what is known, and with it this is known
 abbrev pub IsLineAfter : List Symbol → List Term → Told → Line → Told → Type 0
 IsLineAfter symbols asserted k (defines n h items) next = (t : Term) × IsDefinition symbols k n h items t × (next ≡ with_definition k t)
 IsLineAfter symbols asserted k (assumes n a) next = (t : Term) × IsAssume symbols asserted k n a t × (next ≡ with_assume k (t ∷ []))
-IsLineAfter symbols asserted k (steps n items r ps) next = (c : Clause) × IsStep symbols k n items r ps c × (next ≡ with_step k c)
+IsLineAfter symbols asserted k (steps n items r ps) next = (s : IsStep symbols k n items r ps) × (next ≡ with_step k s.clause)
 
 -- each line is right after those before it, and after all of them this is known
 abbrev pub AreLinesAfter : List Symbol → List Term → Told → List Line → Told → Type 0

@@ -92,13 +92,16 @@ module _ (i : Interpretation) where
       premises_true (p ∷ ps) (c ∷ cs) e = All-cons IsTrue c cs (premise_true p c (head_same e)) (premises_true ps cs (tail_same e))
 
       -- the clause of a step is true
-      step_true : (n : ℕ) (items : List Argument) (r : Rule) (ps : List Reference) (c : Clause) → IsStep symbols k n items r ps c → IsTrue c
-      step_true n items r ps c s = rules r s.premises c (premises_true ps s.premises s.earlier) (terms_truth items c s.literals) s.right
+      step_true : (n : ℕ) (items : List Argument) (r : Rule) (ps : List Reference) (s : IsStep symbols k n items r ps) → IsTrue s.clause
+      step_true n items r ps s = rules r s.premises s.clause (premises_true ps s.premises s.earlier) (terms_truth items s.clause s.literals) s.right
 
       -- no step has the empty clause
-      none_empty : (n : ℕ) (r : Rule) (ps : List Reference) (c : Clause) → IsStep symbols k n [] r ps c → ⊥
-      none_empty n r ps [] s = false≢true (step_true n [] r ps [] s)
-      none_empty n r ps (t ∷ ts) s = let no : [] ≡ Some t ∷ map Some ts = s.literals in cc
+      none_empty : (n : ℕ) (r : Rule) (ps : List Reference) → IsStep symbols k n [] r ps → ⊥
+      none_empty n r ps s = go s.clause s.literals (step_true n [] r ps s)
+        where
+          go : (c : Clause) → AreTold symbols k [] c → IsTrue c → ⊥
+          go [] e so = false≢true so
+          go (t ∷ ts) e so = let no : [] ≡ Some t ∷ map Some ts = e in cc
 
       -- what is known after a line is so, too
       line_true : (l : Line) (next : Told) → IsLineAfter symbols asserted k l next → AreTrue next
@@ -108,8 +111,8 @@ module _ (i : Interpretation) where
       line_true (assumes n a) next (t, d, is) =
           let one : IsTrue (t ∷ []) = ap (λ b. b || false) (All-contains (λ u. term_true i u ≡ true) asserted t given d.there) in
           subst AreTrue (sym is) (record { terms = so.terms; assumes = All-push IsTrue k.assumes (t ∷ []) so.assumes one; steps = so.steps })
-      line_true (steps n items r ps) next (c, s, is) =
-          subst AreTrue (sym is) (record { terms = so.terms; assumes = so.assumes; steps = All-push IsTrue k.steps c so.steps (step_true n items r ps c s) })
+      line_true (steps n items r ps) next (s, is) =
+          subst AreTrue (sym is) (record { terms = so.terms; assumes = so.assumes; steps = All-push IsTrue k.steps s.clause so.steps (step_true n items r ps s) })
 
     -- so no lines end with the empty clause
     never_ends : (k end : Told) → AreTrue k → (lines : List Line) → AreLinesAfter symbols asserted k lines end → (earlier : List Line) (n : ℕ) (r : Rule) (ps : List Reference) → lines ≡ earlier ++ steps n [] r ps ∷ [] → ⊥
@@ -117,7 +120,7 @@ module _ (i : Interpretation) where
     never_ends k end so [] right (x ∷ xs) n r ps e = cc
     never_ends k end so (l ∷ ls) (next, after, rest) [] n r ps e =
         let last = subst (λ x. IsLineAfter symbols asserted k x next) (head_same e) after in
-        none_empty k so n r ps last.0 last.1
+        none_empty k so n r ps last.0
     never_ends k end so (l ∷ ls) (next, after, rest) (x ∷ xs) n r ps e = never_ends next end (line_true k so l next after) ls rest xs n r ps (tail_same e)
 
     none_right : (lines : List Line) → AreRightLines symbols asserted lines → ⊥
