@@ -1,6 +1,6 @@
 -- What a search begins with.
 use Rattle.std.proofs.Common.{◌≡◌, ℕ, ◌<◌, List, [], ◌∷◌, ◌++◌, length, get_or, take, map, All, Contains, refl, sym, ap, ◌∙◌, subst, arith}
-use Rattle.std.proofs.lemmas.List.{get_or_default, append-nil}
+use Rattle.std.proofs.lemmas.List.{get_or_default, append-nil, length-map}
 use Rattle.std.proofs.lemmas.List.Elements.{All-nil, Contains-append_left}
 use Rattle.spec_text.proofs.Members.{to_image, from_image}
 use Rattle.spec_terms.specs.Terms.{Term}
@@ -17,17 +17,18 @@ use Rattle.rule_bool.specs.Literals.{lists}
 use Rattle.rule_bool.specs.Resolvents.{Means}
 use Rattle.proof_log.specs.declared.premises.StepId.{StepId}
 use Rattle.proof_log.specs.Logs.{Logged, assumed, stepped, inference_of, derivation_in}
-use Rattle.clausify.specs.Clausified.{stated, HasClauses, AssumesOneOf, Grows}
+use Rattle.clausify.specs.Clausified.{stated, HasClauses, AssumesOneOf, Grows, AreAllMade}
 use Rattle.solve_core.specs.declared.store.Store.{Store}
 use Rattle.solve_core.specs.Stores.{no_step, IsStoreOf}
 use Rattle.solve_core.specs.Rounds.{IsSearch}
+use Rattle.solve_core.proofs.SearchLogs.{steps_start}
 
 -- what is assumed is one of the terms
 among_roots : (t : TableView) (roots : List TermId) (l : Logged) → AssumesOneOf roots l → AssumesAmong (clause_at t roots) (inference_of t l)
 among_roots t roots (assumed id) i = to_image (term_at t) roots id i
 among_roots t roots (stepped r ps c) h = tt
 
-module _ (t u : TableView) (roots : List TermId) (roots_in : AreIn t roots) (log old : List Logged) (none : old ≡ []) (steps : List StepId) (g : Grows roots t u old log) (h : HasClauses u log (clause_at t roots) steps)
+module _ (t u : TableView) (roots : List TermId) (roots_in : AreIn t roots) (log old : List Logged) (none : old ≡ []) (steps : List StepId) (g : Grows roots t u old log) (h : HasClauses u log (clause_at t roots) steps) (m : AreAllMade old log steps)
     (store : Store) (s : IsStoreOf u log steps store)
     (law : (terms : List Term) (c : Clause) (l : Literal) → Contains (base_clauses terms) c → Contains (literals_of c) l → Contains (subterms_of terms) l.atom) where
   terms : List Term
@@ -38,6 +39,9 @@ module _ (t u : TableView) (roots : List TermId) (roots_in : AreIn t roots) (log
 
   log_is : log ≡ g.more
   log_is = g.log ∙ ap (λ (xs : List Logged). xs ++ g.more) none
+
+  as_many : length log ≡ length (base_clauses (clause_at t roots))
+  as_many = omega (arith, m.count, ap length none, h.count)
 
   assumes : All (λ l. AssumesAmong (clause_at t roots) (inference_of u l)) log
   assumes = subst (λ (xs : List Logged). All (λ l. AssumesAmong (clause_at t roots) (inference_of u l)) xs) (sym log_is)
@@ -100,6 +104,7 @@ module _ (t u : TableView) (roots : List TermId) (roots_in : AreIn t roots) (log
     derived = All-nil (IsLearnedFrom (clause_at t roots) (derivation_in u log));
     atoms = All-nil (λ c. All (λ (l : Literal). IsAtomOf (clause_at t roots) l.atom) c);
     new = tt;
+    steps_made = steps_start (clause_at t roots) (derivation_in u log) (rw length-map as_many);
   })
 
 -- the front of a list that grew

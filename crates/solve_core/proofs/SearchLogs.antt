@@ -1,9 +1,12 @@
 -- What a log says with one step more.
-use Rattle.std.proofs.Common.{◌≡◌, ℕ, ◌<◌, List, [], ◌∷◌, ◌++◌, length, get_or, All, sym, ap, ◌∙◌, subst, arith}
-use Rattle.std.proofs.lemmas.List.{length-append, length-map, map-append}
+use Rattle.std.proofs.Common.{◌≡◌, ℕ, ◌<◌, List, [], ◌∷◌, ◌++◌, length, get_or, All, sym, ap, ◌∙◌, subst, arith, refl, append_assoc}
+use Rattle.std.proofs.lemmas.List.{append-nil, length-append, length-map, map-append}
+use Rattle.std.proofs.lemmas.List.Elements.{All-nil, All-push}
 use Rattle.spec_terms.specs.Terms.{Term}
 use Rattle.spec_terms.specs.Literals.{Clause, Literal, literals_of}
-use Rattle.spec_search.specs.Derivations.{Inference, Derivation, no_inference, conclusion, conclusion_at, IsDerivation, AssumesAmong, IsDerivedFrom}
+use Rattle.spec_search.specs.Derivations.{Inference, by_rule, Derivation, no_inference, conclusion, conclusion_at, IsDerivation, AssumesAmong, IsDerivedFrom}
+use Rattle.spec_proofs.specs.declared.Rule.TheVariants.{Resolution}
+use Rattle.spec_search.specs.Base.{base_clauses}
 use Rattle.spec_search.specs.Spent.{IsLearnedFrom}
 use Rattle.spec_search.proofs.Spending.{rests_there}
 use Rattle.term_core.specs.declared.ids.Lit.{Lit}
@@ -13,6 +16,7 @@ use Rattle.proof_log.specs.declared.premises.StepId.{StepId}
 use Rattle.proof_log.specs.Logs.{Logged, inference_of, derivation_in}
 use Rattle.clausify.specs.Clausified.{stated}
 use Rattle.solve_core.specs.Stores.{no_step, Derives}
+use Rattle.solve_core.specs.Rounds.{IsByResolution, HasSteps}
 use Rattle.solve_core.proofs.SearchTrails.{get_early}
 
 -- a derivation whose assumptions are all among terms
@@ -28,6 +32,21 @@ module _ (terms : List Term) (d : Derivation) (right : IsDerivation d) (among : 
         let lt : h.number < length d = omega (arith, h.derived.there, ap length is, length-append earlier (x ∷ [])) in
         let same : conclusion_at d h.number ≡ conclusion_at earlier h.number = ap (λ (e : Derivation). conclusion_at e h.number) is ∙ ap conclusion (get_early earlier x h.number no_inference h.derived.there) in
         record { number = h.number; derived = derived_from h.number lt; same = ap literals_of same ∙ h.same }
+
+-- one clause more comes by resolution
+pub steps_more : (terms : List Term) (d : Derivation) (clauses : List (List Literal)) (ps : List ℕ) (c : Clause) → HasSteps terms d clauses → HasSteps terms (d ++ by_rule Resolution ps c ∷ []) (clauses ++ literals_of c ∷ [])
+steps_more terms d clauses ps c h = record {
+  base = h.base;
+  more = h.more ++ by_rule Resolution ps c ∷ [];
+  all = ap (λ (e : Derivation). e ++ by_rule Resolution ps c ∷ []) h.all ∙ append_assoc h.base h.more (by_rule Resolution ps c ∷ []);
+  count = h.count;
+  resolved = All-push IsByResolution h.more (by_rule Resolution ps c) h.resolved refl;
+  same = map-append (λ (x : Inference). literals_of (conclusion x)) h.more (by_rule Resolution ps c ∷ []) ∙ ap (λ (cs : List (List Literal)). cs ++ literals_of c ∷ []) h.same;
+}
+
+-- at the start there are the base clauses alone
+pub steps_start : (terms : List Term) (d : Derivation) → length d ≡ length (base_clauses terms) → HasSteps terms d []
+steps_start terms d count = record { base = d; more = []; all = sym (append-nil d); count = count; resolved = All-nil IsByResolution; same = refl }
 
 -- over a table
 module _ (t : TableView) (log : List Logged) (x : Logged) where

@@ -10,28 +10,32 @@ use Rattle.spec_terms.specs.Literals.{Clause, Literal, complement, literals_of}
 use Rattle.spec_terms.specs.Subterms.{subterms_of}
 use Rattle.spec_proofs.specs.declared.Rule.TheVariants.{Resolution}
 use Rattle.spec_proofs.specs.Resolution.{IsWithin, Resolves}
-use Rattle.spec_search.specs.Derivations.{AssumesAmong, IsDerivedFrom}
+use Rattle.spec_search.specs.Derivations.{Derivation, conclusion, conclusion_at, no_inference, AssumesAmong, IsDerivedFrom}
 use Rattle.spec_search.specs.Base.{base_clauses}
 use Rattle.spec_search.specs.Learned.{IsNew, AreNew}
 use Rattle.spec_search.specs.Spent.{IsLearnedFrom, IsAtomOf, IsConflictBudgetSpent, IsConflict}
 use Rattle.term_core.specs.declared.ids.TermId.{TermId}
 use Rattle.term_core.specs.declared.ids.Lit.{Lit}
-use Rattle.term_core.specs.Tables.{TableView, IsIn, AreDifferent, term_at, literal_at}
+use Rattle.term_core.specs.Tables.{TableView, IsIn, AreDifferent, term_at, clause_at, literal_at}
 use Rattle.rule_bool.specs.Literals.{lit_complement}
 use Rattle.rule_bool.proofs.LiteralLists.{negation_twice}
 use Rattle.rule_bool.proofs.Transport.{resolves_there}
 use Rattle.proof_log.specs.declared.premises.StepId.{StepId}
-use Rattle.proof_log.specs.Logs.{Logged, stepped, inference_of, derivation_in, IsLogOf}
+use Rattle.proof_log.specs.Logs.{Logged, stepped, numbers_of, inference_of, derivation_in, IsLogOf}
 use Rattle.clausify.specs.Clausified.{stated}
 use Rattle.sat_budget.specs.Budgets.{BudgetView}
 use Rattle.solve_core.specs.Search.{AreOver, IsMentioned}
 use Rattle.solve_core.specs.Analyses.{RestsAt}
 use Rattle.solve_core.specs.Stores.{Derives}
-use Rattle.solve_core.specs.Rounds.{numbered, Logs, IsSearch, IsReady, IsLearning, GoesOn}
+use Rattle.sat_budget.specs.declared.limits.Reason.TheVariants.{Conflicts}
+use Rattle.solve_core.specs.declared.rounds.Answer.{Answer}
+use Rattle.solve_core.specs.declared.rounds.Answer.TheVariants.{Unsat, Unknown}
+use Rattle.solve_core.specs.Rounds.{numbered, Logs, HasSteps, added_by, IsSearch, IsReady, IsLearning, GoesOn}
 use Rattle.solve_core.proofs.SearchStores.{derives_more}
 use Rattle.solve_core.proofs.SearchResolved.{store_bare, trail_bare, decided_at, clause_atoms, clause_follows}
 use Rattle.solve_core.proofs.SearchNew.{new_more, is_new, conflicts_more}
-use Rattle.solve_core.proofs.SearchLogs.{derived_from, learned_kept, derivation_more, derives_kept}
+use Rattle.solve_core.proofs.SearchLogs.{derived_from, learned_kept, derivation_more, steps_more, derives_kept}
+use Rattle.solve_core.proofs.SearchTrails.{get_last}
 use Rattle.solve_core.proofs.SearchAtoms.{is_atom}
 use Rattle.solve_core.proofs.SearchCuts.{trail_cut}
 
@@ -67,9 +71,20 @@ module _ (t : TableView) (log new : List Logged) (ps : List StepId) (clause : Li
   pub unsat_shows : clause ≡ [] → (stated t new id ≡ []) × IsDerivedFrom terms (derivation_in t new) id.0
   unsat_shows e = (none_of (stated t new id) (sym (ap (map (literal_at t)) e) ∙ l.means.same), is_derived)
 
-  -- what was learned before may be learned still
-  pub learning_more : (clauses : List (List Lit)) (steps : List StepId) (learned : List (List Lit)) → IsSearch t terms log clauses steps learned → IsLearning t terms new learned
-  learning_more clauses steps learned s = record {
+  -- the log has a clause more behind the base clauses
+  pub steps_on : (learned : List (List Lit)) → HasSteps terms (derivation_in t log) (images t learned) → HasSteps terms (derivation_in t new) (images t learned ++ map (literal_at t) clause ∷ [])
+  steps_on learned h =
+      let c : Clause = clause_at t (map (λ (x : Lit). x.term) clause) in
+      let is : derivation_in t new ≡ derivation_in t log ++ inference_of t (step_of ps clause) ∷ [] = ap (derivation_in t) l.last ∙ derivation_more t log (step_of ps clause) in
+      let at : id.0 ≡ length (derivation_in t log) = rw length-map l.number in
+      let here : stated t new id ≡ c = (λ i. conclusion_at (is i) (at i)) ∙ ap conclusion (get_last (derivation_in t log) (inference_of t (step_of ps clause)) no_inference) in
+      subst (λ (d : Derivation). HasSteps terms d (images t learned ++ map (literal_at t) clause ∷ [])) (sym is)
+      (subst (λ (ls : List Literal). HasSteps terms (derivation_in t log ++ inference_of t (step_of ps clause) ∷ []) (images t learned ++ ls ∷ [])) (sym (l.means.same ∙ ap literals_of here))
+      (steps_more terms (derivation_in t log) (images t learned) (numbers_of ps) c h))
+
+  -- what was learned before may be learned still, where the clause has no literals
+  pub learning_more : (clauses : List (List Lit)) (steps : List StepId) (learned : List (List Lit)) → IsSearch t terms log clauses steps learned → clause ≡ [] → IsLearning t terms new (Unsat id) learned
+  learning_more clauses steps learned s none = record {
     assumes = assumes_more;
     learns = record {
       right = l.right.right;
@@ -78,19 +93,25 @@ module _ (t : TableView) (log new : List Logged) (ps : List StepId) (clause : Li
       atoms = s.atoms;
       new = s.new;
     };
+    logged = subst (λ (c : List Lit). HasSteps terms (derivation_in t new) (images t learned ++ map (literal_at t) c ∷ [])) none (steps_on learned s.steps_made);
   }
 
--- what a search has learned may be learned
-pub learning_shows : (t : TableView) (terms : List Term) (log : List Logged) (clauses : List (List Lit)) (steps : List StepId) (learned : List (List Lit)) → IsLogOf t log → IsSearch t terms log clauses steps learned → IsLearning t terms log learned
-learning_shows t terms log clauses steps learned right s = record { assumes = s.assumes; learns = record { right = right.right; derived = s.derived; atoms = s.atoms; new = s.new } }
+-- what a search has learned may be learned, where its log stays as it is
+pub learning_shows : (t : TableView) (terms : List Term) (log : List Logged) (clauses : List (List Lit)) (steps : List StepId) (learned : List (List Lit)) (a : Answer) → added_by a (images t learned) ≡ images t learned
+    → IsLogOf t log → IsSearch t terms log clauses steps learned → IsLearning t terms log a learned
+learning_shows t terms log clauses steps learned a none right s = record {
+  assumes = s.assumes;
+  learns = record { right = right.right; derived = s.derived; atoms = s.atoms; new = s.new };
+  logged = subst (HasSteps terms (derivation_in t log)) (sym none) s.steps_made;
+}
 
 -- where the budget is spent, the answer shows it
 pub spent_shows : (t : TableView) (terms : List Term) (log : List Logged) (clauses : List (List Lit)) (steps : List StepId) (budget new : BudgetView) (n : ℕ)
     → length budget.learned ≡ budget.limit → n ≡ budget.limit → new ≡ budget → IsLogOf t log → IsSearch t terms log clauses steps budget.learned → IsConflict terms (images t budget.learned)
-    → (IsConflictBudgetSpent terms (derivation_in t log) new.limit n (images t new.learned) × IsConflict terms (images t new.learned)) × IsLearning t terms log new.learned
+    → (IsConflictBudgetSpent terms (derivation_in t log) new.limit n (images t new.learned) × IsConflict terms (images t new.learned)) × IsLearning t terms log (Unknown (Conflicts n)) new.learned
 spent_shows t terms log clauses steps budget new n full carries same right s conflict =
-    let learning = learning_shows t terms log clauses steps budget.learned right s in
-    subst (λ (b : BudgetView). (IsConflictBudgetSpent terms (derivation_in t log) b.limit n (images t b.learned) × IsConflict terms (images t b.learned)) × IsLearning t terms log b.learned) (sym same)
+    let learning = learning_shows t terms log clauses steps budget.learned (Unknown (Conflicts n)) refl right s in
+    subst (λ (b : BudgetView). (IsConflictBudgetSpent terms (derivation_in t log) b.limit n (images t b.learned) × IsConflict terms (images t b.learned)) × IsLearning t terms log (Unknown (Conflicts n)) b.learned) (sym same)
     ((record { full = rw length-map full; carries = carries; learns = learning.learns }, conflict), learning)
 
 module _ (t : TableView) (differ : AreDifferent t.terms) (sorts : (id : TermId) → IsIn t id → sort_of (term_at t id) ≡ Truth)
@@ -204,6 +225,7 @@ module _ (t : TableView) (differ : AreDifferent t.terms) (sorts : (id : TermId) 
             (All-map (λ (x : Literal). IsAtomOf terms x.atom) (literal_at t) clause (λ k d lt. atom_of (get_or clause k d) (Contains-get_or clause k d lt))));
         new = subst (λ (cs : List (List Literal)). AreNew (map literals_of (base_clauses terms)) cs) (sym learned_more)
             (new_more (map literals_of (base_clauses terms)) (images t learned) (map (literal_at t) clause) s.new (new_before some.0 some.1 some.2));
+        steps_made = subst (HasSteps terms (derivation_in t new)) (sym learned_more) (steps_on t log new ps clause id l terms s.assumes learned s.steps_made);
       }
 
   -- and so the search goes on

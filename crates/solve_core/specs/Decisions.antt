@@ -15,4 +15,4 @@ pub record IsJustified (t : TableView) (terms : List Term) (limit : ℕ) (d : Ou
   -- the answer shows what it should
   pub evidence : HasEvidence t terms d.log d.budget d.answer
   -- and so do the log and what was learned
-  pub learning : IsLearning t terms d.log d.budget.learned
+  pub learning : IsLearning t terms d.log d.answer d.budget.learned

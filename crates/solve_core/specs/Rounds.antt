@@ -3,11 +3,11 @@ use Rattle.std.specs.Prelude.{◌≡◌, ◌⊎◌, ◌+◌, ◌<◌, ℕ, true,
 use Rattle.spec_terms.specs.Terms.{Term}
 use Rattle.spec_terms.specs.Values.{Interpretation, Interprets, truth}
 use Rattle.spec_terms.specs.Agreement.{value_at}
-use Rattle.spec_terms.specs.Literals.{Clause, literal_of, literals_of}
+use Rattle.spec_terms.specs.Literals.{Clause, Literal, literal_of, literals_of}
 use Rattle.spec_terms.specs.Subterms.{subterms_of}
 use Rattle.spec_proofs.specs.Resolution.{Resolves, IsWithin}
 use Rattle.spec_proofs.specs.declared.Rule.TheVariants.{Resolution}
-use Rattle.spec_search.specs.Derivations.{AssumesAmong, IsDerivedFrom}
+use Rattle.spec_search.specs.Derivations.{Inference, «assumption», by_rule, Derivation, conclusion, AssumesAmong, IsDerivedFrom}
 use Rattle.spec_search.specs.Base.{base_clauses}
 use Rattle.spec_search.specs.Learned.{AreNew}
 use Rattle.spec_search.specs.Spent.{IsLearnedFrom, IsAtomOf, AreLearned, IsConflictBudgetSpent, IsConflict}
@@ -75,6 +75,25 @@ LogsClause t old premises clause (Err _) new = new ≡ old
 abbrev pub LogsConflict : List (List Lit) → List StepId → List Lit → List (Option ℕ) → ℕ → List Logged → List Logged → Type 0
 LogsConflict clauses steps held reasons clash old new = (new ≡ old) ⊎ ((ns : List ℕ) × (terms : List TermId) × ((n : ℕ) → Contains ns n → IsPremise clauses held reasons clash n) × (new ≡ old ++ stepped Resolution (steps_at steps ns) terms ∷ []))
 
+-- it follows from other clauses by resolution
+abbrev pub IsByResolution : Inference → Type 0
+IsByResolution («assumption» u) = ⊥
+IsByResolution (by_rule r ps c) = r ≡ Resolution
+
+-- The derivation has an inference for each base clause of the terms, and after them one by resolution for each of these clauses, in order.
+pub record HasSteps (terms : List Term) (d : Derivation) (clauses : List (List Literal)) : Type 0 where
+  -- the inferences of the base clauses, and those after them
+  pub base : Derivation
+  pub more : Derivation
+  -- these are all
+  pub all : d ≡ base ++ more
+  -- there are as many as base clauses
+  pub count : length base ≡ length (base_clauses terms)
+  -- and those after them are by resolution
+  pub resolved : All IsByResolution more
+  -- and state these clauses
+  pub same : map (λ x. literals_of (conclusion x)) more ≡ clauses
+
 -- What a search for terms has: a log, the clauses with their steps, and what was learned.
 pub record IsSearch (t : TableView) (terms : List Term) (log : List Logged) (clauses : List (List Lit)) (steps : List StepId) (learned : List (List Lit)) : Type 0 where
   -- the terms are the table's, by their numbers
@@ -97,6 +116,14 @@ pub record IsSearch (t : TableView) (terms : List Term) (log : List Logged) (cla
   pub atoms : All (λ c. All (λ l. IsAtomOf terms l.atom) c) (map (map (literal_at t)) learned)
   -- and was new
   pub new : AreNew (map literals_of (base_clauses terms)) (map (map (literal_at t)) learned)
+  -- the log has the base clauses, and after them what was learned
+  pub steps_made : HasSteps terms (derivation_in t log) (map (map (literal_at t)) learned)
+
+-- the clauses that a search adds to a log: those that it learned, and after them at unsat the answer's, which has no literals
+abbrev pub added_by : Answer → List (List Literal) → List (List Literal)
+added_by (Unsat step) learned = learned ++ [] ∷ []
+added_by (Sat interp) learned = learned
+added_by (Unknown reason) learned = learned
 
 -- what an answer shows of terms: tables under which they are true; a clause without literals that is derived from them; or that the budget is spent at a further conflict
 abbrev pub HasEvidence : TableView → List Term → List Logged → BudgetView → Answer → Type 0
@@ -128,13 +155,15 @@ pub record GoesOn (t : TableView) (log new_log : List Logged) (clauses new_claus
   -- for the terms of the search
   pub search : (terms : List Term) → IsSearch t terms log clauses steps budget.learned → IsSearch t terms new_log new_clauses new_steps new_budget.learned
 
--- What stands beside each answer: the log assumes the terms alone, and what was learned may be.
-pub record IsLearning (t : TableView) (terms : List Term) (log : List Logged) (learned : List (List Lit)) : Type 0 where
+-- What stands beside each answer: the log assumes the terms alone, what was learned may be, and is what the search added to the log.
+pub record IsLearning (t : TableView) (terms : List Term) (log : List Logged) (a : Answer) (learned : List (List Lit)) : Type 0 where
   -- the log assumes the terms alone
   pub assumes : All (λ l. AssumesAmong terms (inference_of t l)) log
   -- the clauses may be learned
   pub learns : AreLearned terms (derivation_in t log) (map (map (literal_at t)) learned)
+  -- they are what came into the log behind the base clauses, but for the answer's own
+  pub logged : HasSteps terms (derivation_in t log) (added_by a (map (map (literal_at t)) learned))
 
 -- the answer shows what it should of the terms of the search
 abbrev pub Shows : TableView → List Logged → List (List Lit) → List StepId → BudgetView → List Logged → BudgetView → Answer → Type 0
-Shows t log clauses steps budget new_log new_budget a = (terms : List Term) → IsSearch t terms log clauses steps budget.learned → HasEvidence t terms new_log new_budget a × IsLearning t terms new_log new_budget.learned
+Shows t log clauses steps budget new_log new_budget a = (terms : List Term) → IsSearch t terms log clauses steps budget.learned → HasEvidence t terms new_log new_budget a × IsLearning t terms new_log a new_budget.learned

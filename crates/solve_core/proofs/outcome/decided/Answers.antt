@@ -14,7 +14,7 @@ returns-clause-decided c =
     let u = c.clauses_of_all.new.table in
     let log = c.clauses_of_all.new.log in
     let store : IsStoreOf u log c.in_ok-list.list c.in_ok-store.store = subst (λ (xs : List StepId). IsStoreOf u log xs c.in_ok-store.store) c.as_slice.ensures c.in_ok-store.ensures in
-    let begins = search_begins t u c.args.roots.now c.requires.roots log c.new-log.result c.new-log.ensures c.in_ok-list.list c.in_ok-list.ensures.grown c.in_ok-list.ensures.clauses c.in_ok-store.store store c.base_clauses_are_over_subterms.ensures
+    let begins = search_begins t u c.args.roots.now c.requires.roots log c.new-log.result c.new-log.ensures c.in_ok-list.list c.in_ok-list.ensures.grown c.in_ok-list.ensures.clauses c.in_ok-list.ensures.made c.in_ok-store.store store c.base_clauses_are_over_subterms.ensures
     c.in_ok-budget.budget.learned (ap (λ b. b.learned) c.in_ok-budget.ensures) in
     record {
       log_right = c.in_ok-answer.ensures.right;

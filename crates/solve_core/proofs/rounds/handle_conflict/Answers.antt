@@ -14,9 +14,9 @@ derive-requires-clause-resolved c =
 pub returns-then-is_empty-clause-comes : goal.returns-then-is_empty-clause-comes
 returns-then-is_empty-clause-comes c = (
   refl,
-  λ terms s. (
-    unsat_shows c.args.table.now c.args.log.now c.derive.new.log _ _ c.in_ok-step.step c.in_ok-step.ensures terms s.assumes (empty_of _ c.deref-then-is_empty.result.now (c.deref-then-is_empty.ensures.len) (sym c.if-is_empty.ensures)),
-    learning_more c.args.table.now c.args.log.now c.derive.new.log _ _ c.in_ok-step.step c.in_ok-step.ensures terms s.assumes (lists c.args.store.now.clauses.items) c.args.store.now.steps.items c.args.budget.now.learned s,
+  λ terms s. let empty = empty_of _ c.deref-then-is_empty.result.now c.deref-then-is_empty.ensures.len (sym c.if-is_empty.ensures) in (
+    unsat_shows c.args.table.now c.args.log.now c.derive.new.log _ _ c.in_ok-step.step c.in_ok-step.ensures terms s.assumes empty,
+    learning_more c.args.table.now c.args.log.now c.derive.new.log _ _ c.in_ok-step.step c.in_ok-step.ensures terms s.assumes (lists c.args.store.now.clauses.items) c.args.store.now.steps.items c.args.budget.now.learned s empty,
   ),
 )
 

@@ -2,6 +2,7 @@
 use Rattle.std.proofs.Common.{◌∙◌, ◌-◌, subst, refl, arith, length}
 use Rattle.term_core.specs.Tables.{AreDeclared}
 use Rattle.rule_bool.specs.Literals.{lists}
+use Rattle.solve_core.specs.declared.rounds.Answer.TheVariants.{Sat}
 use Rattle.solve_core.specs.Search.{atoms_in, open_count}
 use Rattle.solve_core.proofs.SearchTrails.{over_own}
 use Rattle.solve_core.proofs.SearchRounds.{learning_shows}
@@ -59,7 +60,7 @@ returns-in_default-next_open-clause-evidence c = λ terms s.
     let search = c.rounds.invariant.search terms s in
     let shows = sat_shows t c.rounds.log clauses c.rounds.store.steps.items _ _ (ready_on t c.rounds.log clauses c.rounds.store.steps.items _ _ _ _ c.rounds.invariant.ready h.0) c.ids_are_unique.ensures c.terms_are_closed.ensures c.all_terms_are_bool.ensures
     c.heads_take_their_arguments.ensures c.heads_are_declared.ensures declared c.base_clauses_define_their_terms.ensures.model h.1 settled c.in_ok-model_of-in-Quiet.field-0 c.in_ok-model_of-in-Quiet.ensures terms c.rounds.budget.learned (c.rounds.invariant.search terms s) in
-    (shows, learning_shows t terms c.rounds.log clauses c.rounds.store.steps.items c.rounds.budget.learned c.rounds.invariant.ready.log_right search)
+    (shows, learning_shows t terms c.rounds.log clauses c.rounds.store.steps.items c.rounds.budget.learned (Sat c.in_ok-model_of-in-Quiet.field-0) refl c.rounds.invariant.ready.log_right search)
 
 pub push-requires : goal.push-requires
 push-requires c =
