@@ -11,7 +11,7 @@ use Rattle.term_core.specs.declared.values.Interp.{Interp}
 use Rattle.term_core.specs.Tables.{TableView, literal_at}
 use Rattle.proof_log.specs.Logs.{Logged, derivation_in}
 use Rattle.sat_budget.specs.Budgets.{BudgetView}
-use Rattle.solve_core.specs.declared.rounds.Answer.TheVariants.{Sat, Unknown}
+use Rattle.solve_core.specs.declared.cdcl.Answer.TheVariants.{Sat, Unknown}
 use Rattle.sat_budget.specs.declared.limits.Reason.{Reason}
 use Rattle.sat_budget.specs.declared.limits.Reason.TheVariants as reasons
 use Rattle.solve_core.specs.Rounds.{HasEvidence}

@@ -10,8 +10,10 @@ use Rattle.rule_bool.specs.Literals.{lit_complement, lists}
 use Rattle.rule_bool.proofs.LiteralLists.{negation_twice}
 use Rattle.rule_bool.proofs.Stepping.{item}
 use Rattle.solve_core.specs.Search.{IsTrail, IsAdded, IsForced, IsClash}
-use Rattle.solve_core.specs.Analyses.{MarksEach, MarksOthers, IsExplained, IsDecision, HasTwo, RestsAt, Cuts, Notes, Follows, IsNeeded, by_clash, by_reason}
+use Rattle.solve_core.specs.Analyses.{MarksEach, MarksOthers, IsExplained, IsDecision, HasTwo, followed_to, RestsAt, Cuts, Notes, Follows, IsNeeded, by_clash, by_reason}
 use Rattle.solve_core.specs.declared.analysis.Analysis.{Analysis}
+use Rattle.solve_core.specs.declared.store.ClauseStore.{ClauseStore}
+use Rattle.solve_core.specs.declared.trail.Trail.{Trail}
 
 -- a place holds one thing
 pub same_place : (xs : List Lit) (k : ℕ) (a b : Lit) → k < length xs → get_or xs k a ≡ a → get_or xs k b ≡ b → a ≡ b
@@ -78,7 +80,7 @@ module _ (clauses : List (List Lit)) (held : List Lit) (reasons : List (Option �
   pub later_open : (at q : ℕ) (m : Lit) → at ≤ q → q < length held → get_or held q m ≡ m → Contains (take at held) m → ⊥
   later_open at q m le lt e i = (t.was_open q m lt e).not_held (front_in held at q m le i)
 
-  module _ (clash at : ℕ) (l : Lit) (lt : at < length held) (here : get_or held at l ≡ l) (marked : List Lit) (premises : List ℕ) (clause : List Lit) (cut : ℕ) (r : RestsAt clauses held reasons clash (at + 1) marked premises clause cut) where
+  module _ (clash at : ℕ) (l : Lit) (lt : at < length held) (here : get_or held at l ≡ l) (marked : List Lit) (premises : List ℕ) (clause : List Lit) (cut : ℕ) (r : RestsAt clauses held reasons clash (at + 1) (followed_to marked premises clause cut)) where
     -- a decision of the clause is behind this place
     behind : (m : Lit) → Contains clause m → Contains (take at held) (lit_complement m) → ⊥
     behind m i j =
@@ -86,7 +88,7 @@ module _ (clauses : List (List Lit)) (held : List Lit) (reasons : List (Option �
         later_open at d.0 (lit_complement m) (omega (arith, d.1)) d.2.within d.2.there j
 
     -- what isn't marked stays out
-    pub passed : (n : ℕ) → get_or reasons at None ≡ Some n → (Contains marked l → ⊥) → RestsAt clauses held reasons clash at marked premises clause cut
+    pub passed : (n : ℕ) → get_or reasons at None ≡ Some n → (Contains marked l → ⊥) → RestsAt clauses held reasons clash at (followed_to marked premises clause cut)
     passed n reason free = record {
       clash_taken = r.clash_taken;
       clash_marked = r.clash_marked;
@@ -120,7 +122,7 @@ module _ (clauses : List (List Lit)) (held : List Lit) (reasons : List (Option �
       is_early : (k : Lit) → Contains marks k → Contains marked k ⊎ Contains (take at held) k
       is_early k i = elim (h.only k i) [ inl was ↦ inl was | inr a ↦ inr (subst (λ (x : Lit). Contains (take at held) x) (sym a.2) (forced.others a.0 a.1.0 a.1.1)) ]
 
-      pub followed : RestsAt clauses held reasons clash at marks (premises ++ n ∷ []) clause cut
+      pub followed : RestsAt clauses held reasons clash at (followed_to marks (premises ++ n ∷ []) clause cut)
       followed = record {
         clash_taken = more_premises clash r.clash_taken;
         clash_marked = λ m i. h.kept (lit_complement m) (r.clash_marked m i);
@@ -169,7 +171,7 @@ module _ (clauses : List (List Lit)) (held : List Lit) (reasons : List (Option �
       ]
 
     -- a decision that isn't marked
-    pub decision_passed : (next : ℕ) → get_or reasons at None ≡ None → (Contains marked l → ⊥) → Cuts clause at cut next → RestsAt clauses held reasons clash at marked premises clause next
+    pub decision_passed : (next : ℕ) → get_or reasons at None ≡ None → (Contains marked l → ⊥) → Cuts clause at cut next → RestsAt clauses held reasons clash at (followed_to marked premises clause next)
     decision_passed next decided free cuts =
         let open_here : 2 ≤ length clause → HasTwo (take at held) clause = λ many. let w = r.two many in record {
           one = w.0;
@@ -265,7 +267,7 @@ module _ (clauses : List (List Lit)) (held : List Lit) (reasons : List (Option �
                 ],
               )
 
-      pub decision_taken : RestsAt clauses held reasons clash at marked premises (clause ++ x ∷ []) next
+      pub decision_taken : RestsAt clauses held reasons clash at (followed_to marked premises (clause ++ x ∷ []) next)
       decision_taken = record {
         clash_taken = r.clash_taken;
         clash_marked = r.clash_marked;
@@ -292,7 +294,7 @@ module _ (clauses : List (List Lit)) (held : List Lit) (reasons : List (Option �
       }
 
   -- what is found at first
-  pub begins : (clash : ℕ) (marked : List Lit) → IsClash clauses held clash → MarksEach (get_or clauses clash []) [] marked → RestsAt clauses held reasons clash (length held) marked (clash ∷ []) [] (length held)
+  pub begins : (clash : ℕ) (marked : List Lit) → IsClash clauses held clash → MarksEach (get_or clauses clash []) [] marked → RestsAt clauses held reasons clash (length held) (followed_to marked (clash ∷ []) [] (length held))
   begins clash marked c h = record {
     clash_taken = (0, omega arith, refl);
     clash_marked = h.added;
@@ -327,15 +329,15 @@ pub marked_from : (vs : List (Vec Lit Global)) (n : ℕ) (v : Vec Lit Global) �
 marked_from vs n v lt e l old new h = subst (λ (c : List Lit). MarksOthers c l old new) (sym (item vs n v lt e)) h
 
 -- a decision that is noted
-module _ (clauses : List (List Lit)) (held : List Lit) (reasons : List (Option ℕ)) (t : IsTrail clauses held reasons) (at : ℕ) (l : Lit) (lt : at < length held) (here : get_or held at l ≡ l) (old new : Analysis) where
-  pub noted : get_or reasons at None ≡ None → (Contains old.marked l → ⊥) → Notes old new [] at → Follows clauses held reasons at old new
+module _ (store : ClauseStore) (trail : Trail) (t : IsTrail (lists store.clauses.items) trail.held trail.reasons.items) (at : ℕ) (l : Lit) (lt : at < length trail.held) (here : get_or trail.held at l ≡ l) (old new : Analysis) where
+  pub noted : get_or trail.reasons.items at None ≡ None → (Contains old.marked l → ⊥) → Notes old new [] at → Follows store trail at old new
   noted decided free n clash r =
       let same : new.clause.items ≡ old.clause.items = n.clause ∙ append-nil old.clause.items in
-      let h = decision_passed clauses held reasons t clash at l lt here old.marked old.premises.items old.clause.items old.cut r new.cut decided free (subst (λ (c : List Lit). Cuts c at old.cut new.cut) same n.cut) in
+      let h = decision_passed (lists store.clauses.items) trail.held trail.reasons.items t clash at l lt here old.marked old.premises.items old.clause.items old.backjump r new.backjump decided free (subst (λ (c : List Lit). Cuts c at old.backjump new.backjump) same n.cut) in
       rw (n.marked, n.premises, same) h
 
-  pub taken : (result : Result (Unit {0}) AllocError) → get_or reasons at None ≡ None → Contains old.marked l → OnOk result (Notes old new (lit_complement l ∷ []) at) → OnOk result (Follows clauses held reasons at old new)
+  pub taken : (result : Result (Unit {0}) AllocError) → get_or trail.reasons.items at None ≡ None → Contains old.marked l → OnOk result (Notes old new (lit_complement l ∷ []) at) → OnOk result (Follows store trail at old new)
   taken (Err e) decided is_there n = tt
   taken (Ok u) decided is_there n = λ clash r.
-      let h = decision_taken clauses held reasons t clash at l lt here old.marked old.premises.items old.clause.items old.cut r new.cut decided is_there (subst (λ (c : List Lit). Cuts c at old.cut new.cut) n.clause n.cut) in
+      let h = decision_taken (lists store.clauses.items) trail.held trail.reasons.items t clash at l lt here old.marked old.premises.items old.clause.items old.backjump r new.backjump decided is_there (subst (λ (c : List Lit). Cuts c at old.backjump new.backjump) n.clause n.cut) in
       rw (n.marked, n.premises, n.clause) h

@@ -5,8 +5,8 @@ use Rattle.std.proofs.lemmas.List.{length-append, get_or-take, length-take-le}
 use Rattle.std.proofs.lemmas.List.Elements.{Contains-push_cases, Contains-append_left}
 use Rattle.term_core.specs.declared.ids.Lit.{Lit}
 use Rattle.rule_bool.specs.Statuses.{IsSettled}
-use Rattle.solve_core.specs.Search.{IsTrail, IsAdded, IsForced, IsDecided, IsOpen}
-use Rattle.solve_core.specs.Analyses.{HasTwo, RestsAt}
+use Rattle.solve_core.specs.Search.{IsTrail, IsAdded, IsForced, IsDecided, IsUnassigned}
+use Rattle.solve_core.specs.Analyses.{HasTwo, followed_to, RestsAt}
 use Rattle.solve_core.proofs.SearchTrails.{get_early}
 
 -- the front of a front
@@ -44,7 +44,7 @@ module _ (clauses : List (List Lit)) (clause : List Lit) (held : List Lit) where
   }
 
 -- the trail that is left
-module _ (clauses : List (List Lit)) (held : List Lit) (reasons : List (Option ℕ)) (t : IsTrail clauses held reasons) (clash : ℕ) (marked : List Lit) (premises : List ℕ) (clause : List Lit) (cut : ℕ) (r : RestsAt clauses held reasons clash 0 marked premises clause cut) where
+module _ (clauses : List (List Lit)) (held : List Lit) (reasons : List (Option ℕ)) (t : IsTrail clauses held reasons) (clash : ℕ) (marked : List Lit) (premises : List ℕ) (clause : List Lit) (cut : ℕ) (r : RestsAt clauses held reasons clash 0 (followed_to marked premises clause cut)) where
   short : length (take cut held) ≡ cut
   short = length-take-le cut held r.within
 
@@ -70,7 +70,7 @@ module _ (clauses : List (List Lit)) (held : List Lit) (reasons : List (Option �
   pub trail_cut : IsTrail (clauses ++ clause ∷ []) (take cut held) (take cut reasons)
   trail_cut = record {
     paired = length-take-le cut reasons (omega (arith, r.within, t.paired)) ∙ sym short;
-    was_open = λ k l lt e. subst (λ (h : List Lit). IsOpen h l) (sym (front k lt)) (t.was_open k l (inside k lt) (place k l lt e));
+    was_open = λ k l lt e. subst (λ (h : List Lit). IsUnassigned h l) (sym (front k lt)) (t.was_open k l (inside k lt) (place k l lt e));
     added = λ k l lt e. subst (λ (x : Option ℕ). IsAdded (clauses ++ clause ∷ []) (take k (take cut held)) l x) (sym (get_or-take cut reasons k None (early k lt)))
         (subst (λ (h : List Lit). IsAdded (clauses ++ clause ∷ []) h l (get_or reasons k None)) (sym (front k lt)) (added_more k l (early k lt) (inside k lt) (place k l lt e)));
   }

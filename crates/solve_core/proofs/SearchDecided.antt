@@ -18,7 +18,7 @@ use Rattle.rule_bool.specs.Resolvents.{Means}
 use Rattle.proof_log.specs.declared.premises.StepId.{StepId}
 use Rattle.proof_log.specs.Logs.{Logged, assumed, stepped, inference_of, derivation_in}
 use Rattle.clausify.specs.Clausified.{stated, HasClauses, AssumesOneOf, Grows, AreAllMade}
-use Rattle.solve_core.specs.declared.store.Store.{Store}
+use Rattle.solve_core.specs.declared.store.ClauseStore.{ClauseStore}
 use Rattle.solve_core.specs.Stores.{no_step, IsStoreOf}
 use Rattle.solve_core.specs.Rounds.{IsSearch}
 use Rattle.solve_core.proofs.SearchLogs.{steps_start}
@@ -29,7 +29,7 @@ among_roots t roots (assumed id) i = to_image (term_at t) roots id i
 among_roots t roots (stepped r ps c) h = tt
 
 module _ (t u : TableView) (roots : List TermId) (roots_in : AreIn t roots) (log old : List Logged) (none : old ≡ []) (steps : List StepId) (g : Grows roots t u old log) (h : HasClauses u log (clause_at t roots) steps) (m : AreAllMade old log steps)
-    (store : Store) (s : IsStoreOf u log steps store)
+    (store : ClauseStore) (s : IsStoreOf u log steps store)
     (law : (terms : List Term) (c : Clause) (l : Literal) → Contains (base_clauses terms) c → Contains (literals_of c) l → Contains (subterms_of terms) l.atom) where
   terms : List Term
   terms = clause_at t roots

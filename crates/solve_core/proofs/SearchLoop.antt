@@ -23,7 +23,7 @@ use Rattle.rule_bool.specs.Propagation.{failing}
 use Rattle.rule_bool.specs.Resolvents.{Means, AreOf}
 use Rattle.proof_log.specs.declared.premises.StepId.{StepId}
 use Rattle.proof_log.specs.Logs.{Logged}
-use Rattle.solve_core.specs.Search.{AreOver, IsTrail, IsQuiet, IsOpen, IsOpenIn, AreSettled, Advances, open_count}
+use Rattle.solve_core.specs.Search.{AreOver, IsTrail, IsQuiet, IsUnassigned, IsUnassignedIn, AreSettled, Advances, open_count}
 use Rattle.solve_core.specs.SearchModels.{IsModelOf}
 use Rattle.solve_core.specs.Rounds.{IsSearch, IsReady}
 use Rattle.solve_core.proofs.SearchTrails.{trail_more, open_fewer, one_of_two}
@@ -71,7 +71,7 @@ pub ready_on : (t : TableView) (log : List Logged) (clauses : List (List Lit)) (
 ready_on t log clauses steps old new before after r a = record { log_right = r.log_right; derives = r.derives; trail = a.trail r.trail }
 
 -- what is decided
-module _ (clauses : List (List Lit)) (held : List Lit) (reasons : List (Option ℕ)) (trail : IsTrail clauses held reasons) (quiet : IsQuiet clauses held) (l : Lit) (o : IsOpenIn clauses held l) where
+module _ (clauses : List (List Lit)) (held : List Lit) (reasons : List (Option ℕ)) (trail : IsTrail clauses held reasons) (quiet : IsQuiet clauses held) (l : Lit) (o : IsUnassignedIn clauses held l) where
   abbrev decision : Lit
   decision = record { term = l.term; positive = false }
 
@@ -81,7 +81,7 @@ module _ (clauses : List (List Lit)) (held : List Lit) (reasons : List (Option �
   not_opposed : Contains held (lit_complement decision) → ⊥
   not_opposed i = elim (one_of_two l true (λ x. Contains held x) i) [ inl a ↦ o.is_open.not_held a | inr b ↦ o.is_open.not_false b ]
 
-  now_open : IsOpen held decision
+  now_open : IsUnassigned held decision
   now_open = record { not_held = not_yet; not_false = not_opposed }
 
   pub trail_decided : IsTrail clauses (held ++ decision ∷ []) (reasons ++ None ∷ [])

@@ -14,7 +14,7 @@ use Rattle.rule_bool.specs.Statuses.{IsSettled as LitSettled}
 use Rattle.rule_bool.proofs.LiteralLists.{negation_twice}
 use Rattle.rule_bool.proofs.Resolvents.{literals_apart}
 use Rattle.solve_core.specs.Search.{IsTrail, IsQuiet as LitQuiet}
-use Rattle.solve_core.specs.Analyses.{IsDecision, RestsAt}
+use Rattle.solve_core.specs.Analyses.{IsDecision, followed_to, RestsAt}
 use Rattle.solve_core.proofs.SearchAnalysis.{front_all, in_front, same_place}
 
 -- what follows from some clauses follows from more
@@ -98,7 +98,7 @@ module _ (t : TableView) (differ : AreDifferent t.terms) (front : List Lit) (the
 -- the clause that a conflict gives is new
 module _ (t : TableView) (differ : AreDifferent t.terms) (clauses : List (List Lit)) (held : List Lit) (reasons : List (Option ℕ)) (trail : IsTrail clauses held reasons)
     (clauses_in : (d : List Lit) (l : Lit) → Contains clauses d → Contains d l → IsIn t l.term) (held_in : (l : Lit) → Contains held l → IsIn t l.term)
-    (clash : ℕ) (marked : List Lit) (premises : List ℕ) (clause : List Lit) (cut : ℕ) (r : RestsAt clauses held reasons clash 0 marked premises clause cut)
+    (clash : ℕ) (marked : List Lit) (premises : List ℕ) (clause : List Lit) (cut : ℕ) (r : RestsAt clauses held reasons clash 0 (followed_to marked premises clause cut))
     (quiet_at : (p : ℕ) (l : Lit) → IsDecision held reasons p l → LitQuiet clauses (take p held))
     (base : List (List Literal)) (from : (c : List Literal) → Contains base c → (d : List Lit) × Contains clauses d × (map (literal_at t) d ≡ c)) where
   pub is_new : (m : Lit) (ms : List Lit) → clause ≡ m ∷ ms → IsNew base (map (literal_at t) clause)

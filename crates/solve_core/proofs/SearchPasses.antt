@@ -10,7 +10,8 @@ use Rattle.rule_bool.specs.Statuses.{IsFalsified, IsUnit, IsSettled}
 use Rattle.rule_bool.specs.declared.status.ClauseStatus.{ClauseStatus}
 use Rattle.rule_bool.specs.declared.status.ClauseStatus.TheVariants as statuses
 use Rattle.rule_bool.proofs.Stepping.{item}
-use Rattle.solve_core.specs.Search.{IsQuiet, IsOpen, Advances, TakesUp, IsClash}
+use Rattle.solve_core.specs.declared.trail.Trail.{Trail}
+use Rattle.solve_core.specs.Search.{IsQuiet, IsUnassigned, Advances, TakesUp, IsClash}
 use Rattle.solve_core.proofs.SearchTrails.{trail_more, open_fewer}
 
 abbrev to_items : Vec Lit Global → List Lit
@@ -25,9 +26,9 @@ module _ (vs : List (Vec Lit Global)) (n : ℕ) (v : Vec Lit Global) (lt : n < l
   taken_next = take_more (lists vs) n [] in_lists ∙ ap (λ (c : List Lit). take n (lists vs) ++ c ∷ []) (item vs n v lt e)
 
 -- an open or a true clause
-pub settles : (c old new : List Lit) (before after : List (Option ℕ)) (number : ℕ) (f : ClauseStatus) → (f ≡ statuses.Unresolved) ⊎ (f ≡ statuses.Satisfied) → TakesUp c number old new before after f → IsSettled old c × (new ≡ old) × (after ≡ before)
-settles c old new before after number f (inl e) t = let P : ClauseStatus → Type 0 = TakesUp c number old new before after in subst P e t
-settles c old new before after number f (inr e) t = let P : ClauseStatus → Type 0 = TakesUp c number old new before after in subst P e t
+pub settles : (c : List Lit) (old new : Trail) (number : ℕ) (f : ClauseStatus) → (f ≡ statuses.Unresolved) ⊎ (f ≡ statuses.Satisfied) → TakesUp c number old new f → IsSettled old.held c × (new.held ≡ old.held) × (new.reasons.items ≡ old.reasons.items)
+settles c old new number f (inl e) t = let P : ClauseStatus → Type 0 = TakesUp c number old new in subst P e t
+settles c old new number f (inr e) t = let P : ClauseStatus → Type 0 = TakesUp c number old new in subst P e t
 
 -- nothing is added
 pub advances_none : (clauses : List (List Lit)) (held : List Lit) (reasons : List (Option ℕ)) → Advances clauses held held reasons reasons
@@ -52,7 +53,7 @@ module _ (clauses : List (List Lit)) (held : List Lit) (reasons : List (Option �
       go (c ∷ cs) zero lt = refl
       go (c ∷ cs) (suc k) lt = go cs k (omega (arith, lt))
 
-  now_open : IsOpen held l
+  now_open : IsUnassigned held l
   now_open = record { not_held = u.not_held; not_false = u.not_false }
 
   pub advances_one : Advances clauses held (held ++ l ∷ []) reasons (reasons ++ Some number ∷ [])

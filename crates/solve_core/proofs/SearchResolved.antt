@@ -15,12 +15,12 @@ use Rattle.proof_log.specs.declared.premises.StepId.{StepId}
 use Rattle.proof_log.specs.Logs.{Logged}
 use Rattle.clausify.specs.Clausified.{stated}
 use Rattle.solve_core.specs.Search.{IsTrail, IsAdded, IsForced, IsDecided, IsMentioned}
-use Rattle.solve_core.specs.Analyses.{IsExplained, IsDecision, RestsAt}
+use Rattle.solve_core.specs.Analyses.{IsExplained, IsDecision, followed_to, RestsAt}
 use Rattle.solve_core.specs.Stores.{no_step, Derives as StoreDerives}
 use Rattle.solve_core.specs.Rounds.{numbered, IsAtom, IsResolved}
 use Rattle.solve_core.proofs.SearchAnalysis.{from_front}
 
-module _ (clauses : List (List Lit)) (held : List Lit) (reasons : List (Option ℕ)) (t : IsTrail clauses held reasons) (clash : ℕ) (marked : List Lit) (premises : List ℕ) (clause : List Lit) (cut : ℕ) (r : RestsAt clauses held reasons clash 0 marked premises clause cut) where
+module _ (clauses : List (List Lit)) (held : List Lit) (reasons : List (Option ℕ)) (t : IsTrail clauses held reasons) (clash : ℕ) (marked : List Lit) (premises : List ℕ) (clause : List Lit) (cut : ℕ) (r : RestsAt clauses held reasons clash 0 (followed_to marked premises clause cut)) where
   abbrev Follows : Lit → Type 0
   Follows l = Derives lit_complement (numbered clauses premises) (map lit_complement clause) l
 
@@ -106,7 +106,7 @@ module _ (t : TableView) (log : List Logged) (clauses : List (List Lit)) (steps 
     pub decided_at : (p : ℕ) (l : Lit) → IsDecision held reasons p l → IsDecided clauses (take p held) l
     decided_at p l d = subst (λ (x : Option ℕ). IsAdded clauses (take p held) l x) d.decided (trail.added p l d.within d.there)
 
-    module _ (clash : ℕ) (marked : List Lit) (premises : List ℕ) (clause : List Lit) (cut : ℕ) (r : RestsAt clauses held reasons clash 0 marked premises clause cut) where
+    module _ (clash : ℕ) (marked : List Lit) (premises : List ℕ) (clause : List Lit) (cut : ℕ) (r : RestsAt clauses held reasons clash 0 (followed_to marked premises clause cut)) where
       -- the literals of the clause are atoms
       pub clause_atoms : (m : Lit) → Contains clause m → IsAtom t m
       clause_atoms m i =

@@ -24,12 +24,13 @@ use Rattle.proof_log.specs.declared.premises.StepId.{StepId}
 use Rattle.proof_log.specs.Logs.{Logged, stepped, numbers_of, inference_of, derivation_in, IsLogOf}
 use Rattle.clausify.specs.Clausified.{stated}
 use Rattle.sat_budget.specs.Budgets.{BudgetView}
-use Rattle.solve_core.specs.Search.{AreOver, IsMentioned}
-use Rattle.solve_core.specs.Analyses.{RestsAt}
+use Rattle.solve_core.specs.declared.trail.Trail.{Trail}
+use Rattle.solve_core.specs.Search.{AreOver, IsMentioned, IsTrail}
+use Rattle.solve_core.specs.Analyses.{followed_to, RestsAt}
 use Rattle.solve_core.specs.Stores.{Derives}
 use Rattle.sat_budget.specs.declared.limits.Reason.TheVariants.{Conflicts}
-use Rattle.solve_core.specs.declared.rounds.Answer.{Answer}
-use Rattle.solve_core.specs.declared.rounds.Answer.TheVariants.{Unsat, Unknown}
+use Rattle.solve_core.specs.declared.cdcl.Answer.{Answer}
+use Rattle.solve_core.specs.declared.cdcl.Answer.TheVariants.{Unsat, Unknown}
 use Rattle.solve_core.specs.Rounds.{numbered, Logs, HasSteps, added_by, IsSearch, IsReady, IsLearning, GoesOn}
 use Rattle.solve_core.proofs.SearchStores.{derives_more}
 use Rattle.solve_core.proofs.SearchResolved.{store_bare, trail_bare, decided_at, clause_atoms, clause_follows}
@@ -71,7 +72,7 @@ module _ (t : TableView) (log new : List Logged) (ps : List StepId) (clause : Li
   pub unsat_shows : clause ≡ [] → (stated t new id ≡ []) × IsDerivedFrom terms (derivation_in t new) id.0
   unsat_shows e = (none_of (stated t new id) (sym (ap (map (literal_at t)) e) ∙ l.means.same), is_derived)
 
-  -- the log has a clause more behind the base clauses
+  -- the log has one clause more after the base clauses
   pub steps_on : (learned : List (List Lit)) → HasSteps terms (derivation_in t log) (images t learned) → HasSteps terms (derivation_in t new) (images t learned ++ map (literal_at t) clause ∷ [])
   steps_on learned h =
       let c : Clause = clause_at t (map (λ (x : Lit). x.term) clause) in
@@ -116,7 +117,7 @@ spent_shows t terms log clauses steps budget new n full carries same right s con
 
 module _ (t : TableView) (differ : AreDifferent t.terms) (sorts : (id : TermId) → IsIn t id → sort_of (term_at t id) ≡ Truth)
     (log : List Logged) (clauses : List (List Lit)) (steps : List StepId) (held : List Lit) (reasons : List (Option ℕ)) (ready : IsReady t log clauses steps held reasons)
-    (clash : ℕ) (marked : List Lit) (premises : List ℕ) (clause : List Lit) (cut : ℕ) (r : RestsAt clauses held reasons clash 0 marked premises clause cut) where
+    (clash : ℕ) (marked : List Lit) (premises : List ℕ) (clause : List Lit) (cut : ℕ) (r : RestsAt clauses held reasons clash 0 (followed_to marked premises clause cut)) where
   clauses_in : (d : List Lit) (l : Lit) → Contains clauses d → Contains d l → IsIn t l.term
   clauses_in d l i j = (store_bare t log clauses steps ready.derives d l i j).there
 
@@ -230,18 +231,22 @@ module _ (t : TableView) (differ : AreDifferent t.terms) (sorts : (id : TermId) 
 
   -- and so the search goes on
   module _ (new : List Logged) (ps : List StepId) (id : StepId) (l : Logs t log ps clause id new) (some : (m : Lit) × (ms : List Lit) × (clause ≡ m ∷ ms)) (budget later : BudgetView) (room : length budget.learned < budget.limit) (is : later ≡ record budget { learned = budget.learned ++ clause ∷ [] }) where
-    pub goes_on : GoesOn t log new clauses (clauses ++ clause ∷ []) steps (steps ++ id ∷ []) (take cut held) (take cut reasons) budget later
-    goes_on = record {
+    pub goes_on : (new_clauses : List (List Lit)) (new_steps : List StepId) (trail : Trail) → new_clauses ≡ clauses ++ clause ∷ [] → new_steps ≡ steps ++ id ∷ [] → trail.held ≡ take cut held → trail.reasons.items ≡ take cut reasons
+        → GoesOn t (record { log = log; clauses = clauses; steps = steps; budget = budget }) (record { log = new; clauses = new_clauses; steps = new_steps; budget = later }) trail
+    goes_on new_clauses new_steps trail more_clauses more_steps fewer fewer_reasons = record {
       ready = record {
         log_right = l.right;
-        derives = derives_more t new clauses steps (subst (λ (xs : List Logged). Derives t xs clauses steps) (sym l.last) (derives_kept t log (step_of ps clause) clauses steps ready.derives)) clause id (omega (arith, l.number, ap length l.last, length-append log (step_of ps clause ∷ []))) l.means;
-        trail = trail_cut clauses held reasons ready.trail clash marked premises clause cut r;
+        derives = subst (λ (cs : List (List Lit)). Derives t new cs new_steps) (sym more_clauses) (subst (λ (ss : List StepId). Derives t new (clauses ++ clause ∷ []) ss) (sym more_steps)
+            (derives_more t new clauses steps (subst (λ (xs : List Logged). Derives t xs clauses steps) (sym l.last) (derives_kept t log (step_of ps clause) clauses steps ready.derives)) clause id (omega (arith, l.number, ap length l.last, length-append log (step_of ps clause ∷ []))) l.means));
+        trail = subst (λ (cs : List (List Lit)). IsTrail cs trail.held trail.reasons.items) (sym more_clauses) (subst (λ (h : List Lit). IsTrail (clauses ++ clause ∷ []) h trail.reasons.items) (sym fewer)
+            (subst (λ (rs : List (Option ℕ)). IsTrail (clauses ++ clause ∷ []) (take cut held) rs) (sym fewer_reasons) (trail_cut clauses held reasons ready.trail clash marked premises clause cut r)));
       };
       room = room;
       limit = ap (λ (b : BudgetView). b.limit) is;
       learned = ap (λ (b : BudgetView). length b.learned) is ∙ length-append budget.learned (clause ∷ []);
-      over = over_more;
-      search = λ terms s. subst (λ (b : BudgetView). IsSearch t terms new (clauses ++ clause ∷ []) (steps ++ id ∷ []) b.learned) (sym is) (search_on terms budget.learned s new ps id l some);
+      over = λ atoms over. subst (AreOver atoms) (sym more_clauses) (over_more atoms over);
+      search = λ terms s. subst (λ (cs : List (List Lit)). IsSearch t terms new cs new_steps later.learned) (sym more_clauses) (subst (λ (ss : List StepId). IsSearch t terms new (clauses ++ clause ∷ []) ss later.learned) (sym more_steps)
+          (subst (λ (b : BudgetView). IsSearch t terms new (clauses ++ clause ∷ []) (steps ++ id ∷ []) b.learned) (sym is) (search_on terms budget.learned s new ps id l some)));
     }
 
 -- a list of length 0 is empty

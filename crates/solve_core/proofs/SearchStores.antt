@@ -13,7 +13,7 @@ use Rattle.proof_log.specs.Logs.{Logged, named, logged_at, no_logged, inference_
 use Rattle.proof_log.proofs.Logged.{conclusion_of}
 use Rattle.clausify.specs.Clausified.{stated}
 use Rattle.solve_core.specs.Stores.{no_step, Derives, IsStoreOf}
-use Rattle.solve_core.specs.declared.store.Store.{Store}
+use Rattle.solve_core.specs.declared.store.ClauseStore.{ClauseStore}
 use Rattle.solve_core.proofs.SearchTrails.{get_early, get_last, early_or_last}
 
 -- what a step states
@@ -52,7 +52,7 @@ pub lists_more : (vs : List (Vec Lit Global)) (v : Vec Lit Global) → lists (vs
 lists_more vs v = map-append to_items vs (v ∷ [])
 
 -- a store with one more
-pub store_more : (t : TableView) (log : List Logged) (steps : List StepId) (store new : Store) (v : Vec Lit Global) (s : StepId) → IsStoreOf t log steps store → s.0 < length log → Means t v.items (stated t log s)
+pub store_more : (t : TableView) (log : List Logged) (steps : List StepId) (store new : ClauseStore) (v : Vec Lit Global) (s : StepId) → IsStoreOf t log steps store → s.0 < length log → Means t v.items (stated t log s)
     → new.clauses.items ≡ store.clauses.items ++ v ∷ [] → new.steps.items ≡ store.steps.items ++ s ∷ [] → IsStoreOf t log (steps ++ s ∷ []) new
 store_more t log steps store new v s h lt m e f = record {
   by = f ∙ ap (λ (xs : List StepId). xs ++ s ∷ []) h.by;

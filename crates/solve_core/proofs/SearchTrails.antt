@@ -11,7 +11,7 @@ use Rattle.term_core.specs.declared.ids.Lit.{Lit}
 use Rattle.rule_bool.specs.Literals.{lit_complement, has}
 use Rattle.rule_bool.proofs.LiteralLists.{Contains-from_has, has-from_Contains}
 use Rattle.rule_bool.proofs.Advancing.{fail_fewer}
-use Rattle.solve_core.specs.Search.{AreOver, IsOpen, IsAdded, IsTrail, atoms_in, is_assigned, open_count}
+use Rattle.solve_core.specs.Search.{AreOver, IsUnassigned, IsAdded, IsTrail, atoms_in, is_assigned, open_count}
 
 -- the places of a list with one more
 module _ {A : Type 0} (xs : List A) (x : A) where
@@ -52,7 +52,7 @@ early_or_last (suc k) zero lt = absurd (omega (arith, lt))
 early_or_last (suc k) (suc n) lt = elim (early_or_last k n (omega (arith, lt))) [ inl l ↦ inl (omega (arith, l)) | inr e ↦ inr (ap suc e) ]
 
 -- a trail with one more literal
-module _ (clauses : List (List Lit)) (held : List Lit) (reasons : List (Option ℕ)) (l : Lit) (r : Option ℕ) (is_open : IsOpen held l) (added : IsAdded clauses held l r) (t : IsTrail clauses held reasons) where
+module _ (clauses : List (List Lit)) (held : List Lit) (reasons : List (Option ℕ)) (l : Lit) (r : Option ℕ) (is_open : IsUnassigned held l) (added : IsAdded clauses held l r) (t : IsTrail clauses held reasons) where
   longer : (P : List Lit → Lit → Option ℕ → Type 0) → ((k : ℕ) (m : Lit) → k < length held → get_or held k m ≡ m → P (take k held) m (get_or reasons k None)) → P held l r
       → (k : ℕ) (m : Lit) → k < length (held ++ l ∷ []) → get_or (held ++ l ∷ []) k m ≡ m → P (take k (held ++ l ∷ [])) m (get_or (reasons ++ r ∷ []) k None)
   longer P old new k m lt e = elim (early_or_last k (length held) (omega (arith, lt, length-append held (l ∷ [])))) [
@@ -71,7 +71,7 @@ module _ (clauses : List (List Lit)) (held : List Lit) (reasons : List (Option �
   pub trail_more : IsTrail clauses (held ++ l ∷ []) (reasons ++ r ∷ [])
   trail_more = record {
     paired = omega (arith, t.paired, length-append held (l ∷ []), length-append reasons (r ∷ []));
-    was_open = longer (λ h m x. IsOpen h m) t.was_open is_open;
+    was_open = longer (λ h m x. IsUnassigned h m) t.was_open is_open;
     added = longer (λ h m x. IsAdded clauses h m x) t.added added;
   }
 
@@ -127,7 +127,7 @@ one_of_two l p P h = go l.positive p h refl
         not_of false = true
 
 -- one more literal leaves fewer terms open
-pub open_fewer : (atoms : List TermId) (held : List Lit) (l : Lit) → IsOpen held l → Contains atoms l.term → open_count atoms (held ++ l ∷ []) < open_count atoms held
+pub open_fewer : (atoms : List TermId) (held : List Lit) (l : Lit) → IsUnassigned held l → Contains atoms l.term → open_count atoms (held ++ l ∷ []) < open_count atoms held
 open_fewer atoms held l o (k, lt, e) =
     let was : is_assigned held l.term ≡ false = false_from_ne_true (is_assigned held l.term) (λ yes. elim (assigned_as held l.term yes) [
       | inl h ↦ elim (one_of_two l true (λ x. Contains held x) h) [ inl a ↦ o.not_held a | inr b ↦ o.not_false b ]

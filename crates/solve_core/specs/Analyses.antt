@@ -1,8 +1,10 @@
--- What a conflict rests on. Source: own; Marques Silva and Sakallah 1999 for the analysis of conflicts.
+-- What a conflict rests on. Source: Marques Silva and Sakallah 1999 for the analysis of conflicts.
 use Rattle.std.specs.Prelude.{◌≡◌, ◌≢◌, ◌+◌, ◌<◌, ◌≤◌, ◌⊎◌, ℕ, List, [], ◌∷◌, ◌++◌, length, take, get_or, All, Contains, Option, Some, None}
 use Rattle.term_core.specs.declared.ids.Lit.{Lit}
-use Rattle.rule_bool.specs.Literals.{lit_complement}
+use Rattle.rule_bool.specs.Literals.{lit_complement, lists}
 use Rattle.solve_core.specs.declared.analysis.Analysis.{Analysis}
+use Rattle.solve_core.specs.declared.store.ClauseStore.{ClauseStore}
+use Rattle.solve_core.specs.declared.trail.Trail.{Trail}
 
 -- What is marked grows by the complements of literals of which this holds.
 pub record Marks (P : Lit → Type 0) (old new : List Lit) : Type 0 where
@@ -58,40 +60,55 @@ pub data IsNeeded (clauses : List (List Lit)) (held : List Lit) (reasons : List 
 abbrev pub IsPremise : List (List Lit) → List Lit → List (Option ℕ) → ℕ → ℕ → Type 0
 IsPremise clauses held reasons clash n = (n ≡ clash) ⊎ ((p : ℕ) × (l : Lit) × (p < length held) × (get_or held p l ≡ l) × (get_or reasons p None ≡ Some n) × IsNeeded clauses held reasons clash l)
 
+-- How far a conflict was followed back, and what was found.
+pub record Followed : Type 0 where
+  -- literals that hold and that the conflict rests on
+  pub marked : List Lit
+  -- the numbers of the false clause and of the reasons that it rests on
+  pub premises : List ℕ
+  -- the negations of the decisions that it rests on
+  pub clause : List Lit
+  -- how many literals stay where that clause is learned
+  pub backjump : ℕ
+
+-- these four
+abbrev pub followed_to : List Lit → List ℕ → List Lit → ℕ → Followed
+followed_to marked premises clause backjump = record { marked = marked; premises = premises; clause = clause; backjump = backjump }
+
 -- What a conflict rests on, where it was followed back to a place.
-pub record RestsAt (clauses : List (List Lit)) (held : List Lit) (reasons : List (Option ℕ)) (clash k : ℕ) (marked : List Lit) (premises : List ℕ) (clause : List Lit) (cut : ℕ) : Type 0 where
+pub record RestsAt (clauses : List (List Lit)) (held : List Lit) (reasons : List (Option ℕ)) (clash k : ℕ) (a : Followed) : Type 0 where
   -- the clause that is false is one of the premises
-  pub clash_taken : Contains premises clash
+  pub clash_taken : Contains a.premises clash
   -- and all that makes it so is marked
-  pub clash_marked : (m : Lit) → Contains (get_or clauses clash []) m → Contains marked (lit_complement m)
+  pub clash_marked : (m : Lit) → Contains (get_or clauses clash []) m → Contains a.marked (lit_complement m)
   -- the premises are clauses
-  pub are_clauses : All (λ n. n < length clauses) premises
+  pub are_clauses : All (λ n. n < length clauses) a.premises
   -- what is marked holds
-  pub holds : (l : Lit) → Contains marked l → Contains held l
+  pub holds : (l : Lit) → Contains a.marked l → Contains held l
   -- the conflict rests on all that is marked
-  pub needed : (l : Lit) → Contains marked l → IsNeeded clauses held reasons clash l
+  pub needed : (l : Lit) → Contains a.marked l → IsNeeded clauses held reasons clash l
   -- and there are no other premises than it has
-  pub no_others : (n : ℕ) → Contains premises n → IsPremise clauses held reasons clash n
+  pub no_others : (n : ℕ) → Contains a.premises n → IsPremise clauses held reasons clash n
   -- what is marked from that place on is explained
-  pub explained : (p : ℕ) (l : Lit) → k ≤ p → p < length held → get_or held p l ≡ l → Contains marked l → IsExplained clauses marked premises clause l (get_or reasons p None)
+  pub explained : (p : ℕ) (l : Lit) → k ≤ p → p < length held → get_or held p l ≡ l → Contains a.marked l → IsExplained clauses a.marked a.premises a.clause l (get_or reasons p None)
   -- the clause has complements of decisions from that place on
-  pub decisions : (m : Lit) → Contains clause m → (p : ℕ) × (k ≤ p) × IsDecision held reasons p (lit_complement m)
+  pub decisions : (m : Lit) → Contains a.clause m → (p : ℕ) × (k ≤ p) × IsDecision held reasons p (lit_complement m)
   -- of its first literal the decision is the newest
-  pub newest : (m : Lit) (ms : List Lit) → clause ≡ m ∷ ms → (p : ℕ) × (k ≤ p) × IsDecision held reasons p (lit_complement m) × ((n : Lit) → Contains clause n → n ≢ m → Contains (take p held) (lit_complement n))
+  pub newest : (m : Lit) (ms : List Lit) → a.clause ≡ m ∷ ms → (p : ℕ) × (k ≤ p) × IsDecision held reasons p (lit_complement m) × ((n : Lit) → Contains a.clause n → n ≢ m → Contains (take p held) (lit_complement n))
   -- where it has several, two are different
-  pub two : 2 ≤ length clause → (m : Lit) × (n : Lit) × Contains clause m × Contains clause n × (m ≢ n)
+  pub two : 2 ≤ length a.clause → (m : Lit) × (n : Lit) × Contains a.clause m × Contains a.clause n × (m ≢ n)
   -- the cut is a place
-  pub within : cut ≤ length held
+  pub within : a.backjump ≤ length held
   -- below each decision before the cut two literals of the clause are open
-  pub before : (p : ℕ) (l : Lit) → k ≤ p → p < cut → IsDecision held reasons p l → HasTwo (take p held) clause
+  pub before : (p : ℕ) (l : Lit) → k ≤ p → p < a.backjump → IsDecision held reasons p l → HasTwo (take p held) a.clause
 
 -- so it is with what an analysis has found
-abbrev pub HasFound : List (List Lit) → List Lit → List (Option ℕ) → ℕ → ℕ → Analysis → Type 0
-HasFound clauses held reasons clash k found = RestsAt clauses held reasons clash k found.marked found.premises.items found.clause.items found.cut
+abbrev pub HasFound : ClauseStore → Trail → ℕ → ℕ → Analysis → Type 0
+HasFound store trail clash k found = RestsAt (lists store.clauses.items) trail.held trail.reasons.items clash k (followed_to found.marked found.premises.items found.clause.items found.backjump)
 
 -- the conflict is followed back over a place
-abbrev pub Follows : List (List Lit) → List Lit → List (Option ℕ) → ℕ → Analysis → Analysis → Type 0
-Follows clauses held reasons at old new = (clash : ℕ) → HasFound clauses held reasons clash (at + 1) old → HasFound clauses held reasons clash at new
+abbrev pub Follows : ClauseStore → Trail → ℕ → Analysis → Analysis → Type 0
+Follows store trail at old new = (clash : ℕ) → HasFound store trail clash (at + 1) old → HasFound store trail clash at new
 
 -- the cut is at a decision as long as the clause has fewer than two literals, and then stays
 abbrev pub Cuts : List Lit → ℕ → ℕ → ℕ → Type 0
@@ -106,4 +123,4 @@ pub record Notes (old new : Analysis) (more : List Lit) (at : ℕ) : Type 0 wher
   -- the clause grows by the literals of those that are marked
   pub clause : new.clause.items ≡ old.clause.items ++ more
   -- the cut is as it should be
-  pub cut : Cuts new.clause.items at old.cut new.cut
+  pub cut : Cuts new.clause.items at old.backjump new.backjump

@@ -16,15 +16,17 @@ use Rattle.term_core.specs.declared.ids.TermId.{TermId}
 use Rattle.term_core.specs.declared.ids.Lit.{Lit}
 use Rattle.term_core.specs.Tables.{TableView, term_at, clause_at, literal_at, IsIn, AreIn, positive_literal}
 use Rattle.term_core.specs.Valuations.{Stands}
-use Rattle.rule_bool.specs.Literals.{lit_complement}
+use Rattle.rule_bool.specs.Literals.{lit_complement, lists}
 use Rattle.rule_bool.specs.Resolvents.{Means}
 use Rattle.proof_log.specs.declared.premises.StepId.{StepId}
 use Rattle.proof_log.specs.Logs.{Logged, stepped, inference_of, derivation_in, IsLogOf}
 use Rattle.clausify.specs.Clausified.{stated}
 use Rattle.sat_budget.specs.Budgets.{BudgetView}
 use Rattle.sat_budget.specs.declared.limits.Reason.TheVariants.{Conflicts}
-use Rattle.solve_core.specs.declared.rounds.Answer.{Answer}
-use Rattle.solve_core.specs.declared.rounds.Answer.TheVariants.{Sat, Unsat, Unknown}
+use Rattle.solve_core.specs.declared.store.ClauseStore.{ClauseStore}
+use Rattle.solve_core.specs.declared.trail.Trail.{Trail}
+use Rattle.solve_core.specs.declared.cdcl.Answer.{Answer}
+use Rattle.solve_core.specs.declared.cdcl.Answer.TheVariants.{Sat, Unsat, Unknown}
 use Rattle.solve_core.specs.Search.{AreOver, IsTrail}
 use Rattle.solve_core.specs.Analyses.{IsPremise}
 use Rattle.solve_core.specs.Stores.{no_step, Derives}
@@ -72,8 +74,10 @@ LogsClause t old premises clause (Ok id) new = Logs t old premises clause id new
 LogsClause t old premises clause (Err _) new = new ≡ old
 
 -- nothing is logged, or one step whose premises are those of the false clause and of the reasons that the conflict rests on, and no others
-abbrev pub LogsConflict : List (List Lit) → List StepId → List Lit → List (Option ℕ) → ℕ → List Logged → List Logged → Type 0
-LogsConflict clauses steps held reasons clash old new = (new ≡ old) ⊎ ((ns : List ℕ) × (terms : List TermId) × ((n : ℕ) → Contains ns n → IsPremise clauses held reasons clash n) × (new ≡ old ++ stepped Resolution (steps_at steps ns) terms ∷ []))
+abbrev pub LogsConflict : ClauseStore → Trail → ℕ → List Logged → List Logged → Type 0
+LogsConflict store trail clash old new = (new ≡ old) ⊎ ((ns : List ℕ) × (terms : List TermId)
+    × ((n : ℕ) → Contains ns n → IsPremise (lists store.clauses.items) trail.held trail.reasons.items clash n)
+    × (new ≡ old ++ stepped Resolution (steps_at store.steps.items ns) terms ∷ []))
 
 -- it follows from other clauses by resolution
 abbrev pub IsByResolution : Inference → Type 0
@@ -140,20 +144,39 @@ pub record IsReady (t : TableView) (log : List Logged) (clauses : List (List Lit
   -- each literal was added rightly
   pub trail : IsTrail clauses held reasons
 
--- A conflict was learned from, and the search goes on.
-pub record GoesOn (t : TableView) (log new_log : List Logged) (clauses new_clauses : List (List Lit)) (steps new_steps : List StepId) (held : List Lit) (reasons : List (Option ℕ)) (budget new_budget : BudgetView) : Type 0 where
+-- so it is with a store and a trail
+abbrev pub AreReady : TableView → List Logged → ClauseStore → Trail → Type 0
+AreReady t log store trail = IsReady t log (lists store.clauses.items) store.steps.items trail.held trail.reasons.items
+
+-- What a search has beside its trail.
+pub record SearchState : Type 0 where
+  -- the log of its steps
+  pub log : List Logged
+  -- its clauses
+  pub clauses : List (List Lit)
+  -- the steps that derive them
+  pub steps : List StepId
+  -- its budget, with what was learned
+  pub budget : BudgetView
+
+-- these together
+abbrev pub state_of : List Logged → ClauseStore → BudgetView → SearchState
+state_of log store budget = record { log = log; clauses = lists store.clauses.items; steps = store.steps.items; budget = budget }
+
+-- A conflict was learned from, and the search goes on with this trail.
+pub record GoesOn (t : TableView) (old new : SearchState) (trail : Trail) : Type 0 where
   -- it fits together
-  pub ready : IsReady t new_log new_clauses new_steps held reasons
+  pub ready : IsReady t new.log new.clauses new.steps trail.held trail.reasons.items
   -- there was room for a clause
-  pub room : length budget.learned < budget.limit
+  pub room : length old.budget.learned < old.budget.limit
   -- the limit is the same
-  pub limit : new_budget.limit ≡ budget.limit
+  pub limit : new.budget.limit ≡ old.budget.limit
   -- and a clause more is learned
-  pub learned : length new_budget.learned ≡ length budget.learned + 1
+  pub learned : length new.budget.learned ≡ length old.budget.learned + 1
   -- over the same terms
-  pub over : (atoms : List TermId) → AreOver atoms clauses → AreOver atoms new_clauses
+  pub over : (atoms : List TermId) → AreOver atoms old.clauses → AreOver atoms new.clauses
   -- for the terms of the search
-  pub search : (terms : List Term) → IsSearch t terms log clauses steps budget.learned → IsSearch t terms new_log new_clauses new_steps new_budget.learned
+  pub search : (terms : List Term) → IsSearch t terms old.log old.clauses old.steps old.budget.learned → IsSearch t terms new.log new.clauses new.steps new.budget.learned
 
 -- What stands beside each answer: the log assumes the terms alone, what was learned may be, and is what the search added to the log.
 pub record IsLearning (t : TableView) (terms : List Term) (log : List Logged) (a : Answer) (learned : List (List Lit)) : Type 0 where
@@ -161,9 +184,10 @@ pub record IsLearning (t : TableView) (terms : List Term) (log : List Logged) (a
   pub assumes : All (λ l. AssumesAmong terms (inference_of t l)) log
   -- the clauses may be learned
   pub learns : AreLearned terms (derivation_in t log) (map (map (literal_at t)) learned)
-  -- they are what came into the log behind the base clauses, but for the answer's own
+  -- they are what came into the log after the base clauses, but for the answer's own
   pub logged : HasSteps terms (derivation_in t log) (added_by a (map (map (literal_at t)) learned))
 
 -- the answer shows what it should of the terms of the search
-abbrev pub Shows : TableView → List Logged → List (List Lit) → List StepId → BudgetView → List Logged → BudgetView → Answer → Type 0
-Shows t log clauses steps budget new_log new_budget a = (terms : List Term) → IsSearch t terms log clauses steps budget.learned → HasEvidence t terms new_log new_budget a × IsLearning t terms new_log a new_budget.learned
+abbrev pub Shows : TableView → SearchState → SearchState → Answer → Type 0
+Shows t old new a = (terms : List Term) → IsSearch t terms old.log old.clauses old.steps old.budget.learned
+    → HasEvidence t terms new.log new.budget a × IsLearning t terms new.log a new.budget.learned

@@ -7,6 +7,7 @@ use Rattle.rule_bool.specs.Statuses.{IsFalsified, IsUnit, IsSatisfied, IsSettled
 use Rattle.rule_bool.specs.declared.status.ClauseStatus.{ClauseStatus}
 use Rattle.rule_bool.specs.declared.status.ClauseStatus.TheVariants as statuses
 use Rattle.rule_bool.specs.Propagation.{failing}
+use Rattle.solve_core.specs.declared.trail.Trail.{Trail}
 use Rattle.solve_core.specs.declared.propagate.Pass.{Pass}
 use Rattle.solve_core.specs.declared.propagate.Pass.TheVariants as passes
 use Rattle.solve_core.specs.declared.propagate.Propagation.{Propagation}
@@ -25,7 +26,7 @@ abbrev pub IsQuiet : List (List Lit) → List Lit → Type 0
 IsQuiet clauses held = (c : List Lit) → Contains clauses c → IsSettled held c
 
 -- neither the literal holds nor its complement
-pub record IsOpen (held : List Lit) (l : Lit) : Type 0 where
+pub record IsUnassigned (held : List Lit) (l : Lit) : Type 0 where
   -- it does not hold
   pub not_held : Contains held l → ⊥
   -- and is not false
@@ -63,7 +64,7 @@ pub record IsTrail (clauses : List (List Lit)) (held : List Lit) (reasons : List
   -- there are as many reasons as literals
   pub paired : length reasons ≡ length held
   -- each was open when it was added
-  pub was_open : (k : ℕ) (l : Lit) → k < length held → get_or held k l ≡ l → IsOpen (take k held) l
+  pub was_open : (k : ℕ) (l : Lit) → k < length held → get_or held k l ≡ l → IsUnassigned (take k held) l
   -- and it was forced or decided
   pub added : (k : ℕ) (l : Lit) → k < length held → get_or held k l ≡ l → IsAdded clauses (take k held) l (get_or reasons k None)
 
@@ -79,7 +80,7 @@ open_count atoms held = failing (is_assigned held) atoms
 pub record Advances (clauses : List (List Lit)) (old new : List Lit) (before after : List (Option ℕ)) : Type 0 where
   -- what was added
   pub more : List Lit
-  -- it stands behind what was there
+  -- it comes after what was there
   pub is : new ≡ old ++ more
   -- what was a trail is one
   pub trail : IsTrail clauses old before → IsTrail clauses new after
@@ -87,11 +88,11 @@ pub record Advances (clauses : List (List Lit)) (old new : List Lit) (before aft
   pub fewer : (atoms : List TermId) → AreOver atoms clauses → length new + open_count atoms new ≤ length old + open_count atoms old
 
 -- the status of the clause of a number, and what holds then
-abbrev pub TakesUp : List Lit → ℕ → List Lit → List Lit → List (Option ℕ) → List (Option ℕ) → ClauseStatus → Type 0
-TakesUp clause number old new before after statuses.Falsified = IsFalsified old clause × (new ≡ old) × (after ≡ before)
-TakesUp clause number old new before after (statuses.Unit l) = IsUnit old clause l × (new ≡ old ++ l ∷ []) × (after ≡ before ++ Some number ∷ [])
-TakesUp clause number old new before after statuses.Unresolved = IsSettled old clause × (new ≡ old) × (after ≡ before)
-TakesUp clause number old new before after statuses.Satisfied = IsSettled old clause × (new ≡ old) × (after ≡ before)
+abbrev pub TakesUp : List Lit → ℕ → Trail → Trail → ClauseStatus → Type 0
+TakesUp clause number old new statuses.Falsified = IsFalsified old.held clause × (new.held ≡ old.held) × (new.reasons.items ≡ old.reasons.items)
+TakesUp clause number old new (statuses.Unit l) = IsUnit old.held clause l × (new.held ≡ old.held ++ l ∷ []) × (new.reasons.items ≡ old.reasons.items ++ Some number ∷ [])
+TakesUp clause number old new statuses.Unresolved = IsSettled old.held clause × (new.held ≡ old.held) × (new.reasons.items ≡ old.reasons.items)
+TakesUp clause number old new statuses.Satisfied = IsSettled old.held clause × (new.held ≡ old.held) × (new.reasons.items ≡ old.reasons.items)
 
 -- the clause of a number is false
 pub record IsClash (clauses : List (List Lit)) (held : List Lit) (number : ℕ) : Type 0 where
@@ -101,25 +102,25 @@ pub record IsClash (clauses : List (List Lit)) (held : List Lit) (number : ℕ) 
   pub fails : IsFalsified held (get_or clauses number [])
 
 -- what a pass over the clauses seen comes to
-abbrev pub Passes : List (List Lit) → List (List Lit) → List Lit → List Lit → List (Option ℕ) → List (Option ℕ) → Pass → Type 0
-Passes clauses seen old new before after (passes.Clash n) = Advances clauses old new before after × IsClash clauses new n
-Passes clauses seen old new before after passes.Added = Advances clauses old new before after × (length old < length new)
-Passes clauses seen old new before after passes.Same = (new ≡ old) × (after ≡ before) × IsQuiet seen old
+abbrev pub Passes : List (List Lit) → List (List Lit) → Trail → Trail → Pass → Type 0
+Passes clauses seen old new (passes.Clash n) = Advances clauses old.held new.held old.reasons.items new.reasons.items × IsClash clauses new.held n
+Passes clauses seen old new passes.Added = Advances clauses old.held new.held old.reasons.items new.reasons.items × (length old.held < length new.held)
+Passes clauses seen old new passes.Same = (new.held ≡ old.held) × (new.reasons.items ≡ old.reasons.items) × IsQuiet seen old.held
 
 -- what propagation comes to
-abbrev pub Propagates : List (List Lit) → List Lit → List Lit → List (Option ℕ) → List (Option ℕ) → Propagation → Type 0
-Propagates clauses old new before after (ends.Clash n) = Advances clauses old new before after × IsClash clauses new n
-Propagates clauses old new before after ends.Quiet = Advances clauses old new before after × IsQuiet clauses new
+abbrev pub Propagates : List (List Lit) → Trail → Trail → Propagation → Type 0
+Propagates clauses old new (ends.Clash n) = Advances clauses old.held new.held old.reasons.items new.reasons.items × IsClash clauses new.held n
+Propagates clauses old new ends.Quiet = Advances clauses old.held new.held old.reasons.items new.reasons.items × IsQuiet clauses new.held
 
 -- Of a clause this literal is open.
-pub record IsOpenOf (held clause : List Lit) (l : Lit) : Type 0 where
+pub record IsUnassignedOf (held clause : List Lit) (l : Lit) : Type 0 where
   -- the clause has it
   pub there : Contains clause l
   -- neither it holds nor its complement
-  pub is_open : IsOpen held l
+  pub is_open : IsUnassigned held l
 
 -- Of one of the clauses this literal is open.
-pub record IsOpenIn (clauses : List (List Lit)) (held : List Lit) (l : Lit) : Type 0 where
+pub record IsUnassignedIn (clauses : List (List Lit)) (held : List Lit) (l : Lit) : Type 0 where
   -- the clause
   pub clause : List Lit
   -- it is one of them
@@ -127,13 +128,13 @@ pub record IsOpenIn (clauses : List (List Lit)) (held : List Lit) (l : Lit) : Ty
   -- it has the literal
   pub there : Contains clause l
   -- neither that holds nor its complement
-  pub is_open : IsOpen held l
+  pub is_open : IsUnassigned held l
 
 -- of each clause a literal holds, or all of its literals are false
 abbrev pub AreSettled : List (List Lit) → List Lit → Type 0
 AreSettled clauses held = (c : List Lit) → Contains clauses c → IsSatisfied held c ⊎ IsFalsified held c
 
 -- none of the literals holds; and none is open, or this one is
-abbrev pub Opens : List Lit → List Lit → Option Lit → Type 0
-Opens held front None = IsFalsified held front
-Opens held front (Some l) = IsOpenOf held front l
+abbrev pub FindsUnassigned : List Lit → List Lit → Option Lit → Type 0
+FindsUnassigned held front None = IsFalsified held front
+FindsUnassigned held front (Some l) = IsUnassignedOf held front l

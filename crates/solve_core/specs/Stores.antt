@@ -7,7 +7,7 @@ use Rattle.rule_bool.specs.Resolvents.{Means}
 use Rattle.proof_log.specs.declared.premises.StepId.{StepId}
 use Rattle.proof_log.specs.Logs.{Logged}
 use Rattle.clausify.specs.Clausified.{stated}
-use Rattle.solve_core.specs.declared.store.Store.{Store}
+use Rattle.solve_core.specs.declared.store.ClauseStore.{ClauseStore}
 
 -- what no number of a list of steps means
 abbrev pub no_step : StepId
@@ -23,7 +23,7 @@ pub record Derives (t : TableView) (log : List Logged) (clauses : List (List Lit
   pub same : (k : ℕ) → k < length clauses → Means t (get_or clauses k []) (stated t log (get_or steps k no_step))
 
 -- The store has the clauses of these steps.
-pub record IsStoreOf (t : TableView) (log : List Logged) (steps : List StepId) (store : Store) : Type 0 where
+pub record IsStoreOf (t : TableView) (log : List Logged) (steps : List StepId) (store : ClauseStore) : Type 0 where
   -- the steps are these
   pub by : store.steps.items ≡ steps
   -- its clauses are theirs

@@ -1,11 +1,11 @@
 //! What a conflict rests on.
 
-ghost use Rattle.std.specs.Prelude.{◌≡◌, ◌<◌, ◌∷◌, [], length, OnOk, IfOk, get_or};
+ghost use Rattle.std.specs.Prelude.{◌<◌, ◌∷◌, [], length, OnOk, IfOk};
 ghost use Rattle.rule_bool.specs.Literals.{lit_complement, lists};
 ghost use Rattle.solve_core.specs.Search.{IsTrail, IsClash};
 ghost use Rattle.solve_core.specs.Analyses.{MarksEach, MarksOthers, Notes, Follows, HasFound};
 
-use crate::store::Store;
+use crate::store::ClauseStore;
 use crate::trail::Trail;
 use rule_bool::{Assignment, negated, same};
 use std::alloc::{AllocError, Global};
@@ -20,9 +20,9 @@ pub(crate) struct Analysis {
     pub(crate) premises: Vec<usize>,
     /// The negations of the decisions that it rests on, newest first.
     pub(crate) clause: Vec<Lit>,
-    /// How many literals stay where that clause is learned: all before the decision behind the second of those, or before all
-    /// decisions where there is no second.
-    pub(crate) cut: usize,
+    /// How many literals stay where that clause is learned: all before the decision that is the second of those negated, or before
+    /// all decisions where there is no second.
+    pub(crate) backjump: usize,
 }
 
 /// Marks the complement of each literal of a false clause.
@@ -48,42 +48,47 @@ fn mark_others(clause: &[Lit], l: Lit, marked: &mut Assignment) -> Result<(), Al
 }
 
 /// Notes the place of a decision.
-fn pass_decision(at: usize, found: &mut Analysis)
-    ensures { Notes found.old found.new [] at }
+fn pass_decision(at: usize, analysis: &mut Analysis)
+    ensures { Notes analysis.old analysis.new [] at }
 {
-    if found.clause.len() < 2 {
-        found.cut = at;
+    if analysis.clause.len() < 2 {
+        analysis.backjump = at;
     }
 }
 
 /// Notes a decision on which the conflict rests.
-fn take_decision(l: Lit, at: usize, found: &mut Analysis) -> Result<(), AllocError>
-    ensures { OnOk result (Notes found.old found.new (lit_complement l ∷ []) at) }
+fn take_decision(l: Lit, at: usize, analysis: &mut Analysis) -> Result<(), AllocError>
+    ensures { OnOk result (Notes analysis.old analysis.new (lit_complement l ∷ []) at) }
 {
-    found.clause.push(negated(l))?;
-    if found.clause.len() < 2 {
-        found.cut = at;
+    analysis.clause.push(negated(l))?;
+    if analysis.clause.len() < 2 {
+        analysis.backjump = at;
     }
     Ok(())
 }
 
 /// Follows the conflict back over the literal of a place: to the others of its reason, or to it as a decision.
-fn follow(store: &Store, trail: &Trail, at: usize, found: &mut Analysis) -> Result<(), AllocError>
+fn follow(
+    store: &ClauseStore,
+    trail: &Trail,
+    at: usize,
+    analysis: &mut Analysis,
+) -> Result<(), AllocError>
     requires at { at < length trail.now.held }
     requires trail { IsTrail (lists store.now.clauses.items) trail.now.held trail.now.reasons.items }
-    ensures { OnOk result (Follows (lists store.now.clauses.items) trail.now.held trail.now.reasons.items at found.old found.new) }
+    ensures { OnOk result (Follows store.now trail.now at analysis.old analysis.new) }
 {
     let l = trail.held.at(at);
-    match (trail.reasons[at], found.marked.contains(l)) {
+    match (trail.reasons[at], analysis.marked.contains(l)) {
         (Some(number), true) => {
-            found.premises.push(number)?;
-            mark_others(&store.clauses[number], l, &mut found.marked)?;
+            analysis.premises.push(number)?;
+            mark_others(&store.clauses[number], l, &mut analysis.marked)?;
             Ok(())
         }
         (Some(_), false) => Ok(()),
-        (None, true) => take_decision(l, at, found),
+        (None, true) => take_decision(l, at, analysis),
         (None, false) => {
-            pass_decision(at, found);
+            pass_decision(at, analysis);
             Ok(())
         }
     }
@@ -92,25 +97,25 @@ fn follow(store: &Store, trail: &Trail, at: usize, found: &mut Analysis) -> Resu
 /// Follows the conflict of a clause that is false back to the decisions.
 pub(crate) fn analyze(
     alloc: Global,
-    store: &Store,
+    store: &ClauseStore,
     trail: &Trail,
     clash: usize,
 ) -> Result<Analysis, AllocError>
     requires trail { IsTrail (lists store.now.clauses.items) trail.now.held trail.now.reasons.items }
     requires clash { IsClash (lists store.now.clauses.items) trail.now.held clash }
-    ensures { IfOk result (λ found. HasFound (lists store.now.clauses.items) trail.now.held trail.now.reasons.items clash 0 found) }
+    ensures { IfOk result (λ analysis. HasFound store.now trail.now clash 0 analysis) }
 {
     let mut premises = Vec::new(alloc);
     premises.push(clash)?;
-    let mut found = Analysis {
+    let mut analysis = Analysis {
         marked: Assignment::new(alloc),
         premises,
         clause: Vec::new(alloc),
-        cut: trail.held.len(),
+        backjump: trail.held.len(),
     };
-    mark_each(&store.clauses[clash], &mut found.marked)?;
+    mark_each(&store.clauses[clash], &mut analysis.marked)?;
     'places: for at in (0..trail.held.len()).rev() {
-        follow(store, trail, at, &mut found)?;
+        follow(store, trail, at, &mut analysis)?;
     }
-    Ok(found)
+    Ok(analysis)
 }

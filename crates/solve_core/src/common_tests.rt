@@ -1,7 +1,7 @@
 //! What the tests of the search share: terms from short texts, and what is looked at in answers.
 
+use crate::cdcl::Answer;
 use crate::outcome::Outcome;
-use crate::rounds::Answer;
 use proof_log::{ProofLog, StepId};
 use sat_budget::Limits;
 use std::alloc::Global;
@@ -54,7 +54,7 @@ const SIGNS: &[(u8, Head, usize)] = &[
     (b'?', Head::Ite, 3),
 ];
 
-/// Puts the term of a text: each sign of `SIGNS` stands behind its arguments, and each other byte is a constant.
+/// Puts the term of a text: each sign of `SIGNS` stands after its arguments, and each other byte is a constant.
 pub(crate) fn read(alloc: Global, table: &mut TermTable, text: &str) -> Result<TermId, Fail> {
     let mut stack = Vec::new(alloc);
     for b in text.as_bytes() {

@@ -1,10 +1,10 @@
 //! What is learned, what it spends, and what a derivation rests on.
 
+use crate::cdcl::Answer;
 use crate::common_tests::{
     AMPLE, assumes_among, constant, is_empty, is_right, put, read_all, rested_on,
 };
 use crate::outcome::decide;
-use crate::rounds::Answer;
 use proof_log::{ProofLog, StepId};
 use sat_budget::{Limits, Reason};
 use std::alloc::Global;
@@ -95,7 +95,7 @@ fn names_some(log: &ProofLog, table: &TermTable, marks: &[bool], from: u64, to: 
     false
 }
 
-/// Tells whether a core of a text is refuted beside so many clauses over other constants, which are put before it or behind it, by
+/// Tells whether a core of a text is refuted beside so many clauses over other constants, which are put before or after it, by
 /// steps that name none of these.
 fn is_refuted_by_itself(
     alloc: Global,

@@ -1,8 +1,8 @@
 //! Formulas over three constants, whose answers are compared with their truth tables.
 
+use crate::cdcl::Answer;
 use crate::common_tests::{AMPLE, assumes_among, constant, is_empty, put, rested_on};
 use crate::outcome::{Outcome, decide};
-use crate::rounds::Answer;
 use std::alloc::Global;
 use std::test::Fail;
 use term_core::{Head, Interp, TermId, TermTable, Value};

@@ -2,7 +2,6 @@
 
 use crate::common_tests::{AMPLE, is_right, read_all};
 use crate::outcome::decide;
-use std::alloc::Global;
 use std::test::Fail;
 use term_core::TermTable;
 

@@ -5,24 +5,24 @@
 #![tactic(auto)]
 
 mod analysis;
+mod cdcl;
 #[cfg(test)]
 mod common_tests;
 mod decision;
 #[cfg(test)]
 mod derivation_tests;
-mod derive;
 #[cfg(test)]
 mod formula_tests;
 #[cfg(test)]
 mod known_tests;
+mod log_learned;
 mod model;
 #[cfg(test)]
 mod model_tests;
 mod outcome;
 mod propagate;
-mod rounds;
 mod store;
 mod trail;
 
+pub use cdcl::Answer;
 pub use outcome::{Outcome, decide};
-pub use rounds::Answer;

@@ -36,7 +36,8 @@ fn symbol_of(table: &TermTable, l: Lit) -> Option<SymbolId>
 fn note(table: &TermTable, l: Lit, truths: &mut Vec<bool>)
     requires there { IsIn table.now l.term }
     requires paired { length truths.old.items ≡ length table.now.symbols }
-    ensures { (held : List Literal) → AreTruthsOf table.now held truths.old.items → AreTruthsOf table.now (held ++ l ∷ []) truths.new.items }
+    ensures { (held : List Literal) → AreTruthsOf table.now held truths.old.items
+        → AreTruthsOf table.now (held ++ l ∷ []) truths.new.items }
 {
     table.symbols().are_declared();
     if let Some(symbol) = symbol_of(table, l) {
@@ -45,7 +46,11 @@ fn note(table: &TermTable, l: Lit, truths: &mut Vec<bool>)
 }
 
 /// Gives the truth value of each symbol, by its number: true where its constant holds as it stands, else false.
-fn truths_by_symbol(alloc: Global, table: &TermTable, held: &Assignment) -> Result<Vec<bool>, AllocError>
+fn truths_by_symbol(
+    alloc: Global,
+    table: &TermTable,
+    held: &Assignment,
+) -> Result<Vec<bool>, AllocError>
     requires { All (λ l. IsIn table.now l.term) held.now }
     ensures { IfOk result (λ truths. AreTruthsOf table.now held.now truths.items) }
 {
@@ -73,7 +78,11 @@ fn interp_of(alloc: Global, truths: &[bool]) -> Result<Interp, AllocError>
 /// Gives the interpretation under which a symbol is true where its constant is among the literals that hold, as it stands.
 ///
 /// It takes time in proportion to the symbols and the literals. `AllocError` comes where its tables find no memory.
-pub(crate) fn model_of(alloc: Global, table: &TermTable, held: &Assignment) -> Result<Interp, AllocError>
+pub(crate) fn model_of(
+    alloc: Global,
+    table: &TermTable,
+    held: &Assignment,
+) -> Result<Interp, AllocError>
     requires { All (λ l. IsIn table.now l.term) held.now }
     ensures { IfOk result (IsModelOf table.now held.now) }
 {

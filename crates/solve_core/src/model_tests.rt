@@ -40,7 +40,11 @@ fn table_of_five(alloc: Global) -> Result<TermTable, NoMemory> {
 }
 
 /// The literals of the table's terms among these, which are given by numbers and signs.
-fn held_of(alloc: Global, table: &TermTable, literals: &[(u64, bool)]) -> Result<Assignment, AllocError>
+fn held_of(
+    alloc: Global,
+    table: &TermTable,
+    literals: &[(u64, bool)],
+) -> Result<Assignment, AllocError>
     ensures { IfOk result (λ held. All (λ l. IsIn table.now l.term) held) }
 {
     let mut held = Assignment::new(alloc);

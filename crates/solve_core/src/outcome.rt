@@ -4,8 +4,8 @@ ghost use Rattle.std.specs.Prelude.{◌≡◌, IfOk, OnErr};
 ghost use Rattle.term_core.specs.Tables.{AreIn, Extends, clause_at};
 ghost use Rattle.solve_core.specs.Decisions.{IsJustified};
 
-use crate::rounds::{Answer, search};
-use crate::store::store_of;
+use crate::cdcl::{Answer, search};
+use crate::store::ClauseStore;
 use clausify::clauses_of_all;
 use proof_log::ProofLog;
 use proof_log::laws::empty_logs_are_right;
@@ -67,7 +67,7 @@ fn decided(
     empty_logs_are_right();
     let mut log = ProofLog::new(alloc);
     let list = clauses_of_all(alloc, table, &mut log, roots)?;
-    let mut store = store_of(alloc, table, &log, list.as_slice())?;
+    let mut store = ClauseStore::of_log(alloc, table, &log, list.as_slice())?;
     let mut budget = Budget::new(alloc, limits)?;
     let answer = search(alloc, table, &mut log, &mut store, &mut budget)?;
     Ok(Outcome {

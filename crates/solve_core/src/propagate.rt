@@ -4,7 +4,7 @@ ghost use Rattle.std.specs.Prelude.{IfOk};
 ghost use Rattle.rule_bool.specs.Literals.{lists};
 ghost use Rattle.solve_core.specs.Search.{TakesUp, Passes, Propagates};
 
-use crate::store::Store;
+use crate::store::ClauseStore;
 use crate::trail::Trail;
 use rule_bool::{ClauseStatus, clause_status};
 use std::alloc::AllocError;
@@ -32,7 +32,7 @@ pub(crate) enum Propagation {
 
 /// Looks at the clause of a number, and adds the literal that it forces.
 fn take_up(clause: &[Lit], number: usize, trail: &mut Trail) -> Result<ClauseStatus, AllocError>
-    ensures { IfOk result (λ found. TakesUp clause.now number trail.old.held trail.new.held trail.old.reasons.items trail.new.reasons.items found) }
+    ensures { IfOk result (λ found. TakesUp clause.now number trail.old trail.new found) }
 {
     match clause_status(clause, &trail.held) {
         ClauseStatus::Unit(l) => {
@@ -45,7 +45,7 @@ fn take_up(clause: &[Lit], number: usize, trail: &mut Trail) -> Result<ClauseSta
 
 /// Takes up each clause once, from the oldest on, until one is false.
 fn pass_over(clauses: &[Vec<Lit>], trail: &mut Trail) -> Result<Pass, AllocError>
-    ensures { IfOk result (λ p. Passes (lists clauses.now) (lists clauses.now) trail.old.held trail.new.held trail.old.reasons.items trail.new.reasons.items p) }
+    ensures { IfOk result (λ p. Passes (lists clauses.now) (lists clauses.now) trail.old trail.new p) }
 {
     let mut added = false;
     for number in 0..clauses.len() {
@@ -59,8 +59,8 @@ fn pass_over(clauses: &[Vec<Lit>], trail: &mut Trail) -> Result<Pass, AllocError
 }
 
 /// Adds what the clauses force, until one is false or none is unit.
-pub(crate) fn propagate(store: &Store, trail: &mut Trail) -> Result<Propagation, AllocError>
-    ensures { IfOk result (λ p. Propagates (lists store.now.clauses.items) trail.old.held trail.new.held trail.old.reasons.items trail.new.reasons.items p) }
+pub(crate) fn propagate(store: &ClauseStore, trail: &mut Trail) -> Result<Propagation, AllocError>
+    ensures { IfOk result (λ p. Propagates (lists store.now.clauses.items) trail.old trail.new p) }
 {
     'passes: loop {
         match pass_over(&store.clauses, trail)? {

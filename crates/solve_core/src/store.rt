@@ -11,23 +11,42 @@ use term_core::{Lit, TermTable};
 
 /// Clauses by their literals, and of each the step that derives it.
 #[derive(Drop)]
-pub(crate) struct Store {
+pub(crate) struct ClauseStore {
     /// The clauses, oldest first.
     pub(crate) clauses: Vec<Vec<Lit>>,
     /// The steps that derive them, in the same order.
     pub(crate) steps: Vec<StepId>,
 }
 
-impl Store {
+impl ClauseStore {
     /// Makes the store of no clauses.
-    fn new(alloc: Global) -> Store
+    fn new(alloc: Global) -> ClauseStore
         ensures clauses { result.clauses.items ≡ [] }
         ensures steps { result.steps.items ≡ [] }
     {
-        Store {
+        ClauseStore {
             clauses: Vec::new(alloc),
             steps: Vec::new(alloc),
         }
+    }
+
+    /// Makes the store of clauses of a log, given by their numbers.
+    pub(crate) fn of_log(
+        alloc: Global,
+        table: &TermTable,
+        log: &ProofLog,
+        steps: &[StepId],
+    ) -> Result<ClauseStore, AllocError>
+        requires log { IsLogOf table.now log.now }
+        requires steps { AreOf log.now steps.now }
+        ensures { IfOk result (IsStoreOf table.now log.now steps.now) }
+    {
+        let mut store = ClauseStore::new(alloc);
+        for step in steps {
+            let clause = literals_of(alloc, table, log.clause(*step))?;
+            store.add(clause, *step)?;
+        }
+        Ok(store)
     }
 
     /// Puts a clause last, with its step.
@@ -39,23 +58,4 @@ impl Store {
         self.steps.push(step)?;
         Ok(())
     }
-}
-
-/// Gives the store of clauses of a log by their numbers.
-pub(crate) fn store_of(
-    alloc: Global,
-    table: &TermTable,
-    log: &ProofLog,
-    steps: &[StepId],
-) -> Result<Store, AllocError>
-    requires log { IsLogOf table.now log.now }
-    requires steps { AreOf log.now steps.now }
-    ensures { IfOk result (IsStoreOf table.now log.now steps.now) }
-{
-    let mut store = Store::new(alloc);
-    for step in steps {
-        let clause = literals_of(alloc, table, log.clause(*step))?;
-        store.add(clause, *step)?;
-    }
-    Ok(store)
 }

@@ -1,6 +1,6 @@
 //! The literals that hold, with the reasons why.
 
-ghost use Rattle.std.specs.Prelude.{◌≡◌, ◌<◌, ◌++◌, ◌∷◌, [], take, length, slice_index_or, Contains, OnOk, None};
+ghost use Rattle.std.specs.Prelude.{◌≡◌, ◌<◌, ◌++◌, ◌∷◌, [], take, Contains, OnOk};
 
 use rule_bool::Assignment;
 use std::alloc::{AllocError, Global};

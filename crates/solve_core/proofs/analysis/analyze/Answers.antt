@@ -22,4 +22,4 @@ places-init c =
 pub places-preserved : goal.places-preserved
 places-preserved c =
     let next : c.places.at ≡ (c.places.at - 1) + 1 = omega (arith, c.places-test.true) in
-    c.in_ok-follow.ensures c.args.clash (subst (λ (k : ℕ). HasFound (lists c.args.store.now.clauses.items) c.args.trail.now.held c.args.trail.now.reasons.items c.args.clash k c.places.found) next c.places.invariant)
+    c.in_ok-follow.ensures c.args.clash (subst (λ (k : ℕ). HasFound c.args.store.now c.args.trail.now c.args.clash k c.places.analysis) next c.places.invariant)

@@ -33,7 +33,7 @@ returns-in-None-true c =
     let reasons = c.args.trail.now.reasons.items in
     let at = c.args.at in
     let decided : get_or reasons at None ≡ None = reason_of reasons at _ None (omega (arith, c.requires.at, c.requires.trail.paired)) c.index.ensures c.in-None-true.is-0 in
-    taken (lists c.args.store.now.clauses.items) held reasons c.requires.trail at c.at-l.result c.requires.at (sym c.at-l.ensures) _ _ _ decided c.in-None-true.ensures c.take_decision.ensures
+    taken c.args.store.now c.args.trail.now c.requires.trail at c.at-l.result c.requires.at (sym c.at-l.ensures) _ _ _ decided c.in-None-true.ensures c.take_decision.ensures
 
 pub returns-in-None-false : goal.returns-in-None-false
 returns-in-None-false c clash r =
@@ -41,4 +41,4 @@ returns-in-None-false c clash r =
     let reasons = c.args.trail.now.reasons.items in
     let at = c.args.at in
     let decided : get_or reasons at None ≡ None = reason_of reasons at _ None (omega (arith, c.requires.at, c.requires.trail.paired)) c.index.ensures c.in-None-false.is-0 in
-    noted (lists c.args.store.now.clauses.items) held reasons c.requires.trail at c.at-l.result c.requires.at (sym c.at-l.ensures) _ _ decided c.in-None-false.ensures c.pass_decision.ensures clash r
+    noted c.args.store.now c.args.trail.now c.requires.trail at c.at-l.result c.requires.at (sym c.at-l.ensures) _ _ decided c.in-None-false.ensures c.pass_decision.ensures clash r

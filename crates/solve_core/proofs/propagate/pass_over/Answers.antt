@@ -32,7 +32,7 @@ loop-number-preserved c = elim c.match-branch-2.branch [
       let vs = c.args.clauses.now in
       let n = c.loop-number.number in
       let v = c.index-clauses-number.result in
-      let found = settles v.items _ _ _ _ n _ w.in-Unresolved.is (rw c.deref.ensures.value at c.in_ok-take_up.ensures) in
+      let found = settles v.items c.loop-number.trail c.take_up.new.trail n _ w.in-Unresolved.is (rw c.deref.ensures.value at c.in_ok-take_up.ensures) in
       let a = to_settled (lists vs) (take n (lists vs)) _ _ _ _ v.items _ _ c.loop-number.added c.loop-number.invariant found.1 found.2 found.0 in
       rw (w.added-is, taken_next vs n v c.loop-number-test.true c.index-clauses-number.is) a
 ]

@@ -1,18 +1,18 @@
 //! The search loop: propagate, decide, learn, go back.
 
-ghost use Rattle.std.specs.Prelude.{◌≡◌, [], IfOk, MatchOption};
+ghost use Rattle.std.specs.Prelude.{◌≡◌, IfOk, MatchOption};
 ghost use Rattle.rule_bool.specs.Literals.{lists};
 ghost use Rattle.proof_log.specs.Logs.{IsLogOf};
 ghost use Rattle.solve_core.specs.Search.{IsClash};
 ghost use Rattle.solve_core.specs.Stores.{Derives};
-ghost use Rattle.solve_core.specs.Rounds.{LogsConflict, IsReady, GoesOn, Shows};
+ghost use Rattle.solve_core.specs.Rounds.{LogsConflict, AreReady, state_of, GoesOn, Shows};
 
 use crate::analysis::analyze;
-use crate::decision::next_open;
-use crate::derive::derive;
+use crate::decision::next_decision;
+use crate::log_learned::log_learned;
 use crate::model::model_of;
 use crate::propagate::{Propagation, propagate};
-use crate::store::Store;
+use crate::store::ClauseStore;
 use crate::trail::Trail;
 use proof_log::{ProofLog, StepId};
 use sat_budget::{Budget, BudgetStop, Reason};
@@ -37,34 +37,49 @@ fn handle_conflict(
     alloc: Global,
     table: &TermTable,
     log: &mut ProofLog,
-    store: &mut Store,
+    store: &mut ClauseStore,
     budget: &mut Budget,
     trail: &mut Trail,
     clash: usize,
 ) -> Result<Option<Answer>, NoMemory>
-    requires ready { IsReady table.now log.old (lists store.old.clauses.items) store.old.steps.items trail.old.held trail.old.reasons.items }
+    requires ready { AreReady table.now log.old store.old trail.old }
     requires clash { IsClash (lists store.old.clauses.items) trail.old.held clash }
     ensures right { IfOk result (λ _. IsLogOf table.now log.new) }
-    ensures step { IfOk result (λ _. LogsConflict (lists store.old.clauses.items) store.old.steps.items trail.old.held trail.old.reasons.items clash log.old log.new) }
+    ensures step { IfOk result (λ _. LogsConflict store.old trail.old clash log.old log.new) }
     ensures comes { IfOk result (λ o. MatchOption o
-        (GoesOn table.now log.old log.new (lists store.old.clauses.items) (lists store.new.clauses.items) store.old.steps.items store.new.steps.items trail.new.held trail.new.reasons.items budget.old budget.new)
-        (λ a. (budget.new.limit ≡ budget.old.limit) × Shows table.now log.old (lists store.old.clauses.items) store.old.steps.items budget.old log.new budget.new a)) }
+        (GoesOn table.now (state_of log.old store.old budget.old) (state_of log.new store.new budget.new) trail.new)
+        (λ a. (budget.new.limit ≡ budget.old.limit)
+        × Shows table.now (state_of log.old store.old budget.old) (state_of log.new store.new budget.new) a)) }
 {
     table.ids_are_unique();
     table.all_terms_are_bool();
-    let found = analyze(alloc, store, trail, clash)?;
-    if found.clause.is_empty() {
-        let step = derive(alloc, table, log, store, &found.premises, &found.clause)?;
+    let analysis = analyze(alloc, store, trail, clash)?;
+    if analysis.clause.is_empty() {
+        let step = log_learned(
+            alloc,
+            table,
+            log,
+            store,
+            &analysis.premises,
+            &analysis.clause,
+        )?;
         return Ok(Some(Answer::Unsat(step)));
     }
-    match budget.learnt(&found.clause) {
+    match budget.learnt(&analysis.clause) {
         Ok(()) => {}
         Err(BudgetStop::Spent(n)) => return Ok(Some(Answer::Unknown(Reason::Conflicts(n)))),
         Err(BudgetStop::Memory) => return Err(NoMemory),
     }
-    let step = derive(alloc, table, log, store, &found.premises, &found.clause)?;
-    trail.truncate(found.cut);
-    store.add(found.clause, step)?;
+    let step = log_learned(
+        alloc,
+        table,
+        log,
+        store,
+        &analysis.premises,
+        &analysis.clause,
+    )?;
+    trail.truncate(analysis.backjump);
+    store.add(analysis.clause, step)?;
     Ok(None)
 }
 
@@ -73,14 +88,15 @@ pub(crate) fn search(
     alloc: Global,
     table: &TermTable,
     log: &mut ProofLog,
-    store: &mut Store,
+    store: &mut ClauseStore,
     budget: &mut Budget,
 ) -> Result<Answer, NoMemory>
     requires log { IsLogOf table.now log.old }
     requires store { Derives table.now log.old (lists store.old.clauses.items) store.old.steps.items }
     ensures right { IfOk result (λ _. IsLogOf table.now log.new) }
     ensures limit { IfOk result (λ _. budget.new.limit ≡ budget.old.limit) }
-    ensures evidence { IfOk result (λ a. Shows table.now log.old (lists store.old.clauses.items) store.old.steps.items budget.old log.new budget.new a) }
+    ensures evidence { IfOk result
+        (Shows table.now (state_of log.old store.old budget.old) (state_of log.new store.new budget.new)) }
 {
     table.ids_are_unique();
     table.terms_are_closed();
@@ -101,7 +117,7 @@ pub(crate) fn search(
                 }
             }
             Propagation::Quiet => {
-                let Some(l) = next_open(&store.clauses, &trail.held) else {
+                let Some(l) = next_decision(&store.clauses, &trail.held) else {
                     return Ok(Answer::Sat(model_of(alloc, table, &trail.held)?));
                 };
                 trail.push(

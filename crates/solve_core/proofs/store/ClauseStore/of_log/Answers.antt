@@ -8,7 +8,7 @@ use Rattle.proof_log.specs.declared.premises.StepId.{StepId}
 use Rattle.clausify.specs.Clausified.{stated}
 use Rattle.solve_core.specs.Stores.{no_step, IsStoreOf}
 use Rattle.solve_core.proofs.SearchStores.{stated_is, store_more}
-use Rattle.solve_core.proofs.store.store_of.Goals as goal
+use Rattle.solve_core.proofs.store.ClauseStore.of_log.Goals as goal
 
 pub loop-step-preserved : goal.loop-step-preserved
 loop-step-preserved c =

@@ -6,14 +6,18 @@ ghost use Rattle.proof_log.specs.Logs.{IsLogOf};
 ghost use Rattle.solve_core.specs.Stores.{Derives};
 ghost use Rattle.solve_core.specs.Rounds.{steps_at, IsResolved, LogsClause};
 
-use crate::store::Store;
+use crate::store::ClauseStore;
 use proof_log::{Clause, LogFault, ProofLog, Rule, Step, StepId, StepIds};
 use std::alloc::{AllocError, Global};
 use term_core::{Lit, TermId, TermTable};
 use world_io::NoMemory;
 
 /// Gives the steps of clauses by their numbers.
-fn steps_of(alloc: Global, store: &Store, numbers: &[usize]) -> Result<Vec<StepId>, AllocError>
+fn steps_of(
+    alloc: Global,
+    store: &ClauseStore,
+    numbers: &[usize],
+) -> Result<Vec<StepId>, AllocError>
     requires { All (λ n. n < length store.now.steps.items) numbers.now }
     ensures { IfOk result (λ v. v.items ≡ steps_at store.now.steps.items numbers.now) }
 {
@@ -36,11 +40,11 @@ fn terms_of(alloc: Global, clause: &[Lit]) -> Result<Vec<TermId>, AllocError>
 }
 
 /// Logs the clause that was found, as a step by `resolution` from what the conflict rests on.
-pub(crate) fn derive(
+pub(crate) fn log_learned(
     alloc: Global,
     table: &TermTable,
     log: &mut ProofLog,
-    store: &Store,
+    store: &ClauseStore,
     premises: &[usize],
     clause: &[Lit],
 ) -> Result<StepId, NoMemory>

@@ -4,7 +4,7 @@ use Rattle.spec_terms.specs.Terms.{Term}
 use Rattle.rule_bool.specs.Literals.{lists}
 use Rattle.solve_core.specs.Search.{AreOver, atoms_in, open_count}
 use Rattle.solve_core.specs.Rounds.{IsReady, IsSearch}
-use Rattle.solve_core.proofs.rounds.search.Given as goal
+use Rattle.solve_core.proofs.cdcl.search.Given as goal
 
 abbrev pub invariant-rounds : goal.invariant-rounds
 invariant-rounds l = record {

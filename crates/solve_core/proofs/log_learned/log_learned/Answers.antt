@@ -1,7 +1,7 @@
 -- That the step is right, and that it states the clause.
 use Rattle.std.proofs.Common.{◌∙◌}
 use Rattle.solve_core.proofs.SearchDerive.{terms_there, step_follows, step_logs}
-use Rattle.solve_core.proofs.derive.derive.Goals as goal
+use Rattle.solve_core.proofs.log_learned.log_learned.Goals as goal
 
 pub add-requires-clause-clause : goal.add-requires-clause-clause
 add-requires-clause-clause c = terms_there c.args.table.now c.args.clause.now _ (c.from-2.ensures ∙ c.in_ok-clause.ensures) c.requires.resolved.atoms

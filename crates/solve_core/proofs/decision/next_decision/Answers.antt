@@ -4,7 +4,7 @@ use Rattle.rule_bool.specs.Literals.{lists}
 use Rattle.rule_bool.proofs.Stepping.{item_in}
 use Rattle.solve_core.proofs.SearchPasses.{taken_next}
 use Rattle.solve_core.proofs.SearchDecisions.{settled_next}
-use Rattle.solve_core.proofs.decision.next_open.Goals as goal
+use Rattle.solve_core.proofs.decision.next_decision.Goals as goal
 
 pub returns-in-Some : goal.returns-in-Some
 returns-in-Some c =

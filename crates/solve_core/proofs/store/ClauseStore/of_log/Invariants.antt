@@ -1,7 +1,7 @@
 -- The store of the steps so far.
 use Rattle.std.proofs.Common.{take}
 use Rattle.solve_core.specs.Stores.{IsStoreOf}
-use Rattle.solve_core.proofs.store.store_of.Given as goal
+use Rattle.solve_core.proofs.store.ClauseStore.of_log.Given as goal
 
 abbrev pub invariant-loop-step : goal.invariant-loop-step
 invariant-loop-step l = IsStoreOf l.table l.log (take l.step-index l.steps) l.store
