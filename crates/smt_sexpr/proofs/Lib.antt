@@ -9,3 +9,4 @@ pub mod Limits
 pub mod Inner
 pub mod Tokens
 pub mod Reading
+pub mod Splitting

@@ -3,7 +3,7 @@ use Rattle.std.proofs.Common.{◌≡◌, ℕ, ◌<◌, ◌+◌, ◌-◌, List, [
 use Rattle.std.specs.Prelude.{Result, Ok, Err}
 use Rattle.std.proofs.lemmas.List.{map-append, take_at, take_all, take_more}
 use Rattle.std.proofs.lemmas.List.Elements.{All-head, All-tail, All-take, All-contains, Contains-push}
-use Rattle.spec_text.proofs.Members.{first, later}
+use Rattle.spec_text.proofs.Members.{first, later, only}
 use Rattle.spec_terms.specs.Terms.{Xor, Implies, Term}
 use Rattle.spec_terms.specs.Lists.{left, right}
 use Rattle.spec_terms.specs.Theory.{pair, no_term}
@@ -12,7 +12,6 @@ use Rattle.term_core.specs.Tables.{TableView, term_at, IsIn, AreIn, clause_at}
 use Rattle.term_core.proofs.TermsExtend.{term_at-kept}
 use Rattle.sort_check.specs.declared.build.BuildError.{BuildError}
 use Rattle.sort_check.specs.Building.{Grows, Means, Builds}
-use Rattle.sort_check.proofs.Members.{only}
 use Rattle.sort_check.proofs.Subterms.{AreSubterms, self_subterms, subterms_along, member_subterms}
 use Rattle.sort_check.proofs.Kept.{pair_keeps, left_keeps, right_keeps}
 use Rattle.sort_check.proofs.Growing.{grows_same, grows_along, builds_not}

@@ -1,5 +1,5 @@
 -- What terms that come one after the other do to a table.
-use Rattle.std.proofs.Common.{◌≡◌, ℕ, ◌≤◌, ◌⊎◌, inl, inr, List, [], ◌∷◌, ◌++◌, length, get_or, Contains, refl, sym, ap, ◌∙◌, subst, arith, append_assoc, length-append}
+use Rattle.std.proofs.Common.{◌≡◌, ℕ, ◌≤◌, ◌⊎◌, inl, inr, List, [], ◌∷◌, ◌++◌, length, get_or, Contains, refl, sym, ap, ◌∙◌, subst, arith, length-append}
 use Rattle.std.specs.Prelude.{Result, Err}
 use Rattle.std.proofs.lemmas.Bool.{cases_lt}
 use Rattle.std.proofs.Math.Seq.{get_or-append_seam}
@@ -10,25 +10,17 @@ use Rattle.term_core.specs.declared.ids.TermId.{TermId}
 use Rattle.term_core.specs.declared.nodes.Head.{Head as NodeHead}
 use Rattle.term_core.specs.declared.nodes.Node.{Node}
 use Rattle.term_core.specs.Tables.{TableView, no_term, clause_at, Extends, head_meant, node_term}
-use Rattle.term_core.proofs.TermsExtend.{Extends-self, IsIn-kept, term_at-kept, AreIn-kept, clause_at-kept}
+use Rattle.term_core.proofs.TermsExtend.{Extends-self, IsIn-kept, term_at-kept, AreIn-kept, clause_at-kept, Extends-trans}
 use Rattle.sort_check.specs.declared.build.BuildError.{BuildError}
 use Rattle.sort_check.specs.declared.build.BuildError.TheVariants.{OverLimit, Memory}
 use Rattle.sort_check.specs.Building.{AreSubtermsFrom, Keeps, Grows, Means, AllMean, Builds}
 use Rattle.sort_check.proofs.Subterms.{AreSubterms, self_subterms, least_subterms}
 
-pub extends_along : (a b c : TableView) → Extends a b → Extends b c → Extends a c
-extends_along a b c h k = record {
-  more_symbols = h.more_symbols ++ k.more_symbols;
-  symbols = k.symbols ∙ ap (λ xs. xs ++ k.more_symbols) h.symbols ∙ append_assoc a.symbols h.more_symbols k.more_symbols;
-  more_terms = h.more_terms ++ k.more_terms;
-  terms = k.terms ∙ ap (λ xs. xs ++ k.more_terms) h.terms ∙ append_assoc a.terms h.more_terms k.more_terms;
-}
-
 pub keeps_same : (t : TableView) → Keeps t t
 keeps_same t = record { extends = Extends-self t; symbols = refl }
 
 pub keeps_along : (a b c : TableView) → Keeps a b → Keeps b c → Keeps a c
-keeps_along a b c h k = record { extends = extends_along a b c h.extends k.extends; symbols = k.symbols ∙ h.symbols }
+keeps_along a b c h k = record { extends = Extends-trans a b c h.extends k.extends; symbols = k.symbols ∙ h.symbols }
 
 pub longer : (a b : TableView) → Extends a b → length a.terms ≤ length b.terms
 longer a b h = omega (arith, ap length h.terms, length-append a.terms h.more_terms)

@@ -1,26 +1,22 @@
 -- The arguments of a function are subterms of its term.
-use Rattle.std.proofs.Common.{◌≡◌, ◌<◌, Bool, true, false, Option, Some, None, cond, List, [], ◌∷◌, ◌++◌, length, map, get_or, Contains, refl, ap, subst, sym, arith}
+use Rattle.std.proofs.Common.{◌≡◌, ◌<◌, Bool, true, false, Option, Some, None, cond, List, [], ◌∷◌, ◌++◌, length, map, get_or, Contains, refl, subst, sym, arith}
 use Rattle.std.specs.Str.{bytes_eq}
 use Rattle.std.proofs.lemmas.Bool.Decides.{nat_tests}
 use Rattle.spec_text.specs.Bytes.{Name}
-use Rattle.spec_text.proofs.Members.{first, later, none}
-use Rattle.spec_terms.specs.Terms.{Head, True, False, Not, And, Or, Xor, Implies, Equal, Ite, Term, of, list_of, terms_of}
+use Rattle.spec_text.proofs.Members.{first, later, none, only, each_of}
+use Rattle.spec_terms.specs.Terms.{Head, True, False, Not, And, Or, Xor, Implies, Equal, Ite, Term, of, terms_of}
 use Rattle.spec_terms.specs.Lists.{left, right, neighbours, all_pairs}
 use Rattle.spec_terms.specs.Theory.{Rule, takes, look_up, theory, pair, unequal, conjunction, no_term}
+use Rattle.spec_terms.proofs.General.{list_of-terms_of}
 use Rattle.term_core.specs.Tables.{TableView, term_at}
 use Rattle.sort_check.specs.declared.functions.Function.{Function}
 use Rattle.sort_check.specs.declared.functions.Function.TheVariants.{Core, Declared, Defined}
 use Rattle.term_core.specs.Heads.{rule_there, core_name, rule_of}
 use Rattle.sort_check.specs.Functions.{function_term, Takes}
-use Rattle.sort_check.proofs.Members.{only, each_of}
 use Rattle.sort_check.proofs.Subterms.{AreSubterms, self_subterms, argument_subterm, subterms_along, member_subterms, subterms_cons, subterms_behind, subterms_first}
 
-list_back : (ts : List Term) → list_of (terms_of ts) ≡ ts
-list_back [] = refl
-list_back (t ∷ ts) = ap (λ us. t ∷ us) (list_back ts)
-
 pub of_keeps : (h : Head) (ts : List Term) → AreSubterms ts (of h ts ∷ [])
-of_keeps h ts t part = argument_subterm (of h ts ∷ []) h (terms_of ts) t (self_subterms (of h ts ∷ []) (of h ts) (first (of h ts) [])) (subst (λ us. Contains us t) (sym (list_back ts)) part)
+of_keeps h ts t part = argument_subterm (of h ts ∷ []) h (terms_of ts) t (self_subterms (of h ts ∷ []) (of h ts) (first (of h ts) [])) (subst (λ us. Contains us t) (sym (list_of-terms_of ts)) part)
 
 -- two terms are subterms of what is made of them
 abbrev pub KeepsBoth : (Term → Term → Term) → Type 0

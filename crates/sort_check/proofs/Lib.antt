@@ -1,5 +1,4 @@
 -- The lemmas of this crate.
-pub mod Members
 pub mod Subterms
 pub mod Kept
 pub mod Resuming

@@ -97,10 +97,6 @@ first_in t ids behind id is h = All-head (λ i. IsIn t i) id behind (subst (AreI
 pub behind_in : (t : TableView) (ids behind : List TermId) (id : TermId) → ids ≡ id ∷ behind → AreIn t ids → AreIn t behind
 behind_in t ids behind id is h = All-tail (λ i. IsIn t i) id behind (subst (AreIn t) is h)
 
-pub none_left : {X : Type 0} (xs : List X) → length xs ≡ 0 → xs ≡ []
-none_left [] e = refl
-none_left (x ∷ xs) e = absurd (omega (arith, e))
-
 -- the pairs of a first one, and those of the others
 pub with_each : (f : Term → Term → Term) (t : Term) (us : List Term) → map (λ p. f p.0 p.1) (all_pairs (t ∷ us)) ≡ map (f t) us ++ map (λ p. f p.0 p.1) (all_pairs us)
 with_each f t us = map-append (λ p. f p.0 p.1) (map (λ u. (t, u)) us) (all_pairs us) ∙ ap (λ vs. vs ++ map (λ p. f p.0 p.1) (all_pairs us)) (each us)

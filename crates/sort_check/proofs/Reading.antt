@@ -1,5 +1,5 @@
 -- Reading terms from left to right: what each step keeps.
-use Rattle.std.proofs.Common.{◌≡◌, ℕ, ◌-◌, ◌≤◌, Bool, true, false, Some, None, inl, inr, List, [], ◌∷◌, ◌++◌, length, take, drop, Contains, refl, sym, ap, ◌∙◌, subst, arith, length-append}
+use Rattle.std.proofs.Common.{◌≡◌, ℕ, ◌-◌, ◌≤◌, Bool, true, false, Some, inl, inr, List, [], ◌∷◌, ◌++◌, length, take, drop, Contains, refl, sym, ap, ◌∙◌, subst, arith, length-append}
 use Rattle.std.specs.Prelude.{Ok, Err}
 use Rattle.std.proofs.lemmas.List.{take_all, length-take, length-drop, take-append-drop, map-append}
 use Rattle.std.proofs.lemmas.List.Elements.{All-nil, Contains-append_left, Contains-append_right, Contains-append_cases}
@@ -11,6 +11,7 @@ use Rattle.spec_terms.specs.Reading.{Scope, applied, atom_term, term_in, terms_i
 use Rattle.term_core.specs.declared.ids.TermId.{TermId}
 use Rattle.term_core.specs.Tables.{TableView, IsIn, AreIn}
 use Rattle.smt_sexpr.specs.Items.{split_first}
+use Rattle.smt_sexpr.proofs.Splitting.{split_more}
 use Rattle.sort_check.specs.declared.faults.TermFault.{TermFault}
 use Rattle.sort_check.specs.declared.frames.Frame.{Frame}
 use Rattle.sort_check.specs.declared.functions.Function.{Function}
@@ -164,17 +165,6 @@ module _ (most : ℕ) (scope : Scope) (all : Trees) (old now : TableView) (over_
       stands : (b : Bool) → Stand b most now h.terms ids → length now.terms ≤ most → AllMean now h.terms ids
       stands true s few = absurd (omega (arith, s, few))
       stands false s few = s
-
--- the next tree
-pub split_more : (ts us : Trees) (t : Tree) → Some (t, us) ≡ split_first ts → ts ≡ more t us
-split_more none us t e = absurd (let wrong = e in cc)
-split_more (more u vs) us t e =
-    let p : (let z : Tree × Trees = (t, us) in z) ≡ (u, vs) = cc in
-    λ i. more (ap (λ (z : Tree × Trees). z.0) (sym p) i) (ap (λ (z : Tree × Trees). z.1) (sym p) i)
-
-pub split_none : (ts : Trees) → None ≡ split_first ts → ts ≡ none
-split_none none e = refl
-split_none (more t ts) e = absurd (let wrong = e in cc)
 
 pub next_is : (rest after : Trees) (t u : Tree) → Some (u, after) ≡ split_first rest → t ≡ u → rest ≡ more t after
 next_is rest after t u e same = split_more rest after u e ∙ ap (λ v. more v after) (sym same)

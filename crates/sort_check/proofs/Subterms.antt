@@ -1,10 +1,9 @@
 -- The subterms of terms: with each its arguments, and no others.
 use Rattle.std.proofs.Common.{List, [], ◌∷◌, Contains, subst}
-use Rattle.spec_text.proofs.Members.{first, later}
+use Rattle.spec_text.proofs.Members.{first, later, only, each_of}
 use Rattle.spec_terms.specs.Terms.{Head, Term, Terms, app, list_of}
 use Rattle.spec_terms.specs.Subterms.{subterms_of}
 use Rattle.spec_terms.proofs.LeastSubterms.{least_of}
-use Rattle.sort_check.proofs.Members.{only, each_of}
 
 -- each of these is a subterm of those
 abbrev pub AreSubterms : List Term → List Term → Type 0

@@ -1,6 +1,6 @@
 use Rattle.std.proofs.Common.{sym, subst}
 use Rattle.smt_sexpr.specs.Items.{trees_meant, tree_meant}
-use Rattle.sort_check.proofs.Reading.{split_more}
+use Rattle.smt_sexpr.proofs.Splitting.{split_more}
 use Rattle.assertion_stack.specs.Views.{Gives}
 use Rattle.assertion_stack.specs.Scripts.{command_view, listed}
 use Rattle.assertion_stack.proofs.commands.in_list.Goals as goal

@@ -1,12 +1,13 @@
 use Rattle.std.proofs.Common.{map, subst}
 use Rattle.std.specs.Prelude.{Ok, Err}
+use Rattle.std.proofs.lemmas.List.{nil_from_length}
 use Rattle.spec_terms.specs.Lists.{all_pairs}
 use Rattle.spec_terms.specs.Theory.{unequal}
 use Rattle.term_core.specs.Tables.{term_at, clause_at}
 use Rattle.term_core.proofs.TermsExtend.{IsIn-kept, term_at-kept, AreIn-kept, clause_at-kept}
 use Rattle.sort_check.specs.Building.{PutsAll}
 use Rattle.sort_check.proofs.Errors.{by_error}
-use Rattle.sort_check.proofs.Putting.{IsPut, put_begins, put_more, put_none_more, put_ends, with_each, first_in, behind_in, none_left}
+use Rattle.sort_check.proofs.Putting.{IsPut, put_begins, put_more, put_none_more, put_ends, with_each, first_in, behind_in}
 use Rattle.sort_check.proofs.chains.put_all_pairs.Goals as goal
 
 pub arguments-init : goal.arguments-init
@@ -48,4 +49,4 @@ returns c =
     let before = c.args.parts.now.items in
     let all = map (λ q. unequal q.0 q.1) (all_pairs (clause_at old c.args.arguments.now)) in
     put_ends c.args.most old c.arguments.table before all c.arguments.parts.items
-    (subst (λ ids. IsPut old c.arguments.table before all c.arguments.parts.items (map (λ q. unequal q.0 q.1) (all_pairs (clause_at old ids)))) (none_left c.arguments.rest.now c.in_default.ensures.cases) c.arguments.invariant.put)
+    (subst (λ ids. IsPut old c.arguments.table before all c.arguments.parts.items (map (λ q. unequal q.0 q.1) (all_pairs (clause_at old ids)))) (nil_from_length c.arguments.rest.now c.in_default.ensures.cases) c.arguments.invariant.put)

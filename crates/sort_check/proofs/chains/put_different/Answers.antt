@@ -1,12 +1,13 @@
 use Rattle.std.proofs.Common.{map, subst}
 use Rattle.std.specs.Prelude.{Ok, Err}
+use Rattle.std.proofs.lemmas.List.{nil_from_length}
 use Rattle.spec_terms.specs.Theory.{unequal}
 use Rattle.term_core.specs.Tables.{term_at, clause_at}
 use Rattle.term_core.proofs.TermsExtend.{IsIn-kept}
 use Rattle.sort_check.specs.declared.build.BuildError.TheVariants.{Memory}
 use Rattle.sort_check.specs.Building.{PutsAll}
 use Rattle.sort_check.proofs.Errors.{by_error}
-use Rattle.sort_check.proofs.Putting.{IsPut, put_begins, put_one, put_none, put_unheld, put_ends, builds_kept, first_in, behind_in, none_left}
+use Rattle.sort_check.proofs.Putting.{IsPut, put_begins, put_one, put_none, put_unheld, put_ends, builds_kept, first_in, behind_in}
 use Rattle.sort_check.proofs.chains.put_different.Goals as goal
 
 pub others-init : goal.others-init
@@ -62,4 +63,4 @@ returns c =
     let t = term_at old c.args.first in
     let all = map (unequal t) (clause_at old c.args.others.now) in
     put_ends c.args.most old c.others.table before all c.others.parts.items
-    (subst (λ ids. IsPut old c.others.table before all c.others.parts.items (map (unequal t) (clause_at old ids))) (none_left c.others.rest.now c.in_default.ensures.cases) c.others.invariant.put)
+    (subst (λ ids. IsPut old c.others.table before all c.others.parts.items (map (unequal t) (clause_at old ids))) (nil_from_length c.others.rest.now c.in_default.ensures.cases) c.others.invariant.put)

@@ -1,5 +1,6 @@
 use Rattle.std.proofs.Common.{◌∷◌, map, subst}
 use Rattle.std.specs.Prelude.{Ok, Err}
+use Rattle.std.proofs.lemmas.List.{nil_from_length}
 use Rattle.spec_terms.specs.Terms.{Equal}
 use Rattle.spec_terms.specs.Lists.{neighbours}
 use Rattle.spec_terms.specs.Theory.{pair}
@@ -8,7 +9,7 @@ use Rattle.term_core.proofs.TermsExtend.{IsIn-kept}
 use Rattle.sort_check.specs.declared.build.BuildError.TheVariants.{Memory}
 use Rattle.sort_check.specs.Building.{PutsAll}
 use Rattle.sort_check.proofs.Errors.{by_error}
-use Rattle.sort_check.proofs.Putting.{IsPut, put_begins, put_one, put_none, put_unheld, put_ends, builds_kept, first_in, behind_in, none_left}
+use Rattle.sort_check.proofs.Putting.{IsPut, put_begins, put_one, put_none, put_unheld, put_ends, builds_kept, first_in, behind_in}
 use Rattle.sort_check.proofs.chains.put_neighbours.Goals as goal
 
 pub arguments-init : goal.arguments-init
@@ -58,4 +59,4 @@ returns c =
     let p = c.arguments.previous in
     let all = map (λ q. pair Equal q.0 q.1) (neighbours (clause_at old (c.args.first ∷ c.args.others.now))) in
     put_ends c.args.most old c.arguments.table before all c.arguments.parts.items
-    (subst (λ ids. IsPut old c.arguments.table before all c.arguments.parts.items (map (λ q. pair Equal q.0 q.1) (neighbours (clause_at old (p ∷ ids))))) (none_left c.arguments.rest.now c.in_default.ensures.cases) c.arguments.invariant.put)
+    (subst (λ ids. IsPut old c.arguments.table before all c.arguments.parts.items (map (λ q. pair Equal q.0 q.1) (neighbours (clause_at old (p ∷ ids))))) (nil_from_length c.arguments.rest.now c.in_default.ensures.cases) c.arguments.invariant.put)

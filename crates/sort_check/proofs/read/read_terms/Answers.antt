@@ -1,9 +1,11 @@
 -- What each step comes to.
 use Rattle.std.proofs.Common.{◌≡◌, ◌-◌, length, refl, ap, ◌∙◌, subst, arith}
 use Rattle.std.specs.Prelude.{Ok, Err}
+use Rattle.std.proofs.lemmas.List.{nil_from_length}
 use Rattle.spec_text.specs.Trees.{atom, list}
 use Rattle.spec_terms.specs.Reading.{applied}
 use Rattle.smt_sexpr.specs.Items.{trees_meant, tree_meant}
+use Rattle.smt_sexpr.proofs.Splitting.{split_end}
 use Rattle.sort_check.specs.declared.faults.ReadError.TheVariants.{Fault, Memory}
 use Rattle.sort_check.specs.Functions.{IsFunction}
 use Rattle.sort_check.specs.Definitions.{scope_at}
@@ -12,8 +14,7 @@ use Rattle.sort_check.specs.Reads.{Reads}
 use Rattle.sort_check.proofs.Errors.{by_error}
 use Rattle.sort_check.proofs.Growing.{keeps_along}
 use Rattle.sort_check.proofs.Left.{list_smaller, closed_smaller}
-use Rattle.sort_check.proofs.Putting.{none_left}
-use Rattle.sort_check.proofs.Reading.{reading_begins, atom_read, atom_refused, closed_read, closed_refused, list_read, list_refused, all_read, next_is, opens_last, split_none, Rises, rises_closed}
+use Rattle.sort_check.proofs.Reading.{reading_begins, atom_read, atom_refused, closed_read, closed_refused, list_read, list_refused, all_read, next_is, opens_last, Rises, rises_closed}
 use Rattle.sort_check.proofs.read.read_terms.Goals as goal
 
 pub steps-init : goal.steps-init
@@ -72,7 +73,7 @@ returns-in_err-function c =
     by_error (Reads c.args.most (scope_at c.args.table.now c.args.definitions.now) (trees_meant c.args.trees) c.args.table.now c.steps.table) c.from_residual-in_err-function.result (Fault e) c.from_residual-in_err-function.ensures.1
     (record {
       keeps = c.steps.invariant.grows.keeps;
-      ends = closed_refused c.args.most (scope_at c.args.table.now c.args.definitions.now) (trees_meant c.args.trees) c.args.table.now c.steps.table c.steps.over_limit (opens_of c.steps.open.items) c.steps.ids.items (trees_meant c.steps.rest) c.steps.invariant c.args.definitions.now refl c.requires (opens_of c.pop.new.self.items) (open_of c.in-Some-pop.frame) e (split_none (trees_meant c.steps.rest) c.in_default.ensures.first) (opens_last c.steps.open.items c.pop.new.self.items c.in-Some-pop.frame c.in-Some-pop.ensures.items) (subst (λ n. IsFunction c.steps.table n (applied (scope_at c.steps.table c.args.definitions.now) c.in-Some-pop.frame.place c.in-Some-pop.frame.name.now c.in-Some-pop.frame.at) (Err e)) counted c.in_err-function.ensures);
+      ends = closed_refused c.args.most (scope_at c.args.table.now c.args.definitions.now) (trees_meant c.args.trees) c.args.table.now c.steps.table c.steps.over_limit (opens_of c.steps.open.items) c.steps.ids.items (trees_meant c.steps.rest) c.steps.invariant c.args.definitions.now refl c.requires (opens_of c.pop.new.self.items) (open_of c.in-Some-pop.frame) e (split_end (trees_meant c.steps.rest) c.in_default.ensures.first) (opens_last c.steps.open.items c.pop.new.self.items c.in-Some-pop.frame c.in-Some-pop.ensures.items) (subst (λ n. IsFunction c.steps.table n (applied (scope_at c.steps.table c.args.definitions.now) c.in-Some-pop.frame.place c.in-Some-pop.frame.name.now c.in-Some-pop.frame.at) (Err e)) counted c.in_err-function.ensures);
     })
 
 pub replace-requires-in-Some-pop-clause-from : goal.replace-requires-in-Some-pop-clause-from
@@ -86,17 +87,17 @@ returns-in_err-over_limit c =
     (record { keeps = keeps_along c.args.table.now c.steps.table c.replace-in-Some-pop.new.table c.steps.invariant.grows.keeps (c.replace-in-Some-pop.ensures c.steps.invariant.terms c.steps.invariant.stack).grows.keeps; ends = tt })
 
 pub steps-smaller : goal.steps-smaller
-steps-smaller c = closed_smaller (opens_of c.steps.open.items) (opens_of c.pop.new.self.items) (open_of c.in-Some-pop.frame) (trees_meant c.steps.rest) (opens_last c.steps.open.items c.pop.new.self.items c.in-Some-pop.frame c.in-Some-pop.ensures.items) (split_none (trees_meant c.steps.rest) c.in_default.ensures.first)
+steps-smaller c = closed_smaller (opens_of c.steps.open.items) (opens_of c.pop.new.self.items) (open_of c.in-Some-pop.frame) (trees_meant c.steps.rest) (opens_last c.steps.open.items c.pop.new.self.items c.in-Some-pop.frame c.in-Some-pop.ensures.items) (split_end (trees_meant c.steps.rest) c.in_default.ensures.first)
 
 pub steps-preserved : goal.steps-preserved
 steps-preserved c =
     let counted : c.len-in-Some-pop.result - c.in-Some-pop.frame.from ≡ length c.steps.ids.items - c.in-Some-pop.frame.from = omega (arith, c.len-in-Some-pop.ensures, c.steps.ids.ok.0) in
-    closed_read c.args.most (scope_at c.args.table.now c.args.definitions.now) (trees_meant c.args.trees) c.args.table.now c.steps.table c.steps.over_limit (opens_of c.steps.open.items) c.steps.ids.items (trees_meant c.steps.rest) c.steps.invariant c.args.definitions.now refl c.requires (opens_of c.pop.new.self.items) (open_of c.in-Some-pop.frame) c.in_ok-function.function c.replace-in-Some-pop.new.table c.in_ok-over_limit.over_limit c.replace-in-Some-pop.new.values.items (split_none (trees_meant c.steps.rest) c.in_default.ensures.first) (opens_last c.steps.open.items c.pop.new.self.items c.in-Some-pop.frame c.in-Some-pop.ensures.items)
+    closed_read c.args.most (scope_at c.args.table.now c.args.definitions.now) (trees_meant c.args.trees) c.args.table.now c.steps.table c.steps.over_limit (opens_of c.steps.open.items) c.steps.ids.items (trees_meant c.steps.rest) c.steps.invariant c.args.definitions.now refl c.requires (opens_of c.pop.new.self.items) (open_of c.in-Some-pop.frame) c.in_ok-function.function c.replace-in-Some-pop.new.table c.in_ok-over_limit.over_limit c.replace-in-Some-pop.new.values.items (split_end (trees_meant c.steps.rest) c.in_default.ensures.first) (opens_last c.steps.open.items c.pop.new.self.items c.in-Some-pop.frame c.in-Some-pop.ensures.items)
     (subst (λ n. IsFunction c.steps.table n (applied (scope_at c.steps.table c.args.definitions.now) c.in-Some-pop.frame.place c.in-Some-pop.frame.name.now c.in-Some-pop.frame.at) (Ok c.in_ok-function.function)) counted c.in_ok-function.ensures) (c.in_ok-over_limit.ensures c.steps.invariant.terms c.steps.invariant.stack)
 
 pub returns-in_default-pop : goal.returns-in_default-pop
 returns-in_default-pop c =
     record {
       keeps = c.steps.invariant.grows.keeps;
-      ends = all_read c.args.most (scope_at c.args.table.now c.args.definitions.now) (trees_meant c.args.trees) c.args.table.now c.steps.table c.steps.over_limit (opens_of c.steps.open.items) c.steps.ids.items (trees_meant c.steps.rest) c.steps.invariant (split_none (trees_meant c.steps.rest) c.in_default.ensures.first) (ap opens_of (none_left c.steps.open.items (omega (arith, c.in_default-pop.ensures.cases.0, c.steps.open.ok.0))));
+      ends = all_read c.args.most (scope_at c.args.table.now c.args.definitions.now) (trees_meant c.args.trees) c.args.table.now c.steps.table c.steps.over_limit (opens_of c.steps.open.items) c.steps.ids.items (trees_meant c.steps.rest) c.steps.invariant (split_end (trees_meant c.steps.rest) c.in_default.ensures.first) (ap opens_of (nil_from_length c.steps.open.items (omega (arith, c.in_default-pop.ensures.cases.0, c.steps.open.ok.0))));
     }
