@@ -22,7 +22,7 @@ refutation_text = refl
 abbrev pub q_p : Term
 q_p = constant_term (constant (codes "q p") Truth)
 
--- the terms of a table, each behind its arguments
+-- the terms of a table, each after its arguments
 abbrev pub table : List Term
 table = p ∷ q_p ∷ of Or (p ∷ q_p ∷ []) ∷ negated p ∷ of True [] ∷ negated (negated p) ∷ of And (of Or (p ∷ q_p ∷ []) ∷ negated p ∷ of True [] ∷ []) ∷ []
 

@@ -1,4 +1,4 @@
--- Terms that can be printed: rows of terms, each behind its arguments, under declared symbols.
+-- Terms that can be printed: rows of terms, each after its arguments, under declared symbols.
 use Rattle.std.specs.Prelude.{◌≡◌, ℕ, ◌<◌, true, List, [], map, Contains, Some}
 use Rattle.std.specs.List.{slice_get}
 use Rattle.spec_terms.specs.Terms.{Symbol, Head, True, False, Apply, Truth, Term, app, sort_of, head_takes}

@@ -7,7 +7,7 @@ ghost use Rattle.spec_proofs.specs.Accepted.{IsAccepted};
 ghost use Rattle.spec_printing.specs.Lines.{proof_text};
 ghost use Rattle.spec_printing.specs.Examples.{refutation};
 
-/// States that the printed refutation is an accepted proof of the check of `contradiction`, alone and behind the answer.
+/// States that the printed refutation is an accepted proof of the check of `contradiction`, alone and after the answer.
 pub fn refutation_is_accepted()
     ensures alone { IsAccepted contradiction 1 (proof_text refutation) }
     ensures answered { IsAccepted contradiction 1 (codes "unsat\n" ++ proof_text refutation) }

@@ -75,7 +75,7 @@ pub fn commands_keep_names_that_can_be_written()
 {}
 
 /// States that lines which are right under what is current at a check of a script are an accepted proof of that check, alone
-/// and behind the answer `unsat`, where the text is no longer than it may be.
+/// and after the answer `unsat`, where the text is no longer than it may be.
 pub fn printed_proofs_are_accepted()
     ensures alone { (script : List ℕ) (k : ℕ) (s : Stack) (lines : List Line) → IsCurrent term_limit script k s
         → AreRightLines s.symbols (map (λ (a : Assertion). a.term) s.assertions) lines

@@ -126,6 +126,10 @@ nothing_follows right = false≢true (resolution_true p_holds ((p ∷ []) ∷ []
 nothing_is_kept : IsWeakening ((p ∷ []) ∷ []) [] → ⊥
 nothing_is_kept right = false≢true (weakening_true p_holds ((p ∷ []) ∷ []) [] p_true right)
 
+-- the refutation's commands have no fault
+pub refutation_fault : FirstFault (Some term_limit) known (length refutation) None (trees_in refutation) None
+refutation_fault = by_commands known (length refutation) None (trees_in refutation) _ None None refutation_commands (inl ((0, omega arith, refl), inl ((1, omega arith, refl), inl (units_resolve, (2, record { name = codes "t1"; clause = [] }, omega arith, refl, refl)))))
+
 pub refutation_verdict : IsVerdict contradiction 1 refutation None
 refutation_verdict = contradicts refutation (trees_in refutation) complete refutation_is_read _ None None refutation_commands (inl ((0, omega arith, refl), inl ((1, omega arith, refl), inl (units_resolve, (2, record { name = codes "t1"; clause = [] }, omega arith, refl, refl)))))
 

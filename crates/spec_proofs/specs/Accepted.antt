@@ -30,7 +30,7 @@ pub record IsAccepted (script : List ℕ) (k : ℕ) (proof : List ℕ) : Type 0 
 pub record IsJudged (s : Stack) (proof : List ℕ) (found : Option Fault) : Type 0 where
   -- the commands of the proof
   pub commands : Trees
-  -- what comes behind them
+  -- what comes after them
   pub ending : Ending
   -- they are those of the text
   pub read : IsProofText proof commands ending

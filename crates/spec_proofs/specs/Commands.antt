@@ -126,7 +126,7 @@ abbrev pub or_none : Option Trees → Trees
 or_none (Some ts) = ts
 or_none None = none
 
--- h t, behind (assume
+-- h t, after (assume
 unfoldable pub assume_shape : Trees → Option Shape
 assume_shape ts = do
   h ← first_word ts
@@ -134,7 +134,7 @@ assume_shape ts = do
   t ← only_tree h.1
   Some (assumes h.0 t)
 
--- i (cl t ..) and keywords, :rule among them, behind (step
+-- i (cl t ..) and keywords, :rule among them, after (step
 unfoldable pub step_shape : Trees → Option Shape
 step_shape ts = do
   i ← first_word ts
@@ -151,7 +151,7 @@ abbrev pub first_tree : Trees → Option (Tree × Trees)
 first_tree none = None
 first_tree (more t ts) = Some (t, ts)
 
--- f () S t, behind (define-fun; that f is no reserved word is asked later
+-- f () S t, after (define-fun; that f is no reserved word is asked later
 unfoldable pub define_shape : Trees → Option Shape
 define_shape ts = do
   f ← first_word ts
@@ -166,7 +166,7 @@ define_shape ts = do
 abbrev pub is_definition : Word → Bool
 is_definition w = is_reserved w.kind && bytes_eq w.bytes (codes "define-fun")
 
--- the items of a list, behind its first one
+-- the items of a list, after its first one
 abbrev pub shape_by : Word × Trees → Option Shape
 shape_by x =
     if is_word (codes "assume") x.0 then assume_shape x.1

@@ -51,7 +51,7 @@ first_items none = none
 first_items (more (atom at k n) ts) = first_items ts
 first_items (more (list at us end) ts) = us
 
--- commands in one list, behind which nothing stands
+-- commands in one list, after which nothing stands
 pub in_one_list : (end at close : ℕ) (xs : List (ℕ × Lexeme)) (ts : Trees) → xs ≡ (at, opens) ∷ spelled_all ts ++ (close, closes) ∷ [] → 1 + depth_all ts ≤ nesting_limit → AreCommands true end xs ts complete
 in_one_list end at close xs ts e within = (at, spelled_all ts ++ (close, closes) ∷ [], (close, closes) ∷ [], e, record { split = refl; within = within }, inl (close, [], refl, refl))
 
@@ -88,7 +88,7 @@ pub refutation_is_whole : IsWholeText refutation (trees_in refutation)
 unfolding lexemes first_piece built
 refutation_is_whole = refl
 
--- the same in one list, behind the word `unsat`
+-- the same in one list, after the word `unsat`
 abbrev pub listed : List ℕ
 listed = codes "unsat\n((assume h1 p)\n(assume h2 (not p))\n(step t1 (cl) :rule resolution :premises (h1 h2)))\n"
 
@@ -107,7 +107,7 @@ pub listed_commands : read_commands known (first_items (trees_in listed)) ≡ (A
 unfolding lexemes first_piece built command_of shaped shape_of assume_shape step_shape parts_of read_shape fresh_name in_proof known_rule known_clause premise_of premises_of term_alone term_in terms_in roomy_terms with_subterms with_all_subterms same_term require ◌>>=◌ read_commands
 listed_commands = refl
 
--- a proof does not go on behind its list
+-- a proof does not go on after its list
 abbrev pub behind_list : List ℕ
 behind_list = codes "((assume h1 p))\n(assume h2 (not p))"
 

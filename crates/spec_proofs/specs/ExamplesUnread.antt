@@ -94,7 +94,7 @@ pub later_premise : unread_in (codes "(assume h1 p)\n(step t1 (cl p) :rule weake
 unfolding lexemes first_piece built command_of shaped shape_of assume_shape step_shape parts_of read_shape fresh_name in_proof known_rule known_clause premise_of premises_of term_alone term_in terms_in roomy_terms with_subterms with_all_subterms same_term require ◌>>=◌ read_commands
 later_premise = refl
 
--- a term of another form is told at its place, as any other form is
+-- a term of another form has its fault at its place, as any other form is
 pub shape_of_a_term : unread_in (codes "(assume h1 (p))") ≡ Some (1, 12, BadShape)
 unfolding lexemes first_piece built command_of shaped shape_of assume_shape step_shape parts_of read_shape fresh_name in_proof known_rule known_clause premise_of premises_of term_alone term_in terms_in roomy_terms with_subterms with_all_subterms same_term require ◌>>=◌ read_commands
 shape_of_a_term = refl

@@ -53,7 +53,7 @@ term_kind f = Term f
 abbrev pub term_fault : Located → Fault
 term_fault f = fault_at f.offset (term_kind f.fault)
 
--- a fault behind which the proof cannot be read on
+-- a fault after which the proof cannot be read on
 abbrev pub text_fault : Located → Fault
 text_fault f = fault_at f.offset (Lexical f.fault)
 

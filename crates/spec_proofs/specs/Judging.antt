@@ -41,13 +41,15 @@ fault_of (Define at n u) = fault_at at BadShape
 abbrev pub HasEmptyClause : Known → Type 0
 HasEmptyClause k = Any (λ (e : Entry). e.clause ≡ []) k.entries
 
--- behind the last command: what ends the text wrongly is the fault; else, where no clause is empty, that is the fault, at the end of the text
+-- after the last command: what ends the text wrongly is the fault; else, where no clause is empty, that is the fault, at
+-- the end of the text
 abbrev pub EndsBy : Known → ℕ → Option Fault → Option Fault → Type 0
 EndsBy k end (Some f) found = found ≡ Some f
 EndsBy k end None None = HasEmptyClause k
 EndsBy k end None (Some f) = (HasEmptyClause k → ⊥) × (f ≡ fault_at end NoEmptyClause)
 
--- the first fault of a command and those behind it: that of reading it, or its own where it isn't right, else that of the rest
+-- the first fault of a command and those after it: that of reading it, or its own where it isn't right, else that of the
+-- rest
 abbrev pub FaultBy : Known → Read Command → (Known → Type 0) → Option Fault → Type 0
 FaultBy k (Err f) rest found = found ≡ Some f
 FaultBy k (Ok c) rest found = (IsRightAfter k c × rest (with_command k c)) ⊎ ((IsRightAfter k c → ⊥) × (found ≡ Some (fault_of c)))

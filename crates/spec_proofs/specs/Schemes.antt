@@ -10,13 +10,13 @@ use Rattle.spec_proofs.specs.declared.Side.{Side}
 use Rattle.spec_proofs.specs.declared.Rest.{Rest}
 use Rattle.spec_proofs.specs.declared.Rest.TheVariants.{Nothing, One, Two, AnyOne, Each, Innermost}
 
--- Which clauses a term gives: its head, whether it stands in front as it is or negated, and what stands behind it.
+-- Which clauses a term gives: its head, whether it stands in front as it is or negated, and what stands after it.
 pub record Scheme : Type 0 where
   -- the head of the term in front
   pub head : Head
   -- whether the term in front is meant as it stands
   pub positive : Bool
-  -- the literals behind it, by its arguments
+  -- the literals after it, by its arguments
   pub rest : Rest
 
 -- the term as it stands where that is wanted, else its negation
@@ -33,7 +33,7 @@ abbrev pub innermost : List Term → List Clause
 innermost (app Not (cons t nil) ∷ []) = (t ∷ []) ∷ []
 innermost ts = []
 
--- the literals that may stand behind a term of these arguments
+-- the literals that may stand after a term of these arguments
 abbrev pub rests_of : Rest → List Term → List Clause
 rests_of Nothing ts = [] ∷ []
 rests_of (One x) ts = (side_of ts x ∷ []) ∷ []

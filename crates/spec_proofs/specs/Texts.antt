@@ -20,28 +20,28 @@ begins_listed ((a, opens) ∷ (b, opens) ∷ xs) = true
 begins_listed ((a, opens) ∷ (b, closes) ∷ xs) = true
 begins_listed xs = false
 
--- What comes behind the commands.
+-- What comes after the commands.
 pub data Ending : Type 0 where
   -- nothing
   complete : Ending
   -- what cannot be read
   broken : Located → Ending
-  -- a tree, behind the list of commands
+  -- a tree, after the list of commands
   left_over : ℕ → Ending
 
--- behind commands that stand in no list
+-- after commands that stand in no list
 abbrev pub EndsRow : ℕ → List (ℕ × Lexeme) → Ending → Type 0
 EndsRow end rest complete = rest ≡ []
 EndsRow end rest (broken f) = IsBroken end 0 rest f
 EndsRow end rest (left_over at) = ⊥
 
--- behind the list of commands: nothing may follow
+-- after the list of commands: nothing may follow
 abbrev pub EndsBehind : ℕ → List (ℕ × Lexeme) → Ending → Type 0
 EndsBehind end after complete = after ≡ []
 EndsBehind end after (broken f) = IsBroken end 0 after f
 EndsBehind end after (left_over at) = (t : Tree) × (rest : List (ℕ × Lexeme)) × AreTrees 0 after (more t none) rest × (offset_of t ≡ at)
 
--- behind commands that stand in a list: its end and what is behind it, or what cannot be read
+-- after commands that stand in a list: its end and what is after it, or what cannot be read
 abbrev pub EndsList : ℕ → List (ℕ × Lexeme) → Ending → Type 0
 EndsList end rest e = ((at : ℕ) × (after : List (ℕ × Lexeme)) × (rest ≡ (at, closes) ∷ after) × EndsBehind end after e) ⊎ ((f : Located) × IsBroken end 1 rest f × (e ≡ broken f))
 

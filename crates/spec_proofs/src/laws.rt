@@ -108,7 +108,8 @@ pub fn verdict_is_one()
     spec_scripts::laws::checks_have_one_stack();
 }
 
-/// States that a verdict on the fronts of two texts, of 2^26 + 1 bytes each at the most, is the verdict on the whole texts.
+/// States that a verdict on the prefixes of two texts, of 2^26 + 1 bytes each at the most, is the verdict on the whole
+/// texts.
 pub fn verdicts_need_a_front_alone()
     ensures { (script proof : List ℕ) (k : ℕ) (found : Option Fault) → IsVerdict (front script) k (front proof) found
         → IsVerdict script k proof found }

@@ -17,17 +17,17 @@ use Rattle.spec_terms.specs.Examples.{built, trees_in, p, q}
 use Rattle.spec_scripts.specs.Commands.{set_option, declare_const, command_of}
 use Rattle.spec_scripts.specs.Stack.{Stack, Assertion, empty_stack, term_limit, Effect, leave, Taken, step, stack_at, IsCurrent, HasNoCheck}
 
--- go on behind a command, but not behind `exit`
+-- go on after a command, but not after `exit`
 abbrev pub unless_left : Effect → Stack → (Stack → List Located) → List Located
 unless_left leave s rest = []
 unless_left _ s rest = rest s
 
--- a fault and those behind it
+-- a fault and those after it
 abbrev pub with_fault : Stack → Answer Taken → (Stack → List Located) → List Located
 with_fault s (Ok d) rest = unless_left d.effect d.stack rest
 with_fault s (Err f) rest = f ∷ rest s
 
--- the first fault of each command that is refused, behind what those before it left
+-- the first fault of each command that is refused, after what those before it left
 unfoldable pub faults_after : Stack → Trees → List Located
 faults_after s none = []
 faults_after s (more t ts) = with_fault s (step term_limit s t) (λ next. faults_after next ts)
@@ -164,12 +164,12 @@ pub unknown_options : asserted_at 1 (codes "(set-option :zz 1)(declare-const p B
 unfolding lexemes first_piece built command_of set_option declare_const term_in terms_in roomy_terms with_subterms with_all_subterms same_term require ◌>>=◌ step stack_at
 unknown_options = refl
 
--- behind `exit` there is no check
+-- after `exit` there is no check
 pub none_behind_exit : asserted_at 1 (codes "(declare-const p Bool)(exit)(check-sat)") ≡ None
 unfolding lexemes first_piece built command_of set_option declare_const term_in terms_in roomy_terms with_subterms with_all_subterms same_term require ◌>>=◌ step stack_at
 none_behind_exit = refl
 
--- but behind one that is refused there may be
+-- but after one that is refused there may be
 pub refused_exit : asserted_at 1 (codes "(exit 1)(check-sat)") ≡ Some []
 unfolding lexemes first_piece built command_of set_option declare_const term_in terms_in roomy_terms with_subterms with_all_subterms same_term require ◌>>=◌ step stack_at
 refused_exit = refl
@@ -199,12 +199,12 @@ pub no_commands : refused_in (codes "check-sat ()") ≡ (1, 1, BadShape) ∷ (1,
 unfolding lexemes first_piece built command_of set_option declare_const term_in terms_in roomy_terms with_subterms with_all_subterms same_term require ◌>>=◌ step faults_after
 no_commands = refl
 
--- a list that begins with no command's word is told at what it begins with
+-- a list that begins with no command's word has its fault at what it begins with
 pub unknown_commands : refused_in (codes "(pop 1)\n(|check-sat|)((check-sat))(5)") ≡ (1, 2, UnknownCommand) ∷ (2, 2, UnknownCommand) ∷ (2, 15, UnknownCommand) ∷ (2, 28, UnknownCommand) ∷ []
 unfolding lexemes first_piece built command_of set_option declare_const term_in terms_in roomy_terms with_subterms with_all_subterms same_term require ◌>>=◌ step faults_after
 unknown_commands = refl
 
--- a command of another form is told at its parenthesis
+-- a command of another form has its fault at its parenthesis
 pub shapes : refused_in (codes "(check-sat 1) (assert) (assert p p) (exit 0) (declare-const p) (declare-const 5 Bool) (declare-const (p) Bool)") ≡ (1, 1, BadShape) ∷ (1, 15, BadShape) ∷ (1, 24, BadShape) ∷ (1, 37, BadShape) ∷ (1, 46, BadShape) ∷ (1, 64, BadShape) ∷ (1, 87, BadShape) ∷ []
 unfolding lexemes first_piece built command_of set_option declare_const term_in terms_in roomy_terms with_subterms with_all_subterms same_term require ◌>>=◌ step faults_after
 shapes = refl
@@ -244,7 +244,7 @@ pub terms : refused_in (codes "(assert q)\n  (assert (not true false))") ≡ (1,
 unfolding lexemes first_piece built command_of set_option declare_const term_in terms_in roomy_terms with_subterms with_all_subterms same_term require ◌>>=◌ step faults_after
 terms = refl
 
--- behind `exit` no command is looked at
+-- after `exit` no command is looked at
 pub nothing_behind_exit : refused_in (codes "(exit)(pop 1)") ≡ []
 unfolding lexemes first_piece built command_of set_option declare_const term_in terms_in roomy_terms with_subterms with_all_subterms same_term require ◌>>=◌ step faults_after
 nothing_behind_exit = refl

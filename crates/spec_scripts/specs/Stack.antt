@@ -149,14 +149,14 @@ effect_of Exit = leave
 pub record Taken : Type 0 where
   -- the answer
   pub effect : Effect
-  -- what stands behind it
+  -- what stands after it
   pub stack : Stack
 
 -- the command of a tree, taken after a stack
 unfoldable pub step : ℕ → Stack → Tree → Answer Taken
 step limit s t = command_of t >>= λ c. performed limit (offset_of t) s c >>= λ next. Ok (record { effect = effect_of c; stack = next })
 
--- go on behind a command that was taken, with as many checks to come; a check that is the last of them leaves the stack
+-- go on after a command that was taken, with as many checks to come; a check that is the last of them leaves the stack
 abbrev pub behind : Effect → Stack → ℕ → (Stack → ℕ → Option Stack) → Option Stack
 behind check s (suc zero) rest = Some s
 behind check s (suc (suc k)) rest = rest s (suc k)
@@ -189,7 +189,7 @@ pub record IsCurrent (limit : ℕ) (text : List ℕ) (k : ℕ) (s : Stack) : Typ
   -- the commands up to the check leave the stack
   pub here : stack_at limit empty_stack k commands ≡ Some s
 
--- the text ends before its k-th check: by its end, by `exit`, or by a fault behind which it cannot be read on
+-- the text ends before its k-th check: by its end, by `exit`, or by a fault after which it cannot be read on
 pub record HasNoCheck (limit : ℕ) (text : List ℕ) (k : ℕ) : Type 0 where
   -- the s-expressions of the text
   pub commands : Trees

@@ -32,7 +32,7 @@ pub fn assertions_are_read()
     ensures own { (s : Stack) → IsReadStack s → HaveOwnNames s.symbols }
 {}
 
-/// States that commands leave what they should, under any limit: nothing is declared or asserted at first, and behind a
+/// States that commands leave what they should, under any limit: nothing is declared or asserted at first, and after a
 /// command that is taken the terms of the assertions are again those of their texts, and fit in.
 pub fn commands_keep_stacks()
     ensures first { (limit : ℕ) → IsKeptStack limit empty_stack }
