@@ -7,7 +7,7 @@ ghost use Rattle.smt_sexpr.specs.Limited.{whole_of, refusal_meant, CutsOff, Read
 
 use crate::reader::{Next, read_small};
 use crate::sexpr::Sexpr;
-use smt_lexer::{Fault, Place, Refusal, Refused, place_after};
+use smt_lexer::{Fault, Place, Refusal, Refused, place_after, start};
 use std::alloc::Global;
 
 /// How many bytes of a text are read.
@@ -53,6 +53,14 @@ impl<'a> LimitedText<'a> {
         ensures { result.now ≡ kept (whole_of self.now) }
     {
         kept(self.text)
+    }
+
+    /// Gives the place of its first byte: offset 0, line 1 and column 1.
+    pub fn start(&self) -> Place
+        ensures place { IsPlaceOf (kept (whole_of self.now)) result }
+        ensures offset { result.offset ≡ 0 }
+    {
+        start()
     }
 
     /// Tells whether the text has more bytes than are read.
