@@ -1,11 +1,12 @@
 -- What is good within limits is good without them.
-use Rattle.std.proofs.Common.{◌≡◌, ℕ, Bool, true, false, List, ◌∷◌, ◌++◌, length, Option, Some, None, inl, inr, refl, ap, ◌∙◌, subst, arith, append-nil}
+use Rattle.std.proofs.Common.{◌≡◌, ◌≤◌, ◌+◌, ℕ, Bool, true, false, List, [], ◌∷◌, ◌++◌, length, Option, Some, None, inl, inr, refl, sym, ap, ◌∙◌, subst, arith, append-nil}
 use Rattle.std.specs.Prelude.{Ok, Err}
 use Rattle.std.proofs.lemmas.Bool.Decides.{nat_tests}
 use Rattle.std.proofs.lemmas.List.{take_all}
-use Rattle.spec_text.specs.Lexemes.{Lexeme, opens, closes, lexemes}
+use Rattle.spec_text.specs.Lexemes.{Lexeme, opens, closes}
+use Rattle.spec_text.specs.Faults.{nesting_limit}
 use Rattle.spec_text.specs.Trees.{Tree, Trees, atom, list, none, more, spelled_all}
-use Rattle.spec_text.specs.Readings.{text_limit, is_long, kept}
+use Rattle.spec_text.specs.Readings.{depth_all, text_limit, is_long, kept}
 use Rattle.spec_terms.specs.Terms.{Term}
 use Rattle.spec_terms.specs.Reading.{Scope, terms_in}
 use Rattle.spec_terms.specs.Subterms.{roomy_terms}
@@ -13,9 +14,11 @@ use Rattle.spec_text.specs.Answers.{Answer}
 use Rattle.spec_scripts.specs.Stack.{sort_in}
 use Rattle.spec_proofs.specs.Commands.{Known, Command, Shape, assumes, steps, defines, shape_of}
 use Rattle.spec_proofs.specs.Known.{fresh_name, new_term_name, in_proof, clause_in, term_alone, name_room, read_shape, shaped, command_of}
-use Rattle.spec_proofs.specs.Texts.{complete, behind_unsat, begins_listed, EndsList, AreCommands, AreAllCommands, IsProofText, IsWholeText}
+use Rattle.spec_proofs.specs.Texts.{complete, begins_listed, all_lexemes, EndsList, AreCommands, AreAllCommands, IsProofText, IsWholeText}
 use Rattle.spec_proofs.specs.Judging.{with_command}
 use Rattle.spec_proofs.specs.Good.{commands_in, AreGood}
+use Rattle.spec_proofs.specs.Limits.{lists_round}
+use Rattle.spec_proofs.specs.Examples.{in_one_list}
 use Rattle.spec_text.proofs.AnswerLaws.{answer, went, joined}
 
 -- terms that are read within a limit are those that are read without one
@@ -92,4 +95,25 @@ all_commands true end xs ts (at, inner, rest, is, trees, ends) = go ends
 pub whole_text : (text : List ℕ) (ts : Trees) → is_long text ≡ false → IsProofText text ts complete → IsWholeText text ts
 whole_text text ts short h =
     let same : kept text ≡ text = take_all text_limit text (grind (arith, nat_tests, short)) in
-    subst (λ (x : List ℕ). IsWholeText x ts) same (all_commands (begins_listed (behind_unsat (lexemes 0 0 (kept text)))) (length (kept text)) (behind_unsat (lexemes 0 0 (kept text))) ts h)
+    subst (λ (x : List ℕ). IsWholeText x ts) same (all_commands (begins_listed (all_lexemes (kept text))) (length (kept text)) (all_lexemes (kept text)) ts h)
+
+-- commands that are not nested too deep are so read
+all_read : (b : Bool) (end : ℕ) (xs : List (ℕ × Lexeme)) (ts : Trees) → AreAllCommands b xs ts → lists_round b + depth_all ts ≤ nesting_limit → AreCommands b end xs ts complete
+all_read false end xs ts is within = ([], record { split = is ∙ sym (append-nil (spelled_all ts)); within = within }, refl)
+all_read true end xs ts (at, close, is) within = in_one_list end at close xs ts is within
+
+-- a text that is no longer than it may be, and is commands that are not nested too deep, is read as these
+pub text_read : (text : List ℕ) (ts : Trees) → is_long text ≡ false → lists_round (begins_listed (all_lexemes text)) + depth_all ts ≤ nesting_limit → IsWholeText text ts → IsProofText text ts complete
+text_read text ts short within h =
+    let same : text ≡ kept text = sym (take_all text_limit text (grind (arith, nat_tests, short))) in
+    all_read (begins_listed (all_lexemes (kept text))) (length (kept text)) (all_lexemes (kept text)) ts (subst (λ (x : List ℕ). IsWholeText x ts) same h) (subst (λ (x : List ℕ). lists_round (begins_listed (all_lexemes x)) + depth_all ts ≤ nesting_limit) same within)
+
+-- in a text that is read no list is nested too deep
+shallow_commands : (b : Bool) (end : ℕ) (xs : List (ℕ × Lexeme)) (ts : Trees) → AreCommands b end xs ts complete → lists_round b + depth_all ts ≤ nesting_limit
+shallow_commands false end xs ts (rest, trees, ends) = trees.within
+shallow_commands true end xs ts (at, inner, rest, is, trees, ends) = trees.within
+
+pub shallow_text : (text : List ℕ) (ts : Trees) → is_long text ≡ false → IsProofText text ts complete → lists_round (begins_listed (all_lexemes text)) + depth_all ts ≤ nesting_limit
+shallow_text text ts short h =
+    let same : kept text ≡ text = take_all text_limit text (grind (arith, nat_tests, short)) in
+    subst (λ (x : List ℕ). lists_round (begins_listed (all_lexemes x)) + depth_all ts ≤ nesting_limit) same (shallow_commands (begins_listed (all_lexemes (kept text))) (length (kept text)) (all_lexemes (kept text)) ts h)

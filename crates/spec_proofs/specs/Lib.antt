@@ -11,6 +11,7 @@ pub mod Known
 pub mod Texts
 pub mod Judging
 pub mod Good
+pub mod Limits
 pub mod Accepted
 pub mod Examples
 pub mod ExamplesRules

@@ -20,6 +20,7 @@ ghost use Rattle.spec_proofs.specs.Faults.{Fault};
 ghost use Rattle.spec_proofs.specs.Texts.{Ending, IsProofText};
 ghost use Rattle.spec_proofs.specs.Judging.{fault_of, FirstFault};
 ghost use Rattle.spec_proofs.specs.Good.{AreGood, IsGood};
+ghost use Rattle.spec_proofs.specs.Limits.{IsWithinLimits};
 ghost use Rattle.spec_proofs.specs.Accepted.{IsAccepted, IsVerdict};
 
 /// States that what follows by a rule from clauses that are true is true, under the same interpretation, where this gives
@@ -55,11 +56,13 @@ pub fn accepted_proofs_have_no_fault()
     good_proofs_have_no_fault();
 }
 
-/// States that limits only refuse: what is good within a limit on terms is good without one, and so an accepted proof is
-/// a good one.
+/// States that limits only refuse: what is good within a limit on terms is good without one; and so a proof is accepted
+/// exactly where it is good and within the limits on bytes, on nesting, and on terms and names.
 pub fn accepted_proofs_are_good()
     ensures commands { (limit : Option ℕ) (k : Known) (ts : Trees) → AreGood limit k ts → AreGood None k ts }
     ensures whole { (script proof : List ℕ) (k : ℕ) → IsAccepted script k proof → IsGood term_limit script k proof }
+    ensures exact { (script proof : List ℕ) (k : ℕ)
+        → IsAccepted script k proof ↔ ((g : IsGood term_limit script k proof) × IsWithinLimits script k proof g) }
 {}
 
 /// States that no interpretation makes true what is current at a check, under any limit on terms, of which commands or a
