@@ -56,7 +56,7 @@ some_waits s t w n k l = record {
 moved_all : (s t : SinkView) (w v : List ℕ) → v ≡ [] → Sent w s t → Keeps (append_known s.known w) (append_known t.known v)
 moved_all s t w v e k = append_known-moved s.known t.known w v w k.appended (sym (append-nil w) ∙ ap (λ r. w ++ r) (sym e))
 
-kept_appends : (a b : Option (List ℕ)) → Keeps a b → Appends a b []
+pub kept_appends : (a b : Option (List ℕ)) → Keeps a b → Appends a b []
 kept_appends None b h = tt
 kept_appends (Some x) None h = absurd h
 kept_appends (Some x) (Some y) h = h ∙ sym (append-nil x)

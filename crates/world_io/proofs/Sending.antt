@@ -102,7 +102,7 @@ pub sends_counts : (text : List ℕ) (r : Result (Unit {0}) Failed) (a b : SinkV
 sends_counts text (Ok u) a b s = s.count
 sends_counts text (Err e) a b s = rose_over a.faults b.faults s.failed
 
-all_is_prefix : (a b : Option (List ℕ)) (text : List ℕ) → Appends a b text → AppendsPrefix a b text
+pub all_is_prefix : (a b : Option (List ℕ)) (text : List ℕ) → Appends a b text → AppendsPrefix a b text
 all_is_prefix None b text h = tt
 all_is_prefix (Some x) None text h = absurd h
 all_is_prefix (Some x) (Some y) text h = (length text, omega arith, h ∙ ap (λ r. x ++ r) (sym (take_all (length text) text (omega arith))))
