@@ -27,7 +27,8 @@ ghost use Rattle.spec_proofs.specs.Accepted.{IsAccepted, IsVerdict};
 /// each of its terms a truth value. Source: Alethe specification, rules; SMT-LIB 2.6, theory Core.
 pub fn rules_are_sound()
     ensures { (rule : Rule) (premises : List Clause) (clause : Clause) (i : Interpretation)
-        → All (λ c. clause_true i c ≡ true) premises → All (HasTruth i) clause → IsRight rule premises clause → clause_true i clause ≡ true }
+        → All (λ c. clause_true i c ≡ true) premises → All (HasTruth i) clause
+        → IsRight rule premises clause → clause_true i clause ≡ true }
 {}
 
 /// States that each chain of binary resolutions passes, where each resolves the clause so far with a premise: premises

@@ -60,7 +60,8 @@ pub fn other_heads_have_their_rules()
     ensures or_pos { IsOnlyBy (codes "or_pos") [] (negated disjunction ∷ p ∷ q ∷ r ∷ []) }
     ensures or_neg { IsOnlyBy (codes "or_neg") [] (disjunction ∷ negated q ∷ []) }
     ensures and { IsOnlyBy (codes "and") ((conjunction ∷ []) ∷ []) (r ∷ []) }
-    ensures not_and { IsOnlyBy (codes "not_and") ((negated conjunction ∷ []) ∷ []) (negated p ∷ negated q ∷ negated r ∷ []) }
+    ensures not_and { IsOnlyBy (codes "not_and") ((negated conjunction ∷ []) ∷ [])
+        (negated p ∷ negated q ∷ negated r ∷ []) }
     ensures not_or { IsOnlyBy (codes "not_or") ((negated disjunction ∷ []) ∷ []) (negated r ∷ []) }
     ensures not_not { IsOnlyBy (codes "not_not") [] (negated (negated (negated p)) ∷ p ∷ []) }
     ensures two_nots { IsOnlyBy (codes "and") ((negated (negated conjunction) ∷ []) ∷ []) (p ∷ []) }

@@ -15,10 +15,10 @@ ghost use Rattle.spec_scripts.specs.Current.{IsReadStack, IsKeptStack};
 /// check's number, and that a text which ends
 /// before the check has nothing current there.
 pub fn checks_have_one_stack()
-    ensures one { (limit : ℕ) (text : List ℕ) (k : ℕ) (s t : Stack) → IsCurrent limit text k s → IsCurrent limit text k t
-        → s ≡ t }
-    ensures other { (limit : ℕ) (text : List ℕ) (k : ℕ) (s : Stack) → IsCurrent limit text k s → HasNoCheck limit text k
-        → ⊥ }
+    ensures one { (limit : ℕ) (text : List ℕ) (k : ℕ) (s t : Stack) → IsCurrent limit text k s
+        → IsCurrent limit text k t → s ≡ t }
+    ensures other { (limit : ℕ) (text : List ℕ) (k : ℕ) (s : Stack) → IsCurrent limit text k s
+        → HasNoCheck limit text k → ⊥ }
 {
     spec_text::laws::a_text_is_read_up_to_one_end();
 }
