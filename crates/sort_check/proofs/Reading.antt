@@ -21,7 +21,7 @@ use Rattle.sort_check.specs.Functions.{function_term, Takes, IsFunction, located
 use Rattle.sort_check.specs.Building.{Grows, AllMean}
 use Rattle.sort_check.specs.Resuming.{Open, followed, resumed}
 use Rattle.sort_check.specs.Frames.{open_of, opens_of, HasBegun, form_of, form_fault}
-use Rattle.sort_check.specs.Stacks.{Stand, Stack, Replaces}
+use Rattle.sort_check.specs.Stacks.{Stand, Stack, from_on, Replaces}
 use Rattle.sort_check.specs.Reads.{HasRead}
 use Rattle.sort_check.proofs.Subterms.{AreSubterms, self_subterms, subterms_along, member_subterms}
 use Rattle.sort_check.proofs.Kept.{function_keeps}
@@ -76,7 +76,7 @@ replaced_subterms ts n t h u part = elim (Contains-append_cases (take n ts) (dro
 
 module _ (most : ℕ) (scope : Scope) (all : Trees) (old now : TableView) (over_limit : Bool) (os : List Open) (ids : List TermId) (rest : Trees) (h : Reading most scope all old now over_limit os ids rest) where
   -- a term in the place of its arguments
-  replaced : (new : TableView) (next : Bool) (n : ℕ) (t : Term) (values : List TermId) (ps : List Open) (left : Trees) → Replaces most now new h.terms n t values (Ok next) → AreSubterms (drop n h.terms) (t ∷ [])
+  replaced : (new : TableView) (next : Bool) (n : ℕ) (t : Term) (values : List TermId) (ps : List Open) (left : Trees) → Replaces most now new (from_on h.terms n t) values (Ok next) → AreSubterms (drop n h.terms) (t ∷ [])
       → resumed scope os h.terms rest ≡ resumed scope ps (take n h.terms ++ t ∷ []) left → Rises 0 ps (length (take n h.terms ++ t ∷ [])) → Reading most scope all old new next ps values left
   replaced new next n t values ps left r kept same rises = record {
     terms = take n h.terms ++ t ∷ [];
@@ -95,7 +95,7 @@ module _ (most : ℕ) (scope : Scope) (all : Trees) (old now : TableView) (over_
     here_scope = scope_kept old now d h.grows.keeps there ∙ sym begun
 
     pub atom_read : (at : ℕ) (k : Kind) (n : Name) (ts : Trees) (f : Function) (new : TableView) (next : Bool) (from : ℕ) (values : List TermId) → rest ≡ more (atom at k n) ts
-        → IsFunction now 0 (λ _. atom_term (scope_at now d) at k n) (Ok f) → from ≡ length ids → Replaces most now new h.terms from (function_term now f (drop from h.terms)) values (Ok next) → Reading most scope all old new next os values ts
+        → IsFunction now 0 (λ _. atom_term (scope_at now d) at k n) (Ok f) → from ≡ length ids → Replaces most now new (from_on h.terms from (function_term now f (drop from h.terms))) values (Ok next) → Reading most scope all old new next os values ts
     unfolding term_in
     atom_read at k n ts f new next from values is fun whole r =
         let args : List Term = drop from h.terms in
@@ -113,7 +113,7 @@ module _ (most : ℕ) (scope : Scope) (all : Trees) (old now : TableView) (over_
     atom_refused at k n ts e is fun = next_fault (atom at k n) ts e is (ap (λ s. atom_term s at k n) (sym here_scope) ∙ fun [] refl)
 
     pub closed_read : (ps : List Open) (o : Open) (f : Function) (new : TableView) (next : Bool) (values : List TermId) → rest ≡ none → os ≡ ps ++ o ∷ []
-        → IsFunction now (length ids - o.from) (applied (scope_at now d) o.place o.name o.at) (Ok f) → Replaces most now new h.terms o.from (function_term now f (drop o.from h.terms)) values (Ok next) → Reading most scope all old new next ps values o.after
+        → IsFunction now (length ids - o.from) (applied (scope_at now d) o.place o.name o.at) (Ok f) → Replaces most now new (from_on h.terms o.from (function_term now f (drop o.from h.terms))) values (Ok next) → Reading most scope all old new next ps values o.after
     closed_read ps o f new next values is opens fun r =
         let args : List Term = drop o.from h.terms in
         let t : Term = function_term now f args in

@@ -8,7 +8,7 @@ use Rattle.spec_terms.specs.Terms.{Term}
 use Rattle.term_core.specs.declared.ids.TermId.{TermId}
 use Rattle.term_core.specs.Tables.{TableView, term_at, IsIn}
 use Rattle.sort_check.specs.Building.{AllMean}
-use Rattle.sort_check.specs.Stacks.{Stand, Stack, IsValue, Replaces}
+use Rattle.sort_check.specs.Stacks.{Stand, Stack, IsValue, from_on, Replaces}
 use Rattle.sort_check.proofs.Growing.{all_mean_kept}
 
 map_take : (f : TermId → Term) (n : ℕ) (ids : List TermId) → map f (take n ids) ≡ take n (map f ids)
@@ -33,7 +33,7 @@ module _ (over_limit : Bool) (most : ℕ) (old new : TableView) (ts : List Term)
   as_many : length next ≡ length (take n ts ++ t ∷ [])
   as_many = omega (arith, ap length is, length-append (take n ids) (id ∷ []), length-append (take n ts) (t ∷ []), length-take n ids, length-take n ts, stack.count)
 
-  pub replaced_some : IsValue over_limit most old new t (Ok (Some id)) → Replaces most old new ts n t next (Ok false)
+  pub replaced_some : IsValue over_limit most old new t (Ok (Some id)) → Replaces most old new (from_on ts n t) next (Ok false)
   replaced_some v =
       let before : AllMean old ts ids = subst (λ b. Stand b most old ts ids) v.ends.0 stack.stand in
       let front : AllMean new (take n ts) (take n ids) = all_mean_kept old new (take n ts) (take n ids) v.grows.keeps.extends (mean_take old n ts ids before) in
@@ -48,10 +48,10 @@ module _ (over_limit : Bool) (most : ℕ) (old new : TableView) (ts : List Term)
         };
       }
 
-  pub replaced_none : IsValue over_limit most old new t (Ok None) → Replaces most old new ts n t next (Ok true)
+  pub replaced_none : IsValue over_limit most old new t (Ok None) → Replaces most old new (from_on ts n t) next (Ok true)
   replaced_none v = record { grows = v.grows; ends = record { count = as_many; stand = v.ends } }
 
-pub replaced_not : (over_limit : Bool) (most : ℕ) (old new : TableView) (ts : List Term) (n : ℕ) (t : Term) (next : List TermId) (e : NoMemory) (r : Result (Option TermId) NoMemory) → IsValue over_limit most old new t r → Replaces most old new ts n t next (Err e)
+pub replaced_not : (over_limit : Bool) (most : ℕ) (old new : TableView) (ts : List Term) (n : ℕ) (t : Term) (next : List TermId) (e : NoMemory) (r : Result (Option TermId) NoMemory) → IsValue over_limit most old new t r → Replaces most old new (from_on ts n t) next (Err e)
 replaced_not over_limit most old new ts n t next e r v = record { grows = v.grows; ends = tt }
 
 pub stand_rest : (over_limit : Bool) (most : ℕ) (t : TableView) (n : ℕ) (ts : List Term) (ids held : List TermId) → held ≡ ids → Stack over_limit most t ts ids → Stand over_limit most t (drop n ts) (take (length held - n) (drop n held))

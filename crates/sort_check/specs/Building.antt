@@ -58,7 +58,7 @@ EndsPutting most new ts ids (Ok u) = AllMean new ts ids
 EndsPutting most new ts ids (Err OverLimit) = most < length new.terms
 EndsPutting most new ts ids (Err Memory) = Unit {0}
 
--- Building terms, one after the other, behind those of numbers that there are: as building one.
+-- Building terms, one after the other, after those of numbers that there are: as building one.
 pub record PutsAll (most : ℕ) (old new : TableView) (before after : List TermId) (ts : List Term) (result : Result (Unit {0}) BuildError) : Type 0 where
   -- the table has their subterms
   pub grows : Grows ts old new

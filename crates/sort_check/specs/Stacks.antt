@@ -37,8 +37,25 @@ EndsReplacing most new ts ids (Ok over_limit) = Stack over_limit most new ts ids
 EndsReplacing most new ts ids (Err e) = Unit {0}
 
 -- A term in the place of all from one on.
-pub record Replaces (most : ℕ) (old new : TableView) (ts : List Term) (start : ℕ) (t : Term) (ids : List TermId) (result : Result Bool NoMemory) : Type 0 where
+pub record Replacement : Type 0 where
+  -- the terms
+  pub terms : List Term
+  -- the place of the first that goes
+  pub start : ℕ
+  -- the term that comes
+  pub term : Term
+
+-- what is put in the place of the terms from one on
+abbrev pub from_on : List Term → ℕ → Term → Replacement
+from_on ts start t = record { terms = ts; start = start; term = t }
+
+-- the terms that stand then
+abbrev pub replaced : Replacement → List Term
+replaced r = take r.start r.terms ++ r.term ∷ []
+
+-- A replacement, by the numbers that stand then.
+pub record Replaces (most : ℕ) (old new : TableView) (r : Replacement) (ids : List TermId) (result : Result Bool NoMemory) : Type 0 where
   -- what came is one of the term's subterms
-  pub grows : Grows (t ∷ []) old new
+  pub grows : Grows (r.term ∷ []) old new
   -- the stack, or out of memory
-  pub ends : EndsReplacing most new (take start ts ++ t ∷ []) ids result
+  pub ends : EndsReplacing most new (replaced r) ids result

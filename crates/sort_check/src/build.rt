@@ -55,7 +55,8 @@ pub fn put(
     requires there { AreIn table.old arguments.now }
     requires head { HasHead table.old.symbols head }
     requires takes { takes_so_many head arguments.now ≡ true }
-    ensures { Builds most table.old table.new (of (head_meant table.old.symbols head) (clause_at table.old arguments.now)) result }
+    ensures { Builds most table.old table.new
+        (of (head_meant table.old.symbols head) (clause_at table.old arguments.now)) result }
 {
     table.arity_suffices();
     let node = Node::new(alloc, head, arguments)?;
@@ -79,7 +80,8 @@ pub fn put_pair(
     requires second { IsIn table.old second }
     requires head { HasHead table.old.symbols head }
     requires takes { takes_so_many head (first ∷ second ∷ []) ≡ true }
-    ensures { Builds most table.old table.new (pair (head_meant table.old.symbols head) (term_at table.old first) (term_at table.old second)) result }
+    ensures { Builds most table.old table.new
+        (pair (head_meant table.old.symbols head) (term_at table.old first) (term_at table.old second)) result }
 {
     put(alloc, table, head, &[first, second], most)
 }

@@ -43,7 +43,8 @@ fn implication(
 ) -> Result<TermId, BuildError>
     requires some { 0 < length arguments.now }
     requires there { AreIn table.old arguments.now }
-    ensures { Builds most table.old table.new (right no_term (pair Implies) (clause_at table.old arguments.now)) result }
+    ensures { Builds most table.old table.new
+        (right no_term (pair Implies) (clause_at table.old arguments.now)) result }
 {
     let last = arguments.len() - 1;
     let mut all = arguments[last];
@@ -67,7 +68,8 @@ fn put_neighbours(
     requires first { IsIn table.old first }
     requires there { AreIn table.old others.now }
     requires parts { AreIn table.old parts.old.items }
-    ensures { PutsAll most table.old table.new parts.old.items parts.new.items (map (λ p. pair Equal p.0 p.1) (neighbours (clause_at table.old (first ∷ others.now)))) result }
+    ensures { PutsAll most table.old table.new parts.old.items parts.new.items
+        (map (λ p. pair Equal p.0 p.1) (neighbours (clause_at table.old (first ∷ others.now)))) result }
 {
     let mut previous = first;
     let mut rest = others;
@@ -89,7 +91,8 @@ fn equality(
 ) -> Result<TermId, BuildError>
     requires two { 1 < length arguments.now }
     requires there { AreIn table.old arguments.now }
-    ensures { Builds most table.old table.new (each_pair (pair Equal) (neighbours (clause_at table.old arguments.now))) result }
+    ensures { Builds most table.old table.new
+        (each_pair (pair Equal) (neighbours (clause_at table.old arguments.now))) result }
 {
     let mut parts = Vec::new(alloc);
     put_neighbours(
@@ -115,7 +118,8 @@ fn put_different(
     requires first { IsIn table.old first }
     requires there { AreIn table.old others.now }
     requires parts { AreIn table.old parts.old.items }
-    ensures { PutsAll most table.old table.new parts.old.items parts.new.items (map (unequal (term_at table.old first)) (clause_at table.old others.now)) result }
+    ensures { PutsAll most table.old table.new parts.old.items parts.new.items
+        (map (unequal (term_at table.old first)) (clause_at table.old others.now)) result }
 {
     let mut rest = others;
     'others: while let Some((other, after)) = rest.split_first() {
@@ -136,7 +140,8 @@ fn put_all_pairs(
 ) -> Result<(), BuildError>
     requires there { AreIn table.old arguments.now }
     requires parts { AreIn table.old parts.old.items }
-    ensures { PutsAll most table.old table.new parts.old.items parts.new.items (map (λ p. unequal p.0 p.1) (all_pairs (clause_at table.old arguments.now))) result }
+    ensures { PutsAll most table.old table.new parts.old.items parts.new.items
+        (map (λ p. unequal p.0 p.1) (all_pairs (clause_at table.old arguments.now))) result }
 {
     let mut rest = arguments;
     'arguments: while let Some((first, others)) = rest.split_first() {
@@ -155,7 +160,8 @@ fn distinct(
 ) -> Result<TermId, BuildError>
     requires two { 1 < length arguments.now }
     requires there { AreIn table.old arguments.now }
-    ensures { Builds most table.old table.new (each_pair unequal (all_pairs (clause_at table.old arguments.now))) result }
+    ensures { Builds most table.old table.new
+        (each_pair unequal (all_pairs (clause_at table.old arguments.now))) result }
 {
     let mut parts = Vec::new(alloc);
     put_all_pairs(alloc, table, arguments, &mut parts, most)?;
@@ -200,7 +206,8 @@ pub fn build(
 ) -> Result<TermId, BuildError>
     requires there { AreIn table.old arguments.now }
     requires takes { Takes table.old function (length arguments.now) }
-    ensures { Builds most table.old table.new (function_term table.old function (clause_at table.old arguments.now)) result }
+    ensures { Builds most table.old table.new
+        (function_term table.old function (clause_at table.old arguments.now)) result }
 {
     match function {
         Function::Core(head) => build_core(alloc, table, head, arguments, most),

@@ -71,8 +71,10 @@ impl Definitions {
     ///
     /// Source: SMT-LIB 2.6, section 4.2.3.
     pub fn find(&self, name: &[u8]) -> Option<TermId>
-        ensures { MatchOption result ((table : TableView) → look_up (defined_by table self.now.names self.now.terms) name.now ≡ None)
-            (λ id. Contains self.now.terms id × ((table : TableView) → look_up (defined_by table self.now.names self.now.terms) name.now ≡ Some (term_at table id))) }
+        ensures { MatchOption result
+            ((table : TableView) → look_up (defined_by table self.now.names self.now.terms) name.now ≡ None)
+            (λ id. Contains self.now.terms id × ((table : TableView)
+            → look_up (defined_by table self.now.names self.now.terms) name.now ≡ Some (term_at table id))) }
     {
         self.names.no_name_twice();
         match self.names.find(name) {
@@ -87,7 +89,8 @@ impl Definitions {
     /// Source: SMT-LIB 2.6, section 4.2.3.
     pub fn add(&mut self, name: &[u8], term: TermId) -> Result<(), NoMemory>
         requires { among self.old.names name.now ≡ false }
-        ensures added { OnOk result (self.new ≡ record { names = self.old.names ++ name.now ∷ []; terms = self.old.terms ++ term ∷ [] }) }
+        ensures added { OnOk result
+            (self.new ≡ record { names = self.old.names ++ name.now ∷ []; terms = self.old.terms ++ term ∷ [] }) }
         ensures same { OnErr result (self.new ≡ self.old) }
     {
         self.terms.reserve(1)?;

@@ -30,7 +30,9 @@ fn is_within_limit(
     requires before { before ≤ length table.now.terms }
     requires there { IsWithinLimit before limit table.now → AreIn table.now ids.now }
     ensures limit { IfOk result (λ yes. yes ≡ true → IsWithinLimit before limit table.now) }
-    ensures fits { IfOk result (λ yes. (ts : List Term) → AreSubtermsFrom before ts table.now → (IsWithinLimit before limit table.now → AllMean table.now ts ids.now) → yes ≡ fit_in limit ts) }
+    ensures fits { IfOk result
+        (λ yes. (ts : List Term) → AreSubtermsFrom before ts table.now
+        → (IsWithinLimit before limit table.now → AllMean table.now ts ids.now) → yes ≡ fit_in limit ts) }
 {
     table.ids_are_unique();
     if table.len() - before > limit {
@@ -49,7 +51,8 @@ fn read_limited(
     limit: u64,
 ) -> Result<Vec<TermId>, ReadError>
     requires { AreIn table.old definitions.now.terms }
-    ensures answer { AnswersTerms (roomy_terms (scope_at table.old definitions.now) limit at (trees_meant trees.entry)) table.old table.new result }
+    ensures answer { AnswersTerms (roomy_terms (scope_at table.old definitions.now) limit at (trees_meant trees.entry))
+        table.old table.new result }
     ensures keeps { Keeps table.old table.new }
 {
     let before = table.len();
@@ -91,7 +94,8 @@ pub fn terms_under(
     limit: u64,
 ) -> Result<Vec<TermId>, ReadError>
     requires { AreIn table.old definitions.now.terms }
-    ensures answer { AnswersTerms (roomy_terms (scope_at table.old definitions.now) limit at (trees_meant trees.entry)) table.old table.new result }
+    ensures answer { AnswersTerms (roomy_terms (scope_at table.old definitions.now) limit at (trees_meant trees.entry))
+        table.old table.new result }
     ensures same { OnErr result (table.new ≡ table.old) }
 {
     let before = table.len();
@@ -118,7 +122,8 @@ pub fn terms(
     at: u64,
     limit: u64,
 ) -> Result<Vec<TermId>, ReadError>
-    ensures answer { AnswersTerms (roomy_terms (scope_of table.old.symbols) limit at (trees_meant trees.entry)) table.old table.new result }
+    ensures answer { AnswersTerms (roomy_terms (scope_of table.old.symbols) limit at (trees_meant trees.entry))
+        table.old table.new result }
     ensures same { OnErr result (table.new ≡ table.old) }
 {
     terms_under(alloc, table, &Definitions::new(alloc), trees, at, limit)

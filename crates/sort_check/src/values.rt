@@ -3,7 +3,7 @@
 ghost use Rattle.std.specs.Prelude.{◌-◌, ◌≤◌, List, length, drop};
 ghost use Rattle.spec_terms.specs.Terms.{Term};
 ghost use Rattle.sort_check.specs.Functions.{function_term, Takes};
-ghost use Rattle.sort_check.specs.Stacks.{Stand, Stack, IsValue, Replaces};
+ghost use Rattle.sort_check.specs.Stacks.{Stand, Stack, IsValue, from_on, Replaces};
 
 use crate::build::BuildError;
 use crate::chains::build;
@@ -24,7 +24,8 @@ fn value(
 ) -> Result<Option<TermId>, NoMemory>
     requires there { (ts : List Term) × Stand over_limit most table.old ts values.now }
     requires takes { Takes table.old function (length values.now) }
-    ensures { (ts : List Term) → Stand over_limit most table.old ts values.now → IsValue over_limit most table.old table.new (function_term table.old function ts) result }
+    ensures { (ts : List Term) → Stand over_limit most table.old ts values.now
+        → IsValue over_limit most table.old table.new (function_term table.old function ts) result }
 {
     if over_limit {
         return Ok(None);
@@ -52,7 +53,9 @@ pub fn replace(
     requires there { (ts : List Term) × Stack over_limit most table.old ts values.old.items }
     requires from { from ≤ length values.old.items }
     requires takes { Takes table.old function (length values.old.items - from) }
-    ensures { (ts : List Term) → Stack over_limit most table.old ts values.old.items → Replaces most table.old table.new ts from (function_term table.old function (drop from ts)) values.new.items result }
+    ensures { (ts : List Term) → Stack over_limit most table.old ts values.old.items
+        → Replaces most table.old table.new (from_on ts from (function_term table.old function (drop from ts)))
+        values.new.items result }
 {
     let built = value(alloc, table, &values[from..], over_limit, function, most)?;
     values.truncate(from);

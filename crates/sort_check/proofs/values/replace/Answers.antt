@@ -2,7 +2,7 @@ use Rattle.std.proofs.Common.{[], ◌∷◌, ◌++◌, drop, ap, ◌∙◌, subs
 use Rattle.std.specs.Prelude.{Ok}
 use Rattle.term_core.specs.declared.ids.TermId.{TermId}
 use Rattle.sort_check.specs.Functions.{function_term}
-use Rattle.sort_check.specs.Stacks.{IsValue, Replaces}
+use Rattle.sort_check.specs.Stacks.{IsValue, from_on, Replaces}
 use Rattle.sort_check.proofs.Errors.{by_any_error}
 use Rattle.sort_check.proofs.Stacking.{stand_rest, replaced_some, replaced_none, replaced_not}
 use Rattle.sort_check.proofs.values.replace.Goals as goal
@@ -13,17 +13,17 @@ value-requires-clause-there c =
 
 pub returns-in_err-built : goal.returns-in_err-built
 returns-in_err-built c ts h =
-    by_any_error (Replaces c.args.most c.args.table.now c.value.new.table ts c.args.from (function_term c.args.table.now c.args.function (drop c.args.from ts)) c.args.values.now.items) c.from_residual.result c.from_residual.ensures.0
+    by_any_error (Replaces c.args.most c.args.table.now c.value.new.table (from_on ts c.args.from (function_term c.args.table.now c.args.function (drop c.args.from ts))) c.args.values.now.items) c.from_residual.result c.from_residual.ensures.0
     (λ e. replaced_not c.args.over_limit c.args.most c.args.table.now c.value.new.table ts c.args.from (function_term c.args.table.now c.args.function (drop c.args.from ts)) c.args.values.now.items e c.value.result (c.value.ensures (drop c.args.from ts) (stand_rest c.args.over_limit c.args.most c.args.table.now c.args.from ts c.args.values.now.items c.deref.result.now c.deref.ensures.value h)))
 
 pub returns-in_err-push-in-Some : goal.returns-in_err-push-in-Some
 returns-in_err-push-in-Some c ts h =
-    by_any_error (Replaces c.args.most c.args.table.now c.value.new.table ts c.args.from (function_term c.args.table.now c.args.function (drop c.args.from ts)) c.push.new.self.items) c.from_residual-in_err-push-in-Some.result c.from_residual-in_err-push-in-Some.ensures.0
+    by_any_error (Replaces c.args.most c.args.table.now c.value.new.table (from_on ts c.args.from (function_term c.args.table.now c.args.function (drop c.args.from ts))) c.push.new.self.items) c.from_residual-in_err-push-in-Some.result c.from_residual-in_err-push-in-Some.ensures.0
     (λ e. replaced_not c.args.over_limit c.args.most c.args.table.now c.value.new.table ts c.args.from (function_term c.args.table.now c.args.function (drop c.args.from ts)) c.push.new.self.items e c.value.result (c.value.ensures (drop c.args.from ts) (stand_rest c.args.over_limit c.args.most c.args.table.now c.args.from ts c.args.values.now.items c.deref.result.now c.deref.ensures.value h)))
 
 pub returns-in_err-push-in-None : goal.returns-in_err-push-in-None
 returns-in_err-push-in-None c ts h =
-    by_any_error (Replaces c.args.most c.args.table.now c.value.new.table ts c.args.from (function_term c.args.table.now c.args.function (drop c.args.from ts)) c.push-in-None.new.self.items) c.from_residual-in_err-push-in-None.result c.from_residual-in_err-push-in-None.ensures.0
+    by_any_error (Replaces c.args.most c.args.table.now c.value.new.table (from_on ts c.args.from (function_term c.args.table.now c.args.function (drop c.args.from ts))) c.push-in-None.new.self.items) c.from_residual-in_err-push-in-None.result c.from_residual-in_err-push-in-None.ensures.0
     (λ e. replaced_not c.args.over_limit c.args.most c.args.table.now c.value.new.table ts c.args.from (function_term c.args.table.now c.args.function (drop c.args.from ts)) c.push-in-None.new.self.items e c.value.result (c.value.ensures (drop c.args.from ts) (stand_rest c.args.over_limit c.args.most c.args.table.now c.args.from ts c.args.values.now.items c.deref.result.now c.deref.ensures.value h)))
 
 pub returns-in_ok-push-in-Some : goal.returns-in_ok-push-in-Some
