@@ -1,7 +1,7 @@
 //! Texts with the s-expressions that stand in them, and what is printed of them.
 
 use super::*;
-use smt_lexer::{place_at, start};
+use smt_lexer::place_at;
 use std::alloc::{AllocError, Global};
 use std::test::Fail;
 use world_io::{MemSink, NoMemory};
@@ -124,8 +124,10 @@ fn fits(alloc: Global, read: Result<Next<'_>, Refused>, wanted: Want) -> Result<
 fn reads_what_stands_next(rt: HostRuntime) -> Result<(), Fail> {
     for (text, from, open_lists, wanted) in ROWS {
         let bytes = text.as_bytes();
+        let limited = LimitedText::new(bytes);
+        let bytes = limited.bytes();
         if from <= bytes.len() {
-            let read = read_next(rt.alloc(), bytes, place_at(bytes, from), open_lists);
+            let read = limited.next(rt.alloc(), place_at(bytes, from), open_lists);
             assert!(rt; fits(rt.alloc(), read, wanted)?, "{text} from {from}");
         }
     }
@@ -152,7 +154,8 @@ fn nests(
     refused: (u64, u64, u64),
 ) -> Result<bool, AllocError> {
     let text = nested(alloc, count)?;
-    match read_next(alloc, &text, start(), open_lists) {
+    let limited = LimitedText::new(&text);
+    match limited.next(alloc, limited.start(), open_lists) {
         Ok(Next::One(s, after)) => {
             Ok(s.items().len() == count && after.offset as usize == text.len())
         }
@@ -210,7 +213,8 @@ const PRINTED: [(&str, u64, &str); 22] = [
 
 /// How an item of the first s-expression is printed, nothing where there is none.
 fn prints(alloc: Global, text: &[u8], item: u64, wanted: &[u8]) -> Result<bool, NoMemory> {
-    match read_one(alloc, text, start()) {
+    let limited = LimitedText::new(text);
+    match limited.next_one(alloc, limited.start()) {
         Ok(Some((s, _))) => is_printed(alloc, &s, item, wanted),
         Err(Refused::Memory) => Err(NoMemory),
         _ => Ok(wanted.is_empty()),
@@ -230,7 +234,8 @@ fn prints_each_item(rt: HostRuntime) -> Result<(), Fail> {
 
 /// What a sink that takes no more than so many bytes has of a printed text, and whether that was all.
 fn front_is(alloc: Global, text: &[u8], room: u64, wanted: &[u8]) -> Result<bool, NoMemory> {
-    let s = match read_one(alloc, text, start()) {
+    let limited = LimitedText::new(text);
+    let s = match limited.next_one(alloc, limited.start()) {
         Ok(Some((s, _))) => s,
         Err(Refused::Memory) => return Err(NoMemory),
         _ => return Ok(false),
@@ -284,7 +289,8 @@ fn is_taken_apart(s: &Sexpr<'_>) -> Option<bool> {
 #[test]
 fn takes_an_s_expression_apart(rt: HostRuntime) -> Result<(), Fail> {
     let text = b" (f :k\n(|g| \"s\"))";
-    let Ok(Some((s, after))) = read_one(rt.alloc(), text, start()) else {
+    let limited = LimitedText::new(text);
+    let Ok(Some((s, after))) = limited.next_one(rt.alloc(), limited.start()) else {
         return Err(Fail::from(AllocError));
     };
     assert!(rt; is_taken_apart(&s) == Some(true));

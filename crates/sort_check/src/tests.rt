@@ -1,8 +1,7 @@
 //! Terms of texts, and the first faults of texts. A text is a list, in which the terms stand.
 
 use crate::{Fault, ReadError, TermFault, terms};
-use smt_lexer::start;
-use smt_sexpr::{list_inside, read_one};
+use smt_sexpr::{LimitedText, list_inside};
 use std::alloc::{AllocError, Global};
 use std::test::Fail;
 use term_core::{Head, SymbolId, TermId, TermTable};
@@ -39,7 +38,8 @@ fn read(
     text: &[u8],
     limit: u64,
 ) -> Option<Result<Vec<TermId>, ReadError>> {
-    let Ok(Some((s, _))) = read_one(alloc, text, start()) else {
+    let limited = LimitedText::new(text);
+    let Ok(Some((s, _))) = limited.next_one(alloc, limited.start()) else {
         return None;
     };
     let (_, inside) = list_inside(s.trees())?;
