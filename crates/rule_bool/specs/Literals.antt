@@ -20,6 +20,10 @@ has held m = list_any (λ h. same_lit h m) held
 abbrev pub lists : {T : Type 0} → List (Vec T Global) → List (List T)
 lists vs = map (λ v. v.items) vs
 
+-- a literal is there with its complement
+abbrev pub HasBoth : List Lit → Type 0
+HasBoth ls = (l : Lit) × Contains ls l × Contains ls (lit_complement l)
+
 -- the same literals are in both
 abbrev pub SameLits : List Lit → List Lit → Type 0
 SameLits xs ys = (l : Lit) → Contains xs l ↔ Contains ys l

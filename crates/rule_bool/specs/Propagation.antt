@@ -76,11 +76,6 @@ pub record Loses (premises : List (List Lit)) (losing : List ℕ) (old new : Lis
   pub advances : Advances premises old new
   pub tracked : (seen : List Lit) → IsWithin seen old → AreTracked (length premises) seen losing premises old before → AreTracked (length premises) seen [] premises new after
 
--- a premise is false, or those that lost a literal were taken up
-abbrev pub PassesOn : List (List Lit) → List ℕ → List Lit → List Lit → List ℕ → List ℕ → Bool → Type 0
-PassesOn premises losing old new before after true = IsRefuted premises old
-PassesOn premises losing old new before after false = Loses premises losing old new before after
-
 -- nothing more follows
 pub record IsQuiet (premises : List (List Lit)) (old new : List Lit) : Type 0 where
   pub advances : Advances premises old new

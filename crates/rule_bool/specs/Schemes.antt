@@ -1,5 +1,5 @@
 -- What a term gives by a scheme, over numbers of the table.
-use Rattle.std.specs.Prelude.{◌≡◌, ◌<◌, ℕ, Bool, true, List, map, Contains, Result, MatchResult}
+use Rattle.std.specs.Prelude.{◌≡◌, ◌<◌, ℕ, Bool, true, List, map, Contains, Result, MatchBool, MatchResult}
 use Rattle.spec_terms.specs.Terms.{Symbol, Head, Term, negated}
 use Rattle.spec_terms.specs.Subsets.{arguments_of}
 use Rattle.spec_terms.specs.Literals.{Clause}
@@ -71,6 +71,14 @@ pub record GivesRest (head : Head) (rest : Rest) (t : Term) (behind : Clause) : 
   pub formula : is_formula_of head t ≡ true
   -- the literals are as its arguments say
   pub by_arguments : Contains (rests_of rest (arguments_of t)) behind
+
+-- a test says yes exactly where the statement is so
+abbrev pub Tests : Type 0 → Bool → Type 0
+Tests P b = MatchBool b P (P → ⊥)
+
+-- the terms of numbers may stand after a term of these arguments
+abbrev pub HasRest : TableView → Rest → List TermId → List TermId → Type 0
+HasRest table rest arguments ids = Contains (rests_of rest (clause_at table arguments)) (clause_at table ids)
 
 -- a result is a success exactly where the statement is so
 abbrev pub IsExact : Type 0 → Result (Unit {0}) RuleFails → Type 0

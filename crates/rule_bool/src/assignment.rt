@@ -1,7 +1,7 @@
 //! The literals that hold, in the order in which they came to.
 
-ghost use Rattle.std.specs.Prelude.{◌≡◌, ◌<◌, ◌↔◌, [], map, length, Contains, IfOk, OnOk, MatchBool, MatchOption, slice_index_or, take};
-ghost use Rattle.rule_bool.specs.Literals.{lit_complement, AddsLast, IsConsistent};
+ghost use Rattle.std.specs.Prelude.{◌≡◌, ◌<◌, [], map, length, Contains, IfOk, OnOk, MatchBool, MatchOption, slice_index_or, take};
+ghost use Rattle.rule_bool.specs.Literals.{lit_complement, AddsLast, SameLits, HasBoth, IsConsistent};
 
 use crate::literals::negated;
 use indexmap::IndexSet;
@@ -80,8 +80,8 @@ impl Assignment {
 
 /// Gives the complement of each literal of the clause, or nothing where it has a literal with its complement.
 pub(crate) fn start_of(alloc: Global, clause: &[Lit]) -> Result<Option<Assignment>, AllocError>
-    ensures { IfOk result (λ o. MatchOption o ((l : Lit) × Contains (map lit_complement clause.now) l × Contains (map lit_complement clause.now) (lit_complement l))
-        (λ held. ((l : Lit) → Contains held l ↔ Contains (map lit_complement clause.now) l) × IsConsistent held)) }
+    ensures { IfOk result (λ o. MatchOption o (HasBoth (map lit_complement clause.now))
+        (λ held. SameLits held (map lit_complement clause.now) × IsConsistent held)) }
 {
     let mut held = Assignment::new(alloc);
     for l in clause {

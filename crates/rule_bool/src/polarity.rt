@@ -10,7 +10,8 @@ use term_core::{Head, TermId, TermTable};
 /// Gives the argument of a negation, or nothing where the term is none.
 fn negated(table: &TermTable, id: TermId) -> Option<TermId>
     requires { IsIn table.now id }
-    ensures { MatchOption result (HasNoSign false (term_at table.now id)) (IsSigned table.now false (term_at table.now id)) }
+    ensures { MatchOption result (HasNoSign false (term_at table.now id))
+        (IsSigned table.now false (term_at table.now id)) }
 {
     let node = table.node(id);
     let [inner] = node.arguments.as_slice() else {
@@ -25,7 +26,8 @@ fn negated(table: &TermTable, id: TermId) -> Option<TermId>
 /// Gives the term as it stands, or where `positive` is false what it negates; nothing where it is no negation.
 pub(crate) fn without_sign(table: &TermTable, positive: bool, id: TermId) -> Option<TermId>
     requires { IsIn table.now id }
-    ensures { MatchOption result (HasNoSign positive (term_at table.now id)) (IsSigned table.now positive (term_at table.now id)) }
+    ensures { MatchOption result (HasNoSign positive (term_at table.now id))
+        (IsSigned table.now positive (term_at table.now id)) }
 {
     if positive {
         return Some(id);
@@ -40,7 +42,8 @@ pub(crate) fn without_sign(table: &TermTable, positive: bool, id: TermId) -> Opt
 /// caller has that head: `turned` takes the others alone (`IsTurning`).
 pub(crate) fn turned_without_sign(table: &TermTable, positive: bool, id: TermId) -> Option<TermId>
     requires { IsIn table.now id }
-    ensures { MatchOption result (HasNoTurn positive (term_at table.now id)) (IsSigned table.now positive (flipped (term_at table.now id))) }
+    ensures { MatchOption result (HasNoTurn positive (term_at table.now id))
+        (IsSigned table.now positive (flipped (term_at table.now id))) }
 {
     match negated(table, id) {
         Some(inner) => without_sign(table, positive, inner),

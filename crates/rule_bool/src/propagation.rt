@@ -5,7 +5,8 @@ ghost use Rattle.spec_proofs.specs.Resolution.{Resolves};
 ghost use Rattle.rule_bool.specs.Literals.{lit_complement, lists, HasNoTwice, IsConsistent};
 ghost use Rattle.rule_bool.specs.Statuses.{IsFalsified};
 ghost use Rattle.rule_bool.specs.Occurring.{IsIndexOf};
-ghost use Rattle.rule_bool.specs.Propagation.{TakesUp, IsRefuted, IsUnrefuted, Begins, AreTracked, PassesOn, Propagates};
+ghost use Rattle.rule_bool.specs.Propagation.{TakesUp, IsRefuted, IsUnrefuted, Begins, AreTracked, Loses, Propagates};
+ghost use Rattle.rule_bool.specs.Schemes.{Tests};
 
 use crate::assignment::{Assignment, start_of};
 use crate::distinct::distinct_each;
@@ -18,7 +19,8 @@ use term_core::Lit;
 
 /// Takes up a premise of which so many literals are left, and gives how many are left then, or nothing where it is false.
 fn take_up(premise: &[Lit], left: usize, held: &mut Assignment) -> Result<Option<usize>, AllocError>
-    ensures { IfOk result (λ o. MatchOption o (IsFalsified held.old premise.now) (λ n. TakesUp premise.now held.old held.new left n)) }
+    ensures { IfOk result (λ o. MatchOption o (IsFalsified held.old premise.now)
+        (λ n. TakesUp premise.now held.old held.new left n)) }
 {
     if left > 1 {
         return Ok(Some(left));
@@ -40,7 +42,8 @@ fn begin(
     premises: &[Vec<Lit>],
     held: &mut Assignment,
 ) -> Result<Option<Vec<usize>>, AllocError>
-    ensures { IfOk result (λ o. MatchOption o (IsRefuted (lists premises.now) held.old) (λ left. Begins (lists premises.now) held.old held.new left.items)) }
+    ensures { IfOk result (λ o. MatchOption o (IsRefuted (lists premises.now) held.old)
+        (λ left. Begins (lists premises.now) held.old held.new left.items)) }
 {
     let mut left = Vec::new(alloc);
     for premise in premises {
@@ -61,7 +64,8 @@ fn pass_on(
 ) -> Result<bool, AllocError>
     requires counted { length left.old ≡ length premises.now }
     requires below { All (λ k. k < length premises.now) losing.now }
-    ensures { IfOk result (λ no. PassesOn (lists premises.now) losing.now held.old held.new left.old left.new no) }
+    ensures { IfOk result (λ no. MatchBool no (IsRefuted (lists premises.now) held.old)
+        (Loses (lists premises.now) losing.now held.old held.new left.old left.new)) }
 {
     for number in losing {
         let number = *number;
@@ -126,7 +130,8 @@ pub(crate) fn refutes(
     held: &mut Assignment,
 ) -> Result<bool, AllocError>
     requires { IsConsistent held.old }
-    ensures { IfOk result (λ yes. MatchBool yes (IsRefuted (lists premises.now) held.old) (IsUnrefuted (lists premises.now) held.old)) }
+    ensures { IfOk result (λ yes. MatchBool yes (IsRefuted (lists premises.now) held.old)
+        (IsUnrefuted (lists premises.now) held.old)) }
 {
     let sets = distinct_each(alloc, premises)?;
     if propagate(alloc, &sets, held)? {
@@ -146,7 +151,7 @@ pub(crate) fn refutes(
 /// `AllocError` comes where memory runs out, which tells nothing of the premises. Nothing is changed.
 /// Source: Alethe specification, rule `resolution`; unit propagation is own.
 pub fn resolves(alloc: Global, premises: &[Vec<Lit>], clause: &[Lit]) -> Result<bool, AllocError>
-    ensures { IfOk result (λ yes. MatchBool yes (Resolves lit_complement (lists premises.now) clause.now) (Resolves lit_complement (lists premises.now) clause.now → ⊥)) }
+    ensures { IfOk result (λ yes. Tests (Resolves lit_complement (lists premises.now) clause.now) yes) }
 {
     let Some(mut held) = start_of(alloc, clause)? else {
         return Ok(true);

@@ -68,7 +68,8 @@ pub fn resolution(
 ) -> Result<(), RuleStop>
     requires premises { All (AreIn table.now) premises.now }
     requires clause { AreIn table.now clause.now }
-    ensures { MatchResult result (λ _. IsResolvent (map (clause_at table.now) premises.now) (clause_at table.now clause.now))
+    ensures { MatchResult result
+        (λ _. IsResolvent (map (clause_at table.now) premises.now) (clause_at table.now clause.now))
         (λ stop. Stops stop (IsResolvent (map (clause_at table.now) premises.now) (clause_at table.now clause.now))) }
 {
     let found = premises_of(alloc, table, premises)?;

@@ -1,10 +1,10 @@
 //! The literals that may stand behind a term, by its arguments.
 
-ghost use Rattle.std.specs.Prelude.{◌≡◌, ◌≢◌, ◌<◌, length, Contains, MatchBool};
-ghost use Rattle.spec_proofs.specs.Schemes.{side_of, rests_of};
+ghost use Rattle.std.specs.Prelude.{◌≡◌, ◌<◌, length};
+ghost use Rattle.spec_proofs.specs.Schemes.{side_of};
 ghost use Rattle.spec_proofs.specs.declared.Rest.TheVariants as rests;
 ghost use Rattle.term_core.specs.Tables.{IsIn, AreIn, term_at, clause_at};
-ghost use Rattle.rule_bool.specs.Schemes.{HasPlaces};
+ghost use Rattle.rule_bool.specs.Schemes.{HasPlaces, HasRest, Tests};
 
 use crate::polarity::without_sign;
 use crate::within::{alone, has_number, same_number};
@@ -16,7 +16,7 @@ fn is_side(table: &TermTable, arguments: &[TermId], side: Side, id: TermId) -> b
     requires arguments { AreIn table.now arguments.now }
     requires id { IsIn table.now id }
     requires place { side.place < length arguments.now }
-    ensures { MatchBool result (side_of (clause_at table.now arguments.now) side ≡ term_at table.now id) (side_of (clause_at table.now arguments.now) side ≢ term_at table.now id) }
+    ensures { Tests (side_of (clause_at table.now arguments.now) side ≡ term_at table.now id) result }
 {
     table.ids_are_unique();
     match without_sign(table, side.positive, id) {
@@ -29,8 +29,7 @@ fn is_side(table: &TermTable, arguments: &[TermId], side: Side, id: TermId) -> b
 fn are_each(table: &TermTable, arguments: &[TermId], positive: bool, ids: &[TermId]) -> bool
     requires arguments { AreIn table.now arguments.now }
     requires ids { AreIn table.now ids.now }
-    ensures { MatchBool result (Contains (rests_of (rests.Each positive) (clause_at table.now arguments.now)) (clause_at table.now ids.now))
-        (Contains (rests_of (rests.Each positive) (clause_at table.now arguments.now)) (clause_at table.now ids.now) → ⊥) }
+    ensures { Tests (HasRest table.now (rests.Each positive) arguments.now ids.now) result }
 {
     if arguments.len() != ids.len() {
         return false;
@@ -51,8 +50,7 @@ fn are_each(table: &TermTable, arguments: &[TermId], positive: bool, ids: &[Term
 fn is_innermost(table: &TermTable, arguments: &[TermId], ids: &[TermId]) -> bool
     requires arguments { AreIn table.now arguments.now }
     requires ids { AreIn table.now ids.now }
-    ensures { MatchBool result (Contains (rests_of rests.Innermost (clause_at table.now arguments.now)) (clause_at table.now ids.now))
-        (Contains (rests_of rests.Innermost (clause_at table.now arguments.now)) (clause_at table.now ids.now) → ⊥) }
+    ensures { Tests (HasRest table.now rests.Innermost arguments.now ids.now) result }
 {
     table.ids_are_unique();
     let Some(argument) = alone(arguments) else {
@@ -72,8 +70,7 @@ fn is_one(table: &TermTable, arguments: &[TermId], side: Side, ids: &[TermId]) -
     requires arguments { AreIn table.now arguments.now }
     requires ids { AreIn table.now ids.now }
     requires place { side.place < length arguments.now }
-    ensures { MatchBool result (Contains (rests_of (rests.One side) (clause_at table.now arguments.now)) (clause_at table.now ids.now))
-        (Contains (rests_of (rests.One side) (clause_at table.now arguments.now)) (clause_at table.now ids.now) → ⊥) }
+    ensures { Tests (HasRest table.now (rests.One side) arguments.now ids.now) result }
 {
     let Some(id) = alone(ids) else {
         return false;
@@ -93,8 +90,7 @@ fn are_two(
     requires ids { AreIn table.now ids.now }
     requires first { first.place < length arguments.now }
     requires second { second.place < length arguments.now }
-    ensures { MatchBool result (Contains (rests_of (rests.Two first second) (clause_at table.now arguments.now)) (clause_at table.now ids.now))
-        (Contains (rests_of (rests.Two first second) (clause_at table.now arguments.now)) (clause_at table.now ids.now) → ⊥) }
+    ensures { Tests (HasRest table.now (rests.Two first second) arguments.now ids.now) result }
 {
     let [one, other] = ids else {
         return false;
@@ -109,8 +105,7 @@ fn are_two(
 fn is_any(table: &TermTable, arguments: &[TermId], positive: bool, ids: &[TermId]) -> bool
     requires arguments { AreIn table.now arguments.now }
     requires ids { AreIn table.now ids.now }
-    ensures { MatchBool result (Contains (rests_of (rests.AnyOne positive) (clause_at table.now arguments.now)) (clause_at table.now ids.now))
-        (Contains (rests_of (rests.AnyOne positive) (clause_at table.now arguments.now)) (clause_at table.now ids.now) → ⊥) }
+    ensures { Tests (HasRest table.now (rests.AnyOne positive) arguments.now ids.now) result }
 {
     table.ids_are_unique();
     let Some(id) = alone(ids) else {
@@ -127,8 +122,7 @@ pub(crate) fn has_rest(table: &TermTable, rest: Rest, arguments: &[TermId], ids:
     requires arguments { AreIn table.now arguments.now }
     requires ids { AreIn table.now ids.now }
     requires places { HasPlaces (length arguments.now) rest }
-    ensures { MatchBool result (Contains (rests_of rest (clause_at table.now arguments.now)) (clause_at table.now ids.now))
-        (Contains (rests_of rest (clause_at table.now arguments.now)) (clause_at table.now ids.now) → ⊥) }
+    ensures { Tests (HasRest table.now rest arguments.now ids.now) result }
 {
     match rest {
         Rest::Nothing => ids.is_empty(),

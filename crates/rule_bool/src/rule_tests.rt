@@ -3,6 +3,8 @@
 ghost use Rattle.std.specs.Prelude.{All, IfOk};
 ghost use Rattle.term_core.specs.Tables.{AreIn};
 
+use crate::stated_tests::STATED;
+use crate::turned_tests::TURNED;
 use crate::{RuleStop, judge};
 use spec_proofs::Rule;
 use std::alloc::{AllocError, Global};
@@ -128,108 +130,110 @@ fn takes(
     }
 }
 
-/// A rule, premises, a clause, and whether the step is right.
-pub(crate) type Row = (Rule, &'static str, &'static str, bool);
+/// Takes a row apart: a rule's name, premises, a clause, and whether the step is right, with a space between them.
+fn row_of(row: &str) -> Option<(Rule, &str, &str, bool)> {
+    let (name, rest) = row.split_once(' ')?;
+    let (premises, rest) = rest.split_once(' ')?;
+    let (clause, wanted) = rest.split_once(' ')?;
+    let rule = Rule::named(name.as_bytes())?;
+    Some((rule, premises, clause, wanted == "yes"))
+}
 
-/// Gives the place of the first row whose step is judged otherwise.
-pub(crate) fn first_wrong(alloc: Global, rows: &[Row]) -> Result<Option<usize>, NoMemory> {
+/// Tells whether a row says of its step what the judge says.
+fn is_judged_so(alloc: Global, table: &TermTable, row: &str) -> Result<bool, AllocError> {
+    let Some((rule, premises, clause, wanted)) = row_of(row) else {
+        return Ok(false);
+    };
+    let premises = clauses_of(alloc, table, premises)?;
+    let clause = clause_of(alloc, table, clause)?;
+    Ok(takes(alloc, rule, table, &premises, clause.as_slice())? == wanted)
+}
+
+/// Gives the first row whose step is judged otherwise, if there is one.
+fn first_wrong(alloc: Global, rows: &str) -> Result<Option<&str>, NoMemory> {
     let table = letters(alloc)?;
-    for (place, (rule, premises, clause, wanted)) in rows.iter().enumerate() {
-        let premises = clauses_of(alloc, &table, premises)?;
-        let clause = clause_of(alloc, &table, clause)?;
-        if takes(alloc, *rule, &table, &premises, clause.as_slice())? != *wanted {
-            return Ok(Some(place));
+    for row in rows.lines() {
+        if !is_judged_so(alloc, &table, row)? {
+            return Ok(Some(row));
         }
     }
     Ok(None)
 }
 
 /// Steps by the rules that are by no scheme.
-const STEPS: &[Row] = &[
-    (Rule::Or, "|;", "ab", true),
-    (Rule::Or, "|;", "ba", true),
-    (Rule::Or, "|;", "cab", true),
-    (Rule::Or, "|;", "a", false),
-    (Rule::Or, "|;", "", false),
-    (Rule::Or, "|;", "1b", false),
-    (Rule::Or, "o;", "a", true),
-    (Rule::Or, "o;", "b", false),
-    (Rule::Or, "w;", "aba", true),
-    (Rule::Or, "w;", "ab", true),
-    (Rule::Or, "w;", "a", false),
-    (Rule::Or, "e;", "b", true),
-    (Rule::Or, "e;", "", false),
-    (Rule::Or, "|c;", "abc", false),
-    (Rule::Or, "|o;", "ab", false),
-    (Rule::Or, "||;", "ab", false),
-    (Rule::Or, "a;", "a", false),
-    (Rule::Or, "&;", "ab", false),
-    (Rule::Or, "n;", "ab", false),
-    (Rule::Or, ";", "ab", false),
-    (Rule::Or, "|;|;", "ab", false),
-    (Rule::Or, "", "ab", false),
-    (Rule::Contraction, "aa;", "a", true),
-    (Rule::Contraction, "abab;", "ab", true),
-    (Rule::Contraction, "aabb;", "ba", true),
-    (Rule::Contraction, ";", "", true),
-    (Rule::Contraction, "aab;", "a", false),
-    (Rule::Contraction, "aab;", "b", false),
-    (Rule::Contraction, "a1;", "1", false),
-    (Rule::Contraction, "aa;aa;", "a", false),
-    (Rule::Contraction, "", "a", false),
-    (Rule::Reordering, "abc;", "cab", true),
-    (Rule::Reordering, "abcd;", "dcba", true),
-    (Rule::Reordering, "abcd;", "abcd", true),
-    (
-        Rule::Reordering,
-        "abcdABCD120|owe&n;",
-        "n&ewo|021DCBAdcba",
-        true,
-    ),
-    (
-        Rule::Reordering,
-        "n&ewo|021DCBAdcba;",
-        "abcABCD120|owe&n",
-        false,
-    ),
-    (Rule::Reordering, "abc;", "ba", false),
-    (Rule::Reordering, "abc;", "bad", false),
-    (Rule::Reordering, "aA;", "a1", false),
-    (Rule::Reordering, "ab;", "", false),
-    (Rule::Reordering, "ab;ab;", "ba", false),
-    (Rule::Reordering, "", "", false),
-    (Rule::Weakening, "a;", "ba", true),
-    (Rule::Weakening, "bd;", "abcd", true),
-    (Rule::Weakening, ";", "a", true),
-    (Rule::Weakening, "abc;", "ab", false),
-    (Rule::Weakening, "abc;", "bc", false),
-    (Rule::Weakening, "a;b;", "ab", false),
-    (Rule::Weakening, "", "a", false),
-    (Rule::Resolution, "", "aA", true),
-    (Rule::Resolution, "bc;", "A1", true),
-    (Rule::Resolution, "", "a", false),
-    (Rule::Resolution, "", "", false),
-    (Rule::Resolution, "a;", "aa", true),
-    (Rule::Resolution, "aa;Ab;", "b", true),
-    (Rule::Resolution, "ab;", "aa", false),
-    (Rule::Resolution, "1;", "a", true),
-    (Rule::Resolution, "a1;Ab;", "b", true),
-    (Rule::Resolution, "a;1;", "A", false),
-    (Rule::Resolution, "0;", "", false),
-    (Rule::Resolution, "0;", "0", true),
-    (Rule::Resolution, "a;A;", "0", true),
-    (Rule::Resolution, "|;A;B;", "", false),
-    (Rule::Resolution, "|;n;", "", true),
-    (Rule::Resolution, "ab;ab;Ab;", "b", true),
-    (Rule::Resolution, "ab;cd;Ab;", "b", true),
-    (Rule::Resolution, "ab;cd;", "b", false),
-    (Rule::Resolution, "ab;Ac;Cd;2B;", "2", false),
-    (Rule::Resolution, "ab;Ac;Cd;2B;D;", "2", true),
-    (Rule::Resolution, "Cd;ba;D;cA;b2;", "b", true),
-    (Rule::Resolution, "ab;aB;Ab;AB;", "", false),
-    (Rule::Resolution, "ab;;", "", true),
-    (Rule::ThResolution, "ab;A;", "b", true),
-];
+const STEPS: &str = "or |; ab yes
+or |; ba yes
+or |; cab yes
+or |; a no
+or |;  no
+or |; 1b no
+or o; a yes
+or o; b no
+or w; aba yes
+or w; ab yes
+or w; a no
+or e; b yes
+or e;  no
+or |c; abc no
+or |o; ab no
+or ||; ab no
+or a; a no
+or &; ab no
+or n; ab no
+or ; ab no
+or |;|; ab no
+or  ab no
+contraction aa; a yes
+contraction abab; ab yes
+contraction aabb; ba yes
+contraction ;  yes
+contraction aab; a no
+contraction aab; b no
+contraction a1; 1 no
+contraction aa;aa; a no
+contraction  a no
+reordering abc; cab yes
+reordering abcd; dcba yes
+reordering abcd; abcd yes
+reordering abcdABCD120|owe&n; n&ewo|021DCBAdcba yes
+reordering n&ewo|021DCBAdcba; abcABCD120|owe&n no
+reordering abc; ba no
+reordering abc; bad no
+reordering aA; a1 no
+reordering ab;  no
+reordering ab;ab; ba no
+reordering   no
+weakening a; ba yes
+weakening bd; abcd yes
+weakening ; a yes
+weakening abc; ab no
+weakening abc; bc no
+weakening a;b; ab no
+weakening  a no
+resolution  aA yes
+resolution bc; A1 yes
+resolution  a no
+resolution   no
+resolution a; aa yes
+resolution aa;Ab; b yes
+resolution ab; aa no
+resolution 1; a yes
+resolution a1;Ab; b yes
+resolution a;1; A no
+resolution 0;  no
+resolution 0; 0 yes
+resolution a;A; 0 yes
+resolution |;A;B;  no
+resolution |;n;  yes
+resolution ab;ab;Ab; b yes
+resolution ab;cd;Ab; b yes
+resolution ab;cd; b no
+resolution ab;Ac;Cd;2B; 2 no
+resolution ab;Ac;Cd;2B;D; 2 yes
+resolution Cd;ba;D;cA;b2; b yes
+resolution ab;aB;Ab;AB;  no
+resolution ab;;  yes
+th_resolution ab;A; b yes";
 
 #[test]
 fn means_each_term_by_its_letter(rt: HostRuntime) -> Result<(), Fail> {
@@ -243,5 +247,7 @@ fn means_each_term_by_its_letter(rt: HostRuntime) -> Result<(), Fail> {
 fn takes_right_steps_alone(rt: HostRuntime) -> Result<(), Fail> {
     let alloc = rt.alloc();
     assert!(rt; first_wrong(alloc, STEPS).expect(&rt, "memory") == None);
+    assert!(rt; first_wrong(alloc, STATED).expect(&rt, "memory") == None);
+    assert!(rt; first_wrong(alloc, TURNED).expect(&rt, "memory") == None);
     Ok(())
 }

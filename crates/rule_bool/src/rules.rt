@@ -1,11 +1,11 @@
 //! Rules on one premise.
 
-ghost use Rattle.std.specs.Prelude.{map, All, MatchOption, MatchResult};
+ghost use Rattle.std.specs.Prelude.{map, All, MatchOption};
 ghost use Rattle.spec_proofs.specs.declared.Rule.TheVariants as rules;
 ghost use Rattle.spec_proofs.specs.Rules.{IsWeakening};
 ghost use Rattle.term_core.specs.Tables.{AreIn, clause_at};
 ghost use Rattle.rule_bool.specs.Premises.{IsDisjunctionAlone, HasNoDisjunctionAlone};
-ghost use Rattle.rule_bool.specs.Schemes.{Judges};
+ghost use Rattle.rule_bool.specs.Schemes.{IsExact, Judges};
 
 use crate::within::has_each;
 use term_core::{Clause, Head, Node, RuleFails, TermId, TermTable};
@@ -13,7 +13,8 @@ use term_core::{Clause, Head, Node, RuleFails, TermId, TermTable};
 /// Gives the node of the one literal of the one premise where that is a disjunction, or else nothing.
 fn disjunction<'a>(table: &'a TermTable, premises: &[Clause]) -> Option<&'a Node>
     requires { All (AreIn table.now) premises.now }
-    ensures { MatchOption result (HasNoDisjunctionAlone table.now premises.now) (λ node. IsDisjunctionAlone table.now premises.now node.now.arguments.items) }
+    ensures { MatchOption result (HasNoDisjunctionAlone table.now premises.now)
+        (λ node. IsDisjunctionAlone table.now premises.now node.now.arguments.items) }
 {
     let [premise] = premises else {
         return None;
@@ -61,8 +62,7 @@ fn keeps_literals(
 ) -> Result<(), RuleFails>
     requires premises { All (AreIn table.now) premises.now }
     requires clause { AreIn table.now clause.now }
-    ensures { MatchResult result (λ _. IsWeakening (map (clause_at table.now) premises.now) (clause_at table.now clause.now))
-        (λ _. IsWeakening (map (clause_at table.now) premises.now) (clause_at table.now clause.now) → ⊥) }
+    ensures { IsExact (IsWeakening (map (clause_at table.now) premises.now) (clause_at table.now clause.now)) result }
 {
     table.ids_are_unique();
     let [premise] = premises else {

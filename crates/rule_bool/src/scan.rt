@@ -1,9 +1,10 @@
 //! Unit propagation by passes over all premises: plain, and slow where many passes are needed.
 
-ghost use Rattle.std.specs.Prelude.{IfOk, MatchBool};
+ghost use Rattle.std.specs.Prelude.{IfOk};
 ghost use Rattle.spec_proofs.specs.Resolution.{Resolves};
 ghost use Rattle.rule_bool.specs.Literals.{lit_complement, lists};
 ghost use Rattle.rule_bool.specs.Scanning.{Scans, Moves};
+ghost use Rattle.rule_bool.specs.Schemes.{Tests};
 
 use crate::assignment::{Assignment, start_of};
 use crate::status::{ClauseStatus, clause_status};
@@ -57,7 +58,7 @@ pub(crate) fn resolves_by_scan(
     premises: &[Vec<Lit>],
     clause: &[Lit],
 ) -> Result<bool, AllocError>
-    ensures { IfOk result (λ yes. MatchBool yes (Resolves lit_complement (lists premises.now) clause.now) (Resolves lit_complement (lists premises.now) clause.now → ⊥)) }
+    ensures { IfOk result (λ yes. Tests (Resolves lit_complement (lists premises.now) clause.now) yes) }
 {
     let Some(mut held) = start_of(alloc, clause)? else {
         return Ok(true);

@@ -4,7 +4,7 @@ ghost use Rattle.std.specs.Prelude.{◌≡◌, ◌≢◌, [], ◌∷◌, map, Al
 ghost use Rattle.spec_proofs.specs.Rules.{IsStated, IsTurned};
 ghost use Rattle.term_core.specs.declared.ids.TermId.{TermId as Number};
 ghost use Rattle.term_core.specs.Tables.{IsIn, AreIn, term_at, clause_at, head_meant};
-ghost use Rattle.rule_bool.specs.Schemes.{scheme_seen, IsStating, IsTurning, GivesRest, HasScheme, IsExact, Judges};
+ghost use Rattle.rule_bool.specs.Schemes.{scheme_seen, IsStating, IsTurning, GivesRest, HasScheme, IsExact, Judges, Tests};
 
 use crate::polarity::{turned_without_sign, without_sign};
 use crate::rests::has_rest;
@@ -25,8 +25,7 @@ fn gives_rest(table: &TermTable, head: Head, rest: Rest, id: TermId, behind: &[T
     requires form { IsStating head rest }
     requires id { IsIn table.now id }
     requires behind { AreIn table.now behind.now }
-    ensures { MatchBool result (GivesRest (head_meant table.now.symbols head) rest (term_at table.now id) (clause_at table.now behind.now))
-        (GivesRest (head_meant table.now.symbols head) rest (term_at table.now id) (clause_at table.now behind.now) → ⊥) }
+    ensures { Tests (GivesRest (head_meant table.now.symbols head) rest (term_at table.now id) (clause_at table.now behind.now)) result }
 {
     table.all_terms_are_bool();
     let node = table.node(id);
@@ -45,7 +44,8 @@ pub(crate) fn stated(
 ) -> Result<(), RuleFails>
     requires form { IsStating scheme.head scheme.rest }
     requires clause { AreIn table.now clause.now }
-    ensures { IsExact (IsStated (scheme_seen table.now.symbols scheme) (map (clause_at table.now) premises.now) (clause_at table.now clause.now)) result }
+    ensures { IsExact (IsStated (scheme_seen table.now.symbols scheme) (map (clause_at table.now) premises.now)
+        (clause_at table.now clause.now)) result }
 {
     if !premises.is_empty() {
         return Err(RuleFails);
@@ -82,7 +82,8 @@ pub(crate) fn turned(
     requires form { IsTurning scheme.head scheme.rest }
     requires premises { All (AreIn table.now) premises.now }
     requires clause { AreIn table.now clause.now }
-    ensures { IsExact (IsTurned (scheme_seen table.now.symbols scheme) (map (clause_at table.now) premises.now) (clause_at table.now clause.now)) result }
+    ensures { IsExact (IsTurned (scheme_seen table.now.symbols scheme) (map (clause_at table.now) premises.now)
+        (clause_at table.now clause.now)) result }
 {
     let Some(front) = term_alone(premises) else {
         return Err(RuleFails);

@@ -1,179 +1,166 @@
-//! The rules whose premise is the term in front, on a table of steps.
+//! Steps by the rules whose premise is the term in front.
 
-use crate::rule_tests::{Row, first_wrong};
-use spec_proofs::Rule;
-use std::test::Fail;
-
-/// Steps by these rules.
-const STEPS: &[Row] = &[
-    (Rule::And, "&;", "a", true),
-    (Rule::And, "&;", "b", true),
-    (Rule::And, "@;", "a", true),
-    (Rule::And, "&;", "c", false),
-    (Rule::And, "&;", "A", false),
-    (Rule::And, "&;", "", false),
-    (Rule::And, "&;", "ab", false),
-    (Rule::And, "N;", "a", false),
-    (Rule::And, "|;", "a", false),
-    (Rule::And, "u;", "a", true),
-    (Rule::And, "u;", "b", false),
-    (Rule::And, "", "a", false),
-    (Rule::And, "", "Na", false),
-    (Rule::And, "&;&;", "a", false),
-    (Rule::And, "&a;", "a", false),
-    (Rule::And, ";", "a", false),
-    (Rule::NotAnd, "N;", "AB", true),
-    (Rule::NotAnd, "N;", "BA", false),
-    (Rule::NotAnd, "N;", "A", false),
-    (Rule::NotAnd, "N;", "ABA", false),
-    (Rule::NotAnd, "N;", "ab", false),
-    (Rule::NotAnd, "&;", "AB", false),
-    (Rule::NotAnd, "@;", "AB", false),
-    (Rule::NotAnd, "n;", "AB", false),
-    (Rule::NotAnd, "U;", "", false),
-    (Rule::NotAnd, "U;", "A", true),
-    (Rule::NotAnd, "", "&AB", false),
-    (Rule::NotAnd, "N;N;", "AB", false),
-    (Rule::NotAnd, "NA;", "AB", false),
-    (Rule::NotOr, "n;", "A", true),
-    (Rule::NotOr, "n;", "B", true),
-    (Rule::NotOr, "O;", "A", true),
-    (Rule::NotOr, "n;", "C", false),
-    (Rule::NotOr, "n;", "a", false),
-    (Rule::NotOr, "n;", "AB", false),
-    (Rule::NotOr, "n;", "", false),
-    (Rule::NotOr, "|;", "A", false),
-    (Rule::NotOr, "E;", "A", false),
-    (Rule::NotOr, "E;", "B", true),
-    (Rule::NotOr, "N;", "A", false),
-    (Rule::NotOr, "", "A", false),
-    (Rule::NotOr, "n;n;", "A", false),
-    (Rule::Implies, ">;", "Ab", true),
-    (Rule::Implies, ">;", "aB", false),
-    (Rule::Implies, ">;", "ab", false),
-    (Rule::Implies, ">;", "bA", false),
-    (Rule::Implies, ">;", "A", false),
-    (Rule::Implies, "i;", "Ab", false),
-    (Rule::Implies, "=;", "Ab", false),
-    (Rule::Implies, "", "Ab", false),
-    (Rule::Implies, ">;>;", "Ab", false),
-    (Rule::NotImplies1, "i;", "a", true),
-    (Rule::NotImplies1, "i;", "A", false),
-    (Rule::NotImplies1, "i;", "b", false),
-    (Rule::NotImplies1, "i;", "ab", false),
-    (Rule::NotImplies1, ">;", "a", false),
-    (Rule::NotImplies1, "X;", "a", false),
-    (Rule::NotImplies1, "", "a", false),
-    (Rule::NotImplies1, "i;i;", "a", false),
-    (Rule::NotImplies2, "i;", "B", true),
-    (Rule::NotImplies2, "i;", "b", false),
-    (Rule::NotImplies2, "i;", "A", false),
-    (Rule::NotImplies2, "i;", "", false),
-    (Rule::NotImplies2, ">;", "B", false),
-    (Rule::NotImplies2, "q;", "B", false),
-    (Rule::NotImplies2, "", "B", false),
-    (Rule::NotImplies2, "iB;", "B", false),
-    (Rule::Equiv1, "=;", "Ab", true),
-    (Rule::Equiv1, "=;", "aB", false),
-    (Rule::Equiv1, "=;", "bA", false),
-    (Rule::Equiv1, "=;", "AB", false),
-    (Rule::Equiv1, "q;", "Ab", false),
-    (Rule::Equiv1, ">;", "Ab", false),
-    (Rule::Equiv1, "", "Ab", false),
-    (Rule::Equiv1, "=;=;", "Ab", false),
-    (Rule::Equiv2, "=;", "aB", true),
-    (Rule::Equiv2, "=;", "Ab", false),
-    (Rule::Equiv2, "=;", "Ba", false),
-    (Rule::Equiv2, "=;", "ab", false),
-    (Rule::Equiv2, "q;", "aB", false),
-    (Rule::Equiv2, "x;", "aB", false),
-    (Rule::Equiv2, "", "aB", false),
-    (Rule::Equiv2, "=;;", "aB", false),
-    (Rule::NotEquiv1, "q;", "ab", true),
-    (Rule::NotEquiv1, "q;", "AB", false),
-    (Rule::NotEquiv1, "q;", "ba", false),
-    (Rule::NotEquiv1, "q;", "a", false),
-    (Rule::NotEquiv1, "=;", "ab", false),
-    (Rule::NotEquiv1, "X;", "ab", false),
-    (Rule::NotEquiv1, "", "ab", false),
-    (Rule::NotEquiv1, "q;q;", "ab", false),
-    (Rule::NotEquiv2, "q;", "AB", true),
-    (Rule::NotEquiv2, "q;", "ab", false),
-    (Rule::NotEquiv2, "q;", "BA", false),
-    (Rule::NotEquiv2, "q;", "ABA", false),
-    (Rule::NotEquiv2, "=;", "AB", false),
-    (Rule::NotEquiv2, "i;", "AB", false),
-    (Rule::NotEquiv2, "", "AB", false),
-    (Rule::NotEquiv2, ";", "AB", false),
-    (Rule::Xor1, "x;", "ab", true),
-    (Rule::Xor1, "x;", "AB", false),
-    (Rule::Xor1, "x;", "ba", false),
-    (Rule::Xor1, "x;", "aB", false),
-    (Rule::Xor1, "X;", "ab", false),
-    (Rule::Xor1, "=;", "ab", false),
-    (Rule::Xor1, "", "ab", false),
-    (Rule::Xor1, "x;x;", "ab", false),
-    (Rule::Xor2, "x;", "AB", true),
-    (Rule::Xor2, "x;", "ab", false),
-    (Rule::Xor2, "x;", "BA", false),
-    (Rule::Xor2, "x;", "Ab", false),
-    (Rule::Xor2, "X;", "AB", false),
-    (Rule::Xor2, "|;", "AB", false),
-    (Rule::Xor2, "", "AB", false),
-    (Rule::Xor2, "xA;", "AB", false),
-    (Rule::NotXor1, "X;", "aB", true),
-    (Rule::NotXor1, "X;", "Ab", false),
-    (Rule::NotXor1, "X;", "Ba", false),
-    (Rule::NotXor1, "X;", "a", false),
-    (Rule::NotXor1, "x;", "aB", false),
-    (Rule::NotXor1, "q;", "aB", false),
-    (Rule::NotXor1, "", "aB", false),
-    (Rule::NotXor1, "X;X;", "aB", false),
-    (Rule::NotXor2, "X;", "Ab", true),
-    (Rule::NotXor2, "X;", "aB", false),
-    (Rule::NotXor2, "X;", "bA", false),
-    (Rule::NotXor2, "X;", "AbA", false),
-    (Rule::NotXor2, "x;", "Ab", false),
-    (Rule::NotXor2, "n;", "Ab", false),
-    (Rule::NotXor2, "", "Ab", false),
-    (Rule::NotXor2, ";", "Ab", false),
-    (Rule::Ite1, "?;", "cb", true),
-    (Rule::Ite1, "?;", "ca", false),
-    (Rule::Ite1, "?;", "Ca", false),
-    (Rule::Ite1, "?;", "bc", false),
-    (Rule::Ite1, "I;", "cb", false),
-    (Rule::Ite1, "x;", "cb", false),
-    (Rule::Ite1, "", "cb", false),
-    (Rule::Ite1, "?;?;", "cb", false),
-    (Rule::Ite2, "?;", "Ca", true),
-    (Rule::Ite2, "?;", "Cb", false),
-    (Rule::Ite2, "?;", "cb", false),
-    (Rule::Ite2, "?;", "aC", false),
-    (Rule::Ite2, "I;", "Ca", false),
-    (Rule::Ite2, ">;", "Ca", false),
-    (Rule::Ite2, "", "Ca", false),
-    (Rule::Ite2, "?C;", "Ca", false),
-    (Rule::NotIte1, "I;", "cB", true),
-    (Rule::NotIte1, "I;", "cA", false),
-    (Rule::NotIte1, "I;", "CA", false),
-    (Rule::NotIte1, "I;", "Bc", false),
-    (Rule::NotIte1, "?;", "cB", false),
-    (Rule::NotIte1, "X;", "cB", false),
-    (Rule::NotIte1, "", "cB", false),
-    (Rule::NotIte1, "I;I;", "cB", false),
-    (Rule::NotIte2, "I;", "CA", true),
-    (Rule::NotIte2, "I;", "CB", false),
-    (Rule::NotIte2, "I;", "cB", false),
-    (Rule::NotIte2, "I;", "AC", false),
-    (Rule::NotIte2, "?;", "CA", false),
-    (Rule::NotIte2, "N;", "CA", false),
-    (Rule::NotIte2, "", "CA", false),
-    (Rule::NotIte2, ";", "CA", false),
-];
-
-#[test]
-fn turns_the_term_in_front(rt: HostRuntime) -> Result<(), Fail> {
-    let alloc = rt.alloc();
-    assert!(rt; first_wrong(alloc, STEPS).expect(&rt, "memory") == None);
-    Ok(())
-}
+/// Rows as those of `rule_tests.rt`.
+pub(crate) const TURNED: &str = "and &; a yes
+and &; b yes
+and @; a yes
+and &; c no
+and &; A no
+and &;  no
+and &; ab no
+and N; a no
+and |; a no
+and u; a yes
+and u; b no
+and  a no
+and  Na no
+and &;&; a no
+and &a; a no
+and ; a no
+not_and N; AB yes
+not_and N; BA no
+not_and N; A no
+not_and N; ABA no
+not_and N; ab no
+not_and &; AB no
+not_and @; AB no
+not_and n; AB no
+not_and U;  no
+not_and U; A yes
+not_and  &AB no
+not_and N;N; AB no
+not_and NA; AB no
+not_or n; A yes
+not_or n; B yes
+not_or O; A yes
+not_or n; C no
+not_or n; a no
+not_or n; AB no
+not_or n;  no
+not_or |; A no
+not_or E; A no
+not_or E; B yes
+not_or N; A no
+not_or  A no
+not_or n;n; A no
+implies >; Ab yes
+implies >; aB no
+implies >; ab no
+implies >; bA no
+implies >; A no
+implies i; Ab no
+implies =; Ab no
+implies  Ab no
+implies >;>; Ab no
+not_implies1 i; a yes
+not_implies1 i; A no
+not_implies1 i; b no
+not_implies1 i; ab no
+not_implies1 >; a no
+not_implies1 X; a no
+not_implies1  a no
+not_implies1 i;i; a no
+not_implies2 i; B yes
+not_implies2 i; b no
+not_implies2 i; A no
+not_implies2 i;  no
+not_implies2 >; B no
+not_implies2 q; B no
+not_implies2  B no
+not_implies2 iB; B no
+equiv1 =; Ab yes
+equiv1 =; aB no
+equiv1 =; bA no
+equiv1 =; AB no
+equiv1 q; Ab no
+equiv1 >; Ab no
+equiv1  Ab no
+equiv1 =;=; Ab no
+equiv2 =; aB yes
+equiv2 =; Ab no
+equiv2 =; Ba no
+equiv2 =; ab no
+equiv2 q; aB no
+equiv2 x; aB no
+equiv2  aB no
+equiv2 =;; aB no
+not_equiv1 q; ab yes
+not_equiv1 q; AB no
+not_equiv1 q; ba no
+not_equiv1 q; a no
+not_equiv1 =; ab no
+not_equiv1 X; ab no
+not_equiv1  ab no
+not_equiv1 q;q; ab no
+not_equiv2 q; AB yes
+not_equiv2 q; ab no
+not_equiv2 q; BA no
+not_equiv2 q; ABA no
+not_equiv2 =; AB no
+not_equiv2 i; AB no
+not_equiv2  AB no
+not_equiv2 ; AB no
+xor1 x; ab yes
+xor1 x; AB no
+xor1 x; ba no
+xor1 x; aB no
+xor1 X; ab no
+xor1 =; ab no
+xor1  ab no
+xor1 x;x; ab no
+xor2 x; AB yes
+xor2 x; ab no
+xor2 x; BA no
+xor2 x; Ab no
+xor2 X; AB no
+xor2 |; AB no
+xor2  AB no
+xor2 xA; AB no
+not_xor1 X; aB yes
+not_xor1 X; Ab no
+not_xor1 X; Ba no
+not_xor1 X; a no
+not_xor1 x; aB no
+not_xor1 q; aB no
+not_xor1  aB no
+not_xor1 X;X; aB no
+not_xor2 X; Ab yes
+not_xor2 X; aB no
+not_xor2 X; bA no
+not_xor2 X; AbA no
+not_xor2 x; Ab no
+not_xor2 n; Ab no
+not_xor2  Ab no
+not_xor2 ; Ab no
+ite1 ?; cb yes
+ite1 ?; ca no
+ite1 ?; Ca no
+ite1 ?; bc no
+ite1 I; cb no
+ite1 x; cb no
+ite1  cb no
+ite1 ?;?; cb no
+ite2 ?; Ca yes
+ite2 ?; Cb no
+ite2 ?; cb no
+ite2 ?; aC no
+ite2 I; Ca no
+ite2 >; Ca no
+ite2  Ca no
+ite2 ?C; Ca no
+not_ite1 I; cB yes
+not_ite1 I; cA no
+not_ite1 I; CA no
+not_ite1 I; Bc no
+not_ite1 ?; cB no
+not_ite1 X; cB no
+not_ite1  cB no
+not_ite1 I;I; cB no
+not_ite2 I; CA yes
+not_ite2 I; CB no
+not_ite2 I; cB no
+not_ite2 I; AC no
+not_ite2 ?; CA no
+not_ite2 N; CA no
+not_ite2  CA no
+not_ite2 ; CA no";
