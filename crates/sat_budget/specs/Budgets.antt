@@ -16,7 +16,7 @@ pub record BudgetView : Type 0 where
   -- the learned clauses, oldest first
   pub learned : List (List Lit)
 
--- a clause is learned last where there is room for it; it is refused where there is none, with the limit; want of memory changes nothing
+-- a clause is learned last where there is room for it; it is refused where there is none, with the limit; where memory runs out, nothing changes
 abbrev pub Learns : BudgetView → List Lit → Result (Unit {0}) BudgetStop → BudgetView → Type 0
 Learns old clause (Ok _) new = (length old.learned < old.limit) × (new ≡ record old { learned = old.learned ++ clause ∷ [] })
 Learns old clause (Err (Spent n)) new = (length old.learned ≡ old.limit) × (n ≡ old.limit) × (new ≡ old)

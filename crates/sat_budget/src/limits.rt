@@ -9,7 +9,7 @@ use thiserror::Error;
 ///
 /// Each check may spend `conflicts` and `pivots` anew; one that would pass either ends with the answer `unknown`. `terms` is not spent:
 /// a command that would pass it is refused with the fault `Full`, and no check ends by it. Nothing takes `pivots` yet.
-/// Source: own; SMT-LIB 2.6, section 4.1.7, for the option of a limit on what is spent.
+/// Source: SMT-LIB 2.6, section 4.1.7, for the option of a limit on what is spent.
 #[derive(Clone, Copy, Debug, PartialEq, Eq)]
 pub struct Limits {
     /// How many conflicts may be learned from, each as a clause, from 0.

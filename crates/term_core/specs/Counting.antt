@@ -15,7 +15,7 @@ AreNumbersOnce ids = AreApart no_number ids
 pub record Adds (old ids new : List TermId) : Type 0 where
   -- those that came
   pub more : List TermId
-  -- they stand behind those that were there
+  -- they come after those that were there
   pub kept : new ≡ old ++ more
   -- each of them is there
   pub there : (id : TermId) → Contains ids id → Contains new id

@@ -22,7 +22,7 @@ pub record TableView : Type 0 where
   -- the term of each number
   pub terms : List Term
 
--- a table is told apart by its symbols and its terms
+-- tables differ where their symbols or terms do
 abbrev pub table_code : Coded TableView
 table_code = code_by (List Symbol × List Term) (coded× (coded_list symbol_code) (coded_list term_code)) (λ t. (t.symbols, t.terms)) (λ p. record { symbols = p.0; terms = p.1 }) (λ _. refl)
 
@@ -83,7 +83,7 @@ head_meant symbols heads.Equal = Equal
 head_meant symbols heads.Ite = Ite
 head_meant symbols (heads.Apply s) = Apply (symbol_at symbols s)
 
--- a symbol in front is there
+-- the symbol of a head, if it has one, is there
 abbrev pub HasHead : List Symbol → NodeHead → Type 0
 HasHead symbols (heads.Apply s) = IsSymbol symbols s
 HasHead symbols h = Unit {0}
@@ -105,7 +105,7 @@ no_shape = record { head = heads.True; arguments = [] }
 
 -- What it names is there, and its head takes arguments of their sorts.
 pub record Fits (t : TableView) (s : Shape) : Type 0 where
-  -- the symbol in front is declared
+  -- the symbol of the head is declared
   pub head : HasHead t.symbols s.head
   -- each argument is a term of the table
   pub arguments : AreIn t s.arguments
@@ -136,14 +136,14 @@ AreDifferent ts = AreApart no_term ts
 pub record Extends (old new : TableView) : Type 0 where
   -- the symbols that came
   pub more_symbols : List Symbol
-  -- they stand behind those that were there
+  -- they come after those that were there
   pub symbols : new.symbols ≡ old.symbols ++ more_symbols
   -- the terms that came
   pub more_terms : List Term
-  -- they stand behind those that were there
+  -- they come after those that were there
   pub terms : new.terms ≡ old.terms ++ more_terms
 
--- each names what stands before it, of sorts that it takes; the first stands behind the terms done
+-- each names what comes before it, of sorts that it takes; the first comes after the terms done
 abbrev pub AreBefore : List Symbol → List Term → List Shape → Type 0
 AreBefore symbols done [] = Unit {0}
 AreBefore symbols done (s ∷ ss) =
@@ -163,7 +163,7 @@ shapes_of nodes = map shape_of nodes
 abbrev pub table_of : List Symbol → List Node → TableView
 table_of symbols nodes = record { symbols = symbols; terms = grown symbols [] (shapes_of nodes) }
 
--- so far each symbol takes no arguments, and has the sort Bool
+-- each symbol takes no arguments, and has the sort Bool
 abbrev pub AreTruths : List Symbol → Type 0
 AreTruths symbols = All (λ s. s ≡ truth_symbol s.name) symbols
 
@@ -184,7 +184,7 @@ pub record IsWhole (symbols : List Symbol) (nodes : List Node) : Type 0 where
   pub declared : AreDeclared symbols
   -- no node stands twice
   pub nodes_apart : AreApart no_shape (shapes_of nodes)
-  -- each stands behind what it names
+  -- each comes after what it names
   pub before : AreBefore symbols [] (shapes_of nodes)
 
 -- the term as it stands

@@ -45,7 +45,7 @@ Stands symbols interp i = (k : ℕ) → k < length symbols → i.table (slice_in
 abbrev pub HasTables : List Symbol → Interp → Type 0
 HasTables symbols interp = length symbols ≤ length interp.tables.items
 
--- there is a table for a symbol in front
+-- there is a table for the symbol of a head, if it has one
 abbrev pub HasTable : Interp → Head → Type 0
 HasTable interp (heads.Apply s) = s.0 < length interp.tables.items
 HasTable interp h = Unit {0}

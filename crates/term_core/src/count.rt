@@ -57,7 +57,7 @@ fn count(
     Ok(seen.len() as u64 <= room)
 }
 
-/// Puts numbers behind those that are there, each once.
+/// Puts numbers after those that are there, each once.
 fn add_all(seen: &mut IndexSet<TermId>, ids: &[TermId]) -> Result<(), NoMemory>
     ensures { OnOk result (Adds seen.old.keys ids.now seen.new.keys) }
 {

@@ -50,7 +50,9 @@ impl NameTable {
 
     /// Finds the number of a name, from 0; `None` where it is none of these.
     pub fn find(&self, name: &[u8]) -> Option<u64>
-        ensures { MatchOption result (among self.now name.now ≡ false) (λ k. (k < length self.now) × (slice_index_or self.now k [] ≡ name.now)) }
+        ensures { MatchOption result
+            (among self.now name.now ≡ false)
+            (λ k. (k < length self.now) × (slice_index_or self.now k [] ≡ name.now)) }
     {
         let number = self.set.get_index_of(name)?;
         Some(number as u64)

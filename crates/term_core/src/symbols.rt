@@ -10,7 +10,7 @@ use std::alloc::Global;
 use std::marker::Model;
 use world_io::NoMemory;
 
-/// Holds the declared symbols in the order in which they came, no name twice. So far each is a constant of sort Bool.
+/// Holds the declared symbols in the order in which they came, no name twice. Each is a constant of sort Bool.
 ///
 /// A look-up is by hash and takes no memory. Source: SMT-LIB 2.6, section 4.2.3.
 #[derive(Drop)]
@@ -56,7 +56,11 @@ impl Symbols {
     ///
     /// Source: SMT-LIB 2.6, section 4.2.3.
     pub fn find(&self, name: &[u8]) -> Option<SymbolId>
-        ensures { MatchOption result (symbol_named self.now name.now ≡ None) (λ s. IsSymbol self.now s × (symbol_at self.now s ≡ truth_symbol name.now) × (symbol_named self.now name.now ≡ Some (truth_symbol name.now))) }
+        ensures { MatchOption result
+            (symbol_named self.now name.now ≡ None)
+            (λ s. IsSymbol self.now s
+            × (symbol_at self.now s ≡ truth_symbol name.now)
+            × (symbol_named self.now name.now ≡ Some (truth_symbol name.now))) }
     {
         let number = self.names.find(name)?;
         Some(SymbolId(number))

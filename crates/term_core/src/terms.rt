@@ -17,7 +17,7 @@ use std::alloc::Global;
 use std::marker::Model;
 use world_io::NoMemory;
 
-/// Holds the terms so far, each once and after its arguments, and the symbols of which they are made.
+/// Holds the terms that were put, each once and after its arguments, and the symbols of which they are made.
 ///
 /// Terms and symbols keep their numbers while the table grows.
 #[derive(Drop)]
@@ -69,7 +69,8 @@ impl TermTable {
     /// Source: SMT-LIB 2.6, section 4.2.3.
     pub fn declare(&mut self, name: &[u8]) -> Result<SymbolId, NoMemory>
         requires { symbol_named self.old.symbols name.now ≡ None }
-        ensures declared { OnOk result ((self.new.symbols ≡ self.old.symbols ++ truth_symbol name.now ∷ []) × (self.new.terms ≡ self.old.terms)) }
+        ensures declared { OnOk result
+            ((self.new.symbols ≡ self.old.symbols ++ truth_symbol name.now ∷ []) × (self.new.terms ≡ self.old.terms)) }
         ensures number { IfOk result (λ s. s.0 ≡ length self.old.symbols) }
         ensures same { OnErr result (self.new ≡ self.old) }
     {
@@ -85,8 +86,10 @@ impl TermTable {
         ensures there { IfOk result (λ id. IsIn self.new id × (term_at self.new id ≡ node_term self.old node)) }
         ensures kept { Extends self.old self.new × (self.new.symbols ≡ self.old.symbols) }
         ensures once { IfOk result (λ id. IsIn self.old id → self.new ≡ self.old) }
-        ensures known { (id : Number) → IsIn self.old id → term_at self.old id ≡ node_term self.old node → self.new ≡ self.old }
-        ensures added { OnOk result ((self.new ≡ self.old) ⊎ (self.new.terms ≡ self.old.terms ++ node_term self.old node ∷ [])) }
+        ensures known { (id : Number) → IsIn self.old id → term_at self.old id ≡ node_term self.old node
+            → self.new ≡ self.old }
+        ensures added { OnOk result
+            ((self.new ≡ self.old) ⊎ (self.new.terms ≡ self.old.terms ++ node_term self.old node ∷ [])) }
         ensures same { OnErr result (self.new ≡ self.old) }
     {
         let (at, _) = self.nodes.insert_full(node)?;
@@ -114,7 +117,7 @@ impl TermTable {
         Sort::Bool
     }
 
-    /// Takes away all terms after the first `len`, none where there are no more than that, and keeps the symbols. It takes no memory.
+    /// Takes away all terms after the first `len`, none where there are no more, and keeps the symbols. It takes no memory.
     pub fn cut(&mut self, len: u64)
         ensures terms { self.new.terms ≡ take len self.old.terms }
         ensures symbols { self.new.symbols ≡ self.old.symbols }
@@ -142,7 +145,9 @@ impl TermTable {
     /// The argument of a negation; `None` where the term is none.
     fn negated(&self, id: TermId) -> Option<TermId>
         requires { IsIn self.now id }
-        ensures { MatchOption result (literal_of (term_at self.now id) ≡ positive_literal (term_at self.now id)) (λ inner. (inner.0 < id.0) × (term_at self.now id ≡ negated (term_at self.now inner))) }
+        ensures { MatchOption result
+            (literal_of (term_at self.now id) ≡ positive_literal (term_at self.now id))
+            (λ inner. (inner.0 < id.0) × (term_at self.now id ≡ negated (term_at self.now inner))) }
     {
         let node = self.node(id);
         match node.head {
@@ -167,7 +172,8 @@ impl TermTable {
 
     /// States that the arguments of each of the table's terms stand before it.
     pub fn arguments_come_first(&self)
-        ensures { (before after : List Term) (t : Term) → self.now.terms ≡ before ++ t ∷ after → AreAmong (arguments_of t) before }
+        ensures { (before after : List Term) (t : Term) → self.now.terms ≡ before ++ t ∷ after
+            → AreAmong (arguments_of t) before }
     {
         let _ = &self.symbols;
     }
@@ -183,12 +189,13 @@ impl TermTable {
     ///
     /// Source: SMT-LIB 2.6, section 3.6.
     pub fn heads_take_their_arguments(&self)
-        ensures { (h : TermHead) (ts : Terms) → Contains self.now.terms (app h ts) → head_takes h (map sort_of (list_of ts)) ≡ true }
+        ensures { (h : TermHead) (ts : Terms) → Contains self.now.terms (app h ts)
+            → head_takes h (map sort_of (list_of ts)) ≡ true }
     {
         let _ = &self.symbols;
     }
 
-    /// States that the symbol in front of each of the table's terms is declared.
+    /// States that the symbol that heads a term of the table, if one does, is declared.
     ///
     /// Source: SMT-LIB 2.6, section 3.6.
     pub fn heads_are_declared(&self)
@@ -200,7 +207,8 @@ impl TermTable {
     /// States that the number of arguments alone decides whether a head takes them, as long as each symbol has the sort Bool.
     pub fn arity_suffices(&self)
         ensures { (s : Shape) → HasHead self.now.symbols s.head → AreIn self.now s.arguments
-            → head_takes (head_meant self.now.symbols s.head) (map sort_of (clause_at self.now s.arguments)) ≡ takes_so_many s.head s.arguments }
+            → head_takes (head_meant self.now.symbols s.head) (map sort_of (clause_at self.now s.arguments))
+            ≡ takes_so_many s.head s.arguments }
     {
         self.all_terms_are_bool();
         self.symbols.are_declared();
@@ -221,7 +229,7 @@ impl TermTable {
         node.head.takes_so_many(arguments)
     }
 
-    /// Tells whether a symbol in front is declared.
+    /// Tells whether the symbol of a head, if it has one, is declared.
     fn has_head(&self, head: Head) -> bool
         ensures { MatchBool result (HasHead self.now.symbols head) (HasHead self.now.symbols head → ⊥) }
     {

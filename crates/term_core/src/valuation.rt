@@ -25,7 +25,8 @@ pub fn value(
 ) -> Result<Value, ValueStop>
     requires there { IsIn table.now id }
     requires interprets { HasTables table.now.symbols interp.now }
-    ensures { IfOk result (λ v. (i : Interpretation) → Stands table.now.symbols interp.now i → value_meant v ≡ value_at i (term_at table.now id)) }
+    ensures { IfOk result (λ v. (i : Interpretation) → Stands table.now.symbols interp.now i
+        → value_meant v ≡ value_at i (term_at table.now id)) }
 {
     let mut values = Vec::new(alloc);
     let mut taken = Vec::new(alloc);
@@ -47,7 +48,8 @@ fn node_value(
     requires there { IsIn table.now id }
     requires interprets { HasTables table.now.symbols interp.now }
     requires before { id.0 ≤ length values.now }
-    ensures { IfOk result (λ v. (i : Interpretation) → Stands table.now.symbols interp.now i → AreValues i table.now values.now → value_meant v ≡ value_at i (term_at table.now id)) }
+    ensures { IfOk result (λ v. (i : Interpretation) → Stands table.now.symbols interp.now i → AreValues i table.now values.now
+        → value_meant v ≡ value_at i (term_at table.now id)) }
 {
     let node = table.node(id);
     take_values(taken, node.arguments.as_slice(), values)?;
@@ -137,7 +139,8 @@ fn ite_value(values: &[Value]) -> Value
 /// Says what a head gives at its arguments' values.
 fn head_value(interp: &Interp, head: Head, values: &[Value]) -> Value
     requires { HasTable interp.now head }
-    ensures { (symbols : List Symbol) (i : Interpretation) → HasHead symbols head → Stands symbols interp.now i → value_meant result ≡ head_value i (head_meant symbols head) (values_meant values.now) }
+    ensures { (symbols : List Symbol) (i : Interpretation) → HasHead symbols head → Stands symbols interp.now i
+        → value_meant result ≡ head_value i (head_meant symbols head) (values_meant values.now) }
 {
     match head {
         Head::True => Value::Bool(true),

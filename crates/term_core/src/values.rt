@@ -111,7 +111,8 @@ impl Row {
 impl Table {
     /// Says the value at arguments. It takes no memory.
     pub fn value_at(&self, arguments: &[Value]) -> Value
-        ensures { value_meant result ≡ first_fit (table_meant self.now).rows (table_meant self.now).default (values_meant arguments.now) }
+        ensures { value_meant result
+            ≡ first_fit (table_meant self.now).rows (table_meant self.now).default (values_meant arguments.now) }
     {
         'rows: for row in self.rows.iter() {
             if row.fits(arguments) {
