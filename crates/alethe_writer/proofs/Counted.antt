@@ -1,7 +1,7 @@
 -- Numbers that are given one after the other.
-use Rattle.std.proofs.Common.{◌≡◌, ℕ, suc, ◌+◌, ◌<◌, ◌≤◌, Bool, true, false, List, [], ◌∷◌, ◌++◌, length, get_or, drop, map, Option, Some, None, refl, sym, ap, ◌∙◌, subst, append_assoc, append-nil, arith}
+use Rattle.std.proofs.Common.{◌≡◌, ℕ, suc, ◌+◌, ◌<◌, ◌≤◌, Bool, true, false, List, [], ◌∷◌, ◌++◌, length, get_or, drop, Option, refl, sym, ap, ◌∙◌, append_assoc, append-nil, arith}
 use Rattle.std.proofs.lemmas.List.{drop_more, drop_all, length-map, get_or-map}
-use Rattle.spec_search.specs.Derivations.{Inference, Derivation, «assumption», by_rule, no_inference}
+use Rattle.spec_search.specs.Derivations.{Derivation, «assumption», by_rule, no_inference}
 use Rattle.spec_printing.specs.Plans.{counted, counted_inferences}
 use Rattle.term_core.specs.Tables.{TableView}
 use Rattle.proof_log.specs.Logs.{Logged, assumed, stepped, no_logged, inference_of, derivation_in}

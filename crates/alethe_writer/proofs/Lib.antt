@@ -1,5 +1,5 @@
 -- The lemmas of this crate.
-mod Sending
+mod Starts
 mod Counted
 mod Closing
 mod Resting

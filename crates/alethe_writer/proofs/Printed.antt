@@ -1,22 +1,22 @@
 -- The terms that are printed for marked clauses, by marks.
-use Rattle.std.proofs.Common.{◌≡◌, ℕ, suc, ◌<◌, ◌≤◌, ◌+◌, inl, inr, Bool, true, false, List, [], ◌∷◌, ◌++◌, length, map, take, get_or, All, Contains, Some, sym, ap, ◌∙◌, subst, refl, arith}
+use Rattle.std.proofs.Common.{◌≡◌, ℕ, suc, ◌<◌, ◌≤◌, ◌+◌, inl, inr, Bool, true, false, List, [], ◌∷◌, ◌++◌, length, take, get_or, All, Contains, Some, sym, ap, ◌∙◌, subst, refl, arith}
 use Rattle.std.specs.Prelude.{MatchBool}
 use Rattle.std.specs.List.{slice_get}
 use Rattle.std.proofs.lemmas.Bool.{cases_eq, false≢true}
-use Rattle.std.proofs.lemmas.List.{length-map, get_or-map, take_more, map-append}
+use Rattle.std.proofs.lemmas.List.{get_or-map, take_more, map-append}
 use Rattle.std.proofs.lemmas.List.Elements.{All-contains, All-get_or}
 use Rattle.std.proofs.lemmas.Option.{slice_get-get_or, slice_get_within, get_or_from_slice_get}
 use Rattle.spec_text.proofs.Members.{to_image, from_image}
 use Rattle.spec_terms.specs.Terms.{Term}
 use Rattle.spec_terms.specs.Subsets.{arguments_of, IsClosed}
-use Rattle.spec_search.specs.Derivations.{Derivation, Inference, conclusion, conclusion_at, inference_at, no_inference, RestsOn}
+use Rattle.spec_search.specs.Derivations.{conclusion, conclusion_at, no_inference}
 use Rattle.spec_printing.specs.Plans.{IsPrinted, in_clause, as_argument, AreRests, ArePrinted}
 use Rattle.term_core.specs.declared.ids.TermId.{TermId}
 use Rattle.term_core.specs.Tables.{TableView, no_term, term_at, clause_at, IsIn, AreIn, AreDifferent, Shape, shape_term}
 use Rattle.term_core.proofs.TermsClosed.{argument_of, argument_in}
 use Rattle.proof_log.specs.Logs.{Logged, assumed, stepped, named, no_logged, inference_of, derivation_in, IsLogOf}
 use Rattle.alethe_writer.specs.Marks.{IsMarked, Marks, Reaches, root, onward, IsArgument, AreOfClauses, Closes, plain_numbers}
-use Rattle.alethe_writer.proofs.Closing.{IsClosedFrom, closing_start, closing_more, closing_skip, closing_end, marked_below}
+use Rattle.alethe_writer.proofs.Closing.{IsClosedFrom, closing_more, closing_end, marked_below}
 
 -- the numbers so far, and one more
 pub plain_more : (ids : List TermId) (k : ℕ) → k < length ids → plain_numbers (take (k + 1) ids) ≡ plain_numbers (take k ids) ++ (get_or ids k (record { 0 = 0 })).0 ∷ []

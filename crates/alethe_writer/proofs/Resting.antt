@@ -1,16 +1,16 @@
 -- What a clause rests on, by marks.
-use Rattle.std.proofs.Common.{◌≡◌, ℕ, suc, ◌<◌, ◌≤◌, ◌+◌, inl, inr, Bool, true, false, List, [], ◌∷◌, ◌++◌, length, map, take, get_or, All, Contains, sym, ap, ◌∙◌, subst, refl, arith}
-use Rattle.std.proofs.lemmas.List.{length-map, get_or-map, take_more, map-append}
+use Rattle.std.proofs.Common.{◌≡◌, ℕ, suc, ◌<◌, ◌+◌, inl, inr, Bool, List, [], ◌∷◌, ◌++◌, length, take, get_or, Contains, sym, ap, ◌∙◌, subst, refl, arith}
+use Rattle.std.proofs.lemmas.List.{get_or-map, take_more, map-append}
 use Rattle.std.proofs.lemmas.List.Elements.{All-contains}
 use Rattle.spec_text.proofs.Members.{from_image}
-use Rattle.spec_search.specs.Derivations.{Derivation, Inference, premises_of, inference_at, no_inference, RestsOn, itself, by_premise}
+use Rattle.spec_search.specs.Derivations.{Derivation, premises_of, inference_at, no_inference, RestsOn, itself, by_premise}
 use Rattle.spec_search.proofs.Spending.{rests_onward}
 use Rattle.spec_printing.specs.Plans.{AreRests}
 use Rattle.term_core.specs.Tables.{TableView}
 use Rattle.proof_log.specs.declared.premises.StepId.{StepId}
-use Rattle.proof_log.specs.Logs.{Logged, assumed, stepped, no_logged, premises_in, numbers_of, inference_of, derivation_in, logged_at, AreEarlier}
+use Rattle.proof_log.specs.Logs.{Logged, assumed, stepped, no_logged, premises_in, numbers_of, inference_of, derivation_in, AreEarlier}
 use Rattle.alethe_writer.specs.Marks.{IsMarked, Marks, Reaches, root, onward}
-use Rattle.alethe_writer.proofs.Closing.{IsClosedFrom, closing_start, closing_more, closing_skip, closing_end, only_one}
+use Rattle.alethe_writer.proofs.Closing.{IsClosedFrom, closing_start, closing_more, closing_end, only_one}
 
 -- the clause that is begun with
 abbrev pub IsIt : ℕ → ℕ → Type 0

@@ -1,5 +1,5 @@
 -- The lines of terms and of clauses of a log.
-use Rattle.std.proofs.Common.{◌≡◌, ℕ, zero, suc, ◌<◌, ◌++◌, List, [], ◌∷◌, length, map, flat_map, get_or, All, Option, Some, None, codes, decimal, refl, sym, ap, ◌∙◌, ◌+◌, ◌≤◌, drop, append-nil, append_assoc, arith}
+use Rattle.std.proofs.Common.{◌≡◌, ℕ, zero, suc, ◌<◌, ◌++◌, List, [], ◌∷◌, length, map, flat_map, get_or, Option, Some, None, codes, decimal, refl, ap, ◌∙◌, ◌+◌, ◌≤◌, drop, append-nil, append_assoc, arith}
 use Rattle.std.proofs.lemmas.List.{drop_more, drop_all}
 use Rattle.std.proofs.lemmas.Grind.{flat_map-append}
 use Rattle.spec_text.specs.Printed.{printed_symbol}
@@ -7,22 +7,22 @@ use Rattle.spec_terms.specs.Terms.{Term, list_of, terms_of}
 use Rattle.spec_terms.proofs.General.{list_of-terms_of}
 use Rattle.spec_proofs.specs.declared.Rule.{Rule}
 use Rattle.spec_search.specs.Derivations.{Derivation, no_inference}
-use Rattle.spec_printing.specs.Lines.{Argument, Reference, Line, defines, assumes, steps, head_name, line_text, proof_text}
+use Rattle.spec_printing.specs.Lines.{Argument, Reference, defines, assumes, steps, head_name, line_text, proof_text}
 use Rattle.spec_printing.specs.Plans.{Plan, argument_for, lines_of, definition_by, definition_lines, inference_by, inference_lines, reference_by, reference_for, number_or_zero}
 use Rattle.term_core.specs.declared.ids.TermId.{TermId}
 use Rattle.term_core.specs.Tables.{TableView, no_term, Shape, shape_term, term_at, clause_at, head_meant}
 use Rattle.proof_log.specs.declared.premises.StepId.{StepId}
-use Rattle.proof_log.specs.Logs.{Logged, assumed, stepped, named, no_logged, logged_at, numbers_of, inference_of, derivation_in, IsAssumed}
+use Rattle.proof_log.specs.Logs.{Logged, assumed, stepped, named, no_logged, numbers_of, inference_of, derivation_in, IsAssumed}
 use Rattle.alethe_writer.specs.Printing.{all_spaced, logged_by, logged_reference}
 use Rattle.alethe_writer.proofs.Counted.{log_left}
-use Rattle.alethe_writer.proofs.Texts.{definition_text}
+use Rattle.alethe_writer.proofs.Texts.{definition_pieces}
 
 pub definition_whole : (t : TableView) (name : Term → Argument) (n : ℕ) (s : Shape) (u : Term) → u ≡ shape_term t s → flat_map line_text (definition_by name (Some n) u) ≡ (codes "(define-fun @p" ++ decimal n) ++ ((codes " () Bool (" ++ printed_symbol (head_name (head_meant t.symbols s.head))) ++ (all_spaced (map name (clause_at t s.arguments)) ++ codes "))\n"))
 definition_whole t name n s u e =
     ap (λ w. flat_map line_text (definition_by name (Some n) w)) e
     ∙ append-nil (line_text (defines n (head_meant t.symbols s.head) (map name (list_of (terms_of (clause_at t s.arguments))))))
     ∙ ap (λ ts. line_text (defines n (head_meant t.symbols s.head) (map name ts))) (list_of-terms_of (clause_at t s.arguments))
-    ∙ definition_text n (head_meant t.symbols s.head) (map name (clause_at t s.arguments))
+    ∙ definition_pieces n (head_meant t.symbols s.head) (map name (clause_at t s.arguments))
 
 pub assume_whole : (t : TableView) (name : Term → Argument) (refer : ℕ → Reference) (n : ℕ) (l : Logged) → IsAssumed l → flat_map line_text (inference_by name refer (Some n) (inference_of t l)) ≡ line_text (assumes n (name (term_at t (get_or (named l) 0 (record { 0 = 0 })))))
 assume_whole t name refer n (assumed id) h = append-nil (line_text (assumes n (name (term_at t id))))

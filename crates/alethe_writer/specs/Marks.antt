@@ -3,7 +3,8 @@ use Rattle.std.specs.Prelude.{◌≡◌, ◌⊎◌, ℕ, ◌<◌, Bool, true, fa
 use Rattle.spec_terms.specs.Subsets.{arguments_of}
 use Rattle.term_core.specs.declared.ids.TermId.{TermId}
 use Rattle.term_core.specs.Tables.{TableView, no_term}
-use Rattle.proof_log.specs.Logs.{Logged, named, no_logged}
+use Rattle.spec_printing.specs.Plans.{AreRests, ArePrinted}
+use Rattle.proof_log.specs.Logs.{Logged, named, no_logged, derivation_in}
 
 -- the number is marked
 abbrev pub IsMarked : List Bool → ℕ → Type 0
@@ -50,3 +51,7 @@ pub record Closes (t : TableView) (old new : List Bool) : Type 0 where
   pub each : (k : ℕ) → Reaches (IsMarked old) (IsArgument t) k → IsMarked new k
   -- and nothing else
   pub only : (k : ℕ) → IsMarked new k → Reaches (IsMarked old) (IsArgument t) k
+
+-- of each clause on whose antecedents the first marks are, the others are on the terms that are printed
+abbrev pub ArePrintedFor : TableView → List Logged → List Bool → List Bool → Type 0
+ArePrintedFor t log rests marks = (n : ℕ) → AreRests (derivation_in t log) n rests → ArePrinted t.terms (derivation_in t log) n marks

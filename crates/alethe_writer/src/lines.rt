@@ -1,24 +1,18 @@
 //! The lines of a proof.
 
-ghost use Rattle.std.specs.Prelude.{◌≡◌, ◌<◌, ◌≤◌, ◌++◌, [], map, length, flat_map, get_or, None, Some, codes, decimal};
-ghost use Rattle.spec_text.specs.Printed.{printed, printed_symbol};
-ghost use Rattle.spec_terms.specs.Terms.{Term};
+ghost use Rattle.std.specs.Prelude.{◌<◌, ◌++◌, length, Some, codes};
 ghost use Rattle.spec_proofs.specs.RuleNames.{rule_name};
-ghost use Rattle.spec_printing.specs.Lines.{assumes, steps, line_text, head_name, reference_name};
-ghost use Rattle.spec_printing.specs.Plans.{argument_for, definition_by, inference_by, reference_for};
-ghost use Rattle.term_core.specs.Tables.{IsIn, AreIn, HasHead, head_meant, term_at, clause_at};
-ghost use Rattle.proof_log.specs.Logs.{IsLogOf, logged_at, numbers_of, inference_of, derivation_in};
+ghost use Rattle.term_core.specs.Tables.{IsIn, AreIn, HasHead};
+ghost use Rattle.proof_log.specs.Logs.{IsLogOf};
 ghost use Rattle.world_io.specs.Writing.{Sends};
-ghost use Rattle.alethe_writer.specs.Printing.{Fits, premises_text, references_spaced, logged_reference};
+ghost use Rattle.alethe_writer.specs.Printing.{premises_listed, references_text, reference_text, head_text, definition_text, clause_text, assume_text, step_text};
 
-use crate::arguments::{
-    write_argument, write_arguments, write_name, write_number, write_text, write_words,
-};
+use crate::arguments::{write_argument, write_arguments, write_name, write_number, write_words};
 use crate::plans::Plan;
 use itoa::Buffer;
 use proof_log::{ProofLog, Rule, Step, StepId};
-use term_core::{Head, TermId, TermTable};
-use world_io::{Failed, Sink, write_pieces};
+use term_core::{Head, TermId, TermTable, head_name};
+use world_io::{Failed, Sink, write_all, write_pieces};
 
 /// Writes the definition of a term by its number.
 pub(crate) fn write_definition<K: Sink>(
@@ -29,40 +23,21 @@ pub(crate) fn write_definition<K: Sink>(
     out: &mut K,
 ) -> Result<(), Failed>
     requires there { IsIn table.now id }
-    ensures { Sends (flat_map line_text (definition_by (argument_for table.now.terms plan.now.terms) (Some number) (term_at table.now id))) result (K.written out.old) (K.written out.new) (K.faults out.old) (K.faults out.new) }
+    ensures { Sends (definition_text table.now plan.now id (Some number)) result (K.state out.old) (K.state out.new) }
 {
     let node = table.node(id);
     write_number(b"(define-fun @p", number, out)?;
     write_head(table, node.head, out)?;
     write_arguments(plan, table, node.arguments.as_slice(), out)?;
-    write_text(b"))\n", out)
+    write_all(out, b"))\n")
 }
 
 /// Writes a definition's sort and the head of its term.
 fn write_head<K: Sink>(table: &TermTable, head: Head, out: &mut K) -> Result<(), Failed>
     requires { HasHead table.now.symbols head }
-    ensures { Sends (codes " () Bool (" ++ printed_symbol (head_name (head_meant table.now.symbols head))) result (K.written out.old) (K.written out.new) (K.faults out.old) (K.faults out.new) }
+    ensures { Sends (codes " () Bool (" ++ head_text table.now head) result (K.state out.old) (K.state out.new) }
 {
-    write_name(b" () Bool (", name_of(table, head), out)
-}
-
-/// The name of a head.
-fn name_of(table: &TermTable, head: Head) -> &[u8]
-    requires { HasHead table.now.symbols head }
-    ensures { result.now ≡ head_name (head_meant table.now.symbols head) }
-{
-    match head {
-        Head::True => b"true",
-        Head::False => b"false",
-        Head::Not => b"not",
-        Head::And => b"and",
-        Head::Or => b"or",
-        Head::Xor => b"xor",
-        Head::Implies => b"=>",
-        Head::Equal => b"=",
-        Head::Ite => b"ite",
-        Head::Apply(symbol) => table.symbols().name(symbol),
-    }
+    write_name(b" () Bool (", head_name(table, head), out)
 }
 
 /// Writes the line of a clause by its number: an assume or a step.
@@ -76,7 +51,8 @@ pub(crate) fn write_clause<K: Sink>(
 ) -> Result<(), Failed>
     requires there { id.0 < length log.now }
     requires log { IsLogOf table.now log.now }
-    ensures { Sends (flat_map line_text (inference_by (argument_for table.now.terms plan.now.terms) (reference_for (derivation_in table.now log.now) plan.now.inferences) (Some number) (inference_of table.now (logged_at log.now id)))) result (K.written out.old) (K.written out.new) (K.faults out.old) (K.faults out.new) }
+    ensures { Sends (clause_text table.now log.now plan.now id (Some number)) result
+        (K.state out.old) (K.state out.new) }
 {
     match log.step(id) {
         None => write_assume(plan, table, log.clause(id)[0], number, out),
@@ -93,11 +69,11 @@ fn write_assume<K: Sink>(
     out: &mut K,
 ) -> Result<(), Failed>
     requires there { IsIn table.now term }
-    ensures { Sends (line_text (assumes number (argument_for table.now.terms plan.now.terms (term_at table.now term)))) result (K.written out.old) (K.written out.new) (K.faults out.old) (K.faults out.new) }
+    ensures { Sends (assume_text table.now plan.now term number) result (K.state out.old) (K.state out.new) }
 {
     write_number(b"(assume h", number, out)?;
     write_argument(plan, table, term, out)?;
-    write_text(b")\n", out)
+    write_all(out, b")\n")
 }
 
 /// Writes a step by its number.
@@ -110,19 +86,19 @@ fn write_step<K: Sink>(
     out: &mut K,
 ) -> Result<(), Failed>
     requires there { AreIn table.now step.now.clause }
-    ensures { Sends (line_text (steps number (map (argument_for table.now.terms plan.now.terms) (clause_at table.now step.now.clause)) step.now.rule (map (logged_reference log.now plan.now.inferences) step.now.premises))) result (K.written out.old) (K.written out.new) (K.faults out.old) (K.faults out.new) }
+    ensures { Sends (step_text table.now log.now plan.now step.now number) result (K.state out.old) (K.state out.new) }
 {
     write_number(b"(step t", number, out)?;
-    write_text(b" (cl", out)?;
+    write_all(out, b" (cl")?;
     write_arguments(plan, table, step.clause.as_slice(), out)?;
     write_rule(step.rule, out)?;
     write_premises(plan, log, step.premises.as_slice(), out)?;
-    write_text(b")\n", out)
+    write_all(out, b")\n")
 }
 
 /// Writes the end of a clause, and the rule by which it follows.
 fn write_rule<K: Sink>(rule: Rule, out: &mut K) -> Result<(), Failed>
-    ensures { Sends (codes ") :rule " ++ rule_name rule) result (K.written out.old) (K.written out.new) (K.faults out.old) (K.faults out.new) }
+    ensures { Sends (codes ") :rule " ++ rule_name rule) result (K.state out.old) (K.state out.new) }
 {
     write_words(b") :rule ", rule.name(), out)
 }
@@ -134,24 +110,24 @@ fn write_premises<K: Sink>(
     premises: &[StepId],
     out: &mut K,
 ) -> Result<(), Failed>
-    ensures { Sends (premises_text (map (logged_reference log.now plan.now.inferences) premises.now)) result (K.written out.old) (K.written out.new) (K.faults out.old) (K.faults out.new) }
+    ensures { Sends (premises_listed log.now plan.now premises.now) result (K.state out.old) (K.state out.new) }
 {
     let Some((first, others)) = premises.split_first() else {
         return Ok(());
     };
     write_reference(plan, log, b" :premises (", *first, out)?;
     write_references(plan, log, others, out)?;
-    write_text(b")", out)
+    write_all(out, b")")
 }
 
-/// Writes premises, each behind a space.
+/// Writes premises, each after a space.
 fn write_references<K: Sink>(
     plan: &Plan,
     log: &ProofLog,
     premises: &[StepId],
     out: &mut K,
 ) -> Result<(), Failed>
-    ensures { Sends (references_spaced (map (logged_reference log.now plan.now.inferences) premises.now)) result (K.written out.old) (K.written out.new) (K.faults out.old) (K.faults out.new) }
+    ensures { Sends (references_text log.now plan.now premises.now) result (K.state out.old) (K.state out.new) }
 {
     'premises: for premise in premises.iter() {
         write_reference(plan, log, b" ", *premise, out)?;
@@ -159,7 +135,7 @@ fn write_references<K: Sink>(
     Ok(())
 }
 
-/// Writes the name of a premise behind a word.
+/// Writes the name of a premise after a word.
 fn write_reference<K: Sink>(
     plan: &Plan,
     log: &ProofLog,
@@ -167,7 +143,7 @@ fn write_reference<K: Sink>(
     premise: StepId,
     out: &mut K,
 ) -> Result<(), Failed>
-    ensures { Sends (before.now ++ reference_name (logged_reference log.now plan.now.inferences premise)) result (K.written out.old) (K.written out.new) (K.faults out.old) (K.faults out.new) }
+    ensures { Sends (before.now ++ reference_text log.now plan.now premise) result (K.state out.old) (K.state out.new) }
 {
     let letter: &[u8] = match log.step(premise) {
         None => b"h",

@@ -1,10 +1,10 @@
 //! Which clauses a clause rests on, and which terms are printed for them.
 
 ghost use Rattle.std.specs.Prelude.{◌≡◌, ℕ, ◌+◌, ◌<◌, ◌≤◌, length, All, IfOk, MatchBool};
-ghost use Rattle.term_core.specs.Tables.{TableView, IsIn, AreIn};
+ghost use Rattle.term_core.specs.Tables.{TableView};
 ghost use Rattle.proof_log.specs.Logs.{IsLogOf, logged_at, named, premises_in, derivation_in, numbers_of};
-ghost use Rattle.spec_printing.specs.Plans.{AreRests, ArePrinted};
-ghost use Rattle.alethe_writer.specs.Marks.{Marks, IsMarked, AreOfClauses, Closes, plain_numbers};
+ghost use Rattle.spec_printing.specs.Plans.{AreRests};
+ghost use Rattle.alethe_writer.specs.Marks.{Marks, IsMarked, AreOfClauses, ArePrintedFor, Closes, plain_numbers};
 
 use proof_log::{ProofLog, StepId};
 use std::alloc::Global;
@@ -73,7 +73,7 @@ pub(crate) fn printed_of(
     requires log { IsLogOf table.now log.now }
     requires short { length rests.now ≤ length log.now }
     ensures as_many { IfOk result (λ marks. length marks.items ≡ length table.now.terms) }
-    ensures printed { IfOk result (λ marks. (n : ℕ) → AreRests (derivation_in table.now log.now) n rests.now → ArePrinted table.now.terms (derivation_in table.now log.now) n marks.items) }
+    ensures printed { IfOk result (λ marks. ArePrintedFor table.now log.now rests.now marks.items) }
 {
     let mut marks = vec![in alloc; false; table.len() as usize]?;
     mark_printed(log, table, rests, &mut marks);
@@ -86,7 +86,7 @@ fn mark_printed(log: &ProofLog, table: &TermTable, rests: &[bool], marks: &mut [
     requires short { length rests.now ≤ length log.now }
     requires as_many { length marks.old ≡ length table.now.terms }
     requires none { (k : ℕ) → IsMarked marks.old k → ⊥ }
-    ensures printed { (n : ℕ) → AreRests (derivation_in table.now log.now) n rests.now → ArePrinted table.now.terms (derivation_in table.now log.now) n marks.new }
+    ensures printed { ArePrintedFor table.now log.now rests.now marks.new }
     ensures as_many { length marks.new ≡ length marks.old }
 {
     table.ids_are_unique();
@@ -113,7 +113,8 @@ fn mark_clause(log: &ProofLog, table: &TermTable, id: StepId, wanted: bool, mark
     requires there { id.0 < length log.now }
     requires log { IsLogOf table.now log.now }
     requires as_many { length marks.old ≡ length table.now.terms }
-    ensures { MatchBool wanted (Marks marks.old (plain_numbers (named (logged_at log.now id))) marks.new) (marks.new ≡ marks.old) }
+    ensures { MatchBool wanted (Marks marks.old (plain_numbers (named (logged_at log.now id))) marks.new)
+        (marks.new ≡ marks.old) }
 {
     let _ = table;
     if !wanted {

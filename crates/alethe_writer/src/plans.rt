@@ -1,10 +1,9 @@
 //! What is printed for a clause, by numbers.
 
-ghost use Rattle.std.specs.Prelude.{◌≡◌, ◌+◌, ◌-◌, ◌<◌, ◌≤◌, ◌^◌, Bool, false, List, ◌∷◌, length, IfOk, None, get_or};
-ghost use Rattle.spec_search.specs.Derivations.{Derivation};
+ghost use Rattle.std.specs.Prelude.{◌≡◌, ◌-◌, ◌<◌, ◌≤◌, ◌^◌, false, length, IfOk, None, get_or};
 ghost use Rattle.spec_printing.specs.Plans.{IsPlan, counted, compounds, is_compound, counted_inferences, number_or_zero};
 ghost use Rattle.term_core.specs.Tables.{TableView, IsIn, term_at};
-ghost use Rattle.proof_log.specs.Logs.{IsLogOf, logged_at, inference_of, derivation_in};
+ghost use Rattle.proof_log.specs.Logs.{IsLogOf, logged_at, derivation_in};
 ghost use Rattle.alethe_writer.specs.Counting.{IsNextOf};
 ghost use Rattle.alethe_writer.specs.Printing.{Fits};
 
@@ -142,7 +141,8 @@ fn has_arguments(table: &TermTable, id: TermId) -> bool
 /// Numbers the marked clauses: assumes and steps each have their own numbers.
 fn number_steps(alloc: Global, log: &ProofLog, rests: &[bool]) -> Result<Vec<Option<u64>>, NoMemory>
     requires { length rests.now ≤ length log.now }
-    ensures { IfOk result (λ numbers. (t : TableView) → numbers.items ≡ counted_inferences 1 1 rests.now (derivation_in t log.now)) }
+    ensures { IfOk result (λ numbers. (t : TableView)
+        → numbers.items ≡ counted_inferences 1 1 rests.now (derivation_in t log.now)) }
 {
     let mut numbers = Vec::new(alloc);
     let mut assumes = Counter::new();
@@ -166,7 +166,8 @@ fn number_step(
     requires there { id.0 < length log.now }
     requires assumes { assumes.old.next < 2 ^ 64 - 1 }
     requires steps { steps.old.next < 2 ^ 64 - 1 }
-    ensures { IsNextOf (logged_at log.now id) wanted assumes.old.next steps.old.next result assumes.new.next steps.new.next }
+    ensures { IsNextOf (logged_at log.now id) wanted assumes.old.next steps.old.next result
+        assumes.new.next steps.new.next }
 {
     match log.step(id) {
         None => assumes.number(wanted),

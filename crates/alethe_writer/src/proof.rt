@@ -1,27 +1,26 @@
 //! A whole proof.
 
-ghost use Rattle.std.specs.Prelude.{◌<◌, ◌≤◌, length, flat_map, get_or, None};
-ghost use Rattle.spec_printing.specs.Lines.{line_text, proof_text};
-ghost use Rattle.spec_printing.specs.Plans.{argument_for, reference_for, definition_by, definition_lines, inference_by, inference_lines, lines_of};
-ghost use Rattle.term_core.specs.Tables.{IsIn, term_at};
-ghost use Rattle.proof_log.specs.Logs.{IsLogOf, logged_at, inference_of, derivation_in};
+ghost use Rattle.std.specs.Prelude.{◌<◌, ◌≤◌, length};
+ghost use Rattle.spec_printing.specs.Lines.{proof_text};
+ghost use Rattle.spec_printing.specs.Plans.{lines_of};
+ghost use Rattle.term_core.specs.Tables.{IsIn};
+ghost use Rattle.proof_log.specs.Logs.{IsLogOf, derivation_in};
 ghost use Rattle.world_io.specs.Writing.{Sends};
-ghost use Rattle.alethe_writer.specs.Printing.{Fits};
+ghost use Rattle.alethe_writer.specs.Printing.{Fits, term_number, clause_number, definition_text, definitions_text, clause_text, clauses_text};
 
-use crate::arguments::write_text;
 use crate::lines::{write_clause, write_definition};
 use crate::plans::Plan;
 use proof_log::{ProofLog, StepId};
 use term_core::{TermId, TermTable};
-use world_io::{Failed, Sink};
+use world_io::{Failed, Sink, write_all};
 
 /// Writes a proof by a plan that was prepared for the log and the table: `(`, one command on each line, and `)`, each line with a
-/// line feed behind it. It takes no memory.
+/// line feed after it. It takes no memory.
 ///
 /// Each term with arguments that a printed clause needs is defined once, as `@p1` and so on, before the assumes and steps; assumes
 /// are `h1` and so on, steps `t1` and so on, in the log's order.
 ///
-/// `Failed` comes only where the sink's count of faults rose in this call; a front of the text was then appended.
+/// `Failed` comes only where the sink's count of faults rose in this call; a prefix of the text was then appended.
 /// Source: Alethe specification, proofs as lists of commands; what is defined, and the names, are own.
 pub fn send<K: Sink>(
     plan: &Plan,
@@ -31,18 +30,19 @@ pub fn send<K: Sink>(
 ) -> Result<(), Failed>
     requires log { IsLogOf table.now log.now }
     requires fits { Fits table.now log.now plan.now }
-    ensures { Sends (proof_text (lines_of table.now.terms (derivation_in table.now log.now) plan.now)) result (K.written out.old) (K.written out.new) (K.faults out.old) (K.faults out.new) }
+    ensures { Sends (proof_text (lines_of table.now.terms (derivation_in table.now log.now) plan.now)) result
+        (K.state out.old) (K.state out.new) }
 {
-    write_text(b"(\n", out)?;
+    write_all(out, b"(\n")?;
     write_definitions(plan, table, out)?;
     write_clauses(plan, log, table, out)?;
-    write_text(b")\n", out)
+    write_all(out, b")\n")
 }
 
 /// Writes the definitions.
 fn write_definitions<K: Sink>(plan: &Plan, table: &TermTable, out: &mut K) -> Result<(), Failed>
     requires { length plan.now.terms ≤ length table.now.terms }
-    ensures { Sends (flat_map line_text (definition_lines (argument_for table.now.terms plan.now.terms) table.now.terms plan.now.terms)) result (K.written out.old) (K.written out.new) (K.faults out.old) (K.faults out.new) }
+    ensures { Sends (definitions_text table.now plan.now) result (K.state out.old) (K.state out.new) }
 {
     'terms: for number in 0..plan.terms_len() {
         write_term(plan, table, TermId(number), out)?;
@@ -58,7 +58,8 @@ fn write_term<K: Sink>(
     out: &mut K,
 ) -> Result<(), Failed>
     requires there { IsIn table.now id }
-    ensures { Sends (flat_map line_text (definition_by (argument_for table.now.terms plan.now.terms) (get_or plan.now.terms id.0 None) (term_at table.now id))) result (K.written out.old) (K.written out.new) (K.faults out.old) (K.faults out.new) }
+    ensures { Sends (definition_text table.now plan.now id (term_number plan.now id)) result
+        (K.state out.old) (K.state out.new) }
 {
     match plan.definition(id) {
         None => Ok(()),
@@ -75,7 +76,7 @@ fn write_clauses<K: Sink>(
 ) -> Result<(), Failed>
     requires log { IsLogOf table.now log.now }
     requires fits { Fits table.now log.now plan.now }
-    ensures { Sends (flat_map line_text (inference_lines (argument_for table.now.terms plan.now.terms) (reference_for (derivation_in table.now log.now) plan.now.inferences) (derivation_in table.now log.now) plan.now.inferences)) result (K.written out.old) (K.written out.new) (K.faults out.old) (K.faults out.new) }
+    ensures { Sends (clauses_text table.now log.now plan.now) result (K.state out.old) (K.state out.new) }
 {
     'clauses: for number in 0..plan.steps_len() {
         write_numbered(plan, log, table, StepId(number), out)?;
@@ -93,7 +94,8 @@ fn write_numbered<K: Sink>(
 ) -> Result<(), Failed>
     requires there { id.0 < length log.now }
     requires log { IsLogOf table.now log.now }
-    ensures { Sends (flat_map line_text (inference_by (argument_for table.now.terms plan.now.terms) (reference_for (derivation_in table.now log.now) plan.now.inferences) (get_or plan.now.inferences id.0 None) (inference_of table.now (logged_at log.now id)))) result (K.written out.old) (K.written out.new) (K.faults out.old) (K.faults out.new) }
+    ensures { Sends (clause_text table.now log.now plan.now id (clause_number plan.now id)) result
+        (K.state out.old) (K.state out.new) }
 {
     match plan.clause(id) {
         None => Ok(()),

@@ -1,5 +1,5 @@
 -- Pieces that are written one after the other, by calls that may fail.
-use Rattle.std.proofs.Common.{◌≡◌, ℕ, List, [], ◌∷◌, ◌++◌, refl, sym, ◌∙◌, subst, append_assoc, append-nil}
+use Rattle.std.proofs.Common.{◌≡◌, ℕ, List, [], ◌∷◌, ◌++◌, refl, sym, ap, ◌∙◌, subst, append_assoc, append-nil}
 use Rattle.std.specs.Prelude.{Result, Ok, Err, IsErr, flat_map}
 use Rattle.world_io.specs.declared.fault.Failed.{Failed}
 use Rattle.world_io.specs.Writing.{SinkView, Sent, NotSent, Sends}
@@ -41,3 +41,23 @@ finished {whole} {a} {b} s = subst (λ text. Sent text a b) (sym (append-nil s.d
 pub last : {whole : List ℕ} {piece : List ℕ} {a b : SinkView} (c : SinkView) (r : Result (Unit {0}) Failed) → IsSending whole (piece ∷ []) a b → Sends piece r b c → Sends whole r a c
 last c (Ok u) s k = finished (next s k)
 last c (Err e) s k = fails (Err e) s k refl
+
+-- the next piece in two, of which the second is to come too
+pub split : {whole : List ℕ} {rest : List (List ℕ)} {a b : SinkView} (text piece later : List ℕ) → text ≡ piece ++ later → IsSending whole (text ∷ rest) a b → IsSending whole (piece ∷ later ∷ rest) a b
+split {whole} {rest} {a} {b} text piece later e s = record {
+  done = s.done;
+  whole_is = ap (λ x. s.done ++ x) (sym (append_assoc piece later (joined rest)) ∙ ap (λ x. x ++ joined rest) (sym e)) ∙ s.whole_is;
+  sent = s.sent;
+}
+
+-- the next piece is empty
+pub skip : {whole : List ℕ} {rest : List (List ℕ)} {a b : SinkView} (text : List ℕ) → text ≡ [] → IsSending whole (text ∷ rest) a b → IsSending whole rest a b
+skip {whole} {rest} {a} {b} text e s = record {
+  done = s.done;
+  whole_is = ap (λ x. s.done ++ (x ++ joined rest)) (sym e) ∙ s.whole_is;
+  sent = s.sent;
+}
+
+-- all of a text is to come
+pub start_whole : (whole : List ℕ) (a : SinkView) → IsSending whole (whole ∷ []) a a
+start_whole whole a = start whole (whole ∷ []) a (append-nil whole)

@@ -1,10 +1,10 @@
 -- The line of an assume, or of a step.
-use Rattle.std.proofs.Common.{List, All, subst, sym}
+use Rattle.std.proofs.Common.{subst, sym}
 use Rattle.std.proofs.lemmas.List.Elements.{All-get_or}
-use Rattle.spec_printing.specs.Plans.{argument_for, reference_for}
 use Rattle.term_core.specs.Tables.{AreIn}
-use Rattle.proof_log.specs.Logs.{Logged, named, no_logged, logged_at, derivation_in}
-use Rattle.world_io.specs.Writing.{Sends}
+use Rattle.proof_log.specs.Logs.{named, no_logged, logged_at}
+use Rattle.world_io.proofs.Sending.{sends_same}
+use Rattle.alethe_writer.specs.Printing.{name_by, refer_by}
 use Rattle.alethe_writer.proofs.Wholes.{assume_whole, step_whole}
 use Rattle.alethe_writer.proofs.lines.write_clause.Goals as goal
 
@@ -16,15 +16,14 @@ write_step-requires g c =
 pub returns-in-None : goal.returns-in-None
 returns-in-None g c =
     let t = c.args.table.now in
-    let name = argument_for t.terms c.args.plan.now.terms in
-    let refer = reference_for (derivation_in t c.args.log.now) c.args.plan.now.inferences in
-    let whole = assume_whole t name refer c.args.number (logged_at c.args.log.now c.args.id) c.in-None.ensures in
-    subst (λ text. Sends text c.write_assume.result (g.K.Sink.written c.args.out.now) (g.K.Sink.written c.write_assume.new.out) (g.K.Sink.faults c.args.out.now) (g.K.Sink.faults c.write_assume.new.out)) (sym whole) (rw c.clause.ensures at c.write_assume.ensures)
+    let plan = c.args.plan.now in
+    let whole = assume_whole t (name_by t plan) (refer_by t c.args.log.now plan) c.args.number (logged_at c.args.log.now c.args.id) c.in-None.ensures in
+    sends_same _ _ c.write_assume.result _ _ (sym whole) (rw c.clause.ensures at c.write_assume.ensures)
 
 pub returns-in-Some : goal.returns-in-Some
 returns-in-Some g c =
     let t = c.args.table.now in
     let s = c.in-Some.step.now in
-    let name = argument_for t.terms c.args.plan.now.terms in
-    let whole = step_whole t c.args.log.now name c.args.plan.now.inferences c.args.number (logged_at c.args.log.now c.args.id) s.rule s.premises s.clause c.in-Some.ensures in
-    subst (λ text. Sends text c.write_step.result (g.K.Sink.written c.args.out.now) (g.K.Sink.written c.write_step.new.out) (g.K.Sink.faults c.args.out.now) (g.K.Sink.faults c.write_step.new.out)) (sym whole) c.write_step.ensures
+    let plan = c.args.plan.now in
+    let whole = step_whole t c.args.log.now (name_by t plan) plan.inferences c.args.number (logged_at c.args.log.now c.args.id) s.rule s.premises s.clause c.in-Some.ensures in
+    sends_same _ _ c.write_step.result _ _ (sym whole) c.write_step.ensures

@@ -1,8 +1,6 @@
 -- The premises of one clause more are marked, or it is not marked itself.
-use Rattle.std.proofs.Common.{◌≡◌, ℕ, suc, ◌-◌, ◌<◌, ◌+◌, List, Bool, length, get_or, subst, sym, ap, ◌∙◌, arith}
+use Rattle.std.proofs.Common.{◌≡◌, suc, ◌-◌, ◌<◌, length, subst, sym, ◌∙◌, arith}
 use Rattle.std.proofs.lemmas.Bool.{false≢true}
-use Rattle.spec_search.specs.Derivations.{Derivation}
-use Rattle.term_core.specs.Tables.{TableView}
 use Rattle.proof_log.specs.Logs.{derivation_in}
 use Rattle.alethe_writer.proofs.Closing.{IsClosedFrom, closing_skip, marked_below}
 use Rattle.alethe_writer.proofs.Resting.{IsIt, IsPremise, rests_start, rests_more, rests_end}

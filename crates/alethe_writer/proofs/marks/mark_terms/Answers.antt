@@ -1,6 +1,6 @@
 -- One number more is marked.
 use Rattle.std.specs.List.{slice_set}
-use Rattle.std.proofs.Common.{take, true, ◌<◌, ◌≡◌, List, Bool, get_or, length, sym, ap, ◌∙◌, subst, arith}
+use Rattle.std.proofs.Common.{take, true, ◌<◌, get_or, length, sym, subst, arith}
 use Rattle.std.proofs.lemmas.List.Elements.{All-get_or}
 use Rattle.term_core.specs.declared.ids.TermId.{TermId}
 use Rattle.alethe_writer.specs.Marks.{Marks, plain_numbers}

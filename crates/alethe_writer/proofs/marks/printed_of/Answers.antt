@@ -1,5 +1,5 @@
 -- The marks are handed back as they were made.
-use Rattle.std.proofs.Common.{◌≡◌, List, Bool, length, sym, ap, ◌∙◌, subst, arith}
+use Rattle.std.proofs.Common.{sym, ◌∙◌, subst}
 use Rattle.spec_printing.specs.Plans.{ArePrinted}
 use Rattle.proof_log.specs.Logs.{derivation_in}
 use Rattle.alethe_writer.proofs.Closing.{written_back}

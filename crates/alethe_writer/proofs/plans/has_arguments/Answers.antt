@@ -1,9 +1,7 @@
 -- A node has arguments where its term has.
-use Rattle.std.proofs.Common.{◌≡◌, List, [], ◌∷◌, Bool, not, true, false, length, ◌==◌, map, sym, ap, ◌∙◌, refl}
-use Rattle.spec_terms.specs.Terms.{Head, of}
+use Rattle.std.proofs.Common.{not, sym, ap, ◌∙◌}
 use Rattle.spec_printing.specs.Plans.{is_compound}
-use Rattle.term_core.specs.declared.ids.TermId.{TermId}
-use Rattle.term_core.specs.Tables.{TableView, Shape, shape_term, shape_of}
+use Rattle.term_core.specs.Tables.{shape_of}
 use Rattle.alethe_writer.proofs.TermNumbers.{compound_shape}
 use Rattle.alethe_writer.proofs.plans.has_arguments.Goals as goal
 

@@ -1,5 +1,5 @@
 -- A term is defined where it is marked and has arguments.
-use Rattle.std.proofs.Common.{◌≡◌, Bool, true, false, not, ◌&&◌, sym, ap, ◌∙◌, refl}
+use Rattle.std.proofs.Common.{◌≡◌, Bool, true, false, ◌&&◌, sym, ◌∙◌, refl}
 use Rattle.std.proofs.lemmas.Bool.{false≢true}
 use Rattle.alethe_writer.proofs.TermNumbers.{compound_there}
 use Rattle.alethe_writer.proofs.plans.is_defined.Goals as goal

@@ -1,5 +1,5 @@
 -- One number more.
-use Rattle.std.proofs.Common.{◌≡◌, ◌+◌, ◌++◌, ◌∷◌, length, drop, sym, ap, ◌∙◌, subst, arith}
+use Rattle.std.proofs.Common.{◌+◌, ◌++◌, drop, ap, ◌∙◌, arith}
 use Rattle.spec_printing.specs.Plans.{counted_inferences}
 use Rattle.proof_log.specs.Logs.{derivation_in, logged_at}
 use Rattle.alethe_writer.proofs.Counted.{inferences_on, inferences_done, nexts_below}

@@ -1,5 +1,5 @@
 -- One number more.
-use Rattle.std.proofs.Common.{◌≡◌, ◌+◌, ◌++◌, ◌∷◌, length, drop, sym, ap, ◌∙◌, subst, arith}
+use Rattle.std.proofs.Common.{◌≡◌, ◌+◌, ◌++◌, length, drop, sym, ap, ◌∙◌, arith}
 use Rattle.spec_printing.specs.Plans.{counted, compounds}
 use Rattle.spec_printing.proofs.Numbers.{compounds_length}
 use Rattle.alethe_writer.proofs.Counted.{counted_on, counted_done, next_below}

@@ -1,5 +1,5 @@
 -- The plan has the numbers of what is marked.
-use Rattle.std.proofs.Common.{◌≡◌, ◌≤◌, List, Bool, length, subst, ap, ◌∙◌, sym, refl, arith}
+use Rattle.std.proofs.Common.{◌≡◌, List, Bool, length, subst, ap, ◌∙◌, sym, refl, arith}
 use Rattle.std.proofs.lemmas.List.{length-map}
 use Rattle.spec_printing.specs.Plans.{AreRests, counted, compounds, counted_inferences}
 use Rattle.spec_printing.proofs.Numbers.{counted_length, compounds_length}

@@ -1,11 +1,11 @@
--- The lines from here on are to come.
-use Rattle.std.proofs.Common.{flat_map, drop}
-use Rattle.spec_printing.specs.Lines.{line_text}
-use Rattle.spec_printing.specs.Plans.{argument_for, definition_lines}
-use Rattle.alethe_writer.proofs.Sending.{IsSending}
+-- The definitions from here on are to come.
+use Rattle.std.proofs.Common.{[], ◌∷◌}
+use Rattle.world_io.proofs.Chains.{IsSending}
+use Rattle.alethe_writer.specs.Printing.{definitions_text}
+use Rattle.alethe_writer.proofs.Starts.{definitions_from}
 use Rattle.alethe_writer.proofs.proof.write_definitions.Given as goal
 
 abbrev pub invariant-terms : goal.invariant-terms
 invariant-terms g l = record {
-  sending : IsSending (flat_map line_text (definition_lines (argument_for l.table.terms l.plan.terms) l.table.terms l.plan.terms)) (flat_map line_text (definition_lines (argument_for l.table.terms l.plan.terms) (drop l.number l.table.terms) (drop l.number l.plan.terms))) (g.K.Sink.written l.fn.out) (g.K.Sink.written l.out) (g.K.Sink.faults l.fn.out) (g.K.Sink.faults l.out);
+  sending : IsSending (definitions_text l.table l.plan) (definitions_from l.table l.plan l.number ∷ []) (g.K.Sink.state l.fn.out) (g.K.Sink.state l.out);
 }
