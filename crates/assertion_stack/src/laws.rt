@@ -9,5 +9,7 @@ ghost use Rattle.assertion_stack.specs.Scripts.{IsStack};
 /// States that a script stays the stack that it is while its table grows by terms alone: it has the same symbols, assertions and
 /// option.
 pub fn stacks_stand_in_grown_tables()
-    ensures { (old new : Script) (s : Stack) → IsStack old s → Extends old.table new.table → new.table.symbols ≡ old.table.symbols → new.asserted ≡ old.asserted → new.print_success ≡ old.print_success → IsStack new s }
+    ensures { (old new : Script) (s : Stack) → IsStack old s → Extends old.table new.table
+        → new.table.symbols ≡ old.table.symbols → new.asserted ≡ old.asserted → new.print_success ≡ old.print_success
+        → IsStack new s }
 {}

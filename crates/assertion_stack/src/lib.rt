@@ -1,4 +1,4 @@
-//! What a script has stated: its commands one by one, and the declarations, assertions and option that stand behind them.
+//! What a script has stated: its commands one by one, and the declarations, assertions and option that stand after them.
 #![tactic(auto)]
 
 mod assertions;

@@ -1,4 +1,4 @@
-//! A script's commands, one call for each: what stands behind it, or its first fault.
+//! A script's commands, one call for each: what stands after it, or its first fault.
 //!
 //! The commands are `set-option`, `declare-const` of sort Bool, `assert`, `check-sat` and `exit`.
 
@@ -175,7 +175,8 @@ fn set_option(script: &mut Script, at: u64, name: &[u8], value: Trees<'_>) -> Re
 /// Declares a constant of sort Bool under a new name, by a command at an offset, if the limit allows one more.
 fn declare_name(script: &mut Script, at: u64, name: &[u8], limit: u64) -> Result<(), ReadError>
     requires { is_taken script.old.table.symbols name.now ≡ false }
-    ensures becomes { (s : Stack) → IsStack script.old s → Becomes (limited_symbol limit at s name.now) s result script.new }
+    ensures becomes { (s : Stack) → IsStack script.old s
+        → Becomes (limited_symbol limit at s name.now) s result script.new }
     ensures same { OnErr result (script.new ≡ script.old) }
 {
     if script.table.symbols().len() >= limit {
@@ -196,7 +197,8 @@ fn declare(
     limit: u64,
 ) -> Result<(), ReadError>
     ensures becomes { (s : Stack) → IsStack script.old s
-        → Becomes (performed limit at s (DeclareConst (word_view word.entry) (tree_meant sort.entry))) s result script.new }
+        → Becomes (performed limit at s (DeclareConst (word_view word.entry) (tree_meant sort.entry))) s
+        result script.new }
     ensures same { OnErr result (script.new ≡ script.old) }
 {
     let name = match new_name(&script.table, word) {
