@@ -1,6 +1,6 @@
 //! The run.
 
-ghost use Rattle.std.specs.Prelude.{◌≡◌, ◌≢◌, ℕ, ◌≤◌, ◌⊎◌, List, Some, None, IsSome};
+ghost use Rattle.std.specs.Prelude.{◌≡◌, ◌≢◌, ℕ, ◌≤◌, ◌⊎◌, Some, None, IsSome};
 ghost use Rattle.world_io.specs.Outside.{TakesPrefix};
 ghost use Rattle.smt_session.specs.Sessions.{mode_meant};
 ghost use Rattle.smt_top.specs.Words.{asked, limits_by};

@@ -1,7 +1,5 @@
 //! Tests that all that a run writes reaches the sink, through a buffer before it.
 
-ghost use Rattle.std.specs.Prelude.{◌≡◌};
-
 use crate::test_support::{AMPLE, PROOF, SCRIPT, USAGE, arguments_of, padded, shelf_of, sink_of};
 use crate::{Status, run_buffered};
 use std::alloc::Global;

@@ -9,7 +9,7 @@ mod fault_tests;
 mod handing_tests;
 mod in_memory;
 #[cfg(test)]
-mod model_tests;
+mod model_rows;
 mod output;
 #[cfg(test)]
 mod proof_tests;
@@ -17,16 +17,18 @@ mod read;
 #[cfg(test)]
 mod reading_tests;
 #[cfg(test)]
-mod refusal_tests;
+mod refusal_rows;
 #[cfg(test)]
-mod script_tests;
+mod run_tests;
+#[cfg(test)]
+mod script_rows;
 #[cfg(test)]
 mod test_support;
 #[cfg(test)]
 mod tests;
 mod verdict;
 #[cfg(test)]
-mod verdict_tests;
+mod verdict_rows;
 mod words;
 #[cfg(test)]
 mod words_tests;

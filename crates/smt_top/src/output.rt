@@ -1,10 +1,8 @@
 //! The lines that a run writes.
 
-ghost use Rattle.std.specs.Prelude.{◌≡◌, ℕ, ◌≤◌, List, length, IsOk};
-ghost use Rattle.spec_text.specs.Places.{IsPlaceOf};
-ghost use Rattle.alethe_check.specs.Verdicts.{fault_view};
+ghost use Rattle.std.specs.Prelude.{ℕ, ◌≤◌, length, IsOk};
 ghost use Rattle.spec_replies.specs.Lines.{error_text};
-ghost use Rattle.smt_top.specs.Output.{usage, valid, error_line, longest_line};
+ghost use Rattle.smt_top.specs.Output.{usage, valid, longest_line};
 ghost use Rattle.smt_top.specs.Calls.{SendsLine};
 ghost use Rattle.spec_proofs.specs.Faults.{fault_name};
 

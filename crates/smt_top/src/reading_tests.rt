@@ -1,129 +1,10 @@
-//! Scripts that cannot be read to their end.
-
-ghost use Rattle.std.specs.Prelude.{◌≡◌};
+//! Texts at the limits of reading.
 
 use crate::Status;
-use crate::test_support::{AMPLE, LIMIT, first_other, padded, run_over, sink_of};
+use crate::test_support::{AMPLE, LIMIT, SCRIPT, padded, run_both, run_over, sink_of};
 use std::alloc::Global;
 use std::test::Fail;
 use world_io::NoMemory;
-
-/// Bytes that begin no token, or end none; what does not end; what closes nothing; a refused command before it.
-const BROKEN: &str = "1 smt_cli|solve
-(set-option :print-success false)
-(check-sat)
-(assert #b1)
-(check-sat)
-----
-sat
-(error \"3:9: BadChar\")
-====
-1 smt_cli|solve
-(set-option :print-success false)
-(assert 1a)
-(check-sat)
-----
-(error \"2:10: BadChar\")
-====
-1 smt_cli|solve
-(set-option :print-success false)
-(assert 01)
-(check-sat)
-----
-(error \"2:10: BadChar\")
-====
-1 smt_cli|solve
-(set-option :print-success false)
-(assert 1.)
-(check-sat)
-----
-(error \"2:10: BadChar\")
-====
-1 smt_cli|solve
-(set-option :print-success false)
-(assert |a\\b|)
-(check-sat)
-----
-(error \"2:11: BadChar\")
-====
-1 smt_cli|solve
-(set-option :print-success false)
-(set-option : true)
-(check-sat)
-----
-(error \"2:13: BadChar\")
-====
-1 smt_cli|solve
-(set-option :print-success false)
-(check-sat)
-(echo \"open\"\")
-(check-sat)
-----
-sat
-(error \"3:7: UnclosedString\")
-====
-1 smt_cli|solve
-(set-option :print-success false)
-(check-sat)
-(assert |open)
-(check-sat)
-----
-sat
-(error \"3:9: UnclosedQuote\")
-====
-1 smt_cli|solve
-(set-option :print-success false)
-(check-sat)
-(assert true
-----
-sat
-(error \"3:13: UnclosedList\")
-====
-1 smt_cli|solve
-(set-option :print-success false)
-(check-sat)(assert
- (not
-
-----
-sat
-(error \"4:1: UnclosedList\")
-====
-1 smt_cli|solve
-(set-option :print-success false)
-(check-sat)(check-sat ; )
-----
-sat
-(error \"2:26: UnclosedList\")
-====
-1 smt_cli|solve
-(set-option :print-success false)
-)(check-sat)
-----
-(error \"2:1: StrayClose\")
-====
-1 smt_cli|solve
-(set-option :print-success false)
-(check-sat)
- (assert true))(check-sat)
-----
-sat
-(error \"3:15: StrayClose\")
-====
-1 smt_cli|solve
-(set-option :print-success false)
-(foo)
-(check-sat))
-----
-(error \"2:2: UnknownCommand\")
-sat
-(error \"3:12: StrayClose\")
-";
-
-#[test]
-fn broken_texts_end_the_run(rt: HostRuntime) -> Result<(), Fail> {
-    assert_eq!(rt; first_other(rt.alloc(), BROKEN)?, None);
-    Ok(())
-}
 
 /// Makes a text of so many open parentheses, and what comes after them.
 fn opened(alloc: Global, depth: usize, rest: &str) -> Result<Vec<u8>, NoMemory> {
@@ -141,18 +22,6 @@ const DEPTHS: &[(usize, &str, &str)] = &[
     (600, ")", "(error \"1:501: TooDeep\")\n"),
     (500, "\n ((", "(error \"2:2: TooDeep\")\n"),
 ];
-
-#[test]
-fn lists_are_open_to_a_limit(rt: HostRuntime) -> Result<(), Fail> {
-    for (depth, rest, want) in DEPTHS.iter() {
-        let text = opened(rt.alloc(), *depth, rest)?;
-        let mut out = sink_of(rt.alloc(), AMPLE, AMPLE, &[])?;
-        let status = run_over(rt.alloc(), "smt_cli|solve", text, &mut out)?;
-        assert_eq!(rt; out.written(), want.as_bytes(), "{depth}");
-        assert_eq!(rt; status, Status::Refused, "{depth}");
-    }
-    Ok(())
-}
 
 /// The start of a text, how many bytes it has with the spaces after that, its status, and what is written.
 const LONG: &[(&str, usize, Status, &str)] = &[
@@ -173,7 +42,14 @@ const LONG: &[(&str, usize, Status, &str)] = &[
 ];
 
 #[test]
-fn a_script_of_one_byte_too_many_is_refused(rt: HostRuntime) -> Result<(), Fail> {
+fn lists_and_texts_have_limits(rt: HostRuntime) -> Result<(), Fail> {
+    for (depth, rest, want) in DEPTHS.iter() {
+        let text = opened(rt.alloc(), *depth, rest)?;
+        let mut out = sink_of(rt.alloc(), AMPLE, AMPLE, &[])?;
+        let status = run_over(rt.alloc(), "smt_cli|solve", text, &mut out)?;
+        assert_eq!(rt; out.written(), want.as_bytes(), "{depth}");
+        assert_eq!(rt; status, Status::Refused, "{depth}");
+    }
     for (start, len, want_status, want) in LONG.iter() {
         let text = padded(rt.alloc(), start, *len)?;
         let mut out = sink_of(rt.alloc(), AMPLE, AMPLE, &[])?;
@@ -181,5 +57,20 @@ fn a_script_of_one_byte_too_many_is_refused(rt: HostRuntime) -> Result<(), Fail>
         assert_eq!(rt; out.written(), want.as_bytes(), "{start}");
         assert_eq!(rt; status, *want_status, "{start}");
     }
+    Ok(())
+}
+
+#[test]
+fn a_proof_of_one_byte_too_many_is_refused(rt: HostRuntime) -> Result<(), Fail> {
+    let script = padded(rt.alloc(), SCRIPT, 0)?;
+    let spaces = padded(rt.alloc(), "", LIMIT + 1)?;
+    let mut out = sink_of(rt.alloc(), AMPLE, AMPLE, &[])?;
+    let arguments = "smt_cli|check|script.smt2|proof.alethe";
+    let status = run_both(rt.alloc(), arguments, script, spaces.as_slice(), &mut out)?;
+    assert_eq!(rt;
+        out.written(),
+        b"(error \"1:67108865: TooLong\")\n".as_slice()
+    );
+    assert_eq!(rt; status, Status::Refused);
     Ok(())
 }

@@ -1,7 +1,5 @@
 //! What the tests share: runs as rows of a text, arguments, texts in memory, and a run over them.
 
-ghost use Rattle.std.specs.Prelude.{◌≡◌};
-
 use crate::{Status, run_in_memory};
 use std::alloc::Global;
 use world_io::{Bytes, MemShelf, MemSink, NoMemory};
@@ -90,14 +88,18 @@ pub(crate) fn first_other(alloc: Global, rows: &str) -> Result<Option<&str>, NoM
         let Some(row) = row_of(text) else {
             return Ok(Some(text));
         };
-        let mut out = sink_of(alloc, ROOMY, ROOMY, &[])?;
-        if run_row(alloc, &row, &mut out)? != row.status
-            || out.written() != row.written.as_bytes()
-        {
+        if !is_so(alloc, &row, ROOMY)? {
             return Ok(Some(text));
         }
     }
     Ok(None)
+}
+
+/// Tells whether the run of a row ends and writes as it says, where there is so much room.
+pub(crate) fn is_so(alloc: Global, row: &Row<'_>, room: u64) -> Result<bool, NoMemory> {
+    let mut out = sink_of(alloc, room, 7, &[])?;
+    let status = run_row(alloc, row, &mut out)?;
+    Ok(status == row.status && out.written() == row.written.as_bytes())
 }
 
 /// Gives the first row whose run does not end with status 5, after as many bytes as there is room for, if there is one.
@@ -118,18 +120,18 @@ pub(crate) fn first_uncut(alloc: Global, rows: &str) -> Result<Option<&str>, NoM
 /// Tells whether the run of a row ends with status 5 after `n` bytes: by one byte a write where write `n` fails, and where there is
 /// room for `n` bytes, by one byte a write and by all that fits.
 fn is_cut(alloc: Global, row: &Row<'_>, n: usize) -> Result<bool, NoMemory> {
-    let mut failing = sink_of(alloc, ROOMY, 1, &[n as u64])?;
-    let mut narrow = sink_of(alloc, n as u64, 1, &[])?;
-    let mut full = sink_of(alloc, n as u64, ROOMY, &[])?;
-    let start = row.written.as_bytes().get(..n).unwrap_or(&[]);
+    let room = n as u64;
     Ok(
-        run_row(alloc, row, &mut failing)? == "5"
-            && failing.written() == start
-            && run_row(alloc, row, &mut narrow)? == "5"
-            && narrow.written() == start
-            && run_row(alloc, row, &mut full)? == "5"
-            && full.written() == start,
+        is_cut_by(alloc, row, n, sink_of(alloc, ROOMY, 1, &[room])?)?
+            && is_cut_by(alloc, row, n, sink_of(alloc, room, 1, &[])?)?
+            && is_cut_by(alloc, row, n, sink_of(alloc, room, ROOMY, &[])?)?,
     )
+}
+
+/// Tells whether the run of a row over a sink ends with status 5 after `n` bytes.
+fn is_cut_by(alloc: Global, row: &Row<'_>, n: usize, mut out: MemSink) -> Result<bool, NoMemory> {
+    let status = run_row(alloc, row, &mut out)?;
+    Ok(status == "5" && out.written() == row.written.as_bytes().get(..n).unwrap_or(&[]))
 }
 
 /// Runs a row over a sink, and gives the number of its status.

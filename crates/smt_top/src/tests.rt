@@ -1,7 +1,5 @@
 //! Parts of a run, where no text is needed.
 
-ghost use Rattle.std.specs.Prelude.{◌≡◌};
-
 use crate::read::read_both;
 use crate::test_support::{AMPLE, LIMIT, PROOF, padded, shelf_of, sink_of};
 use crate::verdict::report;

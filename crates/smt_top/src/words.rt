@@ -1,6 +1,6 @@
 //! The words of a run, as they stand behind the program's name.
 
-ghost use Rattle.std.specs.Prelude.{◌≡◌, ◌↔◌, ℕ, [], false, map, option_map, option_and_then, unwrap_or, codes, IfOk, IsTrue, IfSome, None, string_bytes};
+ghost use Rattle.std.specs.Prelude.{◌≡◌, ◌↔◌, ℕ, [], false, map, option_map, option_and_then, unwrap_or, IfOk, IsTrue, IfSome, None, string_bytes};
 ghost use Rattle.clap.specs.Words.{app_of, rule_of, FailsBy, fault_of, first_of, found_of, kind_of, rows_of, subcommand_of, subcommand_rows_of};
 ghost use Rattle.clap.specs.declared.builder.command.Command.TheViews.{out-Command};
 ghost use Rattle.smt_session.specs.Sessions.{mode_meant};

@@ -1,7 +1,5 @@
 //! Which arguments are taken, and what they ask for.
 
-ghost use Rattle.std.specs.Prelude.{◌≡◌};
-
 use crate::test_support::{
     AMPLE, PROOF, SCRIPT, USAGE, arguments_of, padded, run_both, run_on, shelf_named, sink_of,
 };
@@ -195,7 +193,9 @@ fn other_arguments_are_wrong(rt: HostRuntime) -> Result<(), Fail> {
 }
 
 #[test]
-fn no_arguments_at_all_are_wrong(rt: HostRuntime) -> Result<(), Fail> {
+fn no_arguments_give_the_usage_text_too_as_far_as_there_is_room(
+    rt: HostRuntime,
+) -> Result<(), Fail> {
     let none: [String; 0] = [];
     let mut out = sink_of(rt.alloc(), AMPLE, AMPLE, &[])?;
     let text = padded(rt.alloc(), SCRIPT, 0)?;
@@ -203,11 +203,6 @@ fn no_arguments_at_all_are_wrong(rt: HostRuntime) -> Result<(), Fail> {
     let status = run_in_memory(rt.alloc(), &none, &mut shelf, &mut out);
     assert_eq!(rt; status, Status::Words, "not even a program's name");
     assert_eq!(rt; out.written(), USAGE.as_bytes());
-    Ok(())
-}
-
-#[test]
-fn usage_text_is_cut_where_the_sink_fails(rt: HostRuntime) -> Result<(), Fail> {
     for n in 0..USAGE.len() {
         let script = padded(rt.alloc(), SCRIPT, 0)?;
         let mut out = sink_of(rt.alloc(), n as u64, 1, &[])?;

@@ -1,15 +1,7 @@
-//! Whole runs of `check`, each with its verdict.
-
-ghost use Rattle.std.specs.Prelude.{◌≡◌};
-
-use crate::Status;
-use crate::test_support::{
-    AMPLE, LIMIT, PROOF, SCRIPT, first_other, first_uncut, padded, run_both, sink_of,
-};
-use std::test::Fail;
+//! Whole runs of `check`, each with its verdict, and scripts that cannot be read to their end.
 
 /// The forms of a proof, faults of one command, faults at the end, a check that is not there, and a disjunction.
-const VERDICTS: &str = "0 smt_cli|check|script.smt2|proof.alethe
+pub(crate) const VERDICTS: &str = "0 smt_cli|check|script.smt2|proof.alethe
 (declare-const p Bool)(assert p)(assert (not p))(check-sat)
 
 ----
@@ -208,29 +200,113 @@ valid
 valid
 ";
 
-#[test]
-fn verdicts_are_written(rt: HostRuntime) -> Result<(), Fail> {
-    assert_eq!(rt; first_other(rt.alloc(), VERDICTS)?, None);
-    Ok(())
-}
+/// Bytes that begin no token, or end none; what does not end; what closes nothing; a refused command before it.
+pub(crate) const BROKEN: &str = "1 smt_cli|solve
+(set-option :print-success false)
+(check-sat)
+(assert #b1)
+(check-sat)
+----
+sat
+(error \"3:9: BadChar\")
+====
+1 smt_cli|solve
+(set-option :print-success false)
+(assert 1a)
+(check-sat)
+----
+(error \"2:10: BadChar\")
+====
+1 smt_cli|solve
+(set-option :print-success false)
+(assert 01)
+(check-sat)
+----
+(error \"2:10: BadChar\")
+====
+1 smt_cli|solve
+(set-option :print-success false)
+(assert 1.)
+(check-sat)
+----
+(error \"2:10: BadChar\")
+====
+1 smt_cli|solve
+(set-option :print-success false)
+(assert |a\\b|)
+(check-sat)
+----
+(error \"2:11: BadChar\")
+====
+1 smt_cli|solve
+(set-option :print-success false)
+(set-option : true)
+(check-sat)
+----
+(error \"2:13: BadChar\")
+====
+1 smt_cli|solve
+(set-option :print-success false)
+(check-sat)
+(echo \"open\"\")
+(check-sat)
+----
+sat
+(error \"3:7: UnclosedString\")
+====
+1 smt_cli|solve
+(set-option :print-success false)
+(check-sat)
+(assert |open)
+(check-sat)
+----
+sat
+(error \"3:9: UnclosedQuote\")
+====
+1 smt_cli|solve
+(set-option :print-success false)
+(check-sat)
+(assert true
+----
+sat
+(error \"3:13: UnclosedList\")
+====
+1 smt_cli|solve
+(set-option :print-success false)
+(check-sat)(assert
+ (not
 
-#[test]
-fn verdicts_are_cut_where_the_sink_fails(rt: HostRuntime) -> Result<(), Fail> {
-    assert_eq!(rt; first_uncut(rt.alloc(), VERDICTS)?, None);
-    Ok(())
-}
-
-#[test]
-fn a_proof_of_one_byte_too_many_is_refused(rt: HostRuntime) -> Result<(), Fail> {
-    let script = padded(rt.alloc(), SCRIPT, 0)?;
-    let spaces = padded(rt.alloc(), "", LIMIT + 1)?;
-    let mut out = sink_of(rt.alloc(), AMPLE, AMPLE, &[])?;
-    let arguments = "smt_cli|check|script.smt2|proof.alethe";
-    let status = run_both(rt.alloc(), arguments, script, spaces.as_slice(), &mut out)?;
-    assert_eq!(rt;
-        out.written(),
-        b"(error \"1:67108865: TooLong\")\n".as_slice()
-    );
-    assert_eq!(rt; status, Status::Refused);
-    Ok(())
-}
+----
+sat
+(error \"4:1: UnclosedList\")
+====
+1 smt_cli|solve
+(set-option :print-success false)
+(check-sat)(check-sat ; )
+----
+sat
+(error \"2:26: UnclosedList\")
+====
+1 smt_cli|solve
+(set-option :print-success false)
+)(check-sat)
+----
+(error \"2:1: StrayClose\")
+====
+1 smt_cli|solve
+(set-option :print-success false)
+(check-sat)
+ (assert true))(check-sat)
+----
+sat
+(error \"3:15: StrayClose\")
+====
+1 smt_cli|solve
+(set-option :print-success false)
+(foo)
+(check-sat))
+----
+(error \"2:2: UnknownCommand\")
+sat
+(error \"3:12: StrayClose\")
+";

@@ -1,12 +1,7 @@
 //! Commands of scripts that are refused, each kind of fault with its line and column, and what comes after them.
 
-ghost use Rattle.std.specs.Prelude.{◌≡◌};
-
-use crate::test_support::first_other;
-use std::test::Fail;
-
 /// What is no command; commands and terms of another form; unknown symbols and sorts; names that are not new; reserved words and names; too many or too few arguments; what was refused is not there, and what comes after it counts.
-const REFUSED: &str = "1 smt_cli|solve
+pub(crate) const REFUSED: &str = "1 smt_cli|solve
 (set-option :print-success false)
 (foo)
 (check-sat)
@@ -359,9 +354,3 @@ sat
 unsat
 (error \"3:27: UnknownCommand\")
 ";
-
-#[test]
-fn refused_commands_are_passed_over(rt: HostRuntime) -> Result<(), Fail> {
-    assert_eq!(rt; first_other(rt.alloc(), REFUSED)?, None);
-    Ok(())
-}

@@ -1,12 +1,7 @@
-//! Runs of scripts: the transcript of each.
-
-ghost use Rattle.std.specs.Prelude.{◌≡◌};
-
-use crate::test_support::first_other;
-use std::test::Fail;
+//! Runs of scripts, each with its transcript.
 
 /// Scripts with their transcripts: what has no command, each answer, ends of a run, options, several checks.
-const TRANSCRIPTS: &str = "0 smt_cli|solve
+pub(crate) const TRANSCRIPTS: &str = "0 smt_cli|solve
 
 ----
 ====
@@ -165,15 +160,8 @@ success
 unsat
 ";
 
-/// A run that always answers that memory ran out is refused by these rows, and by no contract.
-#[test]
-fn transcripts_are_written(rt: HostRuntime) -> Result<(), Fail> {
-    assert_eq!(rt; first_other(rt.alloc(), TRANSCRIPTS)?, None);
-    Ok(())
-}
-
 /// The eight disjunctions of three constants or their negations, which one learned clause does not refute, under budgets.
-const BUDGETS: &str = "0 smt_cli|solve
+pub(crate) const BUDGETS: &str = "0 smt_cli|solve
 (set-option :print-success false)
 (declare-const a Bool)(declare-const b Bool)(declare-const c Bool)(assert (or a b c))(assert (or a b (not c)))(assert (or a (not b) c))(assert (or a (not b) (not c)))(assert (or (not a) b c))(assert (or (not a) b (not c)))(assert (or (not a) (not b) c))(assert (or (not a) (not b) (not c)))(check-sat)
 ----
@@ -212,14 +200,8 @@ unknown
 (conflicts 1)
 ";
 
-#[test]
-fn budgets_are_those_of_the_arguments(rt: HostRuntime) -> Result<(), Fail> {
-    assert_eq!(rt; first_other(rt.alloc(), BUDGETS)?, None);
-    Ok(())
-}
-
 /// Three checks of them.
-const AGAIN: &str = "0 smt_cli|solve|--conflicts|8
+pub(crate) const AGAIN: &str = "0 smt_cli|solve|--conflicts|8
 (declare-const a Bool)(declare-const b Bool)(declare-const c Bool)(assert (or a b c))(assert (or a b (not c)))(assert (or a (not b) c))(assert (or a (not b) (not c)))(assert (or (not a) b c))(assert (or (not a) b (not c)))(assert (or (not a) (not b) c))(assert (or (not a) (not b) (not c)))(check-sat)(check-sat)(check-sat)
 ----
 success
@@ -256,8 +238,48 @@ unknown
 unknown
 ";
 
-#[test]
-fn each_check_has_a_budget_of_its_own(rt: HostRuntime) -> Result<(), Fail> {
-    assert_eq!(rt; first_other(rt.alloc(), AGAIN)?, None);
-    Ok(())
-}
+/// Runs of scripts: an answer, a proof, a model and a refused command, an option that is not known, and a text that cannot be read on.
+pub(crate) const WRITTEN: &str = "0 smt_cli|solve
+(assert false)(check-sat)
+----
+success
+unsat
+====
+0 smt_cli|certify
+(assert false)(check-sat)
+----
+success
+unsat
+(
+(define-fun @p1 () Bool (not false))
+(assume h1 false)
+(step t1 (cl @p1) :rule false)
+(step t2 (cl) :rule resolution :premises (t1 h1))
+)
+====
+1 smt_cli|certify
+(declare-const |a b| Bool)(assert |a b|)
+(check-sat)(foo)
+----
+success
+success
+sat
+(
+  (define-fun |a b| () Bool true)
+)
+(error \"2:13: UnknownCommand\")
+====
+0 smt_cli|solve
+(set-option :verbosity 1)(check-sat)(exit)(check-sat)
+----
+unsupported
+sat
+success
+====
+1 smt_cli|solve
+(check-sat)
+)
+----
+sat
+(error \"2:1: StrayClose\")
+";

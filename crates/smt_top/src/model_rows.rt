@@ -1,12 +1,7 @@
 //! Models that `certify` writes, of scripts that have one alone.
 
-ghost use Rattle.std.specs.Prelude.{◌≡◌};
-
-use crate::test_support::first_other;
-use std::test::Fail;
-
 /// Scripts with one model: of no constant, of one, in the order of the declarations, with names between bars, of each connective, of a shared term, of each check, and after refused commands.
-const MODELS: &str = "0 smt_cli|certify
+pub(crate) const MODELS: &str = "0 smt_cli|certify
 (set-option :print-success false)
 (check-sat)
 ----
@@ -195,9 +190,3 @@ sat
   (define-fun p () Bool false)
 )
 ";
-
-#[test]
-fn models_are_written(rt: HostRuntime) -> Result<(), Fail> {
-    assert_eq!(rt; first_other(rt.alloc(), MODELS)?, None);
-    Ok(())
-}
