@@ -4,8 +4,7 @@ ghost use Rattle.std.specs.Prelude.{◌≡◌};
 
 use crate::{Mode, Session, Status, run_text};
 use sat_budget::Limits;
-use smt_lexer::start;
-use smt_sexpr::read_one;
+use smt_sexpr::LimitedText;
 use std::alloc::Global;
 use std::test::Fail;
 use world_io::{BufferedSink, MemSink, NoMemory};
@@ -58,7 +57,8 @@ fn each_response_is_handed_on(rt: HostRuntime) -> Result<(), Fail> {
     let mut session = Session::new(rt.alloc(), &LIMITS, Mode::Certify)?;
     let mut out = buffer(rt.alloc())?;
     for (text, all) in STEPS.iter() {
-        if let Ok(Some((command, _))) = read_one(rt.alloc(), text.as_bytes(), start()) {
+        let limited = LimitedText::new(text.as_bytes());
+        if let Ok(Some((command, _))) = limited.next_one(rt.alloc(), limited.start()) {
             let after = session.step(&command, &mut out);
             assert!(rt; after.is_ok(), "{text}");
         }

@@ -2,8 +2,7 @@
 
 use crate::{After, Halt, Mode, Session, Status, run_text};
 use sat_budget::Limits;
-use smt_lexer::start;
-use smt_sexpr::read_one;
+use smt_sexpr::LimitedText;
 use std::alloc::Global;
 use std::test::Fail;
 use world_io::{MemSink, NoMemory};
@@ -234,7 +233,8 @@ fn step(
     text: &str,
     out: &mut MemSink,
 ) -> Option<Result<After, Halt>> {
-    let (command, _) = match read_one(alloc, text.as_bytes(), start()) {
+    let limited = LimitedText::new(text.as_bytes());
+    let (command, _) = match limited.next_one(alloc, limited.start()) {
         Ok(Some(read)) => read,
         _ => return None,
     };
