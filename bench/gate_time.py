@@ -1,0 +1,95 @@
+#!/usr/bin/env python3
+"""Measures the processor time of a gate, by crate and kind of work.
+
+usage: bench/gate_time.py OUT.tsv PID       (beside `rt ci`, whose process PID is; it ends with that process)
+       bench/gate_time.py --sum OUT.tsv     (prints the table)
+
+Twice a second it reads /proc: of each process below PID whose arguments name a crate it notes the crate, the kind of work and the
+processor time. A row of OUT.tsv is a process: crate, kind (`build` a crate's proofs, `build+test` those of its tests, `check` a must-fail
+edit), seconds, folder. What the program and the tests take when they run is not in it.
+"""
+import os
+import re
+import sys
+import time
+
+HZ = os.sysconf("SC_CLK_TCK")
+
+
+def stats():
+    """Gives of each process its parent, its ticks, and when it began."""
+    found = {}
+    for pid in filter(str.isdigit, os.listdir("/proc")):
+        try:
+            with open(f"/proc/{pid}/stat") as f:
+                text = f.read()
+        except OSError:
+            continue
+        rest = text[text.rindex(")") + 2 :].split()
+        found[int(pid)] = (int(rest[1]), int(rest[11]) + int(rest[12]), int(rest[19]))
+    return found
+
+
+def is_below(pid, root, found):
+    while pid > 1 and pid in found:
+        if pid == root:
+            return True
+        pid = found[pid][0]
+    return False
+
+
+def sample(root, rows):
+    found = stats()
+    for pid, (_, ticks, began) in found.items():
+        if (pid, began) in rows:
+            rows[pid, began][2] = ticks / HZ
+        elif is_below(pid, root, found):
+            try:
+                with open(f"/proc/{pid}/cmdline", "rb") as f:
+                    command = f.read().replace(b"\0", b" ").decode(errors="replace")
+                folder = os.readlink(f"/proc/{pid}/cwd")
+            except OSError:
+                continue
+            m = re.search(r"--crate-name (\S+)", command)
+            if m:
+                verb = next((w for w in command.split() if w in ("build", "check")), "?")
+                rows[pid, began] = [m.group(1), verb + ("+test" if " --test" in command else ""), ticks / HZ, folder]
+    return root in found
+
+
+def write(path, rows):
+    with open(path + ".new", "w", encoding="utf-8") as f:
+        for key in sorted(rows, key=lambda k: k[1]):
+            crate, kind, seconds, folder = rows[key]
+            f.write(f"{crate}\t{kind}\t{seconds:.2f}\t{folder}\n")
+    os.replace(path + ".new", path)
+
+
+def print_sums(path):
+    kinds, sums = ["build", "build+test", "check"], {}
+    for line in open(path, encoding="utf-8"):
+        crate, kind, seconds = line.split("\t")[:3]
+        sums.setdefault(crate, dict.fromkeys(kinds, 0.0))
+        sums[crate][kind if kind in kinds else "check"] += float(seconds)
+    print("| crate | proofs | tests | edits | sum |\n|---|---:|---:|---:|---:|")
+    total = dict.fromkeys(kinds, 0.0)
+    for crate, row in sorted(sums.items()):
+        print(f"| `{crate}` | " + " | ".join(f"{row[k]:.0f}" for k in kinds) + f" | {sum(row.values()):.0f} |")
+        for k in kinds:
+            total[k] += row[k]
+    print("| sum, in minutes | " + " | ".join(f"{total[k] / 60:.0f}" for k in kinds) + f" | {sum(total.values()) / 60:.0f} |")
+
+
+def main():
+    if sys.argv[1] == "--sum":
+        return print_sums(sys.argv[2])
+    rows, written = {}, 0.0
+    while sample(int(sys.argv[2]), rows):
+        if time.time() - written > 10:
+            write(sys.argv[1], rows)
+            written = time.time()
+        time.sleep(0.5)
+    write(sys.argv[1], rows)
+
+
+main()
