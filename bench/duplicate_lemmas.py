@@ -12,9 +12,9 @@ Two statements are one when they are the same up to
 - names of bound variables, and whether a variable is given in braces or not,
 - spacing, needless parentheses, and how binders are grouped: `(a b : T)` is `(a : T) (b : T)`,
 - the parameters of the modules around it, which count as its first premises; those that neither it nor its proof uses are left out,
-- names that an import gives (`Reserved as word_kind`) and names of the modules of std and of proofs. A name from some
-  `specs/` counts with its module, since two crates may mean different things by one word.
-The order of premises counts. A word that a proof file defines itself counts by its own text.
+- names that an import gives (`Reserved as word_kind`) and names of the modules of std. A name from some `specs/` counts with
+  its module, since two crates may mean different things by one word.
+The order of premises counts. A word that a proof file defines counts by its own text.
 
 Prints each such statement with its places, then the number of statements and of proofs too many. Exits 1 if there are any.
 """
@@ -258,8 +258,8 @@ def imports_of(lines):
             if not item:
                 continue
             name, _, other = item.partition(" as ")
-            # std and proofs count by the name alone, specs of this repository with their module
-            whole = f"{path}.{name}" if ".specs." in path and not path.startswith("Rattle.std") else name
+            # std counts by the name alone, what is of this repository with its module
+            whole = name if path.startswith("Rattle.std") else f"{path}.{name}"
             found[(other or name).strip()] = whole
     return found
 
@@ -365,7 +365,7 @@ def names_in(tree):
     return set().union(*(names_in(part) for part in parts_of(tree)))
 
 
-def statement_of(statement, parameters, imports, defined):
+def statement_of(statement, parameters, imports, defined, modules):
     """The normal form of a statement, or nothing where it is no statement."""
     reader = Reader(tokens_of(statement))
     tree = reader.expression(0)
@@ -381,7 +381,11 @@ def statement_of(statement, parameters, imports, defined):
         first, dot, rest = name.partition(".")
         if first in defined:
             return own_text(first, defined, imports) + dot + rest
-        return imports.get(first, first) + dot + rest
+        whole = imports.get(first, first)
+        module, _, last = whole.rpartition(".")
+        if last in modules.get(module, ({}, {}))[0]:
+            whole = own_text(last, *modules[module])
+        return whole + dot + rest
 
     return text_of(tree, {}, meaning)
 
@@ -396,7 +400,7 @@ def main():
     root = words[0] if words else os.path.dirname(os.path.dirname(os.path.abspath(__file__)))
     if not os.path.isdir(os.path.join(root, "crates")):
         root = "."
-    places, unread, count = {}, [], 0
+    places, unread, count, read, modules = {}, [], 0, [], {}
     for folder, inner, files in os.walk(os.path.join(root, "crates")):
         inner[:] = sorted(name for name in inner if name != "out")
         if "/proofs" not in folder:
@@ -406,15 +410,19 @@ def main():
                 continue
             path = os.path.join(folder, file)
             found, defined, imports = declarations_of(path)
-            for name, line, parameters, statement in found:
-                try:
-                    normal = statement_of(statement, parameters, imports, defined)
-                except Unreadable as stop:
-                    unread.append((path, line, name, str(stop)))
-                    continue
-                if normal is not None:
-                    count += 1
-                    places.setdefault(normal, []).append((os.path.relpath(path, root), line, name, " ".join(statement.split())))
+            read.append((path, found, defined, imports))
+            module = os.path.relpath(path, os.path.join(root, "crates"))[: -len(".antt")].replace(os.sep, ".")
+            modules["Rattle." + module] = (defined, imports)
+    for path, found, defined, imports in read:
+        for name, line, parameters, statement in found:
+            try:
+                normal = statement_of(statement, parameters, imports, defined, modules)
+            except Unreadable as stop:
+                unread.append((path, line, name, str(stop)))
+                continue
+            if normal is not None:
+                count += 1
+                places.setdefault(normal, []).append((os.path.relpath(path, root), line, name, " ".join(statement.split())))
     twice = sorted((each for each in places.values() if len(each) > 1), key=lambda each: (-len(each), each))
     if "--json" in sys.argv:
         print(json.dumps(twice, ensure_ascii=False, indent=1))

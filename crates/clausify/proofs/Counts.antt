@@ -3,7 +3,7 @@ use Rattle.std.proofs.Common.{◌≡◌, ℕ, zero, suc, ◌+◌, ◌<◌, List,
 use Rattle.std.specs.Prelude.{flat_map}
 use Rattle.std.specs.List.{sum_by}
 use Rattle.std.proofs.lemmas.List.Concat.{length-flat_map}
-use Rattle.std.proofs.lemmas.List.Sums.{sum_by-append}
+use Rattle.std.proofs.lemmas.List.Sums.{sum_by-append, sum_by-cons}
 use Rattle.std.proofs.lemmas.List.Elements.{Contains-append_left, Contains-append_right, Contains-append_cases}
 use Rattle.spec_text.proofs.Members.{first, later, cases, none}
 use Rattle.spec_terms.specs.Terms.{Term}
@@ -36,9 +36,6 @@ without (y ∷ ys) back x once =
       λ h. elim (cases y (ys ++ back) x h) [ inl e ↦ once.0 (subst (Contains (ys ++ x ∷ back)) (sym e) (Contains-append_right ys (x ∷ back) x (first x back))) | inr l ↦ r.1 l ],
     )
 
-sum_cons : (f : Term → ℕ) (x : Term) (xs : List Term) → sum_by f (x ∷ xs) ≡ f x + sum_by f xs
-sum_cons f x xs = let parts : sum_by f (x ∷ xs) ≡ (0 + f x) + sum_by f xs = sum_by-append f (x ∷ []) xs in omega (arith, parts)
-
 sums_same : (f : Term → ℕ) (xs ys : List Term) → IsOnce xs → IsOnce ys → AreAmong xs ys → AreAmong ys xs → sum_by f xs ≡ sum_by f ys
 sums_same f [] [] xs_once ys_once there back = refl
 sums_same f [] (y ∷ ys) xs_once ys_once there back = absurd (none y (back y (first y ys)))
@@ -62,7 +59,7 @@ sums_same f (x ∷ xs) ys xs_once ys_once there back =
           | inr l ↦ l
         ] in
         let parts : sum_by f ys ≡ sum_by f front + sum_by f (x ∷ rest) = ap (sum_by f) e ∙ sum_by-append f front (x ∷ rest) in
-        omega (arith, parts, same out.0 into from, sum_by-append f front rest, sum_cons f x xs, sum_cons f x rest)
+        omega (arith, parts, same out.0 into from, sum_by-append f front rest, sum_by-cons f x xs, sum_by-cons f x rest)
 
 -- so they give as much
 pub counts_same : {Y : Type 0} (f : Term → List Y) (xs ys : List Term) → AreOnce xs → AreOnce ys → AreAmong xs ys → AreAmong ys xs → length (flat_map f xs) ≡ length (flat_map f ys)

@@ -75,7 +75,3 @@ holds_ended c its places place end end' at e n below d stored is same b h =
     let g = begun_at c its places place d h in
     let begin : at ≡ g.0 = group_begin (sym is ∙ stored ∙ g.1) in
     rw (begin, same, b) (g.2 end)
-
-pub none_of : (xs : List ℕ) → length xs ≡ 0 → xs ≡ []
-none_of [] e = refl
-none_of (x ∷ xs) e = absurd (omega arith)

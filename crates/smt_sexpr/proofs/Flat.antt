@@ -1,7 +1,7 @@
 -- What a flat list of items means, item by item.
-use Rattle.std.proofs.Common.{◌≡◌, ℕ, zero, suc, ◌+◌, ◌≤◌, List, [], ◌∷◌, length, take, drop, Some, None, refl, sym, ap, ◌∙◌, ◌⊎◌, inl, inr, length-take, arith}
+use Rattle.std.proofs.Common.{◌≡◌, ℕ, zero, suc, ◌+◌, ◌≤◌, List, [], ◌∷◌, length, take, drop, Some, None, refl, sym, ap, ◌∙◌, ◌⊎◌, length-take, arith}
 use Rattle.std.specs.Prelude.{min}
-use Rattle.std.proofs.lemmas.List.{drop_all, take_min}
+use Rattle.std.proofs.lemmas.List.{drop_all, take_min, drop_min}
 use Rattle.spec_text.specs.declared.Kind.{Kind}
 use Rattle.spec_text.specs.declared.Kind.TheVariants.{Numeral}
 use Rattle.spec_text.specs.Trees.{Tree, Trees, atom, list, none, more}
@@ -58,12 +58,6 @@ module _ (text : List ℕ) where
 
   min_cases : (a b : ℕ) → ((min a b ≡ a) × (a ≤ b)) ⊎ ((min a b ≡ b) × (b ≤ a))
   min_cases a b = grind arith
-
-  drop_min : (c : ℕ) (is : List Item) → drop (min c (length is)) is ≡ drop c is
-  drop_min c is = elim (min_cases c (length is)) [
-    | inl h ↦ ap (λ n. drop n is) h.0
-    | inr h ↦ ap (λ n. drop n is) h.0 ∙ drop_all (length is) is (omega arith) ∙ sym (drop_all c is h.1)
-  ]
 
   -- the first tree is what its items mean
   pub split_is : (is : List Item) → (is ≡ [] → ⊥) → Some (tree_in text (take (count_first is) is), trees_in text (drop (count_first is) is)) ≡ split_first (trees_in text is)

@@ -1,24 +1,13 @@
 -- What a trail is where a clause was learned and the trail cut.
-use Rattle.std.proofs.Common.{◌≡◌, ℕ, ◌<◌, ◌≤◌, List, [], ◌∷◌, ◌++◌, length, get_or, take, Contains, inl, inr, refl, sym, ap, ◌∙◌, subst, arith, zero, suc}
+use Rattle.std.proofs.Common.{◌≡◌, ℕ, ◌<◌, List, [], ◌∷◌, ◌++◌, length, get_or, take, Contains, inl, inr, refl, sym, ◌∙◌, subst, arith}
 use Rattle.std.specs.Prelude.{Option, Some, None}
-use Rattle.std.proofs.lemmas.List.{length-append, get_or-take, length-take-le}
+use Rattle.std.proofs.lemmas.List.{length-append, get_or-take, length-take-le, take-take}
 use Rattle.std.proofs.lemmas.List.Elements.{Contains-push_cases, Contains-append_left}
 use Rattle.term_core.specs.declared.ids.Lit.{Lit}
 use Rattle.rule_bool.specs.Statuses.{IsSettled}
 use Rattle.solve_core.specs.Search.{IsTrail, IsAdded, IsForced, IsDecided, IsUnassigned}
 use Rattle.solve_core.specs.Analyses.{HasTwo, followed_to, RestsAt}
 use Rattle.solve_core.proofs.SearchTrails.{get_early}
-
--- the front of a front
-take_take : {A : Type 0} (xs : List A) (k n : ℕ) → k ≤ n → take k (take n xs) ≡ take k xs
-take_take [] zero zero le = refl
-take_take [] zero (suc n) le = refl
-take_take [] (suc k) zero le = absurd (omega (arith, le))
-take_take [] (suc k) (suc n) le = refl
-take_take (x ∷ xs) zero zero le = refl
-take_take (x ∷ xs) zero (suc n) le = refl
-take_take (x ∷ xs) (suc k) zero le = absurd (omega (arith, le))
-take_take (x ∷ xs) (suc k) (suc n) le = ap (λ ys. x ∷ ys) (take_take xs k n (omega (arith, le)))
 
 -- a clause with two open literals is settled
 two_settle : (held c : List Lit) → HasTwo held c → IsSettled held c
@@ -58,7 +47,7 @@ module _ (clauses : List (List Lit)) (held : List Lit) (reasons : List (Option �
   place k l lt e = sym (get_or-take cut held k l (early k lt)) ∙ e
 
   front : (k : ℕ) → k < length (take cut held) → take k (take cut held) ≡ take k held
-  front k lt = take_take held k cut (omega (arith, early k lt))
+  front k lt = take-take k cut held (omega (arith, early k lt))
 
   added_more : (k : ℕ) (l : Lit) → k < cut → k < length held → get_or held k l ≡ l → IsAdded (clauses ++ clause ∷ []) (take k held) l (get_or reasons k None)
   added_more k l small lt e = go (get_or reasons k None) refl (t.added k l lt e)

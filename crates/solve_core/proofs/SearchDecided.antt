@@ -1,7 +1,8 @@
 -- What a search begins with.
-use Rattle.std.proofs.Common.{◌≡◌, ℕ, ◌<◌, List, [], ◌∷◌, ◌++◌, length, get_or, take, map, All, Contains, refl, sym, ap, ◌∙◌, subst, arith}
+use Rattle.std.proofs.Common.{◌≡◌, ℕ, ◌<◌, List, [], ◌++◌, length, get_or, take, map, All, Contains, sym, ap, ◌∙◌, subst, arith}
 use Rattle.std.proofs.lemmas.List.{get_or_default, append-nil, length-map}
 use Rattle.std.proofs.lemmas.List.Elements.{All-nil, Contains-append_left}
+use Rattle.std.proofs.Math.Seq.{take-append_seam}
 use Rattle.spec_text.proofs.Members.{to_image, from_image}
 use Rattle.spec_terms.specs.Terms.{Term}
 use Rattle.spec_terms.specs.Literals.{Clause, Literal, literals_of}
@@ -107,11 +108,6 @@ module _ (t u : TableView) (roots : List TermId) (roots_in : AreIn t roots) (log
     steps_made = steps_start (clause_at t roots) (derivation_in u log) (rw length-map as_many);
   })
 
--- the front of a list that grew
-take_front : {A : Type 0} (xs ys : List A) → take (length xs) (xs ++ ys) ≡ xs
-take_front [] ys = refl
-take_front (x ∷ xs) ys = ap (λ zs. x ∷ zs) (take_front xs ys)
-
 -- a table that is the same has all that it had
 pub extends_same : (t u : TableView) → u ≡ t → Extends t u
 extends_same t u e = subst (λ (v : TableView). Extends t v) (sym e) (Extends-self t)
@@ -122,5 +118,5 @@ extends_cut t u v n len g symbols cut kept = record {
   more_symbols = [];
   symbols = kept ∙ symbols ∙ sym (append-nil t.symbols);
   more_terms = [];
-  terms = cut ∙ ap (λ (k : ℕ). take k u.terms) len ∙ ap (take (length t.terms)) g.terms ∙ take_front t.terms g.more_terms ∙ sym (append-nil t.terms);
+  terms = cut ∙ ap (λ (k : ℕ). take k u.terms) len ∙ ap (take (length t.terms)) g.terms ∙ take-append_seam t.terms g.more_terms ∙ sym (append-nil t.terms);
 }

@@ -5,6 +5,7 @@ use Rattle.std.specs.Fmt.{digits, digits_onto, digit_glyph}
 use Rattle.std.proofs.Math.Nat.{mod-lt}
 use Rattle.std.proofs.lemmas.Bool.Decides.{nat_tests}
 use Rattle.std.proofs.lemmas.Bool.{not-true}
+use Rattle.std.proofs.lemmas.List.Elements.{All-tail, All-head}
 use Rattle.spec_text.specs.declared.Kind.TheVariants.{Simple, Quoted, Keyword}
 use Rattle.spec_text.specs.Bytes.{Name, one_of, is_digit, is_letter, is_symbol_byte, is_in_bars, among, reserved_words}
 use Rattle.spec_text.specs.Lexicon.{Consists, simple_symbol, reserved_word, quoted_symbol, keyword}
@@ -137,15 +138,9 @@ argument_words (truth b) h = truth_word b
 argument_words (symbol n) h = quoted_word n h
 argument_words (defined n) h = defined_word n
 
-rest_of : {X : Type 0} (P : X → Type 0) (x : X) (xs : List X) → All P (x ∷ xs) → All P xs
-rest_of P x xs h = λ k d lt. h (suc k) d (omega (arith, lt))
-
-first_of : {X : Type 0} (P : X → Type 0) (x : X) (xs : List X) → All P (x ∷ xs) → P x
-first_of P x xs h = h 0 x (omega arith)
-
 arguments_words : (items : List Argument) → All IsWritableArgument items → HaveWords (row (map argument_tree items))
 arguments_words [] h = tt
-arguments_words (a ∷ others) h = (argument_words a (first_of IsWritableArgument a others h), arguments_words others (rest_of IsWritableArgument a others h))
+arguments_words (a ∷ others) h = (argument_words a (All-head IsWritableArgument a others h), arguments_words others (All-tail IsWritableArgument a others h))
 
 references_words : (ps : List Reference) → HaveWords (row (map reference_tree ps))
 references_words [] = tt

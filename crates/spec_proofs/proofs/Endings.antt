@@ -1,16 +1,13 @@
 -- A proof's text has one row of commands and one ending.
-use Rattle.std.proofs.Common.{◌≡◌, ◌<◌, ◌+◌, ℕ, Bool, true, false, List, [], ◌∷◌, ◌++◌, length, Some, None, inl, inr, refl, sym, ap, ◌∙◌, arith, subst, append_assoc}
+use Rattle.std.proofs.Common.{◌≡◌, ℕ, Bool, true, false, List, [], ◌∷◌, ◌++◌, length, Some, None, inl, inr, refl, sym, ap, ◌∙◌, arith, subst, append_assoc}
 use Rattle.std.proofs.Math.Nat.{le-max_left}
-use Rattle.spec_text.specs.Lexemes.{Lexeme, opens, closes}
+use Rattle.spec_text.specs.Lexemes.{Lexeme, opens}
 use Rattle.spec_text.specs.Trees.{Tree, Trees, atom, list, none, more, spelled, offset_of}
 use Rattle.spec_text.specs.Faults.{Located, nesting_limit, first_fault}
 use Rattle.spec_text.specs.Readings.{depth, IsBroken, AreTrees, kept}
-use Rattle.spec_text.proofs.Stopping.{nothing_begins_no_tree}
+use Rattle.spec_text.proofs.Stopping.{BeginsNoTree, nothing_begins_no_tree}
+use Rattle.spec_text.proofs.Parsing.{close_begins_no_tree}
 use Rattle.spec_proofs.specs.Texts.{Ending, complete, broken, left_over, EndsRow, EndsBehind, EndsList, AreCommands, begins_listed, proof_lexemes, IsProofText}
-
--- no tree that may stand behind n open lists is in front
-abbrev BeginsNoTree : ℕ → List (ℕ × Lexeme) → Type 0
-BeginsNoTree n xs = (t : Tree) (ys : List (ℕ × Lexeme)) → xs ≡ spelled t ++ ys → nesting_limit < n + depth t
 
 -- lexemes are read up to one end
 abbrev pub Law : Type 0
@@ -25,11 +22,6 @@ front_lexeme (x ∷ xs) = x.1
 abbrev front_offset : List (ℕ × Lexeme) → ℕ
 front_offset [] = 0
 front_offset (x ∷ xs) = x.0
-
--- nor in front of the end of a list
-closing_free : (n at : ℕ) (xs : List (ℕ × Lexeme)) → BeginsNoTree n ((at, closes) ∷ xs)
-closing_free n at xs (atom a k bytes) ys e = let w = ap front_lexeme e in cc
-closing_free n at xs (list a ts end) ys e = let w = ap front_lexeme e in cc
 
 -- a tree's first lexeme has its offset
 spelled_offset : (t : Tree) (xs : List (ℕ × Lexeme)) → front_offset (spelled t ++ xs) ≡ offset_of t
@@ -87,7 +79,7 @@ one_behind end after (left_over at) (broken f) a b = absurd (left_unbroken end a
 one_behind end after (left_over at) (left_over at') a b = ap left_over (sym (left_offset after at a) ∙ left_offset after at' b)
 
 list_free : (end : ℕ) (rest : List (ℕ × Lexeme)) (e : Ending) → EndsList end rest e → BeginsNoTree 1 rest
-list_free end rest e (inl h) = subst (BeginsNoTree 1) (sym h.2) (closing_free 1 h.0 h.1)
+list_free end rest e (inl h) = subst (BeginsNoTree 1) (sym h.2) (close_begins_no_tree 1 h.0 h.1)
 list_free end rest e (inr h) = h.1.no_tree
 
 -- what is behind a lexeme

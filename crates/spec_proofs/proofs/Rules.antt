@@ -3,7 +3,7 @@ use Rattle.std.proofs.Common.{◌≡◌, Bool, true, false, not, ◌&&◌, ◌||
 use Rattle.std.proofs.lemmas.Bool.{false≢true}
 use Rattle.std.proofs.lemmas.List.Elements.{All-head, All-tail}
 use Rattle.std.proofs.lemmas.List.Folds.{Any-from_list_any, list_any_at}
-use Rattle.std.proofs.Math.Bool.{or-false}
+use Rattle.std.proofs.Math.Bool.{or-false, and-true}
 use Rattle.spec_terms.specs.Terms.{Not, Or, Term, Terms, app, nil, cons, list_of}
 use Rattle.spec_terms.specs.Values.{Interpretation, any_true}
 use Rattle.spec_terms.specs.Literals.{Clause, literal_of}
@@ -17,10 +17,6 @@ use Rattle.spec_proofs.specs.Truths.{term_true_by}
 use Rattle.spec_proofs.proofs.Resolution.{complement_true, clause_true_by, resolvent_true}
 use Rattle.spec_proofs.proofs.Schemes.{IsSound, IsSoundKind, kind_sound, given_true, none_given}
 
-and_true : (b : Bool) → b && true ≡ b
-and_true true = refl
-and_true false = refl
-
 module _ (i : Interpretation) where
   -- a clause that is true
   abbrev pub IsTrue : Clause → Type 0
@@ -29,7 +25,7 @@ module _ (i : Interpretation) where
   -- a term is true where its literal is, under the truths that the interpretation gives to terms
   pub by_literal : (t : Term) → term_true_by (term_true i) t ≡ term_true i t
   unfolding literal_of value_at values_at
-  by_literal (app Not (cons t nil)) = complement_true (term_true i) (literal_of t) ∙ ap not (by_literal t ∙ sym (and_true (term_true i t)))
+  by_literal (app Not (cons t nil)) = complement_true (term_true i) (literal_of t) ∙ ap not (by_literal t ∙ sym (and-true (term_true i t)))
   by_literal (app Not nil) = refl
   by_literal (app Not (cons t (cons u us))) = refl
   by_literal (app h ts) = refl
@@ -72,7 +68,7 @@ module _ (i : Interpretation) where
       twice : (b : Bool) → b ≡ not (not (b && true))
       twice true = refl
       twice false = refl
-  flipped_true t = ap not (and_true (term_true i t))
+  flipped_true t = ap not (and-true (term_true i t))
 
   stated_true : (s : Scheme) → IsSound i s → (premises : List Clause) (clause : Clause) → All (HasTruth i) clause → IsStated s premises clause → IsTrue clause
   stated_true s sound [] [] truths right = none_given i s sound right.0 right.1

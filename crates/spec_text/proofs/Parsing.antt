@@ -70,7 +70,7 @@ in_front [] = blank
 in_front (x ∷ xs) = x.1
 
 -- the end of a list begins no tree
-close_begins_no_tree : (n at : ℕ) (ys : List (ℕ × Lexeme)) → BeginsNoTree n ((at, closes) ∷ ys)
+pub close_begins_no_tree : (n at : ℕ) (ys : List (ℕ × Lexeme)) → BeginsNoTree n ((at, closes) ∷ ys)
 close_begins_no_tree n at ys (atom a k bytes) zs e = let front : closes ≡ word k bytes = ap in_front e in absurd cc
 close_begins_no_tree n at ys (list a ts end) zs e = let front : closes ≡ opens = ap in_front e in absurd cc
 

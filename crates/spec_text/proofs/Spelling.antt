@@ -1,8 +1,9 @@
 -- What bytes that are spelled as the table says begin with.
-use Rattle.std.proofs.Common.{◌≡◌, ◌≤◌, ℕ, ◌+◌, Bool, true, false, cond, List, [], ◌∷◌, ◌++◌, length, Some, sym, ap, ◌∙◌, refl, arith, subst, append_assoc, append-nil, length-append}
+use Rattle.std.proofs.Common.{◌≡◌, ◌≤◌, ℕ, ◌+◌, true, false, List, [], ◌∷◌, ◌++◌, length, Some, sym, ap, ◌∙◌, refl, arith, subst, append_assoc, append-nil, length-append}
 use Rattle.std.specs.Prelude.{◌==◌, option_map}
 use Rattle.std.proofs.lemmas.Bool.Decides.{nat_tests}
 use Rattle.std.proofs.lemmas.List.{drop_at}
+use Rattle.std.proofs.lemmas.Bool.{cond-false}
 use Rattle.spec_text.specs.declared.Kind.TheVariants.{Numeral, Decimal, Text, Quoted, Keyword}
 use Rattle.spec_text.specs.declared.Fault.TheVariants.{BadChar}
 use Rattle.spec_text.specs.Bytes.{is_blank, is_in_comment, is_digit, is_symbol_byte, is_in_bars, front}
@@ -44,14 +45,11 @@ pub no_digits : (rest : List ℕ) → BeginsWithout is_symbol_byte rest → Begi
 no_digits [] h = tt
 no_digits (b ∷ bs) h = no_digit b h
 
-second : (t : Bool) (p q : Piece) → t ≡ false → cond t p q ≡ q
-second t p q e = rw e refl
-
 pub number_piece : (ds rest : List ℕ) → BeginsWithout is_symbol_byte rest → number ds rest ≡ piece (word Numeral ds) (length ds)
 number_piece ds [] h = refl
 number_piece ds (b ∷ bs) h =
     let no_point : (b == 46) ≡ false = another_byte is_symbol_byte b 46 h refl in
-    second (b == 46) _ _ no_point ∙ ended_piece (b ∷ bs) (length ds) (word Numeral ds) h
+    cond-false (b == 46) _ _ no_point ∙ ended_piece (b ∷ bs) (length ds) (word Numeral ds) h
 
 pub point_piece : (ds : List ℕ) (f : ℕ) (fs rest : List ℕ) → Consists is_digit (f ∷ fs) → BeginsWithout is_symbol_byte rest → number ds (46 ∷ f ∷ fs ++ rest) ≡ piece (word Decimal (ds ++ 46 ∷ f ∷ fs)) (length (ds ++ 46 ∷ f ∷ fs))
 point_piece ds f fs rest run h =

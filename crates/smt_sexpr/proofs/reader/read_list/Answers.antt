@@ -1,7 +1,7 @@
 -- What each token comes to.
 use Rattle.std.proofs.Common.{◌≡◌, ◌+◌, [], ◌∷◌, length, arith, ap, refl, length-append}
+use Rattle.std.proofs.lemmas.List.{nil_from_length}
 use Rattle.smt_sexpr.proofs.Broken.{nothing_broken, wrong_broken, deep_broken}
-use Rattle.smt_sexpr.proofs.Contexts.{none_of}
 use Rattle.smt_sexpr.proofs.Reading.{reading_begins, stops, opened, word_within, closed_within, closed_whole}
 use Rattle.spec_text.specs.Trees.{atom}
 use Rattle.smt_sexpr.specs.Means.{flat}
@@ -34,7 +34,7 @@ returns-then-open_lists-len-ge-NESTING_LIMIT c =
 pub returns-in_default : goal.returns-in_default
 returns-in_default c =
     let t = rw c.in-Close.is at c.in-Ok.ensures.0 in
-    let none_left : c.tokens.outer.items ≡ [] = none_of c.tokens.outer.items (omega (arith, c.in_default.ensures.cases.0, c.tokens.outer.ok.0)) in
+    let none_left : c.tokens.outer.items ≡ [] = nil_from_length c.tokens.outer.items (omega (arith, c.in_default.ensures.cases.0, c.tokens.outer.ok.0)) in
     let ended = c.end_list.ensures.ended c.tokens.invariant.reading.context c.tokens.outer.items c.tokens.invariant.reading.holds in (
       closed_whole _ _ _ _ _ _ c.tokens.invariant.reading _ _ c.in-Ok.read.1 refl c.in-Ok.ensures.2 t.first c.end_list.new.items.items (omega (arith, ap length none_left, length-append c.tokens.outer.items (c.tokens.innermost ∷ []))) (rw none_left at ended),
       omega (arith, t.behind, t.longer, c.tokens.invariant.later),
