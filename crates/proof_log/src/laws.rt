@@ -17,13 +17,16 @@ pub fn empty_logs_are_right()
 /// States that a log over a table is one over each table to which this grows, and says the same there.
 pub fn logs_stand_in_grown_tables()
     ensures right { (t u : TableView) (log : List Logged) → IsLogOf t log → Extends t u → IsLogOf u log }
-    ensures same { (t u : TableView) (log : List Logged) → IsLogOf t log → Extends t u → derivation_in u log ≡ derivation_in t log }
+    ensures same { (t u : TableView) (log : List Logged) → IsLogOf t log → Extends t u
+        → derivation_in u log ≡ derivation_in t log }
 {}
 
 /// States that a log over a table is one over each table of its first terms, if it names these alone, and says the same there.
 pub fn logs_stand_in_cut_tables()
-    ensures right { (t u : TableView) (n : ℕ) (log : List Logged) → IsLogOf t log → u.terms ≡ take n t.terms → AreBelow n log → IsLogOf u log }
-    ensures same { (t u : TableView) (n : ℕ) (log : List Logged) → IsLogOf t log → u.terms ≡ take n t.terms → AreBelow n log → derivation_in u log ≡ derivation_in t log }
+    ensures right { (t u : TableView) (n : ℕ) (log : List Logged) → IsLogOf t log → u.terms ≡ take n t.terms
+        → AreBelow n log → IsLogOf u log }
+    ensures same { (t u : TableView) (n : ℕ) (log : List Logged) → IsLogOf t log → u.terms ≡ take n t.terms
+        → AreBelow n log → derivation_in u log ≡ derivation_in t log }
 {}
 
 /// States that under an interpretation that gives each term of a table a truth value, a clause of a log over it is true where the
@@ -31,8 +34,8 @@ pub fn logs_stand_in_cut_tables()
 pub fn logs_are_sound()
     ensures each { (t : TableView) (log : List Logged) (i : Interpretation) → IsLogOf t log → All (HasTruth i) t.terms
         → (s : StepId) → s.0 < length log
-        → ((m : StepId) (id : TermId) → RestsOn (derivation_in t log) s.0 m.0 → m.0 < length log → logged_at log m ≡ assumed id
-        → term_true i (term_at t id) ≡ true)
+        → ((m : StepId) (id : TermId) → RestsOn (derivation_in t log) s.0 m.0 → m.0 < length log
+        → logged_at log m ≡ assumed id → term_true i (term_at t id) ≡ true)
         → clause_true i (clause_at t (named (logged_at log s))) ≡ true }
     ensures all { (t : TableView) (log : List Logged) (i : Interpretation) → IsLogOf t log → All (HasTruth i) t.terms
         → ((id : TermId) → Contains log (assumed id) → term_true i (term_at t id) ≡ true)

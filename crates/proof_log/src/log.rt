@@ -70,7 +70,8 @@ impl ProofLog {
     /// Lends the step of a clause by its number; `None` exactly where the clause is assumed, or none has that number. It takes no
     /// memory.
     pub fn step(&self, step: StepId) -> Option<&Step>
-        ensures { MatchOption result (IsAssumed (logged_at self.now step)) (λ s. logged_at self.now step ≡ stepped s.now.rule s.now.premises s.now.clause) }
+        ensures { MatchOption result (IsAssumed (logged_at self.now step))
+            (λ s. logged_at self.now step ≡ stepped s.now.rule s.now.premises s.now.clause) }
     {
         if step.0 >= self.len() {
             return None;

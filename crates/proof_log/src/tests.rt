@@ -46,8 +46,75 @@ fn table_of(alloc: Global) -> Result<TermTable, NoMemory> {
     Ok(table)
 }
 
-/// A step: rule, premises, clause.
-type Row = (Rule, &'static [StepId], &'static [TermId]);
+/// The letters of the terms of the table: `a`, `b`, `c`, `(or a b)` and `(not a)`.
+const LETTERS: &[u8] = b"abc|-";
+
+/// Steps: the rule, the numbers of the premises, the clause by letters, and the number that the step gets, or `no` where it is refused,
+/// with a space between them.
+const STEPS: &str = "or 0 ab 2
+or 1 ab no
+or 0 a no
+or  ab no
+or 3 ab no
+resolution 21 a no
+resolution 29 b no
+resolution 23 b no
+resolution 21 b 3
+weakening 3 cb 4
+weakening 4 b no
+reordering 4 bc 5
+resolution  a- 6
+resolution 5  no
+or_neg  |- 7
+or_neg  |a no
+or_neg 0 |- no";
+
+/// A row of `STEPS`.
+#[derive(Drop)]
+struct Row {
+    rule: Rule,
+    premises: Vec<StepId>,
+    clause: Vec<TermId>,
+    number: Option<StepId>,
+}
+
+/// Gives the number of a digit.
+fn number_of(digit: u8) -> StepId {
+    StepId(digit.wrapping_sub(b'0') as u64)
+}
+
+/// Gives the term of a letter.
+fn term_of(letter: u8) -> TermId {
+    let place = LETTERS.iter().position(|other| *other == letter);
+    TermId(place.unwrap_or(LETTERS.len()) as u64)
+}
+
+/// Takes a row apart.
+fn row_of(alloc: Global, text: &str) -> Result<Option<Row>, AllocError> {
+    let mut parts = text.split(' ');
+    let rule = Rule::named(parts.next().unwrap_or("").as_bytes());
+    let mut premises = Vec::new(alloc);
+    for digit in parts.next().unwrap_or("").as_bytes() {
+        premises.push(number_of(*digit))?;
+    }
+    let mut clause = Vec::new(alloc);
+    for letter in parts.next().unwrap_or("").as_bytes() {
+        clause.push(term_of(*letter))?;
+    }
+    let number = match parts.next().unwrap_or("").as_bytes() {
+        [digit] => Some(number_of(*digit)),
+        _ => None,
+    };
+    let Some(rule) = rule else {
+        return Ok(None);
+    };
+    Ok(Some(Row {
+        rule,
+        premises,
+        clause,
+        number,
+    }))
+}
 
 /// Makes a step by copies.
 fn step_of(
@@ -77,10 +144,11 @@ fn add(
     requires { IsLogOf table.now log.old }
     ensures { IsLogOf table.now log.new }
 {
-    if !table.has_terms(row.2) {
+    let clause = row.clause.as_slice();
+    if !table.has_terms(clause) {
         return Ok(None);
     }
-    let step = step_of(alloc, row.0, row.1, row.2)?;
+    let step = step_of(alloc, row.rule, row.premises.as_slice(), clause)?;
     Ok(Some(log.add(table, step)))
 }
 
@@ -106,27 +174,6 @@ fn log_of(alloc: Global, table: &TermTable) -> Result<ProofLog, NoMemory>
     Ok(log)
 }
 
-/// The steps, and the numbers that they get; `None` where a step is refused.
-const STEPS: &[(Row, Option<u64>)] = &[
-    ((Rule::Or, &[StepId(0)], &[A, B]), Some(2)),
-    ((Rule::Or, &[StepId(1)], &[A, B]), None),
-    ((Rule::Or, &[StepId(0)], &[A]), None),
-    ((Rule::Or, &[], &[A, B]), None),
-    ((Rule::Or, &[StepId(3)], &[A, B]), None),
-    ((Rule::Resolution, &[StepId(2), StepId(1)], &[A]), None),
-    ((Rule::Resolution, &[StepId(2), StepId(9)], &[B]), None),
-    ((Rule::Resolution, &[StepId(2), StepId(3)], &[B]), None),
-    ((Rule::Resolution, &[StepId(2), StepId(1)], &[B]), Some(3)),
-    ((Rule::Weakening, &[StepId(3)], &[C, B]), Some(4)),
-    ((Rule::Weakening, &[StepId(4)], &[B]), None),
-    ((Rule::Reordering, &[StepId(4)], &[B, C]), Some(5)),
-    ((Rule::Resolution, &[], &[A, NOT_A]), Some(6)),
-    ((Rule::Resolution, &[StepId(5)], &[]), None),
-    ((Rule::OrNeg, &[], &[A_OR_B, NOT_A]), Some(7)),
-    ((Rule::OrNeg, &[], &[A_OR_B, A]), None),
-    ((Rule::OrNeg, &[StepId(0)], &[A_OR_B, NOT_A]), None),
-];
-
 /// Tells whether the log holds that step, or that assumed clause where there is no rule, under a number.
 fn states(
     log: &ProofLog,
@@ -151,27 +198,41 @@ fn states(
     }
 }
 
+/// Tells whether a log holds a row's step under its number, or refused it and has as many clauses as before.
+fn is_added_so(
+    log: &ProofLog,
+    row: &Row,
+    before: u64,
+    got: Option<Result<StepId, LogFault>>,
+) -> bool {
+    match row.number {
+        None => got == Some(Err(LogFault::RuleFails)) && log.len() == before,
+        Some(number) => {
+            got == Some(Ok(number))
+                && states(
+                    log,
+                    number,
+                    Some(row.rule),
+                    row.premises.as_slice(),
+                    row.clause.as_slice(),
+                )
+        }
+    }
+}
+
 /// Adds the steps and tells whether each gets its number, or is refused and changes nothing.
 fn add_all(alloc: Global, table: &TermTable, log: &mut ProofLog) -> Result<bool, AllocError>
     requires { IsLogOf table.now log.old }
     ensures { IsLogOf table.now log.new }
 {
-    'steps: for (row, number) in STEPS.iter() {
+    'steps: for text in STEPS.lines() {
+        let Some(row) = row_of(alloc, text)? else {
+            return Ok(false);
+        };
         let before = log.len();
-        let got = add(alloc, table, log, row)?;
-        match number {
-            None => {
-                if got != Some(Err(LogFault::RuleFails)) || log.len() != before {
-                    return Ok(false);
-                }
-            }
-            Some(n) => {
-                if got != Some(Ok(StepId(*n)))
-                    || !states(log, StepId(*n), Some(row.0), row.1, row.2)
-                {
-                    return Ok(false);
-                }
-            }
+        let got = add(alloc, table, log, &row)?;
+        if !is_added_so(log, &row, before, got) {
+            return Ok(false);
         }
     }
     Ok(true)
