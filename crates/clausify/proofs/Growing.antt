@@ -12,7 +12,7 @@ use Rattle.proof_log.specs.Logs.{Logged, assumed, stepped, named, inference_of, 
 use Rattle.proof_log.proofs.Tables.{grown_same}
 use Rattle.proof_log.proofs.Logged.{conclusion_of}
 use Rattle.clausify.specs.Clausified.{stated, AssumesOneOf, Grows}
-use Rattle.clausify.specs.Stating.{Widens, Says, Tells}
+use Rattle.clausify.specs.Stating.{listed, Widens, Says, Tells}
 use Rattle.clausify.proofs.Arguments.{Widens-self}
 use Rattle.clausify.proofs.Making.{Makes-none, Makes-push, Makes-trans}
 
@@ -99,7 +99,7 @@ Says-push roots t old new l id steps all said g right number last pushed says =
       same = ap (map (stated t new)) pushed ∙ map-append (stated t new) steps (id ∷ []) ∙ ap₂ (λ (xs : List Clause) (x : Clause). xs ++ x ∷ []) kept.same here;
     }
 
-pub Tells-push : (roots : List TermId) (t : TableView) (old new : List Logged) (l : Logged) (id : StepId) (steps all : List StepId) → Grows roots t t old new → IsLogOf t old → id.0 ≡ length old → new ≡ old ++ l ∷ [] → all ≡ steps ++ id ∷ [] → Tells t t old new steps all (clause_at t (named l) ∷ [])
+pub Tells-push : (roots : List TermId) (t : TableView) (old new : List Logged) (l : Logged) (id : StepId) (steps all : List StepId) → Grows roots t t old new → IsLogOf t old → id.0 ≡ length old → new ≡ old ++ l ∷ [] → all ≡ steps ++ id ∷ [] → Tells (listed t old steps) (listed t new all) (clause_at t (named l) ∷ [])
 Tells-push roots t old new l id steps all g right number last pushed = record {
   says = λ said says. Says-push roots t old new l id steps all said g right number last pushed says;
   made = Makes-push old new l id steps all number last pushed;
@@ -110,25 +110,25 @@ module _ (t u v : TableView) (wider : Widens t u) (old new : List Logged) (right
   pub Grows-made : Grows [] u v old new → Grows [] t v old new
   Grows-made g = Grows-trans [] t u v old old new (Grows-wider [] t u old wider still) g
 
-  pub Tells-made : (steps all : List StepId) (clauses : List Clause) → Tells u v old new steps all clauses → Tells t v old new steps all clauses
+  pub Tells-made : (steps all : List StepId) (clauses : List Clause) → Tells (listed u old steps) (listed v new all) clauses → Tells (listed t old steps) (listed v new all) clauses
   Tells-made steps all clauses tells = record {
     says = λ said says. tells.says said (Says-kept [] t u old old (Grows-wider [] t u old wider still) right steps said says);
     made = tells.made;
   }
 
 -- no clause, then some, then others
-pub Tells-none : (t : TableView) (log : List Logged) (steps : List StepId) → Tells t t log log steps steps []
+pub Tells-none : (t : TableView) (log : List Logged) (steps : List StepId) → Tells (listed t log steps) (listed t log steps) []
 Tells-none t log steps = record {
   says = λ said says. subst (Says t log steps) (sym (append-nil said)) says;
   made = Makes-none log steps;
 }
 
-pub Tells-trans : (t u v : TableView) (a b c : List Logged) (one two three : List StepId) (cs ds : List Clause) → Tells t u a b one two cs → Tells u v b c two three ds → Tells t v a c one three (cs ++ ds)
+pub Tells-trans : (t u v : TableView) (a b c : List Logged) (one two three : List StepId) (cs ds : List Clause) → Tells (listed t a one) (listed u b two) cs → Tells (listed u b two) (listed v c three) ds → Tells (listed t a one) (listed v c three) (cs ++ ds)
 Tells-trans t u v a b c one two three cs ds f g = record {
   says = λ said says. subst (Says v c three) (append_assoc said cs ds) (g.says (said ++ cs) (f.says said says));
   made = Makes-trans a b c one two three f.made g.made;
 }
 
 -- clauses told where they are the same
-pub Tells-same : (t u : TableView) (old new : List Logged) (steps all : List StepId) (cs ds : List Clause) → cs ≡ ds → Tells t u old new steps all cs → Tells t u old new steps all ds
-Tells-same t u old new steps all cs ds e tells = subst (Tells t u old new steps all) e tells
+pub Tells-same : (t u : TableView) (old new : List Logged) (steps all : List StepId) (cs ds : List Clause) → cs ≡ ds → Tells (listed t old steps) (listed u new all) cs → Tells (listed t old steps) (listed u new all) ds
+Tells-same t u old new steps all cs ds e tells = subst (Tells (listed t old steps) (listed u new all)) e tells

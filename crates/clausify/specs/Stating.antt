@@ -10,7 +10,8 @@ use Rattle.spec_proofs.specs.Schemes.{signed, side_of, Scheme, true_scheme, Kind
 use Rattle.spec_search.specs.Base.{clauses_of}
 use Rattle.term_core.specs.declared.nodes.Head.{Head as NodeHead}
 use Rattle.term_core.specs.declared.nodes.Head.TheVariants as heads
-use Rattle.term_core.specs.Tables.{TableView, head_meant, Extends}
+use Rattle.term_core.specs.declared.ids.TermId.{TermId}
+use Rattle.term_core.specs.Tables.{TableView, term_at, IsIn, AreIn, clause_at, head_meant, Extends}
 use Rattle.proof_log.specs.declared.premises.StepId.{StepId}
 use Rattle.proof_log.specs.Logs.{Logged}
 use Rattle.clausify.specs.Clausified.{stated, AreAllMade}
@@ -38,12 +39,33 @@ pub record Makes (old new : List Logged) (before after : List StepId) : Type 0 w
   -- nothing else came into the log
   pub all : AreAllMade old new more
 
--- These clauses came into the log, and their numbers stand behind those that were there.
-pub record Tells (t u : TableView) (old new : List Logged) (before after : List StepId) (clauses : List Clause) : Type 0 where
+-- A table, a log over it, and a list of numbers of the log's clauses.
+pub record Listed : Type 0 where
+  -- the table
+  pub table : TableView
+  -- the log
+  pub log : List Logged
+  -- the numbers
+  pub steps : List StepId
+
+-- a table, a log and numbers
+abbrev pub listed : TableView → List Logged → List StepId → Listed
+listed t log steps = record { table = t; log = log; steps = steps }
+
+-- These clauses came into the log, and their numbers stand after those that were there.
+pub record Tells (old new : Listed) (clauses : List Clause) : Type 0 where
   -- what the numbers say
-  pub says : (said : List Clause) → Says t old before said → Says u new after (said ++ clauses)
+  pub says : (said : List Clause) → Says old.table old.log old.steps said → Says new.table new.log new.steps (said ++ clauses)
   -- nothing came that has no number among them
-  pub made : Makes old new before after
+  pub made : Makes old.log new.log old.steps new.steps
+
+-- the number is the table's, and means this term
+abbrev pub Names : TableView → Term → TermId → Type 0
+Names t u id = IsIn t id × (term_at t id ≡ u)
+
+-- the numbers are the table's, and mean this clause
+abbrev pub NamesAll : TableView → Clause → List TermId → Type 0
+NamesAll t c ids = AreIn t ids × (clause_at t ids ≡ c)
 
 -- what stands before the arguments of a term
 abbrev pub head_of : Term → Head

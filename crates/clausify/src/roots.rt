@@ -7,7 +7,7 @@ ghost use Rattle.spec_search.specs.Models.{AreFormulas};
 ghost use Rattle.term_core.specs.Tables.{IsIn, AreIn, clause_at};
 ghost use Rattle.proof_log.specs.Logs.{IsLogOf};
 ghost use Rattle.clausify.specs.Clausified.{HasClauses, Grows, AreAllMade};
-ghost use Rattle.clausify.specs.Stating.{Tells};
+ghost use Rattle.clausify.specs.Stating.{listed, Tells};
 ghost use Rattle.clausify.specs.Marks.{marked};
 
 use crate::marks::marks_of;
@@ -119,7 +119,8 @@ fn assume_each(
     requires roots { AreIn table.now roots.now }
     requires log { IsLogOf table.now log.old }
     ensures grows { Grows roots.now table.now table.now log.old log.new }
-    ensures tells { OnOk result (Tells table.now table.now log.old log.new steps.old.items steps.new.items (map (λ t. t ∷ []) (clause_at table.now roots.now))) }
+    ensures tells { OnOk result (Tells (listed table.now log.old steps.old.items)
+        (listed table.now log.new steps.new.items) (map (λ t. t ∷ []) (clause_at table.now roots.now))) }
 {
     'roots: for root in roots.iter() {
         steps.push(log.assume(*root)?)?;
@@ -138,7 +139,8 @@ fn state_marked(
     requires short { length marks.now ≤ length table.old.terms }
     requires log { IsLogOf table.old log.old }
     ensures grows { Grows [] table.old table.new log.old log.new }
-    ensures tells { OnOk result (Tells table.old table.new log.old log.new steps.old.items steps.new.items (flat_map clauses_of (marked marks.now table.old.terms))) }
+    ensures tells { OnOk result (Tells (listed table.old log.old steps.old.items)
+        (listed table.new log.new steps.new.items) (flat_map clauses_of (marked marks.now table.old.terms))) }
 {
     'marks: for number in 0..marks.len() {
         if !marks[number] {

@@ -6,7 +6,7 @@ ghost use Rattle.spec_terms.specs.Theory.{no_term};
 ghost use Rattle.spec_terms.specs.Subsets.{arguments_of};
 ghost use Rattle.spec_proofs.specs.Schemes.{signed, side_of, innermost};
 ghost use Rattle.term_core.specs.Tables.{term_at, clause_at, IsIn, AreIn};
-ghost use Rattle.clausify.specs.Stating.{Widens, HasPlaces, IsSingle, single};
+ghost use Rattle.clausify.specs.Stating.{Names, NamesAll, Widens, HasPlaces, IsSingle, single};
 
 use spec_proofs::{Rest, Side};
 use std::alloc::Global;
@@ -17,7 +17,7 @@ use world_io::NoMemory;
 fn negation(alloc: Global, table: &mut TermTable, id: TermId) -> Result<TermId, NoMemory>
     requires { IsIn table.old id }
     ensures wider { Widens table.old table.new }
-    ensures means { IfOk result (λ n. IsIn table.new n × (term_at table.new n ≡ negated (term_at table.old id))) }
+    ensures means { IfOk result (Names table.new (negated (term_at table.old id))) }
 {
     table.all_terms_are_bool();
     let node = Node::new(alloc, Head::Not, &[id])?;
@@ -33,7 +33,7 @@ pub(crate) fn signed(
 ) -> Result<TermId, NoMemory>
     requires { IsIn table.old id }
     ensures wider { Widens table.old table.new }
-    ensures means { IfOk result (λ n. IsIn table.new n × (term_at table.new n ≡ signed positive (term_at table.old id))) }
+    ensures means { IfOk result (Names table.new (signed positive (term_at table.old id))) }
 {
     if positive {
         return Ok(id);
@@ -56,7 +56,7 @@ fn side(alloc: Global, table: &mut TermTable, id: TermId, side: Side) -> Result<
     requires there { IsIn table.old id }
     requires place { side.place < length (arguments_of (term_at table.old id)) }
     ensures wider { Widens table.old table.new }
-    ensures means { IfOk result (λ n. IsIn table.new n × (term_at table.new n ≡ side_of (arguments_of (term_at table.old id)) side)) }
+    ensures means { IfOk result (Names table.new (side_of (arguments_of (term_at table.old id)) side)) }
 {
     let term = argument(table, id, side.place);
     signed(alloc, table, term, side.positive)
@@ -82,7 +82,8 @@ pub(crate) fn with_rest(
     requires places { HasPlaces (length (arguments_of (term_at table.old id))) rest }
     requires one { IsSingle rest }
     ensures wider { Widens table.old table.new }
-    ensures means { IfOk result (λ v. AreIn table.new v.items × (clause_at table.new v.items ≡ term_at table.old front ∷ single rest (arguments_of (term_at table.old id)))) }
+    ensures means { IfOk result (λ v. NamesAll table.new
+        (term_at table.old front ∷ single rest (arguments_of (term_at table.old id))) v.items) }
 {
     match rest {
         Rest::Nothing => with_sides(alloc, table, id, front, &[]),
@@ -105,7 +106,8 @@ fn with_sides(
     requires there { IsIn table.old id × IsIn table.old front }
     requires places { All (λ x. x.place < length (arguments_of (term_at table.old id))) sides.now }
     ensures wider { Widens table.old table.new }
-    ensures means { IfOk result (λ v. AreIn table.new v.items × (clause_at table.new v.items ≡ term_at table.old front ∷ map (side_of (arguments_of (term_at table.old id))) sides.now)) }
+    ensures means { IfOk result (λ v. NamesAll table.new
+        (term_at table.old front ∷ map (side_of (arguments_of (term_at table.old id))) sides.now) v.items) }
 {
     let mut clause = Vec::new(alloc);
     clause.push(front)?;
@@ -125,7 +127,8 @@ fn with_each(
 ) -> Result<Vec<TermId>, NoMemory>
     requires { IsIn table.old id × IsIn table.old front }
     ensures wider { Widens table.old table.new }
-    ensures means { IfOk result (λ v. AreIn table.new v.items × (clause_at table.new v.items ≡ term_at table.old front ∷ map (signed positive) (arguments_of (term_at table.old id)))) }
+    ensures means { IfOk result (λ v. NamesAll table.new
+        (term_at table.old front ∷ map (signed positive) (arguments_of (term_at table.old id))) v.items) }
 {
     let count = argument_count(table, id);
     let mut clause = Vec::new(alloc);

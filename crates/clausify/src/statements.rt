@@ -9,7 +9,7 @@ ghost use Rattle.spec_search.specs.Base.{clauses_of};
 ghost use Rattle.term_core.specs.Tables.{term_at, IsIn};
 ghost use Rattle.proof_log.specs.Logs.{IsLogOf};
 ghost use Rattle.clausify.specs.Clausified.{Grows};
-ghost use Rattle.clausify.specs.Stating.{Tells, head_of, scheme_by, IsRuleOf, HasPlaces, IsSingle, single, before};
+ghost use Rattle.clausify.specs.Stating.{listed, Tells, head_of, scheme_by, IsRuleOf, HasPlaces, IsSingle, single, before};
 
 use crate::head_rules::rules_of;
 use crate::signs::{argument_count, innermost, signed, with_rest};
@@ -32,7 +32,8 @@ pub(crate) fn state_term(
     requires there { IsIn table.old id }
     requires log { IsLogOf table.old log.old }
     ensures grows { Grows [] table.old table.new log.old log.new }
-    ensures tells { OnOk result (Tells table.old table.new log.old log.new steps.old.items steps.new.items (clauses_of (term_at table.old id))) }
+    ensures tells { OnOk result (Tells (listed table.old log.old steps.old.items)
+        (listed table.new log.new steps.new.items) (clauses_of (term_at table.old id))) }
 {
     let list = rules_of(table.node(id).head);
     'rules: for rule in list.iter() {
@@ -55,7 +56,8 @@ fn state_scheme(
     requires rule { IsRuleOf (head_of (term_at table.old id)) rule }
     requires places { HasPlaces (length (arguments_of (term_at table.old id))) (scheme_by rule).rest }
     ensures grows { Grows [] table.old table.new log.old log.new }
-    ensures tells { OnOk result (Tells table.old table.new log.old log.new steps.old.items steps.new.items (clauses_by (scheme_by rule) (term_at table.old id))) }
+    ensures tells { OnOk result (Tells (listed table.old log.old steps.old.items)
+        (listed table.new log.new steps.new.items) (clauses_by (scheme_by rule) (term_at table.old id))) }
 {
     proof_log::laws::logs_stand_in_grown_tables();
     table.all_terms_are_bool();
@@ -81,9 +83,12 @@ fn state_rests(
     requires there { IsIn table.old id × IsIn table.old front }
     requires log { IsLogOf table.old log.old }
     requires places { HasPlaces (length (arguments_of (term_at table.old id))) rest }
-    requires right { (ls : List Term) → Contains (rests_of rest (arguments_of (term_at table.old id))) ls → IsRight rule [] (term_at table.old front ∷ ls) }
+    requires right { (ls : List Term) → Contains (rests_of rest (arguments_of (term_at table.old id))) ls
+        → IsRight rule [] (term_at table.old front ∷ ls) }
     ensures grows { Grows [] table.old table.new log.old log.new }
-    ensures tells { OnOk result (Tells table.old table.new log.old log.new steps.old.items steps.new.items (before (term_at table.old front) (rests_of rest (arguments_of (term_at table.old id))))) }
+    ensures tells { OnOk result (Tells (listed table.old log.old steps.old.items)
+        (listed table.new log.new steps.new.items)
+        (before (term_at table.old front) (rests_of rest (arguments_of (term_at table.old id))))) }
 {
     match rest {
         Rest::AnyOne(positive) => { state_any(alloc, table, log, steps, id, front, rule, positive) }
@@ -109,7 +114,9 @@ fn state_single(
     requires one { IsSingle rest }
     requires right { IsRight rule [] (term_at table.old front ∷ single rest (arguments_of (term_at table.old id))) }
     ensures grows { Grows [] table.old table.new log.old log.new }
-    ensures tells { OnOk result (Tells table.old table.new log.old log.new steps.old.items steps.new.items ((term_at table.old front ∷ single rest (arguments_of (term_at table.old id))) ∷ [])) }
+    ensures tells { OnOk result (Tells (listed table.old log.old steps.old.items)
+        (listed table.new log.new steps.new.items)
+        ((term_at table.old front ∷ single rest (arguments_of (term_at table.old id))) ∷ [])) }
 {
     proof_log::laws::logs_stand_in_grown_tables();
     let clause = with_rest(alloc, table, id, front, rest)?;
@@ -128,9 +135,12 @@ fn state_innermost(
 ) -> Result<(), NoMemory>
     requires there { IsIn table.now id × IsIn table.now front }
     requires log { IsLogOf table.now log.old }
-    requires right { (ls : List Term) → Contains (innermost (arguments_of (term_at table.now id))) ls → IsRight rule [] (term_at table.now front ∷ ls) }
+    requires right { (ls : List Term) → Contains (innermost (arguments_of (term_at table.now id))) ls
+        → IsRight rule [] (term_at table.now front ∷ ls) }
     ensures grows { Grows [] table.now table.now log.old log.new }
-    ensures tells { OnOk result (Tells table.now table.now log.old log.new steps.old.items steps.new.items (before (term_at table.now front) (innermost (arguments_of (term_at table.now id))))) }
+    ensures tells { OnOk result (Tells (listed table.now log.old steps.old.items)
+        (listed table.now log.new steps.new.items)
+        (before (term_at table.now front) (innermost (arguments_of (term_at table.now id))))) }
 {
     let Some(inner) = innermost(table, id) else {
         return Ok(());
@@ -155,9 +165,12 @@ fn state_any(
 ) -> Result<(), NoMemory>
     requires there { IsIn table.old id × IsIn table.old front }
     requires log { IsLogOf table.old log.old }
-    requires right { (u : Term) → Contains (arguments_of (term_at table.old id)) u → IsRight rule [] (term_at table.old front ∷ signed positive u ∷ []) }
+    requires right { (u : Term) → Contains (arguments_of (term_at table.old id)) u
+        → IsRight rule [] (term_at table.old front ∷ signed positive u ∷ []) }
     ensures grows { Grows [] table.old table.new log.old log.new }
-    ensures tells { OnOk result (Tells table.old table.new log.old log.new steps.old.items steps.new.items (before (term_at table.old front) (map (λ u. signed positive u ∷ []) (arguments_of (term_at table.old id))))) }
+    ensures tells { OnOk result (Tells (listed table.old log.old steps.old.items)
+        (listed table.new log.new steps.new.items)
+        (before (term_at table.old front) (map (λ u. signed positive u ∷ []) (arguments_of (term_at table.old id))))) }
 {
     let count = argument_count(table, id);
     'places: for place in 0..count {

@@ -5,7 +5,7 @@ ghost use Rattle.spec_proofs.specs.Rules.{IsRight};
 ghost use Rattle.term_core.specs.Tables.{AreIn, clause_at};
 ghost use Rattle.proof_log.specs.Logs.{IsLogOf};
 ghost use Rattle.clausify.specs.Clausified.{Grows};
-ghost use Rattle.clausify.specs.Stating.{Tells};
+ghost use Rattle.clausify.specs.Stating.{listed, Tells};
 
 use proof_log::{Clause, LogFault, ProofLog, Rule, Step, StepId, StepIds};
 use std::alloc::Global;
@@ -25,7 +25,8 @@ pub(crate) fn state(
     requires clause { AreIn table.now clause.items }
     requires right { IsRight rule [] (clause_at table.now clause.items) }
     ensures grows { Grows [] table.now table.now log.old log.new }
-    ensures tells { OnOk result (Tells table.now table.now log.old log.new steps.old.items steps.new.items (clause_at table.now clause.items ∷ [])) }
+    ensures tells { OnOk result (Tells (listed table.now log.old steps.old.items)
+        (listed table.now log.new steps.new.items) (clause_at table.now clause.items ∷ [])) }
 {
     let step = Step {
         rule,

@@ -5,7 +5,7 @@ use Rattle.spec_search.specs.Base.{clauses_of}
 use Rattle.term_core.specs.declared.ids.TermId.{TermId}
 use Rattle.term_core.specs.Tables.{term_at}
 use Rattle.term_core.proofs.TermsExtend.{term_at-kept}
-use Rattle.clausify.specs.Stating.{Tells}
+use Rattle.clausify.specs.Stating.{listed, Tells}
 use Rattle.clausify.proofs.Growing.{Grows-self, Grows-trans, Tells-none, Tells-trans, Tells-same}
 use Rattle.clausify.proofs.Bases.{marked_clauses, marked_clauses_more, marked_clauses_same}
 use Rattle.clausify.proofs.roots.state_marked.Goals as goal
@@ -42,7 +42,7 @@ marks-preserved c =
     let told = marked_clauses (take n marks) t.terms in
     let lt : n < length t.terms = omega (arith, c.marks-test.true, c.requires.short) in
     let same : clauses_of (term_at now id) ≡ clauses_of term = ap clauses_of (term_at-kept t now h.grows.table id lt) in
-    let one : Tells now new c.marks.log c.state_term.new.log c.marks.steps.items c.state_term.new.steps.items (clauses_of term) = Tells-same now new c.marks.log c.state_term.new.log c.marks.steps.items c.state_term.new.steps.items (clauses_of (term_at now id)) (clauses_of term) same c.in_ok-state_term.ensures.tells in
+    let one : Tells (listed now c.marks.log c.marks.steps.items) (listed new c.state_term.new.log c.state_term.new.steps.items) (clauses_of term) = Tells-same now new c.marks.log c.state_term.new.log c.marks.steps.items c.state_term.new.steps.items (clauses_of (term_at now id)) (clauses_of term) same c.in_ok-state_term.ensures.tells in
     record {
       grows = Grows-trans [] t now new c.args.log.now c.marks.log c.state_term.new.log h.grows c.state_term.ensures.grows;
       tells = Tells-same t new c.args.log.now c.state_term.new.log c.args.steps.now.items c.state_term.new.steps.items (told ++ clauses_of term) (marked_clauses (take (n + 1) marks) t.terms) (marked_clauses_more marks t.terms n c.marks-test.true c.requires.short c.if-not-marks-number.false)

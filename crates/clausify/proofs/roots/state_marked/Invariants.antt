@@ -3,12 +3,12 @@ use Rattle.std.proofs.Common.{[], take}
 use Rattle.std.specs.Prelude.{flat_map}
 use Rattle.spec_search.specs.Base.{clauses_of}
 use Rattle.clausify.specs.Clausified.{Grows}
-use Rattle.clausify.specs.Stating.{Tells}
+use Rattle.clausify.specs.Stating.{listed, Tells}
 use Rattle.clausify.specs.Marks.{marked}
 use Rattle.clausify.proofs.roots.state_marked.Given as goal
 
 abbrev pub invariant-marks : goal.invariant-marks
 invariant-marks l = record {
   grows : Grows [] l.fn.table l.table l.fn.log l.log;
-  tells : Tells l.fn.table l.table l.fn.log l.log l.fn.steps.items l.steps.items (flat_map clauses_of (marked (take l.number l.marks) l.fn.table.terms));
+  tells : Tells (listed l.fn.table l.fn.log l.fn.steps.items) (listed l.table l.log l.steps.items) (flat_map clauses_of (marked (take l.number l.marks) l.fn.table.terms));
 }

@@ -8,7 +8,7 @@ use Rattle.spec_terms.specs.Subsets.{arguments_of}
 use Rattle.spec_proofs.specs.Schemes.{signed}
 use Rattle.term_core.specs.Tables.{term_at}
 use Rattle.term_core.proofs.TermsExtend.{term_at-kept}
-use Rattle.clausify.specs.Stating.{Tells, before}
+use Rattle.clausify.specs.Stating.{listed, Tells, before}
 use Rattle.clausify.proofs.Growing.{Grows-self, Grows-trans, Tells-none, Tells-trans, Tells-same}
 use Rattle.clausify.proofs.Stated.{clauses_more, right_same}
 use Rattle.clausify.proofs.statements.state_any.Goals as goal
@@ -50,7 +50,7 @@ places-preserved c =
     let clause = front ∷ f (get_or args k no_term) in
     let made : Clause = term_at now c.args.front ∷ signed p (get_or (arguments_of (term_at now c.args.id)) k no_term) ∷ [] in
     let same : made ≡ clause = ap₂ (λ (x u : Term). x ∷ signed p (get_or (arguments_of u) k no_term) ∷ []) (term_at-kept t now h.grows.table c.args.front c.requires.there.1) (term_at-kept t now h.grows.table c.args.id c.requires.there.0) in
-    let one : Tells now new c.places.log c.state_single.new.log c.places.steps.items c.state_single.new.steps.items (clause ∷ []) = Tells-same now new c.places.log c.state_single.new.log c.places.steps.items c.state_single.new.steps.items (made ∷ []) (clause ∷ []) (ap (λ (ls : Clause). ls ∷ []) same) c.in_ok-state_single.ensures.tells in
+    let one : Tells (listed now c.places.log c.places.steps.items) (listed new c.state_single.new.log c.state_single.new.steps.items) (clause ∷ []) = Tells-same now new c.places.log c.state_single.new.log c.places.steps.items c.state_single.new.steps.items (made ∷ []) (clause ∷ []) (ap (λ (ls : Clause). ls ∷ []) same) c.in_ok-state_single.ensures.tells in
     record {
       grows = Grows-trans [] t now new c.args.log.now c.places.log c.state_single.new.log h.grows c.state_single.ensures.grows;
       tells = Tells-same t new c.args.log.now c.state_single.new.log c.args.steps.now.items c.state_single.new.steps.items (told ++ clause ∷ []) (before front (map f (take (k + 1) args))) (clauses_more front f args k no_term lt)

@@ -4,11 +4,11 @@ use Rattle.spec_terms.specs.Subsets.{arguments_of}
 use Rattle.spec_proofs.specs.Schemes.{signed}
 use Rattle.term_core.specs.Tables.{term_at}
 use Rattle.clausify.specs.Clausified.{Grows}
-use Rattle.clausify.specs.Stating.{Tells, before}
+use Rattle.clausify.specs.Stating.{listed, Tells, before}
 use Rattle.clausify.proofs.statements.state_any.Given as goal
 
 abbrev pub invariant-places : goal.invariant-places
 invariant-places l = record {
   grows : Grows [] l.fn.table l.table l.fn.log l.log;
-  tells : Tells l.fn.table l.table l.fn.log l.log l.fn.steps.items l.steps.items (before (term_at l.fn.table l.front) (map (λ u. signed l.positive u ∷ []) (take l.place (arguments_of (term_at l.fn.table l.id)))));
+  tells : Tells (listed l.fn.table l.fn.log l.fn.steps.items) (listed l.table l.log l.steps.items) (before (term_at l.fn.table l.front) (map (λ u. signed l.positive u ∷ []) (take l.place (arguments_of (term_at l.fn.table l.id)))));
 }

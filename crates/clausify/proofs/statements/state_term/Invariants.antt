@@ -2,11 +2,11 @@
 use Rattle.std.proofs.Common.{[], take}
 use Rattle.term_core.specs.Tables.{term_at}
 use Rattle.clausify.specs.Clausified.{Grows}
-use Rattle.clausify.specs.Stating.{Tells, clauses_in}
+use Rattle.clausify.specs.Stating.{listed, Tells, clauses_in}
 use Rattle.clausify.proofs.statements.state_term.Given as goal
 
 abbrev pub invariant-rules : goal.invariant-rules
 invariant-rules l = record {
   grows : Grows [] l.fn.table l.table l.fn.log l.log;
-  tells : Tells l.fn.table l.table l.fn.log l.log l.fn.steps.items l.steps.items (clauses_in (term_at l.fn.table l.id) (take l.rule-index l.list));
+  tells : Tells (listed l.fn.table l.fn.log l.fn.steps.items) (listed l.table l.log l.steps.items) (clauses_in (term_at l.fn.table l.id) (take l.rule-index l.list));
 }
