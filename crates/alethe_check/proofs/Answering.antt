@@ -11,10 +11,10 @@ use Rattle.term_core.specs.Tables.{term_at, AreIn}
 use Rattle.sort_check.specs.Definitions.{no_definitions, scope_at}
 use Rattle.alethe_check.specs.declared.ProofStop.{ProofStop}
 use Rattle.alethe_check.specs.declared.ProofStop.TheVariants as stops
-use Rattle.alethe_check.specs.declared.held.Held.{Held}
+use Rattle.alethe_check.specs.declared.proof_state.ProofState.{ProofState}
 use Rattle.assertion_stack.specs.declared.script.Script.{Script}
-use Rattle.alethe_check.specs.declared.stop.Found.{Found}
-use Rattle.alethe_check.specs.Views.{found_view}
+use Rattle.alethe_check.specs.declared.errors.LocatedFault.{LocatedFault}
+use Rattle.alethe_check.specs.Views.{located_view}
 use Rattle.assertion_stack.specs.Scripts.{IsStack}
 use Rattle.alethe_check.specs.Holding.{known_view, entries_of, IsSound}
 use Rattle.alethe_check.specs.Judging.{IsJudgedFrom}
@@ -36,7 +36,7 @@ module _ (script : List ℕ) (k : ℕ) (proof : List ℕ) where
   pub no_check : (r : ProofStop) → HasNoCheck term_limit script k → Refuses proof 0 NoSuchCheck r → Answers script k proof (Err r)
   no_check r h s = answered record { offset = 0; kind = NoSuchCheck } r (inr (h, refl)) s
 
-  module _ (x : Script) (s : Stack) (current : IsCurrent term_limit script k s) (stated : IsStack x s) (h : Held) (table : h.table ≡ x.table) (definitions : h.definitions ≡ no_definitions) (asserted : h.asserted ≡ x.asserted) (names : h.names ≡ []) (clauses : h.clauses.items ≡ []) where
+  module _ (x : Script) (s : Stack) (current : IsCurrent term_limit script k s) (stated : IsStack x s) (h : ProofState) (table : h.table ≡ x.table) (definitions : h.definitions ≡ no_definitions) (asserted : h.asserted ≡ x.asserted) (names : h.names ≡ []) (clauses : h.clauses.items ≡ []) where
     -- what is known at the check
     known : known_view h ≡ known_at s
     known =
@@ -53,13 +53,13 @@ module _ (script : List ℕ) (k : ℕ) (proof : List ℕ) where
     pub accepted : (u : Unit {0}) → IsJudgedFrom (known_view h) proof None → Answers script k proof (Ok u)
     accepted u j = verdict None j
 
-    pub fault_stands : FaultsStand → (f : Found) → IsJudgedFrom (known_view h) proof (Some (found_view f)) → f.offset ≤ length proof
-    fault_stands law f j = law script proof k (found_view f) (verdict (Some (found_view f)) j)
+    pub fault_stands : FaultsStand → (f : LocatedFault) → IsJudgedFrom (known_view h) proof (Some (located_view f)) → f.offset ≤ length proof
+    fault_stands law f j = law script proof k (located_view f) (verdict (Some (located_view f)) j)
 
-    pub fault_told : (f : Found) (r : ProofStop) → IsJudgedFrom (known_view h) proof (Some (found_view f)) → Refuses proof f.offset f.kind r → Answers script k proof (Err r)
-    fault_told f r j s = answered (found_view f) r (verdict (Some (found_view f)) j) s
+    pub fault_told : (f : LocatedFault) (r : ProofStop) → IsJudgedFrom (known_view h) proof (Some (located_view f)) → Refuses proof f.offset f.kind r → Answers script k proof (Err r)
+    fault_told f r j s = answered (located_view f) r (verdict (Some (located_view f)) j) s
 
-pub nothing_sound : (h : Held) (x : Script) → h.table ≡ x.table → h.definitions ≡ no_definitions → h.asserted ≡ x.asserted → h.names ≡ [] → h.clauses.items ≡ [] → AreIn x.table x.asserted → IsSound h
+pub nothing_sound : (h : ProofState) (x : Script) → h.table ≡ x.table → h.definitions ≡ no_definitions → h.asserted ≡ x.asserted → h.names ≡ [] → h.clauses.items ≡ [] → AreIn x.table x.asserted → IsSound h
 nothing_sound h x table definitions asserted names clauses within = record {
   paired = (λ i. length (names i)) ∙ sym (λ i. length (clauses i));
   definitions = rw definitions (λ k d l. absurd (omega arith));

@@ -1,5 +1,5 @@
 -- A script read command by command, up to a check.
-use Rattle.std.proofs.Common.{◌≡◌, ◌-◌, ℕ, zero, suc, List, [], length, Option, Some, None, inl, inr, refl, sym, ap, ◌∙◌, subst, arith}
+use Rattle.std.proofs.Common.{◌≡◌, ◌-◌, ℕ, zero, suc, List, [], length, Option, Some, None, refl, sym, ap, ◌∙◌, subst, arith}
 use Rattle.std.specs.Prelude.{Ok, Err}
 use Rattle.spec_text.specs.declared.Place.{Place}
 use Rattle.spec_text.specs.Lexemes.{Lexeme, lexemes, lexemes_from}
@@ -13,7 +13,8 @@ use Rattle.smt_lexer.specs.declared.Refusal.{Refusal}
 use Rattle.smt_lexer.specs.declared.Refused.TheVariants as refusals
 use Rattle.smt_sexpr.specs.declared.sexpr.Sexpr.{Sexpr}
 use Rattle.smt_sexpr.specs.Items.{tree_of}
-use Rattle.smt_sexpr.specs.Reads.{Reads, Breaks}
+use Rattle.smt_sexpr.specs.Limited.{StopsIn, IsStopped}
+use Rattle.smt_sexpr.specs.Reads.{Reads}
 use Rattle.assertion_stack.specs.declared.script.Script.{Script}
 use Rattle.assertion_stack.specs.declared.script.Effect.{Effect as CodeEffect}
 use Rattle.assertion_stack.specs.declared.script.Effect.TheVariants as effects
@@ -35,14 +36,13 @@ pub record Loading (bytes : List ℕ) (k : ℕ) (x : Script) (at left : ℕ) : T
 pub loading_begins : (bytes : List ℕ) (k : ℕ) (x : Script) (at : ℕ) → at ≡ 0 → IsStack x empty_stack → Loading bytes k x at k
 loading_begins bytes k x at e h = record { stack = empty_stack; stated = h; onward = λ us rest a. (us, subst (λ n. AreTrees 0 (lexemes_from bytes n) us rest) e a, refl) }
 
-read_whole : (text bytes : List ℕ) (ts : Trees) (rest : List (ℕ × Lexeme)) (stop : Option Located) → bytes ≡ kept text → AreTrees 0 (lexemes 0 0 bytes) ts rest → Stops (length bytes) rest stop → IsReadUpTo text ts (limited (is_long text) stop)
-read_whole text bytes ts rest stop e a s = record {
-  rest = rest;
-  trees = subst (λ b. AreTrees 0 (lexemes 0 0 b) ts rest) e a;
-  stop = stop;
-  stops = subst (λ b. Stops (length b) rest stop) e s;
-  is = refl;
-}
+read_whole : (text : List ℕ) (ts : Trees) (rest : List (ℕ × Lexeme)) (stop : Option Located) → AreTrees 0 (lexemes 0 0 (kept text)) ts rest → Stops (length (kept text)) rest stop → IsReadUpTo text ts (limited (is_long text) stop)
+read_whole text ts rest stop a s = record { rest = rest; trees = a; stop = stop; stops = s; is = refl }
+
+-- what stops the bytes that are read
+stops_in : (end : ℕ) (rest : List (ℕ × Lexeme)) (stop : Option Located) → StopsIn end 0 rest stop → Stops end rest stop
+stops_in end rest None x = x.1
+stops_in end rest (Some f) b = b
 
 -- each text is read
 abbrev pub EachIsRead : List ℕ → ℕ → Type 0
@@ -71,50 +71,50 @@ one_less zero next other e s rest = let n : next ≡ 0 = omega (arith, e) in ap 
 one_less (suc zero) next other e s rest = absurd (other refl)
 one_less (suc (suc k)) next other e s rest = let n : next ≡ suc k = omega (arith, e) in ap (rest s) (sym n)
 
-module _ (text bytes : List ℕ) (k : ℕ) (x : Script) (from : Place) (left : ℕ) (e : bytes ≡ kept text) (l : Loading bytes k x from.offset left) where
+module _ (text : List ℕ) (k : ℕ) (x : Script) (from : Place) (left : ℕ) (l : Loading (kept text) k x from.offset left) where
   -- the script ends here
-  script_ends : (stop : Option Located) → Stops (length bytes) (lexemes_from bytes from.offset) stop → HasNoCheck term_limit text k
+  script_ends : (stop : Option Located) → Stops (length (kept text)) (lexemes_from (kept text) from.offset) stop → HasNoCheck term_limit text k
   script_ends stop s =
-      let rest = lexemes_from bytes from.offset in
+      let rest = lexemes_from (kept text) from.offset in
       let o = l.onward none rest (nothing_first 0 rest (omega arith)) in
-      record { commands = o.0; end = limited (is_long text) stop; read = read_whole text bytes o.0 rest stop e o.1 s; none_here = o.2 ∙ nothing_at l.stack left }
+      record { commands = o.0; end = limited (is_long text) stop; read = read_whole text o.0 rest stop o.1 s; none_here = o.2 ∙ nothing_at l.stack left }
 
-  pub script_finishes : lexemes_from bytes from.offset ≡ [] → HasNoCheck term_limit text k
+  pub script_finishes : lexemes_from (kept text) from.offset ≡ [] → HasNoCheck term_limit text k
   script_finishes h = script_ends None h
 
-  pub script_breaks : (r : Refusal) → Breaks bytes 0 (lexemes_from bytes from.offset) r → HasNoCheck term_limit text k
-  script_breaks r b = script_ends (Some record { offset = r.place.offset; fault = r.fault }) b.0
+  pub script_breaks : (r : Refusal) → IsStopped text 0 (lexemes_from (kept text) from.offset) r → HasNoCheck term_limit text k
+  script_breaks r b = script_ends b.stop (stops_in (length (kept text)) (lexemes_from (kept text) from.offset) b.stop b.stops)
 
-  module _ (s : Sexpr) (after : Place) (r : Reads bytes from 0 s after) where
+  module _ (s : Sexpr) (after : Place) (r : Reads (kept text) from 0 s after) where
     -- what comes next, in all
-    next_tree : (us : Trees) (rest : List (ℕ × Lexeme)) → AreTrees 0 (lexemes_from bytes after.offset) us rest
-        → (ts : Trees) × AreTrees 0 (lexemes 0 0 bytes) ts rest × (stack_at term_limit empty_stack k ts ≡ stack_at term_limit l.stack left (more (tree_of s) us))
-    next_tree us rest a = l.onward (more (tree_of s) us) rest (read_first bytes from 0 s after (omega arith) r us rest a)
+    next_tree : (us : Trees) (rest : List (ℕ × Lexeme)) → AreTrees 0 (lexemes_from (kept text) after.offset) us rest
+        → (ts : Trees) × AreTrees 0 (lexemes 0 0 (kept text)) ts rest × (stack_at term_limit empty_stack k ts ≡ stack_at term_limit l.stack left (more (tree_of s) us))
+    next_tree us rest a = l.onward (more (tree_of s) us) rest (read_first (kept text) from 0 s after (omega arith) r us rest a)
 
     -- the check, or the end of the script
-    pub check_here : (new : Script) → left ≡ 1 → Steps term_limit l.stack s (Ok effects.Check) new → EachIsRead bytes after.offset → Loads text k (Ok (Some new))
+    pub check_here : (new : Script) → left ≡ 1 → Steps term_limit l.stack s (Ok effects.Check) new → EachIsRead (kept text) after.offset → Loads text k (Ok (Some new))
     check_here new one d b =
         let o = next_tree b.0 b.1 b.2 in
-        let stop = stop_of (length bytes) b.1 b.3 in
+        let stop = stop_of (length (kept text)) b.1 b.3 in
         let here = taken_is l.stack (tree_of s) b.0 left d.0 (Some d.0.stack) d.1 (behind_by check d.0.effect d.0.stack left _ d.2 ∙ ap (λ n. behind check d.0.stack n (λ next m. stack_at term_limit next m b.0)) one) in
-        (d.0.stack, record { commands = o.0; end = limited (is_long text) stop.0; read = read_whole text bytes o.0 b.1 stop.0 e o.1 stop.1; here = o.2 ∙ here }, d.3)
+        (d.0.stack, record { commands = o.0; end = limited (is_long text) stop.0; read = read_whole text o.0 b.1 stop.0 o.1 stop.1; here = o.2 ∙ here }, d.3)
 
-    pub leaves_here : (new : Script) → Steps term_limit l.stack s (Ok effects.Exit) new → EachIsRead bytes after.offset → HasNoCheck term_limit text k
+    pub leaves_here : (new : Script) → Steps term_limit l.stack s (Ok effects.Exit) new → EachIsRead (kept text) after.offset → HasNoCheck term_limit text k
     leaves_here new d b =
         let o = next_tree b.0 b.1 b.2 in
-        let stop = stop_of (length bytes) b.1 b.3 in
+        let stop = stop_of (length (kept text)) b.1 b.3 in
         let here = taken_is l.stack (tree_of s) b.0 left d.0 None d.1 (behind_by leave d.0.effect d.0.stack left _ d.2) in
-        record { commands = o.0; end = limited (is_long text) stop.0; read = read_whole text bytes o.0 b.1 stop.0 e o.1 stop.1; none_here = o.2 ∙ here }
+        record { commands = o.0; end = limited (is_long text) stop.0; read = read_whole text o.0 b.1 stop.0 o.1 stop.1; none_here = o.2 ∙ here }
 
     -- the script goes on
-    pub refused_here : (f : Refusal) (new : Script) → Steps term_limit l.stack s (Err (refusals.Fault f)) new → Loading bytes k new after.offset left
+    pub refused_here : (f : Refusal) (new : Script) → Steps term_limit l.stack s (Err (refusals.Fault f)) new → Loading (kept text) k new after.offset left
     refused_here f new d = record {
       stack = l.stack;
       stated = d.2;
       onward = λ us rest a. let o = next_tree us rest a in (o.0, o.1, o.2 ∙ refused_is l.stack (tree_of s) us left _ d.0);
     }
 
-    pub taken_here : (answer : CodeEffect) (next : ℕ) (new : Script) → ((z : Stack) (rest : Stack → ℕ → Option Stack) → behind (effect_meant answer) z left rest ≡ rest z next) → Steps term_limit l.stack s (Ok answer) new → Loading bytes k new after.offset next
+    pub taken_here : (answer : CodeEffect) (next : ℕ) (new : Script) → ((z : Stack) (rest : Stack → ℕ → Option Stack) → behind (effect_meant answer) z left rest ≡ rest z next) → Steps term_limit l.stack s (Ok answer) new → Loading (kept text) k new after.offset next
     taken_here answer next new goes d = record {
       stack = d.0.stack;
       stated = d.3;

@@ -10,7 +10,7 @@ use Rattle.indexmap.proofs.CallerLemmas.{Contains-list_any}
 use Rattle.spec_terms.specs.Literals.{Clause}
 use Rattle.term_core.specs.declared.ids.TermId.{TermId}
 use Rattle.term_core.specs.Tables.{clause_at, AreIn}
-use Rattle.alethe_check.specs.declared.held.Held.{Held}
+use Rattle.alethe_check.specs.declared.proof_state.ProofState.{ProofState}
 use Rattle.alethe_check.specs.Holding.{IsSound, clause_numbered, clauses_numbered, AreNumbers}
 use Rattle.alethe_check.proofs.Images.{images_within, images_push}
 
@@ -41,7 +41,7 @@ set_more old new front k e same = go (list_any (nat_eq k) old) refl
 pub taken_more : (old new numbers : List ℕ) (i d : ℕ) → i < length numbers → new ≡ insert_key nat_eq old (get_or numbers i d) → SameNumbers old (take i numbers) → SameNumbers new (take (i + 1) numbers)
 taken_more old new numbers i d lt e same = subst (λ ks. SameNumbers new ks) (sym (take_more numbers i d lt)) (set_more old new (take i numbers) (get_or numbers i d) e same)
 
-module _ (h : Held) (numbers : List ℕ) (i d : ℕ) (copies new : List (List TermId)) (c : List TermId) (lt : i < length numbers) (there : AreNumbers h numbers)
+module _ (h : ProofState) (numbers : List ℕ) (i d : ℕ) (copies new : List (List TermId)) (c : List TermId) (lt : i < length numbers) (there : AreNumbers h numbers)
     (at : c ≡ get_or h.clauses.items (get_or numbers i d) []) (e : new ≡ copies ++ c ∷ []) where
   -- a copied clause is that of its number
   pub copies_more : map (clause_at h.table) copies ≡ clauses_numbered h (take i numbers) → map (clause_at h.table) new ≡ clauses_numbered h (take (i + 1) numbers)
@@ -51,7 +51,7 @@ module _ (h : Held) (numbers : List ℕ) (i d : ℕ) (copies new : List (List Te
   copies_there sound all = subst (λ (ps : List (List TermId)). All (λ p. AreIn h.table p) ps) (sym e)
       (All-push (λ p. AreIn h.table p) copies c all (subst (λ (ids : List TermId). AreIn h.table ids) (sym at) (sound.clauses (get_or numbers i d) [] (there i d lt))))
 
-module _ (h : Held) (slice set numbers : List ℕ) (e : slice ≡ set) (same : SameNumbers set numbers) where
+module _ (h : ProofState) (slice set numbers : List ℕ) (e : slice ≡ set) (same : SameNumbers set numbers) where
   -- each number taken is that of a clause
   pub numbers_taken : AreNumbers h numbers → AreNumbers h slice
   numbers_taken all k d lt = All-contains (λ n. n < length h.clauses.items) numbers (get_or slice k d) all ((same (get_or slice k d)).0 (subst (λ xs. Contains xs (get_or slice k d)) e (Contains-get_or slice k d lt)))

@@ -8,9 +8,9 @@ use Rattle.spec_proofs.specs.Faults.{Fault, Read}
 use Rattle.spec_proofs.specs.Commands.{Known}
 use Rattle.spec_proofs.specs.Known.{premise_of, premises_of}
 use Rattle.smt_sexpr.specs.Items.{split_first}
-use Rattle.alethe_check.specs.declared.stop.Stop.{Stop}
-use Rattle.alethe_check.specs.declared.stop.Stop.TheVariants as stops
-use Rattle.alethe_check.specs.Views.{found_view, Reads}
+use Rattle.alethe_check.specs.declared.errors.CommandError.{CommandError}
+use Rattle.alethe_check.specs.declared.errors.CommandError.TheVariants as errors
+use Rattle.alethe_check.specs.Views.{located_view, Reads}
 use Rattle.alethe_check.proofs.Splitting.{split_end, split_more}
 
 -- what was read before stands in front
@@ -28,7 +28,7 @@ with_more xs x (Ok ys) = ap (λ zs. Ok zs) (sym (append_assoc xs (x ∷ []) ys))
 with_more xs x (Err e) = refl
 
 module _ (k : Known) where
-  none_left : premises_of k none ≡ Ok []
+  pub none_left : premises_of k none ≡ Ok []
   unfolding premises_of
   none_left = refl
 
@@ -55,6 +55,6 @@ module _ (k : Known) where
       pub premises_more : (c : Clause) → premise_of k t ≡ Ok c → with_front (cs ++ c ∷ []) (premises_of k us) ≡ all
       premises_more c e = sym (with_more cs c (premises_of k us)) ∙ ap (with_front cs) (sym (first_is t us c e)) ∙ next
 
-      pub premises_fail : {X Y : Type 0} (one : X → Clause) (view : Y → List Clause) (s : Stop) → Reads one (Err s) (premise_of k t) → Reads view (Err s) all
-      premises_fail one view (stops.Fault f) e = sym next ∙ ap (with_front cs) (first_fails t us (found_view f) e)
-      premises_fail one view stops.Memory e = tt
+      pub premises_fail : {X Y : Type 0} (one : X → Clause) (view : Y → List Clause) (s : CommandError) → Reads one (Err s) (premise_of k t) → Reads view (Err s) all
+      premises_fail one view (errors.Fault f) e = sym next ∙ ap (with_front cs) (first_fails t us (located_view f) e)
+      premises_fail one view errors.Memory e = tt

@@ -26,6 +26,6 @@ module _ (text : List ℕ) (from : Place) (n : ℕ) (s : Sexpr) (after : Place) 
   pub read_first : (us : Trees) (rest : List (ℕ × Lexeme)) → AreTrees n (lexemes_from text after.offset) us rest → AreTrees n (lexemes_from text from.offset) (more (tree_of s) us) rest
   read_first us rest h = one_first n _ _ rest (tree_of s) us few r.is.first r.is.within h
 
--- a tree behind all commands
+-- a tree after all commands
 pub left_behind : (text : List ℕ) (from : Place) (s : Sexpr) (after : Place) (at : ℕ) → Reads text from 0 s after → at ≡ offset_of (tree_of s) → EndsBehind (length text) (lexemes_from text from.offset) (left_over at)
 left_behind text from s after at r e = (tree_of s, lexemes_from text after.offset, read_first text from 0 s after (omega arith) r none (lexemes_from text after.offset) (nothing_first 0 (lexemes_from text after.offset) (omega arith)), sym e)

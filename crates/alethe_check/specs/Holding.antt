@@ -6,7 +6,7 @@ use Rattle.spec_proofs.specs.Commands.{Entry, Known}
 use Rattle.term_core.specs.declared.ids.TermId.{TermId}
 use Rattle.term_core.specs.Tables.{TableView, term_at, clause_at, AreIn}
 use Rattle.sort_check.specs.Definitions.{scope_at}
-use Rattle.alethe_check.specs.declared.held.Held.{Held}
+use Rattle.alethe_check.specs.declared.proof_state.ProofState.{ProofState}
 
 -- names with their clauses, in order
 abbrev pub entries_of : TableView → List Name → List (List TermId) → List Entry
@@ -14,11 +14,11 @@ entries_of t (n ∷ ns) (c ∷ cs) = (record { name = n; clause = clause_at t c 
 entries_of t _ _ = []
 
 -- what is known, in the words of the definitions
-abbrev pub known_view : Held → Known
+abbrev pub known_view : ProofState → Known
 known_view h = record { scope = scope_at h.table h.definitions; asserted = map (term_at h.table) h.asserted; entries = entries_of h.table h.names h.clauses.items }
 
 -- each name has its clause, and all terms are there
-pub record IsSound (h : Held) : Type 0 where
+pub record IsSound (h : ProofState) : Type 0 where
   -- as many names as clauses
   pub paired : length h.names ≡ length h.clauses.items
   -- the terms that names stand for are in the table
@@ -29,15 +29,15 @@ pub record IsSound (h : Held) : Type 0 where
   pub clauses : All (λ c. AreIn h.table c) h.clauses.items
 
 -- the clause with that number, from 0
-abbrev pub clause_numbered : Held → ℕ → Clause
+abbrev pub clause_numbered : ProofState → ℕ → Clause
 clause_numbered h k = clause_at h.table (slice_index_or h.clauses.items k [])
 
 -- the clauses with these numbers, in order
-abbrev pub clauses_numbered : Held → List ℕ → List Clause
+abbrev pub clauses_numbered : ProofState → List ℕ → List Clause
 clauses_numbered h ks = map (clause_numbered h) ks
 
 -- each number is that of a clause
-abbrev pub AreNumbers : Held → List ℕ → Type 0
+abbrev pub AreNumbers : ProofState → List ℕ → Type 0
 AreNumbers h ks = All (λ k. k < length h.clauses.items) ks
 
 -- whether one of the clauses is empty

@@ -1,12 +1,11 @@
 -- The shapes of a proof's commands as the code has them.
-use Rattle.std.specs.Prelude.{◌≡◌, ℕ, List, Option, Some, None, option_map, if◌then◌else◌}
-use Rattle.std.specs.Borrow.{Bor}
+use Rattle.std.specs.Prelude.{◌≡◌, Option, Some, None, option_map, if◌then◌else◌}
 use Rattle.spec_text.specs.Bytes.{Name}
 use Rattle.spec_text.specs.Trees.{Tree, Trees, atom, list, none, more}
 use Rattle.spec_text.specs.Shapes.{is_keyword}
-use Rattle.spec_proofs.specs.Commands.{Shape, assumes, steps, defines, Parts}
-use Rattle.smt_sexpr.specs.declared.items.Item.{Item}
-use Rattle.smt_sexpr.specs.Items.{trees_in, tree_in}
+use Rattle.spec_proofs.specs.Commands.{Shape, assumes, steps, defines, Parts, or_none}
+use Rattle.smt_sexpr.specs.declared.items.Trees.{Trees as Cursor}
+use Rattle.smt_sexpr.specs.Items.{trees_meant, tree_meant}
 use Rattle.smt_sexpr.specs.Views.{word_view}
 use Rattle.alethe_check.specs.declared.shapes.Shape.{Shape as CodeShape}
 use Rattle.alethe_check.specs.declared.shapes.Shape.TheVariants as code
@@ -14,41 +13,41 @@ use Rattle.alethe_check.specs.declared.shapes.Parts as code_parts
 use Rattle.alethe_check.specs.declared.shapes.StepParts as code_steps
 use Rattle.alethe_check.specs.declared.shapes.DefineParts as code_definitions
 
--- the trees that items mean
-abbrev pub trees_view : List ℕ → Bor (List Item) → Trees
-trees_view text x = trees_in text x.now
-
--- a tree, and the trees behind it
-abbrev pub tree_rest : List ℕ → Bor (List Item) × Bor (List Item) → Tree × Trees
-tree_rest text x = (tree_in text x.0.now, trees_in text x.1.now)
-
 -- the keywords so far
-abbrev pub parts_view : List ℕ → code_parts.Parts → Parts
-parts_view text p = record { rule = option_map word_view p.rule; premises = option_map (trees_view text) p.premises; args = p.args; discharge = p.discharge }
+abbrev pub parts_view : code_parts.Parts → Parts
+parts_view p = record { rule = option_map word_view p.rule; premises = option_map trees_meant p.premises; args = p.args; discharge = p.discharge }
+
+-- the names of premises, where they are given
+abbrev pub premises_view : Option Cursor → Trees
+premises_view given = or_none (option_map trees_meant given)
 
 -- a step's parts
-abbrev pub step_view : List ℕ → code_steps.StepParts → Shape
-step_view text p = steps (word_view p.name) (trees_in text p.literals.now) (word_view p.rule) (trees_in text p.premises.now)
+abbrev pub step_view : code_steps.StepParts → Shape
+step_view p = steps (word_view p.name) (trees_meant p.literals) (word_view p.rule) (premises_view p.premises)
 
 -- a definition's parts
-abbrev pub define_view : List ℕ → code_definitions.DefineParts → Shape
-define_view text p = defines (word_view p.name) (tree_in text p.sort.now) (tree_in text p.term.now)
+abbrev pub define_view : code_definitions.DefineParts → Shape
+define_view p = defines (word_view p.name) (tree_meant p.sort) (tree_meant p.term)
 
 -- a command by its shape
-abbrev pub shape_view : List ℕ → CodeShape → Shape
-shape_view text (code.Assume w items) = assumes (word_view w) (tree_in text items.now)
-shape_view text (code.Step p) = step_view text p
-shape_view text (code.Define p) = define_view text p
+abbrev pub shape_view : CodeShape → Shape
+shape_view (code.Assume w term) = assumes (word_view w) (tree_meant term)
+shape_view (code.Step p) = step_view p
+shape_view (code.Define p) = define_view p
 
--- the items of a definition's term are of one tree
-abbrev pub HasOneTerm : List ℕ → code_definitions.DefineParts → Type 0
-HasOneTerm text p = trees_in text p.term.now ≡ more (tree_in text p.term.now) none
+-- it is one tree
+abbrev pub IsOneTree : Cursor → Type 0
+IsOneTree c = trees_meant c ≡ more (tree_meant c) none
 
--- the items of a term are of one tree
-abbrev pub IsAlone : List ℕ → CodeShape → Type 0
-IsAlone text (code.Assume w items) = trees_in text items.now ≡ more (tree_in text items.now) none
-IsAlone text (code.Step p) = Unit {0}
-IsAlone text (code.Define p) = HasOneTerm text p
+-- the term of a definition is one tree
+abbrev pub HasOneTerm : code_definitions.DefineParts → Type 0
+HasOneTerm p = IsOneTree p.term
+
+-- a term is one tree
+abbrev pub IsAlone : CodeShape → Type 0
+IsAlone (code.Assume w term) = IsOneTree term
+IsAlone (code.Step p) = Unit {0}
+IsAlone (code.Define p) = HasOneTerm p
 
 -- the name of a keyword, and of no other tree
 abbrev pub keyword_in : Tree → Option Name

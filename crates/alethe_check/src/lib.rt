@@ -1,7 +1,7 @@
 //! Judges an Alethe proof against an SMT-LIB script.
 #![tactic(auto)]
 
-ghost use Rattle.std.specs.Prelude.{◌≡◌, ℕ, ◌≤◌, List, length, Some, OnOk};
+ghost use Rattle.std.specs.Prelude.{◌≤◌, length, Some, OnOk};
 ghost use Rattle.spec_scripts.specs.Stack.{HasNoModel, term_limit};
 ghost use Rattle.spec_proofs.specs.Accepted.{IsAccepted};
 ghost use Rattle.alethe_check.specs.Verdicts.{Answers, Refuses};
@@ -9,28 +9,27 @@ ghost use Rattle.alethe_check.specs.Verdicts.{Answers, Refuses};
 #[cfg(test)]
 mod check_tests;
 mod define;
-mod held;
+mod errors;
 mod judge;
 mod load;
 mod premises;
 mod proof;
+mod proof_state;
 #[cfg(test)]
 mod proof_tests;
-mod rule_names;
 #[cfg(test)]
 mod rule_tests;
 mod rules;
 mod shapes;
-mod stop;
 
-use held::at_check;
+use errors::CommandError;
 use judge::judge;
 use load::current_at;
-use smt_lexer::{place_at, start};
+use proof_state::at_check;
+use smt_lexer::place_at;
 pub use spec_proofs::ProofKind;
 pub use spec_text::Place;
 use std::alloc::Global;
-use stop::Stop;
 use thiserror::Error;
 
 /// Why a proof is not accepted, and where: a place of the proof.
@@ -61,15 +60,14 @@ pub enum ProofStop {
 /// Commands of the script that are refused are passed over. Of both texts the first 2^26 bytes are read.
 ///
 /// - `Fault` has the first fault of the proof, with its place there. First of all `NoSuchCheck`, at line 1, column 1, where
-///   the script ends before that check, by its end, by `exit`, or by a fault behind which it cannot be read on. Then, command
+///   the script ends before that check, by its end, by `exit`, or by a fault after which it cannot be read on. Then, command
 ///   by command: `Lexical` where the text cannot be read on; for a command its shape, its name, its sort, its terms, its
-///   rule, its premises, and whether it is right. Behind all commands `BadShape` where something follows a list of them, and
+///   rule, its premises, and whether it is right. After all commands `BadShape` where something follows a list of them, and
 ///   `NoEmptyClause` at the end of the text.
 /// - `Memory` may come at any allocation, and says nothing of the proof.
 ///
 /// It keeps nothing. It takes memory of a multiple of the bytes of both texts and of the terms that they are read as, however
-/// often a premise is named.
-/// Source: Alethe specification; the faults are own.
+/// often a premise is named. Source: Alethe specification.
 pub fn check(alloc: Global, script: &[u8], at: u64, proof: &[u8]) -> Result<(), ProofStop>
     ensures verdict { Answers script.now at proof.now result }
     ensures accepted { OnOk result (IsAccepted script.now at proof.now) }
@@ -80,7 +78,7 @@ pub fn check(alloc: Global, script: &[u8], at: u64, proof: &[u8]) -> Result<(), 
     judge_texts(alloc, script, at, proof)
 }
 
-/// Makes the stop of a fault of the proof.
+/// Makes the answer of a fault of the proof.
 fn refused(proof: &[u8], fault: ProofKind, offset: u64) -> ProofStop
     requires { offset ≤ length proof.now }
     ensures { Refuses proof.now offset fault result }
@@ -91,7 +89,7 @@ fn refused(proof: &[u8], fault: ProofKind, offset: u64) -> ProofStop
     })
 }
 
-/// Judges the two texts: the verdict on them.
+/// Judges the two texts, and gives the verdict on them.
 fn judge_texts(alloc: Global, script: &[u8], at: u64, proof: &[u8]) -> Result<(), ProofStop>
     ensures { Answers script.now at proof.now result }
 {
@@ -100,8 +98,8 @@ fn judge_texts(alloc: Global, script: &[u8], at: u64, proof: &[u8]) -> Result<()
     match current_at(alloc, script, at) {
         Ok(Some(stated)) => match judge(alloc, proof, at_check(alloc, stated)) {
             Ok(()) => Ok(()),
-            Err(Stop::Fault(found)) => Err(refused(proof, found.kind, found.offset)),
-            Err(Stop::Memory) => Err(ProofStop::Memory),
+            Err(CommandError::Fault(found)) => Err(refused(proof, found.kind, found.offset)),
+            Err(CommandError::Memory) => Err(ProofStop::Memory),
         },
         Ok(None) => Err(refused(proof, ProofKind::NoSuchCheck, 0)),
         Err(_) => Err(ProofStop::Memory),

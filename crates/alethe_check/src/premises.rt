@@ -5,7 +5,7 @@ ghost use Rattle.spec_terms.specs.Literals.{Clause as Meant};
 ghost use Rattle.term_core.specs.Tables.{AreIn, clause_at};
 ghost use Rattle.alethe_check.specs.Holding.{IsSound, clauses_numbered, AreNumbers};
 
-use crate::held::Held;
+use crate::proof_state::ProofState;
 use indexmap::IndexSet;
 use std::alloc::{AllocError, Global};
 use term_core::Clause;
@@ -25,23 +25,24 @@ fn distinct(alloc: Global, numbers: &[u64]) -> Result<IndexSet<u64>, AllocError>
 }
 
 /// Copies the clause of a number.
-fn clause_of(alloc: Global, held: &Held, number: u64) -> Result<Clause, AllocError>
-    requires { number < length held.now.clauses.items }
-    ensures { IfOk result (λ c. c ≡ slice_index_or held.now.clauses.items number []) }
+fn clause_of(alloc: Global, state: &ProofState, number: u64) -> Result<Clause, AllocError>
+    requires { number < length state.now.clauses.items }
+    ensures { IfOk result (λ c. c ≡ slice_index_or state.now.clauses.items number []) }
 {
-    Ok(Clause::from(held.clauses[number as usize].as_slice().to_vec(alloc)?))
+    Ok(Clause::from(state.clauses[number as usize].as_slice().to_vec(alloc)?))
 }
 
 /// Copies the clause of each number, in order.
-fn clauses_of(alloc: Global, held: &Held, numbers: &[u64]) -> Result<Vec<Clause>, AllocError>
-    requires sound { IsSound held.now }
-    requires numbers { AreNumbers held.now numbers.now }
-    ensures same { IfOk result (λ v. map (clause_at held.now.table) v.items ≡ clauses_numbered held.now numbers.now) }
-    ensures there { IfOk result (λ v. All (λ p. AreIn held.now.table p) v.items) }
+fn clauses_of(alloc: Global, state: &ProofState, numbers: &[u64]) -> Result<Vec<Clause>, AllocError>
+    requires sound { IsSound state.now }
+    requires numbers { AreNumbers state.now numbers.now }
+    ensures same { IfOk result (λ v. map (clause_at state.now.table) v.items
+        ≡ clauses_numbered state.now numbers.now) }
+    ensures there { IfOk result (λ v. All (λ p. AreIn state.now.table p) v.items) }
 {
     let mut made = Vec::new(alloc);
     for number in numbers {
-        let clause = clause_of(alloc, held, *number)?;
+        let clause = clause_of(alloc, state, *number)?;
         made.push(clause)?;
     }
     Ok(made)
@@ -51,31 +52,35 @@ fn clauses_of(alloc: Global, held: &Held, numbers: &[u64]) -> Result<Vec<Clause>
 ///
 /// The numbers are of clauses, from 0. However often a number comes, its clause is copied once, so the copies take no more
 /// memory than the clauses that are known. Out of memory is the one error.
-pub fn distinct_clauses(
+pub(crate) fn distinct_clauses(
     alloc: Global,
-    held: &Held,
+    state: &ProofState,
     numbers: &[u64],
 ) -> Result<Vec<Clause>, AllocError>
-    requires sound { IsSound held.now }
-    requires numbers { AreNumbers held.now numbers.now }
-    ensures same { IfOk result (λ v. (c : Meant) → Contains (map (clause_at held.now.table) v.items) c ↔ Contains (clauses_numbered held.now numbers.now) c) }
-    ensures there { IfOk result (λ v. All (λ p. AreIn held.now.table p) v.items) }
+    requires sound { IsSound state.now }
+    requires numbers { AreNumbers state.now numbers.now }
+    ensures same { IfOk result (λ v. (c : Meant)
+        → Contains (map (clause_at state.now.table) v.items) c ↔ Contains
+        (clauses_numbered state.now numbers.now) c) }
+    ensures there { IfOk result (λ v. All (λ p. AreIn state.now.table p) v.items) }
 {
     let taken = distinct(alloc, numbers)?;
-    clauses_of(alloc, held, taken.as_slice())
+    clauses_of(alloc, state, taken.as_slice())
 }
 
 /// Lends the clause of the one number, as a list of one, or no clause of none; `None` where there are several.
-pub fn one_or_none<'a>(held: &'a Held, numbers: &[u64]) -> Option<&'a [Clause]>
-    requires sound { IsSound held.now }
-    requires numbers { AreNumbers held.now numbers.now }
-    ensures { MatchOption result (2 ≤ length numbers.now) (λ cs. (map (clause_at held.now.table) cs.now ≡ clauses_numbered held.now numbers.now) × All (λ p. AreIn held.now.table p) cs.now) }
+pub(crate) fn one_or_none<'a>(state: &'a ProofState, numbers: &[u64]) -> Option<&'a [Clause]>
+    requires sound { IsSound state.now }
+    requires numbers { AreNumbers state.now numbers.now }
+    ensures { MatchOption result (2 ≤ length numbers.now)
+        (λ cs. (map (clause_at state.now.table) cs.now ≡ clauses_numbered state.now numbers.now)
+        × All (λ p. AreIn state.now.table p) cs.now) }
 {
     match numbers {
-        [] => Some(&held.clauses[..0]),
+        [] => Some(&state.clauses[..0]),
         [number] => {
             let at = *number as usize;
-            Some(&held.clauses[at..at + 1])
+            Some(&state.clauses[at..at + 1])
         }
         _ => None,
     }

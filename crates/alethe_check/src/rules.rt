@@ -7,9 +7,9 @@ ghost use Rattle.term_core.specs.Tables.{AreIn, clause_at};
 ghost use Rattle.alethe_check.specs.Holding.{IsSound, clauses_numbered, AreNumbers};
 ghost use Rattle.alethe_check.specs.Judging.{TakesFew};
 
-use crate::held::Held;
+use crate::errors::CommandError;
 use crate::premises::{distinct_clauses, one_or_none};
-use crate::stop::Stop;
+use crate::proof_state::ProofState;
 use rule_bool::{RuleStop, judge, resolution};
 use spec_proofs::Rule;
 use std::alloc::Global;
@@ -18,66 +18,72 @@ use term_core::TermId;
 /// Says whether a clause follows by resolution from the clauses of numbers, each of which is taken once.
 fn is_resolved(
     alloc: Global,
-    held: &Held,
+    state: &ProofState,
     premises: &[u64],
     clause: &[TermId],
-) -> Result<bool, Stop>
-    requires sound { IsSound held.now }
-    requires premises { AreNumbers held.now premises.now }
-    requires clause { AreIn held.now.table clause.now }
-    ensures exact { IfOk result (λ yes. MatchBool yes (IsResolvent (clauses_numbered held.now premises.now) (clause_at held.now.table clause.now)) (IsResolvent (clauses_numbered held.now premises.now) (clause_at held.now.table clause.now) → ⊥)) }
-    ensures memory { IfErr result (λ e. e ≡ Stop.Memory) }
+) -> Result<bool, CommandError>
+    requires sound { IsSound state.now }
+    requires premises { AreNumbers state.now premises.now }
+    requires clause { AreIn state.now.table clause.now }
+    ensures exact { IfOk result (λ yes. MatchBool yes
+        (IsResolvent (clauses_numbered state.now premises.now) (clause_at state.now.table clause.now))
+        (IsResolvent (clauses_numbered state.now premises.now) (clause_at state.now.table clause.now) → ⊥)) }
+    ensures memory { IfErr result (λ e. e ≡ CommandError.Memory) }
 {
-    let clauses = distinct_clauses(alloc, held, premises)?;
-    match resolution(alloc, &held.table, &clauses, clause) {
+    let clauses = distinct_clauses(alloc, state, premises)?;
+    match resolution(alloc, &state.table, &clauses, clause) {
         Ok(()) => Ok(true),
         Err(RuleStop::Fails) => Ok(false),
-        Err(RuleStop::Memory) => Err(Stop::Memory),
+        Err(RuleStop::Memory) => Err(CommandError::Memory),
     }
 }
 
 /// Says whether a clause follows by a rule that takes one premise at most from the clauses of numbers.
 fn is_judged(
     alloc: Global,
-    held: &Held,
+    state: &ProofState,
     rule: Rule,
     premises: &[u64],
     clause: &[TermId],
-) -> Result<bool, Stop>
+) -> Result<bool, CommandError>
     requires rule { TakesFew rule }
-    requires sound { IsSound held.now }
-    requires premises { AreNumbers held.now premises.now }
-    requires clause { AreIn held.now.table clause.now }
-    ensures exact { IfOk result (λ yes. MatchBool yes (IsRight rule (clauses_numbered held.now premises.now) (clause_at held.now.table clause.now)) (IsRight rule (clauses_numbered held.now premises.now) (clause_at held.now.table clause.now) → ⊥)) }
-    ensures memory { IfErr result (λ e. e ≡ Stop.Memory) }
+    requires sound { IsSound state.now }
+    requires premises { AreNumbers state.now premises.now }
+    requires clause { AreIn state.now.table clause.now }
+    ensures exact { IfOk result (λ yes. MatchBool yes
+        (IsRight rule (clauses_numbered state.now premises.now) (clause_at state.now.table clause.now))
+        (IsRight rule (clauses_numbered state.now premises.now) (clause_at state.now.table clause.now) → ⊥)) }
+    ensures memory { IfErr result (λ e. e ≡ CommandError.Memory) }
 {
-    let Some(clauses) = one_or_none(held, premises) else {
+    let Some(clauses) = one_or_none(state, premises) else {
         return Ok(false);
     };
-    match judge(alloc, &held.table, rule, clauses, clause) {
+    match judge(alloc, &state.table, rule, clauses, clause) {
         Ok(()) => Ok(true),
         Err(RuleStop::Fails) => Ok(false),
-        Err(RuleStop::Memory) => Err(Stop::Memory),
+        Err(RuleStop::Memory) => Err(CommandError::Memory),
     }
 }
 
 /// Says whether a clause follows by a rule from the clauses of numbers.
-pub fn follows(
+pub(crate) fn follows(
     alloc: Global,
-    held: &Held,
+    state: &ProofState,
     rule: Rule,
     premises: &[u64],
     clause: &[TermId],
-) -> Result<bool, Stop>
-    requires sound { IsSound held.now }
-    requires premises { AreNumbers held.now premises.now }
-    requires clause { AreIn held.now.table clause.now }
-    ensures exact { IfOk result (λ yes. MatchBool yes (IsRight rule (clauses_numbered held.now premises.now) (clause_at held.now.table clause.now)) (IsRight rule (clauses_numbered held.now premises.now) (clause_at held.now.table clause.now) → ⊥)) }
-    ensures memory { IfErr result (λ e. e ≡ Stop.Memory) }
+) -> Result<bool, CommandError>
+    requires sound { IsSound state.now }
+    requires premises { AreNumbers state.now premises.now }
+    requires clause { AreIn state.now.table clause.now }
+    ensures exact { IfOk result (λ yes. MatchBool yes
+        (IsRight rule (clauses_numbered state.now premises.now) (clause_at state.now.table clause.now))
+        (IsRight rule (clauses_numbered state.now premises.now) (clause_at state.now.table clause.now) → ⊥)) }
+    ensures memory { IfErr result (λ e. e ≡ CommandError.Memory) }
 {
     match rule {
-        Rule::Resolution => is_resolved(alloc, held, premises, clause),
-        Rule::ThResolution => is_resolved(alloc, held, premises, clause),
-        _ => is_judged(alloc, held, rule, premises, clause),
+        Rule::Resolution => is_resolved(alloc, state, premises, clause),
+        Rule::ThResolution => is_resolved(alloc, state, premises, clause),
+        _ => is_judged(alloc, state, rule, premises, clause),
     }
 }

@@ -1,22 +1,23 @@
-//! The commands of a proof, read from items by their shape.
+//! The commands of a proof, read from trees by their shape.
 
-ghost use Rattle.std.specs.Prelude.{◌≡◌, ℕ, List, option_map, codes, IfSome};
-ghost use Rattle.spec_proofs.specs.Commands.{no_parts, symbol_in, list_in, all_symbols, symbols_in, with_rule, with_premises, with_args, with_discharge, with_part, parts_of, or_none, assume_shape, step_shape, first_tree, define_shape, is_definition, shape_by, shape_of};
-ghost use Rattle.smt_sexpr.specs.Items.{trees_in, tree_in};
+ghost use Rattle.std.specs.Prelude.{◌≡◌, List, option_map, IfSome};
+ghost use Rattle.spec_text.specs.Shapes.{only_tree};
+ghost use Rattle.spec_proofs.specs.Commands.{no_parts, symbol_in, list_in, all_symbols, symbols_in, with_rule, with_premises, with_args, with_discharge, with_part, parts_of, assume_shape, step_shape, first_tree, define_shape, is_definition, shape_by, shape_of};
+ghost use Rattle.smt_sexpr.specs.Items.{trees_meant, tree_meant, two};
 ghost use Rattle.smt_sexpr.specs.Views.{word_view};
-ghost use Rattle.alethe_check.specs.Shapes.{trees_view, tree_rest, parts_view, shape_view, keyword_in, IsAlone};
+ghost use Rattle.alethe_check.specs.Shapes.{parts_view, shape_view, keyword_in, IsOneTree, IsAlone};
 
 use assertion_stack::is_name;
 use smt_sexpr::{
-    Item, View, Word, is_keyword, is_reserved, is_symbol, is_word, list_first, look, passes,
+    Trees, View, Word, is_keyword, is_reserved, is_symbol, is_word, list_first, look, passes,
     same_bytes, split, tree_alone, want, want_end, word_first,
 };
 
-/// A command by its shape: an assume by its name and the items of its term, a step, or a definition.
+/// A command by its shape: an assume by its name and its term, a step, or a definition.
 #[derive(Clone, Copy)]
-pub enum Shape<'a> {
-    /// The name, and the items of the term, which are of one tree.
-    Assume(Word<'a>, &'a [Item]),
+pub(crate) enum Shape<'a> {
+    /// The name, and the term, which is one tree.
+    Assume(Word<'a>, Trees<'a>),
     /// The parts.
     Step(StepParts<'a>),
     /// The parts.
@@ -25,26 +26,26 @@ pub enum Shape<'a> {
 
 /// A step by its shape.
 #[derive(Clone, Copy)]
-pub struct StepParts<'a> {
+pub(crate) struct StepParts<'a> {
     /// The name.
-    pub name: Word<'a>,
-    /// The items of the literals.
-    pub literals: &'a [Item],
+    pub(crate) name: Word<'a>,
+    /// The literals.
+    pub(crate) literals: Trees<'a>,
     /// The rule's name.
-    pub rule: Word<'a>,
-    /// The items of the premises' names.
-    pub premises: &'a [Item],
+    pub(crate) rule: Word<'a>,
+    /// The names of the premises, where they are given.
+    pub(crate) premises: Option<Trees<'a>>,
 }
 
 /// A definition by its shape.
 #[derive(Clone, Copy)]
-pub struct DefineParts<'a> {
+pub(crate) struct DefineParts<'a> {
     /// The name, which may be a reserved word.
-    pub name: Word<'a>,
-    /// The items of the sort.
-    pub sort: &'a [Item],
-    /// The items of the term, which are of one tree.
-    pub term: &'a [Item],
+    pub(crate) name: Word<'a>,
+    /// The sort.
+    pub(crate) sort: Trees<'a>,
+    /// The term, which is one tree.
+    pub(crate) term: Trees<'a>,
 }
 
 /// What the keywords of a step say.
@@ -52,19 +53,19 @@ pub struct DefineParts<'a> {
 struct Parts<'a> {
     /// The rule's name.
     rule: Option<Word<'a>>,
-    /// The items of the premises' names.
-    premises: Option<&'a [Item]>,
+    /// The names of the premises.
+    premises: Option<Trees<'a>>,
     /// Whether there are arguments.
     args: bool,
     /// Whether there are discharged assumptions.
     discharge: bool,
 }
 
-/// The symbol that the first tree of the items is.
-fn symbol_in<'a>(text: &'a [u8], items: &'a [Item]) -> Option<Word<'a>>
-    ensures { option_map word_view result ≡ symbol_in (tree_in text.now items.now) }
+/// Finds the symbol that the first tree is.
+fn symbol_in(trees: Trees<'_>) -> Option<Word<'_>>
+    ensures { option_map word_view result ≡ symbol_in (tree_meant trees.entry) }
 {
-    match look(text, items) {
+    match look(trees) {
         View::Atom(at, kind, bytes) => {
             if is_symbol(kind) {
                 return Some(Word {
@@ -79,26 +80,26 @@ fn symbol_in<'a>(text: &'a [u8], items: &'a [Item]) -> Option<Word<'a>>
     }
 }
 
-/// The items of the list that the first tree of the items is.
-fn list_in<'a>(text: &'a [u8], items: &'a [Item]) -> Option<&'a [Item]>
-    ensures { option_map (trees_view text.now) result ≡ list_in (tree_in text.now items.now) }
+/// Finds the trees in the list that the first tree is.
+fn list_in(trees: Trees<'_>) -> Option<Trees<'_>>
+    ensures { option_map trees_meant result ≡ list_in (tree_meant trees.entry) }
 {
-    match look(text, items) {
+    match look(trees) {
         View::Atom(_, _, _) => None,
         View::List(_, inside, _) => Some(inside),
     }
 }
 
-/// Tells whether each tree of the items is a symbol.
-fn all_symbols(text: &[u8], items: &[Item]) -> bool
-    ensures { result ≡ all_symbols (trees_in text.now items.now) }
+/// Tells whether each tree is a symbol.
+fn all_symbols(trees: Trees<'_>) -> bool
+    ensures { result ≡ all_symbols (trees_meant trees.entry) }
 {
-    let mut rest = items;
+    let mut rest = trees;
     'symbols: loop {
         let Some((first, others)) = split(rest) else {
             return true;
         };
-        match look(text, first) {
+        match look(first) {
             View::Atom(_, kind, _) => {
                 if !is_symbol(kind) {
                     return false;
@@ -110,20 +111,21 @@ fn all_symbols(text: &[u8], items: &[Item]) -> bool
     }
 }
 
-/// The items of the list of symbols that the first tree of the items is.
-fn symbols_in<'a>(text: &'a [u8], items: &'a [Item]) -> Option<&'a [Item]>
-    ensures { option_map (trees_view text.now) result ≡ symbols_in (tree_in text.now items.now) }
+/// Finds the trees in the list of symbols that the first tree is.
+fn symbols_in(trees: Trees<'_>) -> Option<Trees<'_>>
+    ensures { option_map trees_meant result ≡ symbols_in (tree_meant trees.entry) }
 {
-    let inside = list_in(text, items)?;
-    passes(all_symbols(text, inside))?;
+    let inside = list_in(trees)?;
+    passes(all_symbols(inside))?;
     Some(inside)
 }
 
-fn with_rule<'a>(text: &'a [u8], parts: Parts<'a>, items: &'a [Item]) -> Option<Parts<'a>>
-    ensures { option_map (parts_view text.now) result ≡ with_rule (parts_view text.now parts.entry) (tree_in text.now items.now) }
+/// Adds the name of the rule to the parts, where they have none.
+fn with_rule<'a>(parts: Parts<'a>, value: Trees<'a>) -> Option<Parts<'a>>
+    ensures { option_map parts_view result ≡ with_rule (parts_view parts.entry) (tree_meant value.entry) }
 {
     passes(parts.rule.is_none())?;
-    let rule = symbol_in(text, items)?;
+    let rule = symbol_in(value)?;
     Some(Parts {
         rule: Some(rule),
         premises: parts.premises,
@@ -132,11 +134,12 @@ fn with_rule<'a>(text: &'a [u8], parts: Parts<'a>, items: &'a [Item]) -> Option<
     })
 }
 
-fn with_premises<'a>(text: &'a [u8], parts: Parts<'a>, items: &'a [Item]) -> Option<Parts<'a>>
-    ensures { option_map (parts_view text.now) result ≡ with_premises (parts_view text.now parts.entry) (tree_in text.now items.now) }
+/// Adds the names of the premises to the parts, where they have none.
+fn with_premises<'a>(parts: Parts<'a>, value: Trees<'a>) -> Option<Parts<'a>>
+    ensures { option_map parts_view result ≡ with_premises (parts_view parts.entry) (tree_meant value.entry) }
 {
     passes(parts.premises.is_none())?;
-    let premises = symbols_in(text, items)?;
+    let premises = symbols_in(value)?;
     Some(Parts {
         rule: parts.rule,
         premises: Some(premises),
@@ -145,11 +148,12 @@ fn with_premises<'a>(text: &'a [u8], parts: Parts<'a>, items: &'a [Item]) -> Opt
     })
 }
 
-fn with_args<'a>(text: &'a [u8], parts: Parts<'a>, items: &'a [Item]) -> Option<Parts<'a>>
-    ensures { option_map (parts_view text.now) result ≡ with_args (parts_view text.now parts.entry) (tree_in text.now items.now) }
+/// Adds arguments to the parts, where they have none.
+fn with_args<'a>(parts: Parts<'a>, value: Trees<'a>) -> Option<Parts<'a>>
+    ensures { option_map parts_view result ≡ with_args (parts_view parts.entry) (tree_meant value.entry) }
 {
     passes(!parts.args)?;
-    list_in(text, items)?;
+    list_in(value)?;
     Some(Parts {
         rule: parts.rule,
         premises: parts.premises,
@@ -158,11 +162,12 @@ fn with_args<'a>(text: &'a [u8], parts: Parts<'a>, items: &'a [Item]) -> Option<
     })
 }
 
-fn with_discharge<'a>(text: &'a [u8], parts: Parts<'a>, items: &'a [Item]) -> Option<Parts<'a>>
-    ensures { option_map (parts_view text.now) result ≡ with_discharge (parts_view text.now parts.entry) (tree_in text.now items.now) }
+/// Adds discharged assumptions to the parts, where they have none.
+fn with_discharge<'a>(parts: Parts<'a>, value: Trees<'a>) -> Option<Parts<'a>>
+    ensures { option_map parts_view result ≡ with_discharge (parts_view parts.entry) (tree_meant value.entry) }
 {
     passes(!parts.discharge)?;
-    symbols_in(text, items)?;
+    symbols_in(value)?;
     Some(Parts {
         rule: parts.rule,
         premises: parts.premises,
@@ -171,35 +176,30 @@ fn with_discharge<'a>(text: &'a [u8], parts: Parts<'a>, items: &'a [Item]) -> Op
     })
 }
 
-/// The parts with a keyword more, by its name and the items of its value.
-fn with_part<'a>(
-    text: &'a [u8],
-    parts: Parts<'a>,
-    name: &[u8],
-    items: &'a [Item],
-) -> Option<Parts<'a>>
-    ensures { option_map (parts_view text.now) result ≡ with_part (parts_view text.now parts.entry) name.now (tree_in text.now items.now) }
+/// Adds a keyword to the parts, by its name and its value.
+fn with_part<'a>(parts: Parts<'a>, name: &[u8], value: Trees<'a>) -> Option<Parts<'a>>
+    ensures { option_map parts_view result ≡ with_part (parts_view parts.entry) name.now (tree_meant value.entry) }
 {
     if same_bytes(name, b"rule") {
-        return with_rule(text, parts, items);
+        return with_rule(parts, value);
     }
     if same_bytes(name, b"premises") {
-        return with_premises(text, parts, items);
+        return with_premises(parts, value);
     }
     if same_bytes(name, b"args") {
-        return with_args(text, parts, items);
+        return with_args(parts, value);
     }
     if same_bytes(name, b"discharge") {
-        return with_discharge(text, parts, items);
+        return with_discharge(parts, value);
     }
     None
 }
 
-/// The name of the keyword that the first tree of the items is.
-fn keyword_in<'a>(text: &'a [u8], items: &'a [Item]) -> Option<&'a [u8]>
-    ensures { option_map (λ b. b.now) result ≡ keyword_in (tree_in text.now items.now) }
+/// Finds the name of the keyword that the first tree is.
+fn keyword_in(trees: Trees<'_>) -> Option<&[u8]>
+    ensures { option_map (λ b. b.now) result ≡ keyword_in (tree_meant trees.entry) }
 {
-    match look(text, items) {
+    match look(trees) {
         View::Atom(_, kind, bytes) => {
             if is_keyword(kind) {
                 return Some(bytes);
@@ -210,9 +210,9 @@ fn keyword_in<'a>(text: &'a [u8], items: &'a [Item]) -> Option<&'a [u8]>
     }
 }
 
-/// What keywords and their values say, in any order, each at most once.
-fn parts_of<'a>(text: &'a [u8], items: &'a [Item]) -> Option<Parts<'a>>
-    ensures { option_map (parts_view text.now) result ≡ parts_of no_parts (trees_in text.now items.now) }
+/// Reads what keywords and their values say, in any order, each at most once.
+fn parts_of(trees: Trees<'_>) -> Option<Parts<'_>>
+    ensures { option_map parts_view result ≡ parts_of no_parts (trees_meant trees.entry) }
 {
     let mut parts = Parts {
         rule: None,
@@ -220,7 +220,7 @@ fn parts_of<'a>(text: &'a [u8], items: &'a [Item]) -> Option<Parts<'a>>
         args: false,
         discharge: false,
     };
-    let mut rest = items;
+    let mut rest = trees;
     'parts: loop {
         let Some((key, behind)) = split(rest) else {
             return Some(parts);
@@ -228,10 +228,10 @@ fn parts_of<'a>(text: &'a [u8], items: &'a [Item]) -> Option<Parts<'a>>
         let Some((value, others)) = split(behind) else {
             return None;
         };
-        let Some(name) = keyword_in(text, key) else {
+        let Some(name) = keyword_in(key) else {
             return None;
         };
-        match with_part(text, parts, name, value) {
+        match with_part(parts, name, value) {
             Some(next) => parts = next,
             None => return None,
         }
@@ -239,73 +239,68 @@ fn parts_of<'a>(text: &'a [u8], items: &'a [Item]) -> Option<Parts<'a>>
     }
 }
 
-/// An assume, behind its word.
+/// Asks that there is one tree, and gives it.
+fn one_tree(trees: Trees<'_>) -> Option<Trees<'_>>
+    ensures gives { option_map tree_meant result ≡ only_tree (trees_meant trees.entry) }
+    ensures alone { IfSome result IsOneTree }
+{
+    tree_alone(trees)?;
+    Some(trees)
+}
+
+/// Reads an assume, after its word.
 #[tactic(auto, unfolding(spec_proofs::specs::Commands::assume_shape))]
-fn assume_shape<'a>(text: &'a [u8], items: &'a [Item]) -> Option<Shape<'a>>
-    ensures gives { option_map (shape_view text.now) result ≡ assume_shape (trees_in text.now items.now) }
-    ensures alone { IfSome result (IsAlone text.now) }
+fn assume_shape(trees: Trees<'_>) -> Option<Shape<'_>>
+    ensures gives { option_map shape_view result ≡ assume_shape (trees_meant trees.entry) }
+    ensures alone { IfSome result IsAlone }
 {
-    let (name, rest) = word_first(text, items)?;
+    let (name, rest) = word_first(trees)?;
     passes(is_symbol(name.kind))?;
-    tree_alone(rest)?;
-    Some(Shape::Assume(name, rest))
+    let term = one_tree(rest)?;
+    Some(Shape::Assume(name, term))
 }
 
-/// The items of premises, where they are given.
-fn or_none(premises: Option<&[Item]>) -> &[Item]
-    ensures { (text : List ℕ) → trees_in text result.now ≡ or_none (option_map (trees_view text) premises.entry) }
-{
-    match premises {
-        Some(items) => items,
-        None => &[],
-    }
-}
-
-/// A step, behind its word.
+/// Reads a step, after its word.
 #[tactic(auto, unfolding(spec_proofs::specs::Commands::step_shape))]
-fn step_shape<'a>(text: &'a [u8], items: &'a [Item]) -> Option<Shape<'a>>
-    ensures gives { option_map (shape_view text.now) result ≡ step_shape (trees_in text.now items.now) }
-    ensures alone { IfSome result (IsAlone text.now) }
+fn step_shape(trees: Trees<'_>) -> Option<Shape<'_>>
+    ensures gives { option_map shape_view result ≡ step_shape (trees_meant trees.entry) }
+    ensures alone { IfSome result IsAlone }
 {
-    let (name, rest) = word_first(text, items)?;
+    let (name, rest) = word_first(trees)?;
     passes(is_symbol(name.kind))?;
-    let (clause, rest) = list_first(text, rest)?;
-    let (cl, literals) = word_first(text, clause)?;
+    let (clause, rest) = list_first(rest)?;
+    let (cl, literals) = word_first(clause)?;
     want(b"cl", cl)?;
-    let parts = parts_of(text, rest)?;
+    let parts = parts_of(rest)?;
     let rule = parts.rule?;
     Some(Shape::Step(StepParts {
         name,
         literals,
         rule,
-        premises: or_none(parts.premises),
+        premises: parts.premises,
     }))
 }
 
-/// The first tree's items, and those behind it.
-fn tree_first<'a>(items: &'a [Item]) -> Option<(&'a [Item], &'a [Item])>
-    ensures { (text : List ℕ) → option_map (tree_rest text) result ≡ first_tree (trees_in text items.now) }
+/// Takes the first tree, and gives those after it too.
+fn tree_first(trees: Trees<'_>) -> Option<(Trees<'_>, Trees<'_>)>
+    ensures { option_map two result ≡ first_tree (trees_meant trees.entry) }
 {
-    split(items)
+    split(trees)
 }
 
-/// A definition, behind its word. It has no parameters so far.
+/// Reads a definition, after its word. It has no parameters so far.
 #[tactic(auto, unfolding(spec_proofs::specs::Commands::define_shape))]
-fn define_shape<'a>(text: &'a [u8], items: &'a [Item]) -> Option<Shape<'a>>
-    ensures gives { option_map (shape_view text.now) result ≡ define_shape (trees_in text.now items.now) }
-    ensures alone { IfSome result (IsAlone text.now) }
+fn define_shape(trees: Trees<'_>) -> Option<Shape<'_>>
+    ensures gives { option_map shape_view result ≡ define_shape (trees_meant trees.entry) }
+    ensures alone { IfSome result IsAlone }
 {
-    let (name, rest) = word_first(text, items)?;
+    let (name, rest) = word_first(trees)?;
     passes(is_name(name.kind))?;
-    let (parameters, rest) = list_first(text, rest)?;
+    let (parameters, rest) = list_first(rest)?;
     want_end(parameters)?;
     let (sort, rest) = tree_first(rest)?;
-    tree_alone(rest)?;
-    Some(Shape::Define(DefineParts {
-        name,
-        sort,
-        term: rest,
-    }))
+    let term = one_tree(rest)?;
+    Some(Shape::Define(DefineParts { name, sort, term }))
 }
 
 /// Tells whether a word is `define-fun`, which is reserved.
@@ -315,29 +310,29 @@ fn is_definition(word: Word<'_>) -> bool
     is_reserved(word.kind) && same_bytes(word.bytes, b"define-fun")
 }
 
-/// A command by its word.
-fn shape_by<'a>(text: &'a [u8], word: Word<'a>, items: &'a [Item]) -> Option<Shape<'a>>
-    ensures gives { option_map (shape_view text.now) result ≡ shape_by (word_view word.entry, trees_in text.now items.now) }
-    ensures alone { IfSome result (IsAlone text.now) }
+/// Reads a command by its word, from the trees after it.
+fn shape_by<'a>(word: Word<'a>, trees: Trees<'a>) -> Option<Shape<'a>>
+    ensures gives { option_map shape_view result ≡ shape_by (word_view word.entry, trees_meant trees.entry) }
+    ensures alone { IfSome result IsAlone }
 {
     if is_word(b"assume", word) {
-        return assume_shape(text, items);
+        return assume_shape(trees);
     }
     if is_word(b"step", word) {
-        return step_shape(text, items);
+        return step_shape(trees);
     }
     if is_definition(word) {
-        return define_shape(text, items);
+        return define_shape(trees);
     }
     None
 }
 
-/// The shape of a command whose list has these items.
+/// Finds the shape of a command whose list has these trees in it.
 #[tactic(auto, unfolding(spec_proofs::specs::Commands::shape_of))]
-pub fn shape_of<'a>(text: &'a [u8], items: &'a [Item]) -> Option<Shape<'a>>
-    ensures gives { option_map (shape_view text.now) result ≡ shape_of (trees_in text.now items.now) }
-    ensures alone { IfSome result (IsAlone text.now) }
+pub(crate) fn shape_of(trees: Trees<'_>) -> Option<Shape<'_>>
+    ensures gives { option_map shape_view result ≡ shape_of (trees_meant trees.entry) }
+    ensures alone { IfSome result IsAlone }
 {
-    let (word, rest) = word_first(text, items)?;
-    shape_by(text, word, rest)
+    let (word, rest) = word_first(trees)?;
+    shape_by(word, rest)
 }

@@ -7,4 +7,4 @@ pub returns-in-Ok : goal.returns-in-Ok
 returns-in-Ok c = proof_read _ Truth c.in-Ok.ensures
 
 pub returns-in-Err : goal.returns-in-Err
-returns-in-Err c = part_stopped {X = Unit {0}} (λ u. Truth) _ c.in-Err.stop c.in_proof.result c.in_proof.ensures c.in-Err.ensures
+returns-in-Err c = part_stopped {X = Unit {0}} (λ u. Truth) _ c.in-Err.error c.in_proof.result c.in_proof.ensures c.in-Err.ensures

@@ -1,5 +1,16 @@
-use Rattle.alethe_check.proofs.AllCommands.{plain_stops}
+-- What ends commands that stand in no list.
+use Rattle.smt_sexpr.specs.Limited.{whole_of}
+use Rattle.alethe_check.proofs.AllCommands.{plain_breaks, plain_closes, plain_finishes, plain_stops}
 use Rattle.alethe_check.proofs.judge.judge_plain.Goals as goal
 
+pub returns-in-Ok-Broken-clause-judged : goal.returns-in-Ok-Broken-clause-judged
+returns-in-Ok-Broken-clause-judged c = plain_breaks (whole_of c.args.text) _ _ c.judge_sequence.new.state c.in-Ok-Broken.refusal c.lexical.result (rw c.in-Ok-Broken.field-0-is at c.in-Ok-Broken.ensures.judged) c.lexical.ensures
+
+pub returns-in-Ok-Close-clause-judged : goal.returns-in-Ok-Close-clause-judged
+returns-in-Ok-Close-clause-judged c = plain_closes (whole_of c.args.text) _ _ c.judge_sequence.new.state _ (rw c.in-Ok-Close.field-0-is at c.in-Ok-Close.ensures.judged)
+
+pub returns-in-Ok-End-clause-judged : goal.returns-in-Ok-End-clause-judged
+returns-in-Ok-End-clause-judged c = plain_finishes (whole_of c.args.text) _ _ c.judge_sequence.new.state (rw c.in-Ok-End.field-0-is at c.in-Ok-End.ensures.judged)
+
 pub returns-in-Err-clause-judged : goal.returns-in-Err-clause-judged
-returns-in-Err-clause-judged c = plain_stops c.args.text.now _ _ c.in-Err.stop c.judge_row.new.held c.in-Err.ensures.judged
+returns-in-Err-clause-judged c = plain_stops (whole_of c.args.text) _ _ c.in-Err.error c.judge_sequence.new.state c.in-Err.ensures.judged

@@ -6,6 +6,6 @@ use Rattle.alethe_check.proofs.premises.clauses_of.Given as goal
 
 abbrev pub invariant-loop-number : goal.invariant-loop-number
 invariant-loop-number l = record {
-  same : map (clause_at l.held.table) l.made.items ≡ clauses_numbered l.held (take l.number-index l.numbers);
-  there : All (λ p. AreIn l.held.table p) l.made.items;
+  same : map (clause_at l.state.table) l.made.items ≡ clauses_numbered l.state (take l.number-index l.numbers);
+  there : All (λ p. AreIn l.state.table p) l.made.items;
 }

@@ -7,4 +7,4 @@ use Rattle.alethe_check.proofs.FewPremises.{not_by}
 use Rattle.alethe_check.proofs.rules.is_judged.Goals as goal
 
 pub returns-in_default-clause-exact : goal.returns-in_default-clause-exact
-returns-in_default-clause-exact c = not_by (kind_of c.args.rule) (clauses_numbered c.args.held.now c.args.premises.now) (clause_at c.args.held.now.table c.args.clause.now) c.requires.rule (rw length-map c.in_default.ensures)
+returns-in_default-clause-exact c = not_by (kind_of c.args.rule) (clauses_numbered c.args.state.now c.args.premises.now) (clause_at c.args.state.now.table c.args.clause.now) c.requires.rule (rw length-map c.in_default.ensures)
