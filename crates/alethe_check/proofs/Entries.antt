@@ -10,7 +10,7 @@ use Rattle.spec_proofs.specs.Judging.{with_entry, with_name}
 use Rattle.term_core.specs.declared.ids.TermId.{TermId}
 use Rattle.term_core.specs.NameLists.{HaveNoTwice}
 use Rattle.term_core.specs.Tables.{TableView, term_at, clause_at, AreIn, Extends}
-use Rattle.term_core.proofs.NamesApart.{bytes_same, same_bytes, not_there}
+use Rattle.term_core.proofs.NamesApart.{bytes_same, same_bytes}
 use Rattle.term_core.proofs.TermsExtend.{clause_at-kept}
 use Rattle.sort_check.specs.Definitions.{DefinitionsView, defined_by, scope_at}
 use Rattle.sort_check.proofs.Defined.{defined_push, scope_kept}
@@ -100,10 +100,3 @@ module _ (old new : TableView) (grows : Extends old new) where
       let c = entries_kept ns cs clauses in
       let sc = scope_kept old new d (record { extends = grows; symbols = s }) there in
       λ i. record { scope = sc i; asserted = a i; entries = c i }
-
-pub is_among : (ns : List Name) (n : Name) (k : ℕ) → k < length ns → get_or ns k [] ≡ n → among ns n ≡ true
-is_among ns n k l e = go (among ns n) refl
-  where
-    go : (b : Bool) → among ns n ≡ b → b ≡ true
-    go true q = refl
-    go false q = absurd (not_there ns n k q l e)

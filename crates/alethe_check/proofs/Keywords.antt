@@ -7,7 +7,7 @@ use Rattle.spec_text.specs.Shapes.{◌>>=◌}
 use Rattle.spec_proofs.specs.Commands.{Parts, with_part, parts_of}
 use Rattle.smt_sexpr.specs.Items.{split_first}
 use Rattle.alethe_check.specs.Shapes.{keyword_in}
-use Rattle.alethe_check.proofs.Splitting.{split_end, split_more}
+use Rattle.smt_sexpr.proofs.Splitting.{split_end, split_more}
 
 module _ (p : Parts) where
   none_left : parts_of p none ≡ Some p

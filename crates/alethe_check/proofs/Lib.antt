@@ -1,5 +1,4 @@
 -- The lemmas of this crate.
-pub mod Splitting
 pub mod Keywords
 pub mod Entries
 pub mod Faults

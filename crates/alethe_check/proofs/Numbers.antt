@@ -12,7 +12,8 @@ use Rattle.term_core.specs.declared.ids.TermId.{TermId}
 use Rattle.term_core.specs.Tables.{clause_at, AreIn}
 use Rattle.alethe_check.specs.declared.proof_state.ProofState.{ProofState}
 use Rattle.alethe_check.specs.Holding.{IsSound, clause_numbered, clauses_numbered, AreNumbers}
-use Rattle.alethe_check.proofs.Images.{images_within, images_push}
+use Rattle.spec_proofs.proofs.Chains.{mapped_within}
+use Rattle.alethe_check.proofs.Images.{images_push}
 
 -- the same numbers are in both
 abbrev SameNumbers : List ℕ → List ℕ → Type 0
@@ -61,6 +62,6 @@ module _ (h : ProofState) (slice set numbers : List ℕ) (e : slice ≡ set) (sa
       → (c : Clause) → Contains (map (clause_at h.table) copies) c ↔ Contains (clauses_numbered h numbers) c
   clauses_taken copies s c =
       let all : map (clause_at h.table) copies ≡ clauses_numbered h set = s ∙ ap (clauses_numbered h) e in (
-        λ i. images_within (clause_numbered h) set numbers (λ k. (same k).0) c (subst (λ (cs : List Clause). Contains cs c) all i),
-        λ i. subst (λ (cs : List Clause). Contains cs c) (sym all) (images_within (clause_numbered h) numbers set (λ k. (same k).1) c i),
+        λ i. mapped_within (clause_numbered h) set numbers (λ k. (same k).0) c (subst (λ (cs : List Clause). Contains cs c) all i),
+        λ i. subst (λ (cs : List Clause). Contains cs c) (sym all) (mapped_within (clause_numbered h) numbers set (λ k. (same k).1) c i),
       )

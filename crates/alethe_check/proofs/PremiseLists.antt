@@ -11,7 +11,7 @@ use Rattle.smt_sexpr.specs.Items.{split_first}
 use Rattle.alethe_check.specs.declared.errors.CommandError.{CommandError}
 use Rattle.alethe_check.specs.declared.errors.CommandError.TheVariants as errors
 use Rattle.alethe_check.specs.Views.{located_view, Reads}
-use Rattle.alethe_check.proofs.Splitting.{split_end, split_more}
+use Rattle.smt_sexpr.proofs.Splitting.{split_end, split_more}
 
 -- what was read before stands in front
 abbrev pub with_front : {A : Type 0} → List A → Read (List A) → Read (List A)

@@ -4,7 +4,7 @@ use Rattle.std.specs.Prelude.{◌↔◌}
 use Rattle.spec_proofs.specs.Resolution.{Derives, given, unit, Conflicts, false_clause, both_ways, IsWithin}
 use Rattle.spec_proofs.specs.Clauses.{IsResolvent}
 use Rattle.spec_terms.specs.Literals.{Clause, complement, literals_of}
-use Rattle.alethe_check.proofs.Images.{images_within}
+use Rattle.spec_proofs.proofs.Chains.{mapped_within}
 
 module _ {L : Type 0} (other : L → L) (ps qs : List (List L)) (within : IsWithin ps qs) (assumed : List L) where
   derives_within : (l : L) → Derives other ps assumed l → Derives other qs assumed l
@@ -17,7 +17,7 @@ module _ {L : Type 0} (other : L → L) (ps qs : List (List L)) (within : IsWith
 
 -- a clause that follows from the ones follows from the others too
 pub resolvent_within : (ps qs : List Clause) (c : Clause) → IsWithin ps qs → IsResolvent ps c → IsResolvent qs c
-resolvent_within ps qs c within r = conflicts_within complement (map literals_of ps) (map literals_of qs) (images_within literals_of ps qs within) (map complement (literals_of c)) r
+resolvent_within ps qs c within r = conflicts_within complement (map literals_of ps) (map literals_of qs) (mapped_within literals_of ps qs within) (map complement (literals_of c)) r
 
 -- of clauses with the same members, the same follows
 pub resolvent_same : (ps qs : List Clause) (c : Clause) → ((d : Clause) → Contains ps d ↔ Contains qs d) → IsResolvent ps c → IsResolvent qs c

@@ -1,6 +1,7 @@
 use Rattle.std.proofs.Common.{ap, sym, ◌∙◌}
 use Rattle.spec_text.specs.Bytes.{among}
-use Rattle.alethe_check.proofs.Entries.{is_among, names_of_entries}
+use Rattle.sort_check.proofs.Defined.{is_among}
+use Rattle.alethe_check.proofs.Entries.{names_of_entries}
 use Rattle.alethe_check.proofs.proof_state.has_name.Goals as goal
 
 pub returns-in-Some-clause-entries : goal.returns-in-Some-clause-entries
