@@ -56,3 +56,12 @@ fn what_was_not_taken_waits(rt: HostRuntime) -> Result<(), Fail> {
     }
     Ok(())
 }
+
+#[test]
+fn a_buffer_before_a_buffer_is_flushed_too(rt: HostRuntime) -> Result<(), Fail> {
+    let mut out = BufferedSink::new(rt.alloc(), buffered_of(rt.alloc(), 20000, 9)?)?;
+    assert_eq!(rt; write_all(&mut out, b"sat\n"), Ok(()));
+    assert_eq!(rt; out.flush(), Ok(()));
+    assert_eq!(rt; out.sink().sink().written(), b"sat\n".as_slice());
+    Ok(())
+}

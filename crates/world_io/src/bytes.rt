@@ -1,4 +1,4 @@
-//! A list of bytes, and the answer where memory is wanting.
+//! A list of bytes, and the answer out of memory.
 
 ghost use Rattle.std.specs.Prelude.{◌≡◌, length};
 

@@ -1,4 +1,4 @@
-//! The trusted edge: real files, standard input and standard output. Nothing is told of what they hold.
+//! The trusted edge: real files, standard input and standard output. Nothing is known of what they hold.
 
 ghost use Rattle.std.specs.Prelude.{◌≡◌, [], None};
 

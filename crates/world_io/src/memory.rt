@@ -1,6 +1,6 @@
 //! A shelf and a sink in memory, which can be told to fail.
 
-ghost use Rattle.std.specs.Prelude.{◌≡◌, ◌≢◌, ℕ, ◌+◌, ◌-◌, ◌^◌, ◌≤◌, ◌<◌, ◌++◌, ◌⊎◌, List, [], length, map, min, take, drop, Some, None, MatchBool, MatchOption, Contains, IfOk, IsOk, vec_len, vec_capacity};
+ghost use Rattle.std.specs.Prelude.{◌≡◌, ◌+◌, ◌-◌, ◌≤◌, ◌<◌, ◌++◌, ◌⊎◌, [], length, map, min, take, drop, Some, None, MatchBool, MatchOption, Contains, IfOk, IsOk, vec_len, vec_capacity};
 ghost use Rattle.world_io.specs.Memory.{text_of, text_named, text_at, ShelfState, SinkState, next_number, seen_sink, Begins, Reads, Writes};
 
 use crate::fault::{counted, one_more};
@@ -226,7 +226,7 @@ fn rest_of(text: &[u8], offset: usize) -> &[u8]
     text.get(offset..).unwrap_or(&[])
 }
 
-/// Copies a front of the text from an offset on, as much as the buffer and `most` allow, and answers its length.
+/// Copies a prefix of the text from an offset on, as much as the buffer and `most` allow, and answers its length.
 fn copy_from(text: &[u8], offset: usize, most: usize, buf: &mut [u8]) -> usize
     requires { 0 < length buf.old }
     ensures length { result ≤ length buf.old }

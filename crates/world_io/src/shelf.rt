@@ -8,13 +8,13 @@ use crate::Failed;
 
 /// Holds texts under names, and gives one of them bit by bit.
 ///
-/// Contracts see what each name holds and what is left of the text that was begun, where these are told,
+/// Contracts see what each name holds and what is left of the text that was begun, where these are known,
 /// and how many calls failed.
 pub trait Shelf {
-    /// What a name holds, where that is told.
+    /// What a name holds, where that is known.
     ghost holds: { Self → List ℕ → Option (List ℕ) };
 
-    /// What is left of the text that was begun, where that is told.
+    /// What is left of the text that was begun, where that is known.
     ghost left: { Self → Option (List ℕ) };
 
     /// How many calls failed. It never falls.
@@ -35,7 +35,7 @@ pub trait Shelf {
         ensures sound { is_sound self.old → is_sound self.new }
         ensures found { is_sound self.old → IsSome (holds self.old name.now) → IsOk result };
 
-    /// Moves a front of what is left into the buffer, from index 0 on, and answers its length in bytes.
+    /// Moves a prefix of what is left into the buffer, from index 0 on, and answers its length in bytes.
     ///
     /// The buffer is not empty. The length is 0 at the end alone, where nothing is left.
     /// `Failed` comes only where the count of faults rose in this call; what is left is then as before.

@@ -1,6 +1,6 @@
 //! Where bytes go.
 
-ghost use Rattle.std.specs.Prelude.{◌≡◌, length, flat_map};
+ghost use Rattle.std.specs.Prelude.{flat_map};
 ghost use Rattle.world_io.specs.Writing.{SinkView, Sends, Takes, Flushes, WritesPrefix};
 
 use crate::Failed;

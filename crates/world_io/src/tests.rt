@@ -10,6 +10,7 @@ use crate::{
 };
 use std::alloc::Global;
 use std::fs;
+use std::process::Abort;
 use std::test::Fail;
 
 const FOLDER: &str = "world_io_test";
@@ -62,7 +63,7 @@ fn is_cut(end: &ReadEnd, want: &[u8]) -> bool {
     }
 }
 
-/// Tells whether reading failed, but for want of memory.
+/// Tells whether reading failed, but for out of memory.
 fn is_failed(got: &Result<ReadEnd, ReadStop>) -> Result<bool, NoMemory> {
     match got {
         Ok(_) => Ok(false),
@@ -80,26 +81,52 @@ fn bytes_come_back(rt: HostRuntime) -> Result<(), Fail> {
     Ok(())
 }
 
-#[test]
-fn a_shelf_is_read_up_to_the_limit(rt: HostRuntime) -> Result<(), Fail> {
-    let cases: [(u64, u64, bool, &[u8]); 9] = [
-        (0, 64, false, b""),
-        (5, 64, false, b"abcde"),
-        (6, 64, true, b"abcdef"),
-        (7, 64, true, b"abcdef"),
-        (u64::MAX, 64, true, b"abcdef"),
-        (0, 1, false, b""),
-        (5, 1, false, b"abcde"),
-        (6, 1, true, b"abcdef"),
-        (7, 1, true, b"abcdef"),
-    ];
-    for (limit, most, whole, want) in cases {
-        let mut shelf = shelf_of(rt.alloc(), most, &[])?;
-        let end = read_named(rt.alloc(), &mut shelf, "a", limit)?;
-        let right = if whole {
-            is_whole(&end, want)
+/// Reads a digit; any other text is the greatest number.
+fn number(text: &str) -> u64 {
+    match text.as_bytes() {
+        [digit] if digit.is_ascii_digit() => u64::from(digit.saturating_sub(48)),
+        _ => u64::MAX,
+    }
+}
+
+/// Reads digits, each as a number.
+fn numbers(alloc: Global, text: &str) -> Result<Vec<u64>, NoMemory> {
+    let mut numbers = Vec::new(alloc);
+    for digit in text.as_bytes() {
+        numbers.push(u64::from(digit.saturating_sub(48)))?;
+    }
+    Ok(numbers)
+}
+
+/// Limits, how many bytes a read gives at most, whether the text `abcdef` is then read whole, and what is read of it.
+const LIMITS: &str = "0|9|cut|
+5|9|cut|abcde
+6|9|cut|abcdef
+7|9|whole|abcdef
+most|9|whole|abcdef
+0|1|cut|
+5|1|cut|abcde
+6|1|cut|abcdef
+7|1|whole|abcdef
+";
+
+fn read_rows(rt: &impl Abort, alloc: Global, rows: &str) -> Result<(), Fail> {
+    for row in rows.lines() {
+        let Some((limit, row)) = row.split_once("|") else {
+            return Ok(());
+        };
+        let Some((most, row)) = row.split_once("|") else {
+            return Ok(());
+        };
+        let Some((kind, want)) = row.split_once("|") else {
+            return Ok(());
+        };
+        let mut shelf = shelf_of(alloc, number(most), &[])?;
+        let end = read_named(alloc, &mut shelf, "a", number(limit))?;
+        let right = if kind == "whole" {
+            is_whole(&end, want.as_bytes())
         } else {
-            is_cut(&end, want)
+            is_cut(&end, want.as_bytes())
         };
         assert!(rt; right, "limit {limit}, most {most}");
     }
@@ -107,35 +134,52 @@ fn a_shelf_is_read_up_to_the_limit(rt: HostRuntime) -> Result<(), Fail> {
 }
 
 #[test]
-fn calls_of_a_shelf_fail_by_number(rt: HostRuntime) -> Result<(), Fail> {
-    // Call 0 is `begin`; a read of at most 4 bytes gives 4, 2 and 0.
-    let cases: [(&[u64], &str, Option<usize>); 8] = [
-        (&[], "a", None),
-        (&[9], "a", None),
-        (&[0], "a", Some(0)),
-        (&[1], "a", Some(1)),
-        (&[3, 2], "a", Some(2)),
-        (&[3], "a", Some(3)),
-        (&[], "b", Some(0)),
-        (&[], "", None),
-    ];
-    for (failing, name, want) in cases {
-        let mut shelf = shelf_of(rt.alloc(), 4, failing)?;
-        let mut first = None;
-        for call in 0..4usize {
+fn a_shelf_is_read_up_to_the_limit(rt: HostRuntime) -> Result<(), Fail> {
+    read_rows(&rt, rt.alloc(), LIMITS)
+}
+
+/// The calls of a shelf that are to fail, the name that is begun, and the first call that fails, `-` for none. Call 0 is `begin`;
+/// a read of at most 4 bytes gives 4, 2 and 0.
+const CALLS: &str = "|a|-
+9|a|-
+0|a|0
+1|a|1
+32|a|2
+3|a|3
+|b|0
+||-
+";
+
+fn call_rows(rt: &impl Abort, alloc: Global, rows: &str) -> Result<(), Fail> {
+    for row in rows.lines() {
+        let Some((failing, row)) = row.split_once("|") else {
+            return Ok(());
+        };
+        let Some((name, want)) = row.split_once("|") else {
+            return Ok(());
+        };
+        let failing = numbers(alloc, failing)?;
+        let mut shelf = shelf_of(alloc, 4, failing.as_slice())?;
+        let mut first = u64::MAX;
+        for call in 0..4u64 {
             let mut buf = [0u8; 8];
             let failed = if call == 0 {
                 shelf.begin(name).is_err()
             } else {
                 shelf.read(&mut buf).is_err()
             };
-            if failed && first.is_none() {
-                first = Some(call);
+            if failed && first == u64::MAX {
+                first = call;
             }
         }
-        assert_eq!(rt; first, want, "name {name:?}");
+        assert_eq!(rt; first, number(want), "name {name:?}");
     }
     Ok(())
+}
+
+#[test]
+fn calls_of_a_shelf_fail_by_number(rt: HostRuntime) -> Result<(), Fail> {
+    call_rows(&rt, rt.alloc(), CALLS)
 }
 
 #[test]
@@ -152,26 +196,48 @@ fn a_read_that_fails_is_answered(rt: HostRuntime) -> Result<(), Fail> {
     Ok(())
 }
 
+/// The room of a sink, how many bytes a write takes at most, the writes that are to fail, whether `abc`, nothing and `def` are
+/// written, and what then is.
+const ROOMS: &str = "8|9||ok|abcdef
+6|9||ok|abcdef
+5|9||failed|abcde
+0|9||failed|
+6|1||ok|abcdef
+6|0||failed|
+6|9|0|failed|
+6|2|2|failed|abc
+6|9|1|failed|abc
+";
+
+fn sink_rows(rt: &impl Abort, alloc: Global, rows: &str) -> Result<(), Fail> {
+    for row in rows.lines() {
+        let Some((room, row)) = row.split_once("|") else {
+            return Ok(());
+        };
+        let Some((most, row)) = row.split_once("|") else {
+            return Ok(());
+        };
+        let Some((failing, row)) = row.split_once("|") else {
+            return Ok(());
+        };
+        let Some((kind, want)) = row.split_once("|") else {
+            return Ok(());
+        };
+        let mut sink = MemSink::new(alloc, number(room), number(most), numbers(alloc, failing)?)?;
+        let got = write_pieces(&mut sink, &[b"abc", b"", b"def"]);
+        assert_eq!(rt; got.is_ok(), kind == "ok", "room {room}, most {most}");
+        assert_eq!(rt; sink.written(), want.as_bytes(), "room {room}, most {most}");
+    }
+    Ok(())
+}
+
 #[test]
 fn a_sink_takes_what_it_has_room_for(rt: HostRuntime) -> Result<(), Fail> {
-    let cases: [(u64, u64, &[u64], bool, &[u8]); 9] = [
-        (8, 64, &[], true, b"abcdef"),
-        (6, 64, &[], true, b"abcdef"),
-        (5, 64, &[], false, b"abcde"),
-        (0, 64, &[], false, b""),
-        (6, 1, &[], true, b"abcdef"),
-        (6, 0, &[], false, b""),
-        (6, 64, &[0], false, b""),
-        (6, 2, &[2], false, b"abc"),
-        (6, 64, &[1], false, b"abc"),
-    ];
-    for (room, most, failing, whole, want) in cases {
-        let failing = Vec::from_slice(rt.alloc(), failing)?;
-        let mut sink = MemSink::new(rt.alloc(), room, most, failing)?;
-        let got = write_pieces(&mut sink, &[b"abc", b"", b"def"]);
-        assert_eq!(rt; got.is_ok(), whole, "room {room}, most {most}");
-        assert_eq!(rt; sink.written(), want, "room {room}, most {most}");
-    }
+    sink_rows(&rt, rt.alloc(), ROOMS)
+}
+
+#[test]
+fn a_full_sink_takes_no_byte_more(rt: HostRuntime) -> Result<(), Fail> {
     let mut sink = MemSink::new(rt.alloc(), 3, 64, Vec::new(rt.alloc()))?;
     assert_eq!(rt; write_within(&mut sink, b"abcd"), Err(Failed));
     assert_eq!(rt; sink.written(), b"abc".as_slice());
