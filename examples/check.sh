@@ -1,11 +1,11 @@
 #!/usr/bin/env bash
-# Runs each row of the tables in README.md, and compares what the program writes, and its status, with the row.
+# Runs each row of the tables in the folders' README.md, and compares what the program writes, and its status, with the row.
 #
 #     examples/check.sh EXECUTABLE
 #
-# Words are those behind the program's name; what stands behind ` < ` is the file that is standard input. An output is one line,
-# or the name of a file in this folder that has it to the byte, or nothing. Where a row of `solve` or `certify` begins with the
-# line `unsat`, all that `certify` writes for the same words is given to `check` as the proof, and has to be `valid`.
+# Arguments are those after the program's name; after ` < ` comes the file that is standard input. An output is one line, or the name of
+# a file that has it to the byte, or nothing. Where a row of `solve` or `certify` begins with the line `unsat`, all that `certify` writes
+# for the same arguments is given to `check` as the proof, and has to be `valid`.
 #
 # Each row that comes out otherwise is printed, and the script then ends with status 1.
 set -euo pipefail
@@ -71,24 +71,33 @@ run_row() {
     fi
 }
 
-table=
-while IFS= read -r line; do
-    IFS='|' read -r _ a b c d _ <<<"$line"
-    case $line in
-        "| words "* | "| proof | output "* | "| script | proof "*) table=$line ;;
-        "|---"*) ;;
-        "| "*)
-            case $table in
-                "| words behind"*) run_row "check $(cell "$a")" "$(cell "$b")" "$(cell "$c")" ;;
-                "| words "*) run_row "$(cell "$a")" "$(cell "$b")" "$(cell "$c")" ;;
-                "| proof "*) run_row "check valid.smt2 $(cell "$a")" "$(cell "$b")" "$(cell "$c")" ;;
-                "| script "*) run_row "check $(cell "$a") $(cell "$b")" "$(cell "$c")" "$(cell "$d")" ;;
-                *) differs "a table without a known header: $line" ;;
-            esac
-            ;;
-        *) table= ;;
-    esac
-done <README.md
+# Runs the rows of the page of a folder.
+run_page() {
+    local table='' line a b c d
+    while IFS= read -r line; do
+        IFS='|' read -r _ a b c d _ <<<"$line"
+        case $line in
+            "| arguments "* | "| proof | output "* | "| script | proof "*) table=$line ;;
+            "|---"*) ;;
+            "| "*)
+                case $table in
+                    "| arguments of"*) run_row "check $(cell "$a")" "$(cell "$b")" "$(cell "$c")" ;;
+                    "| arguments "*) run_row "$(cell "$a")" "$(cell "$b")" "$(cell "$c")" ;;
+                    "| proof "*) run_row "check valid.smt2 $(cell "$a")" "$(cell "$b")" "$(cell "$c")" ;;
+                    "| script "*) run_row "check $(cell "$a") $(cell "$b")" "$(cell "$c")" "$(cell "$d")" ;;
+                    *) differs "a table without a known header: $line" ;;
+                esac
+                ;;
+            *) table= ;;
+        esac
+    done <README.md
+}
+
+top=$PWD
+for page in */README.md; do
+    cd "$top/$(dirname "$page")"
+    run_page
+done
 
 echo "$rows rows and $proofs proofs, $wrong otherwise than they should be"
 [ "$rows" -gt 0 ] && [ "$wrong" -eq 0 ]
