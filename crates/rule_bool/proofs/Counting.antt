@@ -1,23 +1,17 @@
 -- How many literals of a clause are not seen to be false.
 use Rattle.std.proofs.Common.{◌≡◌, ◌≢◌, ℕ, ◌+◌, ◌≤◌, ◌==◌, zero, suc, Bool, true, false, cond, List, [], ◌∷◌, ◌++◌, length, Contains, ◌⊎◌, inl, inr, sym, ap, ◌∙◌, subst, refl, arith}
 use Rattle.std.proofs.lemmas.Bool.{false≢true, eq-eqb}
-use Rattle.std.proofs.lemmas.List.Elements.{Contains-push_cases, Contains-append_right}
+use Rattle.std.proofs.lemmas.List.Elements.{Contains-push_cases}
+use Rattle.spec_text.proofs.Members.{cases, later}
 use Rattle.term_core.specs.declared.ids.Lit.{Lit}
 use Rattle.rule_bool.specs.Literals.{lit_complement, has, HasNoTwice}
 use Rattle.rule_bool.specs.Statuses.{IsUnresolved}
 use Rattle.rule_bool.specs.Propagation.{unseen, times}
 use Rattle.rule_bool.proofs.LiteralLists.{Contains-from_has, has-from_Contains, negation_twice}
 
--- the first of a list, or one of the others
-pub Contains-cons_cases : {X : Type 0} (xs : List X) (x y : X) → Contains (x ∷ xs) y → (x ≡ y) ⊎ Contains xs y
-Contains-cons_cases xs x y (zero, lt, e) = inl e
-Contains-cons_cases xs x y (suc k, lt, e) = inr (k, omega (arith, lt), e)
-
+-- the first of a list
 pub Contains-first : {X : Type 0} (xs : List X) (x y : X) → x ≡ y → Contains (x ∷ xs) y
 Contains-first xs x y e = (zero, omega arith, e)
-
-pub Contains-later : {X : Type 0} (xs : List X) (x y : X) → Contains xs y → Contains (x ∷ xs) y
-Contains-later xs x y i = Contains-append_right (x ∷ []) xs y i
 
 -- nothing is seen at first
 pub unseen_all : (c : List Lit) → unseen [] c ≡ length c
@@ -42,7 +36,7 @@ module _ (seen : List Lit) (l : Lit) where
   -- a clause without the complement of a literal loses nothing by it
   pub lose_none : (c : List Lit) → (Contains c (lit_complement l) → ⊥) → unseen seen c ≤ unseen (seen ++ l ∷ []) c + 0
   lose_none [] free = omega arith
-  lose_none (m ∷ ms) free = by_tests (unseen seen ms) (unseen (seen ++ l ∷ []) ms) 0 (lose_none ms (λ i. free (Contains-later ms m (lit_complement l) i))) (has seen (lit_complement m)) (has (seen ++ l ∷ []) (lit_complement m)) (λ before after. absurd (free (Contains-first ms m (lit_complement l) (sym (newly m before after)))))
+  lose_none (m ∷ ms) free = by_tests (unseen seen ms) (unseen (seen ++ l ∷ []) ms) 0 (lose_none ms (λ i. free (later m ms (lit_complement l) i))) (has seen (lit_complement m)) (has (seen ++ l ∷ []) (lit_complement m)) (λ before after. absurd (free (Contains-first ms m (lit_complement l) (sym (newly m before after)))))
 
   -- and one with it once loses one
   pub lose_one : (c : List Lit) → HasNoTwice c → unseen seen c ≤ unseen (seen ++ l ∷ []) c + 1
@@ -54,7 +48,7 @@ module _ (seen : List Lit) (l : Lit) where
 -- an open literal counts
 pub one_counts : (seen c : List Lit) (m : Lit) → Contains c m → (Contains seen (lit_complement m) → ⊥) → 1 ≤ unseen seen c
 one_counts seen [] m i o = absurd (omega (arith, i.1))
-one_counts seen (x ∷ xs) m i o = go (λ j. one_counts seen xs m j o) (has seen (lit_complement x)) refl (Contains-cons_cases xs x m i)
+one_counts seen (x ∷ xs) m i o = go (λ j. one_counts seen xs m j o) (has seen (lit_complement x)) refl (cases x xs m i)
   where
     go : (Contains xs m → 1 ≤ unseen seen xs) → (t : Bool) → has seen (lit_complement x) ≡ t → (x ≡ m) ⊎ Contains xs m → 1 ≤ cond t (unseen seen xs) (suc (unseen seen xs))
     go rest false e w = omega arith
@@ -64,7 +58,7 @@ one_counts seen (x ∷ xs) m i o = go (λ j. one_counts seen xs m j o) (has seen
 -- two of them count twice
 pub two_count : (seen c : List Lit) (m n : Lit) → Contains c m → Contains c n → m ≢ n → (Contains seen (lit_complement m) → ⊥) → (Contains seen (lit_complement n) → ⊥) → 2 ≤ unseen seen c
 two_count seen [] m n i j d o p = absurd (omega (arith, i.1))
-two_count seen (x ∷ xs) m n i j d o p = go (λ k l. two_count seen xs m n k l d o p) (has seen (lit_complement x)) refl (Contains-cons_cases xs x m i) (Contains-cons_cases xs x n j)
+two_count seen (x ∷ xs) m n i j d o p = go (λ k l. two_count seen xs m n k l d o p) (has seen (lit_complement x)) refl (cases x xs m i) (cases x xs n j)
   where
     go : (Contains xs m → Contains xs n → 2 ≤ unseen seen xs) → (t : Bool) → has seen (lit_complement x) ≡ t → (x ≡ m) ⊎ Contains xs m → (x ≡ n) ⊎ Contains xs n → 2 ≤ cond t (unseen seen xs) (suc (unseen seen xs))
     go rest t e (inl s) (inl u) = absurd (d (sym s ∙ u))
@@ -88,7 +82,7 @@ counted_one held [] h = absurd (omega arith)
 counted_one held (x ∷ xs) h = go (counted_one held xs) (has held (lit_complement x)) refl h
   where
     go : (1 ≤ unseen held xs → HasOneOpen held xs) → (t : Bool) → has held (lit_complement x) ≡ t → 1 ≤ cond t (unseen held xs) (suc (unseen held xs)) → HasOneOpen held (x ∷ xs)
-    go rest true e l = let r = rest l in (r.0, Contains-later xs x r.0 r.1, r.2)
+    go rest true e l = let r = rest l in (r.0, later x xs r.0 r.1, r.2)
     go rest false e l = (x, Contains-first xs x x refl, unseen_is_open held x e)
 
 -- and two of a clause that has none twice
@@ -102,8 +96,8 @@ counted_two held (x ∷ xs) d h = go (counted_two held xs d.1) (has held (lit_co
         record {
           one = r.one;
           other = r.other;
-          has_one = Contains-later xs x r.one r.has_one;
-          has_other = Contains-later xs x r.other r.has_other;
+          has_one = later x xs r.one r.has_one;
+          has_other = later x xs r.other r.has_other;
           differ = r.differ;
           one_open = r.one_open;
           other_open = r.other_open;
@@ -114,7 +108,7 @@ counted_two held (x ∷ xs) d h = go (counted_two held xs d.1) (has held (lit_co
           one = x;
           other = r.0;
           has_one = Contains-first xs x x refl;
-          has_other = Contains-later xs x r.0 r.1;
+          has_other = later x xs r.0 r.1;
           differ = λ s. d.0 (subst (λ (y : Lit). Contains xs y) (sym s) r.1);
           one_open = unseen_is_open held x e;
           other_open = r.2;
@@ -123,7 +117,7 @@ counted_two held (x ∷ xs) d h = go (counted_two held xs d.1) (has held (lit_co
 -- a number that is there
 pub times_there : (k : ℕ) (js : List ℕ) → Contains js k → 1 ≤ times k js
 times_there k [] i = absurd (omega (arith, i.1))
-times_there k (j ∷ js) i = go (times_there k js) (j == k) refl (Contains-cons_cases js j k i)
+times_there k (j ∷ js) i = go (times_there k js) (j == k) refl (cases j js k i)
   where
     go : (Contains js k → 1 ≤ times k js) → (t : Bool) → (j == k) ≡ t → (j ≡ k) ⊎ Contains js k → 1 ≤ cond t (suc (times k js)) (times k js)
     go rest true e w = omega arith

@@ -9,6 +9,7 @@ use Rattle.std.proofs.lemmas.List.{get_or_append_left, get_or_default, get_or-se
 use Rattle.std.proofs.lemmas.List.Elements.{All-nil, All-push, All-set, All-get_or, Contains-push, Contains-push_cases, Contains-append_left}
 use Rattle.std.proofs.lemmas.List.Quantifiers.{position-Some}
 use Rattle.std.proofs.lemmas.Option.{slice_get_within, get_or_from_slice_get}
+use Rattle.spec_text.proofs.Members.{cases}
 use Rattle.indexmap.specs.IndexSet.{insert_key}
 use Rattle.term_core.specs.declared.ids.Lit.{Lit}
 use Rattle.term_core.specs.contracts.ids.LitPartialEq.TheImpl.{ghosts}
@@ -16,7 +17,7 @@ use Rattle.rule_bool.specs.Literals.{HasNoTwice, lists}
 use Rattle.rule_bool.specs.Occurring.{IsWhole, IsListed, Places, Notes, IsIndexOf, OccursIn, AreBelow}
 use Rattle.rule_bool.specs.declared.occurrences.Occurrences.{Occurrences}
 use Rattle.rule_bool.proofs.LiteralLists.{equal_is, contains_by}
-use Rattle.rule_bool.proofs.Counting.{Contains-cons_cases, Contains-first}
+use Rattle.rule_bool.proofs.Counting.{Contains-first}
 
 -- a literal stands at one place
 same_place : (ls : List Lit) → HasNoTwice ls → (d : Lit) (i j : ℕ) → i < length ls → j < length ls → get_or ls i d ≡ get_or ls j d → i ≡ j
@@ -140,7 +141,7 @@ notes_one old mid new l index number p keys v w read pushed written =
     record {
       whole = record { paired = ap length keys ∙ p.whole.paired ∙ sym (ap length written ∙ length-set mid.lists.items index w); once = subst HasNoTwice (sym keys) p.whole.once };
       kept = λ m k h. listed m k (noted_kept mid.literals.keys (lists mid.lists.items) index number low m k (p.kept m k h));
-      added = λ m i. elim (Contains-cons_cases [] l m i) [
+      added = λ m i. elim (cases l [] m i) [
         | inl e ↦ subst (λ (x : Lit). OccursIn new x number) e (listed l number (noted_added mid.literals.keys (lists mid.lists.items) index number low l p.within p.stored))
         | inr none ↦ absurd (omega (arith, none.1))
       ];

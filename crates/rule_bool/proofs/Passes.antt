@@ -3,6 +3,7 @@ use Rattle.std.proofs.Common.{◌≡◌, ℕ, ◌+◌, ◌-◌, ◌<◌, ◌≤�
 use Rattle.std.specs.Prelude.{Vec}
 use Rattle.std.specs.declared.alloc.Global.{Global}
 use Rattle.std.proofs.lemmas.List.{drop_more, length-map, get_or-map, length_push}
+use Rattle.spec_text.proofs.Members.{cases}
 use Rattle.term_core.specs.declared.ids.Lit.{Lit}
 use Rattle.rule_bool.specs.declared.scan.Pass.TheVariants.{Same}
 use Rattle.rule_bool.specs.Literals.{lists}
@@ -12,7 +13,6 @@ use Rattle.rule_bool.specs.Scanning.{Scans, Moves}
 use Rattle.rule_bool.specs.declared.status.ClauseStatus.{ClauseStatus}
 use Rattle.rule_bool.specs.declared.status.ClauseStatus.TheVariants.{Unresolved, Satisfied}
 use Rattle.rule_bool.proofs.Advancing.{advances_one, advances_on, refuted_by, refuted_on}
-use Rattle.rule_bool.proofs.Counting.{Contains-cons_cases}
 
 -- what a pass has come to, by whether a literal was added
 abbrev pub SoFar : List (List Lit) → List (List Lit) → List Lit → List Lit → Bool → Type 0
@@ -36,7 +36,7 @@ to_unit premises seen old mid new c l false m c_in u e =
 -- to a settled one
 pub to_settled : (premises seen more : List (List Lit)) (old mid new c : List Lit) (b : Bool) → SoFar premises seen old mid b → new ≡ mid → IsSettled mid c → more ≡ c ∷ seen → SoFar premises more old new b
 to_settled premises seen more old mid new c true m e s each = subst (λ (h : List Lit). Advances premises old h × (length old < length h)) (sym e) m
-to_settled premises seen more old mid new c false m e s each = (e ∙ m.0, λ d i. subst (λ (h : List Lit). IsSettled h d) (sym e) (elim (Contains-cons_cases seen c d (subst (λ (cs : List (List Lit)). Contains cs d) each i)) [ inl is ↦ subst (λ (x : List Lit). IsSettled mid x) is s | inr was ↦ m.1 d was ]))
+to_settled premises seen more old mid new c false m e s each = (e ∙ m.0, λ d i. subst (λ (h : List Lit). IsSettled h d) (sym e) (elim (cases c seen d (subst (λ (cs : List (List Lit)). Contains cs d) each i)) [ inl is ↦ subst (λ (x : List Lit). IsSettled mid x) is s | inr was ↦ m.1 d was ]))
 
 abbrev to_items : Vec Lit Global → List Lit
 to_items w = w.items

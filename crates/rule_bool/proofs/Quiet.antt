@@ -1,12 +1,13 @@
 -- Where nothing more follows, there is no conflict; and clauses count as sets.
 use Rattle.std.proofs.Common.{ℕ, ◌<◌, List, [], ◌∷◌, length, get_or, Contains, inl, inr, sym, ◌∙◌, subst, refl, arith, zero, suc}
 use Rattle.std.specs.List.{AllZip}
+use Rattle.spec_text.proofs.Members.{cases, later}
 use Rattle.spec_proofs.specs.Resolution.{Derives, given, unit, Conflicts, false_clause, both_ways, IsWithin}
 use Rattle.term_core.specs.declared.ids.Lit.{Lit}
 use Rattle.rule_bool.specs.Literals.{lit_complement, SameLits, HasNoTwice, IsSetOf, IsConsistent}
 use Rattle.rule_bool.specs.Statuses.{IsSettled}
 use Rattle.rule_bool.proofs.LiteralLists.{decide}
-use Rattle.rule_bool.proofs.Counting.{Contains-cons_cases, Contains-first, Contains-later}
+use Rattle.rule_bool.proofs.Counting.{Contains-first}
 
 -- where nothing follows any more, all that is derived holds
 module _ (premises : List (List Lit)) (start held : List Lit) (started : IsWithin start held) (ok : IsConsistent held) (f : (c : List Lit) → Contains premises c → IsSettled held c) where
@@ -54,18 +55,18 @@ pub sets_back : (cs ds : List (List Lit)) → AllZip IsSetOf cs ds → HaveSame 
 sets_back [] [] h c i = absurd (omega (arith, i.1))
 sets_back [] (d ∷ ds) h c i = elim h [ ]
 sets_back (c ∷ cs) [] h x i = elim h [ ]
-sets_back (c ∷ cs) (d ∷ ds) h x i = elim (Contains-cons_cases ds d x i) [
+sets_back (c ∷ cs) (d ∷ ds) h x i = elim (cases d ds x i) [
   | inl e ↦ (c, Contains-first cs c c refl, subst (λ (y : List Lit). SameLits y c) e h.0.same)
-  | inr j ↦ let r = sets_back cs ds h.1 x j in (r.0, Contains-later cs c r.0 r.1, r.2)
+  | inr j ↦ let r = sets_back cs ds h.1 x j in (r.0, later c cs r.0 r.1, r.2)
 ]
 
 pub sets_there : (cs ds : List (List Lit)) → AllZip IsSetOf cs ds → HaveSame cs ds
 sets_there [] [] h c i = absurd (omega (arith, i.1))
 sets_there [] (d ∷ ds) h c i = elim h [ ]
 sets_there (c ∷ cs) [] h x i = elim h [ ]
-sets_there (c ∷ cs) (d ∷ ds) h x i = elim (Contains-cons_cases cs c x i) [
+sets_there (c ∷ cs) (d ∷ ds) h x i = elim (cases c cs x i) [
   | inl e ↦ (d, Contains-first ds d d refl, subst (λ (y : List Lit). SameLits y d) e (same_back d c h.0.same))
-  | inr j ↦ let r = sets_there cs ds h.1 x j in (r.0, Contains-later ds d r.0 r.1, r.2)
+  | inr j ↦ let r = sets_there cs ds h.1 x j in (r.0, later d ds r.0 r.1, r.2)
 ]
 
 -- each once

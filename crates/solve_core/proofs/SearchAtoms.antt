@@ -2,7 +2,7 @@
 use Rattle.std.proofs.Common.{◌≡◌, ◌≢◌, true, false, not, List, [], ◌∷◌, map, Contains, inl, inr, refl, sym, ◌∙◌, subst, arith}
 use Rattle.std.specs.Prelude.{flat_map}
 use Rattle.std.proofs.lemmas.List.Elements.{Contains-append_right}
-use Rattle.spec_text.proofs.Members.{to_image, in_flat}
+use Rattle.spec_text.proofs.Members.{to_image, in_flat, only}
 use Rattle.spec_terms.specs.Terms.{True, False, Truth, Term, of, negated, sort_of}
 use Rattle.spec_terms.specs.Literals.{Clause, Literal, literal_of, literals_of}
 use Rattle.spec_terms.specs.Subterms.{subterms_of}
@@ -12,7 +12,6 @@ use Rattle.term_core.specs.declared.ids.Lit.{Lit}
 use Rattle.term_core.specs.Tables.{TableView, IsIn, AreDifferent, term_at, literal_at}
 use Rattle.rule_bool.specs.Literals.{lit_complement}
 use Rattle.rule_bool.specs.Statuses.{IsSettled}
-use Rattle.rule_bool.proofs.Counting.{Contains-cons_cases}
 use Rattle.rule_bool.proofs.Resolvents.{literals_apart}
 use Rattle.solve_core.specs.Search.{IsQuiet}
 
@@ -34,17 +33,13 @@ true_literal : literals_of (of True [] ∷ []) ≡ record { atom = of True []; p
 unfolding literal_of
 true_literal = refl
 
--- the one of a list of one
-only_one : (l : Literal) (x : Literal) → Contains (l ∷ []) x → l ≡ x
-only_one l x i = elim (Contains-cons_cases [] l x i) [ inl e ↦ e | inr none ↦ absurd (omega (arith, none.1)) ]
-
 module _ (t : TableView) (differ : AreDifferent t.terms) (front d : List Lit) (there : (l : Lit) → Contains d l → IsIn t l.term) where
   -- a clause of one literal is settled only where that holds
   unit_settled : (y : Lit) → IsIn t y.term → map (literal_at t) d ≡ literal_at t y ∷ [] → IsSettled front d → Contains front y
   unit_settled y y_in e s = go s
     where
       same : (l : Lit) → Contains d l → l ≡ y
-      same l i = literals_apart t differ l y (there l i) y_in (sym (only_one (literal_at t y) (literal_at t l) (subst (λ (xs : List Literal). Contains xs (literal_at t l)) e (to_image (literal_at t) d l i))))
+      same l i = literals_apart t differ l y (there l i) y_in (sym (only (literal_at t y) (literal_at t l) (subst (λ (xs : List Literal). Contains xs (literal_at t l)) e (to_image (literal_at t) d l i))))
 
       go : IsSettled front d → Contains front y
       go (inl h) = subst (λ (x : Lit). Contains front x) (same h.literal h.there) h.holds

@@ -4,8 +4,7 @@ use Rattle.std.specs.Prelude.{Option, None}
 use Rattle.std.proofs.lemmas.Bool.{false≢true, false_from_ne_true}
 use Rattle.std.proofs.lemmas.List.{length-append}
 use Rattle.std.proofs.lemmas.List.Elements.{Contains-push, Contains-append_left, Contains-append_right}
-use Rattle.spec_text.proofs.Members.{to_image}
-use Rattle.rule_bool.proofs.Counting.{Contains-cons_cases}
+use Rattle.spec_text.proofs.Members.{to_image, cases}
 use Rattle.term_core.specs.declared.ids.TermId.{TermId}
 use Rattle.term_core.specs.declared.ids.Lit.{Lit}
 use Rattle.rule_bool.specs.Literals.{lit_complement, has}
@@ -141,7 +140,7 @@ open_fewer atoms held l o (k, lt, e) =
 -- clauses are over the terms of their literals
 pub over_own : (clauses : List (List Lit)) → AreOver (atoms_in clauses) clauses
 over_own [] c l i j = absurd (omega (arith, i.1))
-over_own (d ∷ ds) c l i j = elim (Contains-cons_cases ds d c i) [
+over_own (d ∷ ds) c l i j = elim (cases d ds c i) [
   | inl e ↦ Contains-append_left (map (λ (m : Lit). m.term) d) (atoms_in ds) l.term (to_image (λ (m : Lit). m.term) d l (subst (λ (x : List Lit). Contains x l) (sym e) j))
   | inr k ↦ Contains-append_right (map (λ (m : Lit). m.term) d) (atoms_in ds) l.term (over_own ds c l k j)
 ]
