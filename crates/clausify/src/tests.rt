@@ -13,7 +13,7 @@ use term_core::{Head, Node, SymbolId, TermTable};
 use world_io::NoMemory;
 
 /// The letters of the terms of the table, in the order of `NODES`. A negation is printed as a
-/// hyphen in front of what it negates.
+/// hyphen before what it negates.
 const LETTERS: &[u8] = b"abctf-&|x>=ieosn";
 
 /// The nodes of the table: three constants, the truth values, `(not a)`, and `(and a b)`, `(or a b)`, `(xor a b)`, `(=> a b)`,
@@ -63,7 +63,7 @@ fn new_log(alloc: Global, table: &TermTable) -> ProofLog
     ProofLog::new(alloc)
 }
 
-/// Puts a term behind a text: a hyphen for each negation in front, and the letter of what is left.
+/// Puts a term after a text: a hyphen for each negation, and the letter of what is left.
 fn print_term(text: &mut Vec<u8>, table: &TermTable, id: TermId) -> Result<(), NoMemory> {
     let mut left = id;
     for _ in 0..table.len() {
@@ -84,7 +84,7 @@ fn print_term(text: &mut Vec<u8>, table: &TermTable, id: TermId) -> Result<(), N
     Ok(())
 }
 
-/// Prints clauses of a log: an assumed one with a colon behind it, and a stated one with a semicolon.
+/// Prints clauses of a log: an assumed one with a colon after it, and a stated one with a semicolon.
 fn printed(
     alloc: Global,
     table: &TermTable,
@@ -124,28 +124,26 @@ fn terms_of(alloc: Global, table: &TermTable, letters: &str) -> Result<Vec<TermI
     Ok(terms)
 }
 
-/// Terms by their letters, and the clauses of all of them together.
-const CLAUSES: &[(&str, &str)] = &[
-    ("", ""),
-    ("a", "a:"),
-    ("t", "t:t;"),
-    ("f", "f:-f;"),
-    ("&", "&:-&a;-&b;&-a-b;"),
-    ("|", "|:-|ab;|-a;|-b;"),
-    ("x", "x:-xab;-x-a-b;xa-b;x-ab;"),
-    (">", ">:->-ab;>a;>-b;"),
-    ("=", "=:-=a-b;-=-ab;=-a-b;=ab;"),
-    ("i", "i:-iac;-i-ab;ia-c;i-a-b;"),
-    ("-", "-a:"),
-    ("n", "--a:---aa;"),
-    ("e", "e:-ea;e-a;"),
-    ("o", "o:-ob;o-b;"),
-    ("s", "s:-|ab;|-a;|-b;-s|;-s|;s-|-|;"),
-    ("ab", "a:b:"),
-    ("|&", "|:&:-&a;-&b;&-a-b;-|ab;|-a;|-b;"),
-    ("|s", "|:s:-|ab;|-a;|-b;-s|;-s|;s-|-|;"),
-    ("s|", "s:|:-|ab;|-a;|-b;-s|;-s|;s-|-|;"),
-];
+/// Terms by their letters, and the clauses of all of them together, with a space between them.
+const CLAUSES: &str = " 
+a a:
+t t:t;
+f f:-f;
+& &:-&a;-&b;&-a-b;
+| |:-|ab;|-a;|-b;
+x x:-xab;-x-a-b;xa-b;x-ab;
+> >:->-ab;>a;>-b;
+= =:-=a-b;-=-ab;=-a-b;=ab;
+i i:-iac;-i-ab;ia-c;i-a-b;
+- -a:
+n --a:---aa;
+e e:-ea;e-a;
+o o:-ob;o-b;
+s s:-|ab;|-a;|-b;-s|;-s|;s-|-|;
+ab a:b:
+|& |:&:-&a;-&b;&-a-b;-|ab;|-a;|-b;
+|s |:s:-|ab;|-a;|-b;-s|;-s|;s-|-|;
+s| s:|:-|ab;|-a;|-b;-s|;-s|;s-|-|;";
 
 /// Prints the clauses of terms in a new table and a new log.
 fn clauses_printed(alloc: Global, letters: &str) -> Result<Vec<u8>, NoMemory> {
@@ -156,12 +154,22 @@ fn clauses_printed(alloc: Global, letters: &str) -> Result<Vec<u8>, NoMemory> {
     printed(alloc, &table, &log, &list)
 }
 
+/// Gives the first row whose terms have other clauses, if there is one.
+fn first_other(alloc: Global, rows: &str) -> Result<Option<&str>, NoMemory> {
+    for row in rows.lines() {
+        let Some((letters, clauses)) = row.split_once(' ') else {
+            return Ok(Some(row));
+        };
+        if clauses_printed(alloc, letters)?.as_slice() != clauses.as_bytes() {
+            return Ok(Some(row));
+        }
+    }
+    Ok(None)
+}
+
 #[test]
 fn terms_have_their_clauses(rt: HostRuntime) -> Result<(), Fail> {
-    let alloc = rt.alloc();
-    for (letters, clauses) in CLAUSES.iter() {
-        assert!(rt; clauses_printed(alloc, letters)?.as_slice() == clauses.as_bytes());
-    }
+    assert!(rt; first_other(rt.alloc(), CLAUSES)? == None);
     Ok(())
 }
 
@@ -192,7 +200,7 @@ fn counted(
 }
 
 #[test]
-fn clauses_come_behind_others(rt: HostRuntime) -> Result<(), Fail> {
+fn clauses_come_after_others(rt: HostRuntime) -> Result<(), Fail> {
     let alloc = rt.alloc();
     let mut table = table_of(alloc)?;
     let mut log = new_log(alloc, &table);
