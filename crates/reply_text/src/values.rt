@@ -1,6 +1,6 @@
 //! Names and values.
 
-ghost use Rattle.std.specs.Prelude.{◌≡◌, ◌++◌};
+ghost use Rattle.std.specs.Prelude.{◌≡◌};
 ghost use Rattle.world_io.specs.Writing.{Sends};
 ghost use Rattle.spec_replies.specs.Values.{name_text, value_text};
 ghost use Rattle.term_core.specs.Valuations.{value_meant};
