@@ -65,7 +65,7 @@ stops_listed : (end : ℕ) (rest : List (ℕ × Lexeme)) (stop : Option Located)
 stops_listed end rest None x = let one_is = x.0 in absurd (omega (arith, one_is))
 stops_listed end rest (Some f) b = inr (f, b, refl)
 
--- what ends commands that stand in no list is as much behind a list
+-- what ends commands that stand in no list is as much after a list
 sequence_behind : (end : ℕ) (rest : List (ℕ × Lexeme)) (e : Ending) → EndsRow end rest e → EndsBehind end rest e
 sequence_behind end rest complete h = h
 sequence_behind end rest (broken f) h = h
@@ -111,7 +111,7 @@ list_goes_on text from s after at r e = (left_over at, left_behind (kept text) f
 pub list_finishes : (text : List ℕ) (xs : List (ℕ × Lexeme)) → xs ≡ [] → is_long text ≡ false → Leaves text xs (Ok None)
 list_finishes text xs nothing short = (complete, nothing, is_complete text short)
 
--- behind lexemes that are no white space stand others that are none
+-- after lexemes that are no white space stand others that are none
 not_blank_behind : (x : ℕ × Lexeme) (xs : List (ℕ × Lexeme)) → HasNoBlank (x ∷ xs) → HasNoBlank xs
 not_blank_behind (at, blank) xs h = absurd h
 not_blank_behind (at, opens) xs h = h
@@ -123,7 +123,7 @@ none_blank_behind : (xs ys : List (ℕ × Lexeme)) → HasNoBlank (xs ++ ys) →
 none_blank_behind [] ys h = h
 none_blank_behind (x ∷ xs) ys h = none_blank_behind xs ys (not_blank_behind x (xs ++ ys) h)
 
--- what stops trees behind a list, the first of them left over
+-- what stops trees after a list, the first of them left over
 behind_ending : (end : ℕ) (xs : List (ℕ × Lexeme)) (ts : Trees) (rest : List (ℕ × Lexeme)) → AreTrees 0 xs ts rest → StopsAt end 0 rest → (e : Ending) × EndsBehind end xs e
 behind_ending end xs none rest a s = let e = sequence_ending end rest s in (e.0, subst (λ ys. EndsBehind end ys e.0) (sym a.split) (sequence_behind end rest e.0 e.1))
 behind_ending end xs (more t us) rest a s =

@@ -1,4 +1,4 @@
--- Rows of trees in front of lexemes, and what comes behind them.
+-- Rows of trees before lexemes, and what comes after them.
 use Rattle.std.proofs.Common.{◌≡◌, ◌≤◌, ◌-◌, ℕ, List, ◌++◌, length, refl, sym, ap, ◌∙◌, append_assoc, arith}
 use Rattle.spec_text.specs.declared.Place.{Place}
 use Rattle.spec_text.specs.Lexemes.{Lexeme, lexemes_from}

@@ -13,7 +13,7 @@ use Rattle.alethe_check.specs.declared.shapes.Parts as code_parts
 use Rattle.alethe_check.specs.declared.shapes.StepParts as code_steps
 use Rattle.alethe_check.specs.declared.shapes.DefineParts as code_definitions
 
--- the keywords so far
+-- the keywords up to here
 abbrev pub parts_view : code_parts.Parts → Parts
 parts_view p = record { rule = option_map word_view p.rule; premises = option_map trees_meant p.premises; args = p.args; discharge = p.discharge }
 

@@ -49,7 +49,7 @@ pub(crate) fn new_term_name<'a>(
     Ok(word.bytes)
 }
 
-/// Asks that the first tree is a sort: Bool alone so far.
+/// Asks that the first tree is a sort: Bool alone for now.
 pub(crate) fn sort(trees: Trees<'_>) -> Result<(), CommandError>
     ensures { Reads (λ u. Truth) result (in_proof (sort_in (tree_meant trees.entry))) }
 {

@@ -237,7 +237,7 @@ fn judge_listed(
     }
 }
 
-/// Gives the place after a word `unsat` in front, or the start.
+/// Gives the place after a first word `unsat`, or the start.
 fn after_unsat(text: &[u8]) -> Place
     ensures place { IsPlaceOf text.now result }
     ensures lexemes { lexemes_from text.now result.offset ≡ behind_unsat (lexemes 0 0 text.now) }

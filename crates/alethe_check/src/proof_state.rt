@@ -1,4 +1,4 @@
-//! What is known of a proof while it is judged: the script's terms, and the clauses of the commands so far.
+//! What is known of a proof while it is judged: the script's terms, and the clauses of the commands up to here.
 
 ghost use Rattle.std.specs.Prelude.{◌≡◌, ◌<◌, [], List, length, IfOk, IfErr, OnOk, MatchOption, MatchBool, Contains, None, Some, false};
 ghost use Rattle.spec_text.specs.Bytes.{among};
@@ -25,13 +25,13 @@ use term_core::{Clause, NameTable, TermId, TermTable};
 /// What is known. The clause of a name stands at the name's number.
 #[derive(Drop)]
 pub(crate) struct ProofState {
-    /// The terms so far.
+    /// The terms up to here.
     pub(crate) table: TermTable,
-    /// The names that are defined so far, with their terms.
+    /// The names that are defined up to here, with their terms.
     pub(crate) definitions: Definitions,
     /// The current assertions.
     pub(crate) asserted: Assertions,
-    /// The names of the assumes and steps so far.
+    /// The names of the assumes and steps up to here.
     pub(crate) names: NameTable,
     /// Their clauses.
     pub(crate) clauses: Vec<Clause>,

@@ -288,7 +288,7 @@ fn tree_first(trees: Trees<'_>) -> Option<(Trees<'_>, Trees<'_>)>
     split(trees)
 }
 
-/// Reads a definition, after its word. It has no parameters so far.
+/// Reads a definition, after its word. It has no parameters for now.
 #[tactic(auto, unfolding(spec_proofs::specs::Commands::define_shape))]
 fn define_shape(trees: Trees<'_>) -> Option<Shape<'_>>
     ensures gives { option_map shape_view result ≡ define_shape (trees_meant trees.entry) }

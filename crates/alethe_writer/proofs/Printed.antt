@@ -18,7 +18,7 @@ use Rattle.proof_log.specs.Logs.{Logged, assumed, stepped, named, no_logged, inf
 use Rattle.alethe_writer.specs.Marks.{IsMarked, Marks, Reaches, root, onward, IsArgument, AreOfClauses, Closes, plain_numbers}
 use Rattle.alethe_writer.proofs.Closing.{IsClosedFrom, closing_more, closing_end, marked_below}
 
--- the numbers so far, and one more
+-- the numbers up to here, and one more
 pub plain_more : (ids : List TermId) (k : ℕ) → k < length ids → plain_numbers (take (k + 1) ids) ≡ plain_numbers (take k ids) ++ (get_or ids k (record { 0 = 0 })).0 ∷ []
 plain_more ids k lt = ap plain_numbers (take_more ids k (record { 0 = 0 }) lt) ∙ map-append (λ (s : TermId). s.0) (take k ids) (get_or ids k (record { 0 = 0 }) ∷ [])
 

@@ -20,7 +20,7 @@ IsIt n k = n ≡ k
 abbrev pub IsPremise : Derivation → ℕ → ℕ → Type 0
 IsPremise d j k = Contains (premises_of (inference_at d j)) k
 
--- the numbers so far, and one more
+-- the numbers up to here, and one more
 pub numbers_more : (ids : List StepId) (k : ℕ) → k < length ids → numbers_of (take (k + 1) ids) ≡ numbers_of (take k ids) ++ (get_or ids k (record { 0 = 0 })).0 ∷ []
 numbers_more ids k lt = ap numbers_of (take_more ids k (record { 0 = 0 }) lt) ∙ map-append (λ (s : StepId). s.0) (take k ids) (get_or ids k (record { 0 = 0 }) ∷ [])
 

@@ -83,7 +83,7 @@ pub fn new_name<'a>(table: &TermTable, word: Word<'a>) -> Result<&'a [u8], ReadE
     Ok(word.bytes)
 }
 
-/// Asks that a name is that of a sort: Bool alone so far.
+/// Asks that a name is that of a sort: Bool alone for now.
 fn sort_named(at: u64, name: &[u8]) -> Result<(), ReadError>
     ensures { Gives (λ u. Truth) result (sort_named at name.now) }
 {

@@ -32,7 +32,7 @@ alone_more t roots k d lt =
     sym (map-append one (clause_at t (take k roots)) (term_at t (get_or roots k d) ∷ []))
     ∙ ap alone (sym (map-append (term_at t) (take k roots) (get_or roots k d ∷ [])) ∙ ap (clause_at t) (sym (take_more roots k d lt)))
 
--- the clauses of the marked terms so far
+-- the clauses of the marked terms up to here
 abbrev pub marked_clauses : List Bool → List Term → List Clause
 marked_clauses marks ts = flat_map clauses_of (marked marks ts)
 

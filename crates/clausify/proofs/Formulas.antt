@@ -40,7 +40,7 @@ single_rests (Each p) front ts h = refl
 single_rests (AnyOne p) front ts h = absurd h
 single_rests Innermost front ts h = absurd h
 
--- a head is told to be itself
+-- a head is known to be itself
 same_itself : (t : Term) → same_head (head_of t) (head_of t) ≡ true
 unfolding same_term same_terms
 same_itself (app h ts) = (and_parts (same_head h h) (same_terms ts ts) ((terms_decide (app h ts) (app h ts)).1 refl)).0

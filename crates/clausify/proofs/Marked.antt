@@ -38,7 +38,7 @@ from_marked (true ∷ ms) (t ∷ ts) u h = elim (cases t (marked ms ts) u h) [
 ]
 from_marked (false ∷ ms) (t ∷ ts) u h = let r = from_marked ms ts u h in (suc r.0, r.1, r.2)
 
--- terms behind the first of different ones
+-- terms after the first of different ones
 apart_behind : (t : Term) (ts : List Term) → AreDifferent (t ∷ ts) → AreDifferent ts
 apart_behind t ts apart i j lt_i lt_j e = let same : suc i ≡ suc j = apart (suc i) (suc j) (omega (arith, lt_i)) (omega (arith, lt_j)) e in omega (arith, same)
 

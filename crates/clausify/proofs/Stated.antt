@@ -10,7 +10,7 @@ use Rattle.spec_proofs.specs.Rules.{IsRight}
 use Rattle.spec_proofs.specs.Schemes.{signed}
 use Rattle.clausify.specs.Stating.{before}
 
--- a clause more behind those of the arguments so far
+-- a clause more after those of the arguments up to here
 pub clauses_more : {X : Type 0} (front : Term) (f : X → Clause) (xs : List X) (k : ℕ) (d : X) → k < length xs → before front (map f (take k xs)) ++ (front ∷ f (get_or xs k d)) ∷ [] ≡ before front (map f (take (k + 1) xs))
 clauses_more front f xs k d lt =
     let put : Clause → Clause = λ ls. front ∷ ls in

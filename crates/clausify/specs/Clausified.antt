@@ -40,7 +40,7 @@ pub record Grows (roots : List TermId) (t u : TableView) (old new : List Logged)
   pub symbols : u.symbols ≡ t.symbols
   -- the clauses that came
   pub more : List Logged
-  -- they stand behind those that were there
+  -- they come after those that were there
   pub log : new ≡ old ++ more
   -- the log is right over the table as it is now
   pub right : IsLogOf u new
@@ -51,5 +51,5 @@ pub record Grows (roots : List TermId) (t u : TableView) (old new : List Logged)
 pub record AreAllMade (old new : List Logged) (steps : List StepId) : Type 0 where
   -- what came is as much as the numbers
   pub count : length new ≡ length old + length steps
-  -- the numbers follow one another, behind those that were there
+  -- the numbers follow one another, after those that were there
   pub order : map (λ s. s.0) steps ≡ range_with_len (length old) (length steps)

@@ -30,11 +30,11 @@ pub record Says (t : TableView) (log : List Logged) (steps : List StepId) (claus
   -- the clauses
   pub same : map (stated t log) steps ≡ clauses
 
--- Behind the numbers that were there stand those of all that came into the log, in order and each once.
+-- After the numbers that were there stand those of all that came into the log, in order and each once.
 pub record Makes (old new : List Logged) (before after : List StepId) : Type 0 where
   -- the numbers that came
   pub more : List StepId
-  -- they stand behind those that were there
+  -- they come after those that were there
   pub steps : after ≡ before ++ more
   -- nothing else came into the log
   pub all : AreAllMade old new more
@@ -90,7 +90,7 @@ HasPlaces n (One x) = x.place < n
 HasPlaces n (Two x y) = (x.place < n) × (y.place < n)
 HasPlaces n r = Unit {0}
 
--- what stands behind a term in the one clause of a scheme
+-- what comes after a term in the one clause of a scheme
 abbrev pub single : Rest → List Term → Clause
 single Nothing ts = []
 single (One x) ts = side_of ts x ∷ []
@@ -113,7 +113,7 @@ least_of heads.Equal = 2
 least_of heads.Ite = 3
 least_of h = 0
 
--- a term in front of each of these
+-- a term before each of these
 abbrev pub before : Term → List Clause → List Clause
 before t rests = map (λ ls. t ∷ ls) rests
 

@@ -39,7 +39,7 @@ fn bound_of(table: &TermTable, ids: &[TermId]) -> u64
     bound
 }
 
-/// Gives the bound, or the next number behind this one where that is greater.
+/// Gives the bound, or the next number after this one where that is greater.
 fn above(table: &TermTable, bound: u64, id: TermId) -> u64
     requires there { IsIn table.now id }
     requires within { bound ≤ length table.now.terms }

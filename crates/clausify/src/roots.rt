@@ -109,7 +109,7 @@ fn stated_of(
     Ok(StepIds::from(steps))
 }
 
-/// Assumes terms, and puts the numbers of their clauses behind the others.
+/// Assumes terms, and puts the numbers of their clauses after the others.
 fn assume_each(
     table: &TermTable,
     log: &mut ProofLog,
@@ -128,7 +128,7 @@ fn assume_each(
     Ok(())
 }
 
-/// States the clauses of the marked terms, and puts their numbers behind the others.
+/// States the clauses of the marked terms, and puts their numbers after the others.
 fn state_marked(
     alloc: Global,
     table: &mut TermTable,

@@ -5,7 +5,7 @@ ghost use Rattle.spec_terms.specs.Terms.{negated};
 ghost use Rattle.spec_terms.specs.Theory.{no_term};
 ghost use Rattle.spec_terms.specs.Subsets.{arguments_of};
 ghost use Rattle.spec_proofs.specs.Schemes.{signed, side_of, innermost};
-ghost use Rattle.term_core.specs.Tables.{term_at, clause_at, IsIn, AreIn};
+ghost use Rattle.term_core.specs.Tables.{term_at, IsIn};
 ghost use Rattle.clausify.specs.Stating.{Names, NamesAll, Widens, HasPlaces, IsSingle, single};
 
 use spec_proofs::{Rest, Side};
@@ -70,7 +70,7 @@ pub(crate) fn argument_count(table: &TermTable, id: TermId) -> usize
     table.node(id).arguments.len()
 }
 
-/// Makes the clause of a term and, behind it, what a scheme with one clause says by the arguments of a term.
+/// Makes the clause of a term and, after it, what a scheme with one clause says by the arguments of a term.
 pub(crate) fn with_rest(
     alloc: Global,
     table: &mut TermTable,
@@ -95,7 +95,7 @@ pub(crate) fn with_rest(
     }
 }
 
-/// Makes the clause of a term and, behind it, arguments of a term by their places, as they stand or negated.
+/// Makes the clause of a term and, after it, arguments of a term by their places, as they stand or negated.
 fn with_sides(
     alloc: Global,
     table: &mut TermTable,
@@ -117,7 +117,7 @@ fn with_sides(
     Ok(clause)
 }
 
-/// Makes the clause of a term and, behind it, all arguments of a term, as they stand or negated.
+/// Makes the clause of a term and, after it, all arguments of a term, as they stand or negated.
 fn with_each(
     alloc: Global,
     table: &mut TermTable,

@@ -69,7 +69,7 @@ fn state_scheme(
     state_rests(alloc, table, log, steps, id, front, rule, scheme.rest)
 }
 
-/// States the clauses that have a term in front and behind it what a scheme says by the arguments of a term.
+/// States the clauses that have a first term and after it what a scheme says by the arguments of a term.
 fn state_rests(
     alloc: Global,
     table: &mut TermTable,
@@ -97,7 +97,7 @@ fn state_rests(
     }
 }
 
-/// States the one clause that has a term in front and behind it what a scheme says by the arguments of a term.
+/// States the one clause that has a first term and after it what a scheme says by the arguments of a term.
 fn state_single(
     alloc: Global,
     table: &mut TermTable,
@@ -149,7 +149,7 @@ fn state_innermost(
     state(alloc, table, log, steps, rule, clause)
 }
 
-/// States the clauses that have a term in front and behind it one of the arguments of a term, or its negation.
+/// States the clauses that have a first term and after it one of the arguments of a term, or its negation.
 ///
 /// The rule looks for the argument among all of them, without memory: n arguments cost in the order of n^2 comparisons of
 /// numbers, all together.

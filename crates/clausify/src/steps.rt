@@ -12,7 +12,7 @@ use std::alloc::Global;
 use term_core::{TermId, TermTable};
 use world_io::NoMemory;
 
-/// Logs a step that is right without premises, and puts its number behind the others.
+/// Logs a step that is right without premises, and puts its number after the others.
 pub(crate) fn state(
     alloc: Global,
     table: &TermTable,

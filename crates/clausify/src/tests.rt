@@ -229,7 +229,7 @@ fn one_term_has_the_clauses_of_a_list_of_it(rt: HostRuntime) -> Result<(), Fail>
     Ok(())
 }
 
-/// Puts `(and t a)` of the term `t` so far, as often as said; `None` where the table does not take it.
+/// Puts `(and t a)` of the term `t` up to here, as often as said; `None` where the table does not take it.
 fn nested(alloc: Global, table: &mut TermTable, depth: u64) -> Result<Option<TermId>, NoMemory> {
     let mut term = TermId(1);
     for _ in 0..depth {

@@ -51,7 +51,7 @@ fn write_model<K: Sink>(interp: &Interp, symbols: &Symbols, out: &mut K) -> Resu
 /// Writes an interpretation: a line of one parenthesis, a line `  (define-fun NAME () SORT VALUE)` for each symbol in the order
 /// in which they were declared, and a line of one parenthesis.
 ///
-/// The symbols are constants of sort Bool so far, and the value of each is its table's default, whatever rows the table has.
+/// The symbols are constants of sort Bool for now, and the value of each is its table's default, whatever rows the table has.
 /// It takes no memory, and time linear in what is written. `Failed` comes only where the sink's count of faults rose in this
 /// call; a prefix was then appended.
 /// Source: SMT-LIB 2.6, sections 4.1.8 and 4.2.6.

@@ -1,4 +1,4 @@
--- Derivations: their fronts, and one clause more.
+-- Derivations: their prefixes, and one clause more.
 use Rattle.std.proofs.Common.{◌≡◌, inl, inr, ℕ, suc, ◌<◌, [], ◌∷◌, ◌++◌, length, take, drop, sym, ap, ◌∙◌, subst, arith, length-append, append_assoc}
 use Rattle.std.proofs.lemmas.List.{take-append-drop, take-append-le, get_or_append_left}
 use Rattle.std.proofs.lemmas.Bool.{cases_lt}

@@ -1,4 +1,4 @@
--- That the premises stand before each clause, of fronts and with one clause more.
+-- That the premises stand before each clause, of prefixes and with one clause more.
 use Rattle.std.proofs.Common.{inl, inr, ℕ, ◌<◌, List, [], ◌∷◌, ◌++◌, length, take, get_or, All, sym, subst, arith, length-append, length-take}
 use Rattle.std.proofs.lemmas.List.{get_or_append_left, get_or-take}
 use Rattle.std.proofs.lemmas.Bool.{cases_lt}

@@ -1,4 +1,4 @@
--- What a log says over a table: its clauses by their numbers, its fronts, and one clause more.
+-- What a log says over a table: its clauses by their numbers, its prefixes, and one clause more.
 use Rattle.std.proofs.Common.{◌≡◌, ℕ, suc, ◌<◌, List, [], ◌∷◌, ◌++◌, length, map, take, drop, get_or, All, refl, sym, ap, ◌∙◌, subst, arith}
 use Rattle.std.proofs.lemmas.List.{take-append-drop, map-append, length-map, get_or-map}
 use Rattle.std.proofs.lemmas.List.Elements.{All-take, All-push, All-map}

@@ -35,19 +35,19 @@ pub record IsAdded (t : TableView) (old : List Logged) (l : Logged) (id : StepId
   -- with it, the log is right over the table
   pub right : IsLogOf t new
 
--- what comes of adding a clause: it is right and stands last, or it isn't and nothing is changed, or nothing is changed for want of memory
+-- what comes of adding a clause: it is right and stands last, or it isn't and nothing is changed, or nothing is changed for out of memory
 abbrev pub Adds : TableView → List Logged → Logged → Result StepId LogFault → List Logged → Type 0
 Adds t old l (Ok id) new = IsAdded t old l id new
 Adds t old l (Err RuleFails) new = (FollowsFrom (derivation_in t old) (inference_of t l) → ⊥) × (new ≡ old)
 Adds t old l (Err Memory) new = new ≡ old
 
--- a clause follows from those before it, or it doesn't; want of memory tells nothing
+-- a clause follows from those before it, or it doesn't; out of memory tells nothing
 abbrev pub Judges : TableView → List Logged → Logged → Result (Unit {0}) LogFault → Type 0
 Judges t log l (Ok _) = FollowsFrom (derivation_in t log) (inference_of t l)
 Judges t log l (Err RuleFails) = FollowsFrom (derivation_in t log) (inference_of t l) → ⊥
 Judges t log l (Err Memory) = Unit {0}
 
--- the clauses of numbers, where these are of the log's; that they aren't; or want of memory, which tells nothing
+-- the clauses of numbers, where these are of the log's; that they aren't; or out of memory, which tells nothing
 abbrev pub Collects : List Logged → List StepId → Result (Vec (List TermId) Global) LogFault → Type 0
 Collects log ss (Ok cs) = AreOf log ss × (cs.items ≡ clauses_in log ss)
 Collects log ss (Err RuleFails) = AreOf log ss → ⊥

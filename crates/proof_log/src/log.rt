@@ -113,7 +113,7 @@ impl ProofLog {
         Ok(id)
     }
 
-    /// Judges whether a step follows from the clauses so far.
+    /// Judges whether a step follows from the clauses up to here.
     fn follows(&self, table: &TermTable, step: &Step) -> Result<(), LogFault>
         requires log { IsLogOf table.now self.now }
         requires clause { AreIn table.now step.now.clause }

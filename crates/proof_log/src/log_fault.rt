@@ -9,7 +9,7 @@ use thiserror::Error;
 
 /// Says why a step is not logged.
 ///
-/// Source: Alethe specification, the list of rules; want of memory is own.
+/// Source: Alethe specification, the list of rules; out of memory is own.
 #[derive(Clone, Copy, Debug, PartialEq, Eq, Error)]
 pub enum LogFault {
     /// The clause does not follow by the rule from the premises, or one of these is not there.

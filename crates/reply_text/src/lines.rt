@@ -94,7 +94,7 @@ fn write_count<'a, K: Sink>(
     )
 }
 
-/// Gives the number that a reason says: of conflicts, as there is no other reason so far.
+/// Gives the number that a reason says: of conflicts, as there is no other reason for now.
 fn count_of(r: Reason) -> u64
     ensures { reason_meant r ≡ conflicts result }
 {

@@ -30,7 +30,7 @@ fn letters(truth: bool) -> &'static [u8]
     b"false"
 }
 
-/// Writes a value: `true` or `false`, as there are no others so far. The name of the value's sort is for values of a declared
+/// Writes a value: `true` or `false`, as there are no others for now. The name of the value's sort is for values of a declared
 /// sort, which print it.
 ///
 /// It takes no memory. `Failed` comes only where the sink's count of faults rose in this call; a prefix was then appended.

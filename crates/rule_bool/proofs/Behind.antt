@@ -1,4 +1,4 @@
--- What may stand behind a term, by the numbers of its arguments.
+-- What may come after a term, by the numbers of its arguments.
 use Rattle.std.proofs.Common.{◌≡◌, ◌≢◌, ℕ, ◌+◌, ◌<◌, Bool, true, false, List, [], ◌∷◌, ◌++◌, map, length, get_or, take, Contains, sym, ap, ◌∙◌, subst}
 use Rattle.std.specs.Prelude.{MatchBool}
 use Rattle.std.proofs.lemmas.List.{map_more, map-append, get_or-map, length-map}

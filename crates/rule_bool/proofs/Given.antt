@@ -33,7 +33,7 @@ none_given s (t, i) = go (is_formula_of s.head t) i
     go false i = omega (arith, i.1)
 
 module _ (s : Scheme) (x : Term) (ls : Clause) where
-  -- the term in front of a clause that is given
+  -- the term before a clause that is given
   given_front : IsGiven s (x ∷ ls) → (t : Term) × (x ≡ signed s.positive t) × GivesRest s.head s.rest t ls
   given_front (t, i) = go (is_formula_of s.head t) refl i
     where
@@ -45,7 +45,7 @@ module _ (s : Scheme) (x : Term) (ls : Clause) where
           (t, cc (h.2), record { formula = e; by_arguments = subst (λ (c : Clause). Contains (rests_of s.rest (arguments_of t)) c) tail h.1 })
       go false e i = absurd (omega (arith, i.1))
 
-  -- a term in front, with what may stand behind it
+  -- a first term, with what may come after it
   given_by : (t : Term) → x ≡ signed s.positive t → GivesRest s.head s.rest t ls → IsGiven s (x ∷ ls)
   given_by t e h = (
     t,
@@ -54,7 +54,7 @@ module _ (s : Scheme) (x : Term) (ls : Clause) where
         (to_image (λ (ls : Clause). signed s.positive t ∷ ls) (rests_of s.rest (arguments_of t)) ls h.by_arguments)),
   )
 
--- what stands behind the first number is the table's too
+-- what comes after the first number is the table's too
 pub behind_in : (t : TableView) (clause : List TermId) (front : TermId) (behind : List TermId) → clause ≡ front ∷ behind → AreIn t clause → AreIn t behind
 behind_in t clause front behind is h k d lt = subst (λ (c : List TermId). AreIn t c) is h (suc k) d (omega (arith, lt))
 
@@ -113,7 +113,7 @@ module _ (t : TableView) (truths : (id : TermId) → IsIn t id → sort_of (term
         subst (λ (v : Term). is_formula_of (head_meant t.symbols head) v ≡ true) (sym (is ∙ ap (λ (h : NodeHead). of (head_meant t.symbols h) (clause_at t s.arguments)) same))
         (formula_of (head_meant t.symbols head) (clause_at t s.arguments) (same_self t.symbols head rest form) sorts all)
 
-    -- whether there may stand behind it what its arguments say
+    -- whether there may come after it what its arguments say
     pub gives_by : (behind : Clause) (yes : Bool) → MatchBool yes (Contains (rests_of rest (clause_at t s.arguments)) behind) (Contains (rests_of rest (clause_at t s.arguments)) behind → ⊥)
         → MatchBool yes (GivesRest (head_meant t.symbols head) rest u behind) (GivesRest (head_meant t.symbols head) rest u behind → ⊥)
     gives_by behind true h = record { formula = formula_is; by_arguments = subst (λ (xs : List Term). Contains (rests_of rest xs) behind) (sym arguments_are) h }
@@ -143,14 +143,14 @@ module _ (t : TableView) (head : NodeHead) (positive : Bool) (rest : Rest) where
       front_given r = subst (λ (c : List TermId). IsGiven (scheme_meant t.symbols head positive rest) (clause_at t c)) is
           (stated_given (scheme_meant t.symbols head positive rest) (map (clause_at t) premises) (clause_at t clause) r)
 
-      -- the term in front is without that sign
+      -- the first term is without that sign
       pub not_stated_front : HasNoSign positive (term_at t front) → IsStated (scheme_meant t.symbols head positive rest) (map (clause_at t) premises) (clause_at t clause) → ⊥
       not_stated_front none r =
           let h = given_front (scheme_meant t.symbols head positive rest) (term_at t front) (clause_at t behind) (front_given r) in
           none h.0 h.1
 
       module _ (id : TermId) (has : IsSigned t positive (term_at t front) id) where
-        -- what stands behind it is as the term says
+        -- what comes after it is as the term says
         pub stated_there : length premises ≡ 0 → GivesRest (head_meant t.symbols head) rest (term_at t id) (clause_at t behind)
             → IsStated (scheme_meant t.symbols head positive rest) (map (clause_at t) premises) (clause_at t clause)
         stated_there none h = subst (λ (ps : List (List TermId)). IsStated (scheme_meant t.symbols head positive rest) (map (clause_at t) ps) (clause_at t clause)) (sym (nil_from_length premises none))

@@ -12,7 +12,7 @@ use Rattle.term_core.specs.declared.ids.TermId.{TermId}
 use Rattle.term_core.specs.Tables.{TableView, term_at, IsIn, AreIn, AreDifferent, clause_at}
 use Rattle.rule_bool.specs.Premises.{IsDisjunctionAlone}
 
--- a term that is at none of the places so far, nor at the next
+-- a term that is at none of the places up to here, nor at the next
 pub not_yet : (ids : List TermId) (k : ℕ) (d id : TermId) → k < length ids → (get_or ids k d ≡ id → ⊥) → (Contains (take k ids) id → ⊥) → Contains (take (k + 1) ids) id → ⊥
 not_yet ids k d id lt other free i =
     elim (Contains-push_cases (take k ids) (get_or ids k d) id (subst (λ (xs : List TermId). Contains xs id) (take_more ids k d lt) i)) [

@@ -41,7 +41,7 @@ to_settled premises seen more old mid new c false m e s each = (e ∙ m.0, λ d 
 abbrev to_items : Vec Lit Global → List Lit
 to_items w = w.items
 
--- the clause before those behind
+-- the clause before those after
 module _ (vs : List (Vec Lit Global)) (n : ℕ) (v : Vec Lit Global) (some : 0 < n) (within : n ≤ length vs) (e : v ≡ get_or vs (n - 1) v) where
   last : get_or (lists vs) (n - 1) v.items ≡ v.items
   last = get_or-map to_items vs (n - 1) v v.items (omega (arith, some, within)) ∙ ap to_items (sym e)

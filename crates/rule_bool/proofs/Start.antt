@@ -36,7 +36,7 @@ same_more held new made l (inr a) same m = (
 )
 
 module _ (clause : List Lit) (i : ℕ) (l : Lit) (lt : i < length clause) (e : l ≡ get_or clause i l) where
-  -- the literals so far and one more
+  -- the literals up to here and one more
   pub taken_more : take (i + 1) clause ≡ take i clause ++ l ∷ []
   taken_more = take_more clause i l lt ∙ ap (λ (x : Lit). take i clause ++ x ∷ []) (sym e)
 

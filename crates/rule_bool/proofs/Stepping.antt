@@ -66,7 +66,7 @@ begun_all vs i e first held left h =
       tracked = subst (λ x. AreTracked x [] [] (lists vs) held left) n h.tracked;
     }
 
--- those of the numbers so far have lost a literal
+-- those of the numbers up to here have lost a literal
 pub record IsLosing (premises : List (List Lit)) (losing : List ℕ) (first held : List Lit) (before left : List ℕ) (rest : List ℕ) : Type 0 where
   pub advances : Advances premises first held
   pub tracked : (seen : List Lit) → IsWithin seen first → AreTracked (length premises) seen losing premises first before → AreTracked (length premises) seen rest premises held left

@@ -24,7 +24,7 @@ pub record MeansEach (table : TableView) (literals : List (List Lit)) (clauses :
   -- their terms are of the table
   pub there : All (AreOf table) literals
 
--- a step fails where it isn't right; want of memory tells nothing
+-- a step fails where it isn't right; out of memory tells nothing
 abbrev pub Stops : RuleStop → Type 0 → Type 0
 Stops Fails IsRight = IsRight → ⊥
 Stops Memory IsRight = Unit {0}

@@ -65,7 +65,7 @@ abbrev pub IsTurning : NodeHead → Rest → Type 0
 IsTurning heads.Not r = ⊥
 IsTurning h r = IsStating h r
 
--- The term has the head, and these literals may stand behind it.
+-- The term has the head, and these literals may come after it.
 pub record GivesRest (head : Head) (rest : Rest) (t : Term) (behind : Clause) : Type 0 where
   -- the head is the term's, over arguments of sort Bool
   pub formula : is_formula_of head t ≡ true

@@ -4,7 +4,7 @@
 //! in the table, and terms are compared as they are read. `RuleFails` comes exactly where the step is not right. But for resolution
 //! no rule takes memory, and where a rule's comment says nothing of time, it takes the same time for all terms.
 //!
-//! Which clauses a rule states of a term says one table, `scheme_of`; by the same schemes go the rules that turn the term in front
+//! Which clauses a rule states of a term says one table, `scheme_of`; by the same schemes go the rules that turn the first term
 //! into a premise. `resolution` makes literals of the terms, over which `resolves` propagates units in time in proportion to them; a
 //! plain slow body beside it is what tests compare it with.
 #![tactic(auto)]

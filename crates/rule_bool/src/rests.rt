@@ -1,4 +1,4 @@
-//! The literals that may stand behind a term, by its arguments.
+//! The literals that may come after a term, by its arguments.
 
 ghost use Rattle.std.specs.Prelude.{◌≡◌, ◌<◌, length};
 ghost use Rattle.spec_proofs.specs.Schemes.{side_of};
@@ -117,7 +117,7 @@ fn is_any(table: &TermTable, arguments: &[TermId], positive: bool, ids: &[TermId
     }
 }
 
-/// Tells whether terms may stand behind a term of these arguments.
+/// Tells whether terms may come after a term of these arguments.
 pub(crate) fn has_rest(table: &TermTable, rest: Rest, arguments: &[TermId], ids: &[TermId]) -> bool
     requires arguments { AreIn table.now arguments.now }
     requires ids { AreIn table.now ids.now }

@@ -8,7 +8,7 @@ use thiserror::Error;
 
 /// Says why a step of a proof is not taken.
 ///
-/// Source: Alethe specification, the list of rules; want of memory is own.
+/// Source: Alethe specification, the list of rules; out of memory is own.
 #[derive(Clone, Copy, Debug, PartialEq, Eq, Error)]
 pub enum RuleStop {
     /// The clause does not follow by the rule from the premises.

@@ -11,9 +11,9 @@ use term_core::Head;
 /// Source: Alethe specification, rules.
 #[derive(Clone, Copy, Debug, PartialEq, Eq)]
 pub struct Scheme {
-    /// The head of the term in front.
+    /// The head of the first term.
     pub head: Head,
-    /// Whether the term in front is meant as it stands, and not negated.
+    /// Whether the first term is meant as it stands, and not negated.
     pub positive: bool,
     /// The literals after it, by its arguments.
     pub rest: Rest,
@@ -240,7 +240,7 @@ pub fn scheme_of(rule: Rule) -> Option<Scheme>
     }
 }
 
-/// Gives the scheme of which a rule turns the term in front into its premise; nothing where the rule turns none.
+/// Gives the scheme of which a rule turns the first term into its premise; nothing where the rule turns none.
 pub(crate) fn turned_scheme_of(rule: Rule) -> Option<Scheme>
     ensures { MatchOption result (TurnsNothing rule) (Turns rule) }
 {

@@ -1,4 +1,4 @@
-//! Steps by which a clause is stated, and those that turn the term in front into a premise.
+//! Steps by which a clause is stated, and those that turn the first term into a premise.
 
 ghost use Rattle.std.specs.Prelude.{◌≡◌, ◌≢◌, [], ◌∷◌, map, All, MatchBool, MatchOption};
 ghost use Rattle.spec_proofs.specs.Rules.{IsStated, IsTurned};
@@ -20,7 +20,7 @@ fn same_head(a: Head, b: Head) -> bool
     a == b
 }
 
-/// Tells whether a term has a head, and terms may stand behind it.
+/// Tells whether a term has a head, and terms may come after it.
 fn gives_rest(table: &TermTable, head: Head, rest: Rest, id: TermId, behind: &[TermId]) -> bool
     requires form { IsStating head rest }
     requires id { IsIn table.now id }
@@ -72,7 +72,7 @@ fn term_alone(premises: &[Clause]) -> Option<TermId>
     alone(premise.as_slice())
 }
 
-/// Judges a step by one premise of one term, whose complement in front of the clause gives what a term of the head gives.
+/// Judges a step by one premise of one term, whose complement before the clause gives what a term of the head gives.
 pub(crate) fn turned(
     table: &TermTable,
     scheme: Scheme,

@@ -1,4 +1,4 @@
-//! Steps by the rules whose premise is the term in front.
+//! Steps by the rules whose premise is the first term.
 
 /// Rows as those of `rule_tests.rt`.
 pub(crate) const TURNED: &str = "and &; a yes

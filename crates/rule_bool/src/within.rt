@@ -41,7 +41,7 @@ pub(crate) fn has_number(ids: &[TermId], id: TermId) -> bool
     place_in(ids, id).is_some()
 }
 
-/// Gives a place of a term, where the places from `from` on are looked at before those in front of it, or nothing where it has none.
+/// Gives a place of a term, where the places from `from` on are looked at before those before it, or nothing where it has none.
 fn place_around(ids: &[TermId], id: TermId, from: usize) -> Option<usize>
     requires { from ≤ length ids.now }
     ensures { MatchOption result (Contains ids.now id → ⊥) (λ place. (place < length ids.now) × Contains ids.now id) }
@@ -55,7 +55,7 @@ fn place_around(ids: &[TermId], id: TermId, from: usize) -> Option<usize>
 
 /// Tells whether the clause has each term of the list.
 ///
-/// The look for a term begins at the place of the term before it, and goes on from the front at the clause's end. So it takes time
+/// The look for a term begins at the place of the term before it, and goes on from the prefix at the clause's end. So it takes time
 /// in proportion to both lengths where the terms stand in the clause's order, with gaps or repeats; far out of that order the
 /// lengths are multiplied, since a set of the clause's terms would take memory, which the rules on single premises do without.
 pub(crate) fn has_each(clause: &[TermId], ids: &[TermId]) -> bool

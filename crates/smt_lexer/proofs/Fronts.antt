@@ -78,7 +78,7 @@ piece_by_head b bs = go (is_blank b) (b == 59) (b == 40) (b == 41) (b == 48) (is
 pub piece_at_head : (head h : Head) (b : ℕ) (bs : List ℕ) → head ≡ head_at b → head ≡ h → lexicon.first_piece b bs ≡ piece_by h b bs
 piece_at_head head h b bs at is = piece_by_head b bs ∙ ap (λ k. piece_by k b bs) (sym at ∙ is)
 
--- the first byte and a run behind it
+-- the first byte and a run after it
 pub first_byte : (bytes : List ℕ) → 0 < length bytes → take 1 bytes ≡ get_or bytes 0 0 ∷ []
 first_byte [] some = absurd (omega arith)
 first_byte (b ∷ bs) some = refl

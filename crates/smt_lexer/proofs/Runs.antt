@@ -4,7 +4,7 @@ use Rattle.std.specs.Prelude.{◌&&◌, not}
 use Rattle.spec_text.specs.Bytes.{Name, is_digit, is_symbol_byte, front, among, reserved_words}
 use Rattle.spec_text.specs.Printed.{all_pass, is_bare}
 
--- as many bytes as the front has are the front
+-- as many bytes as the prefix has are the prefix
 pub front_is_taken : (test : ℕ → Bool) (bs : List ℕ) → take (length (front test bs)) bs ≡ front test bs
 front_is_taken test [] = refl
 front_is_taken test (b ∷ bs) = go (test b) (front_is_taken test bs)
@@ -13,7 +13,7 @@ front_is_taken test (b ∷ bs) = go (test b) (front_is_taken test bs)
     go true h = ap (λ (xs : List ℕ). b ∷ xs) h
     go false h = refl
 
--- where the front is the whole, all bytes pass
+-- where the prefix is the whole, all bytes pass
 front_whole : (test : ℕ → Bool) (bs : List ℕ) → length bs ≤ length (front test bs) → all_pass test bs ≡ true
 front_whole test [] h = refl
 front_whole test (b ∷ bs) h = go (test b) h (front_whole test bs)

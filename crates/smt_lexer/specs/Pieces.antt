@@ -1,4 +1,4 @@
--- What stands at the front of bytes, as the code has it.
+-- What stands at the start of bytes, as the code has it.
 use Rattle.std.specs.Prelude.{◌≡◌, ◌<◌, ◌≤◌, ℕ, List, length, take, Option, Some, None, ◌==◌, if◌then◌else◌}
 use Rattle.spec_text.specs.Bytes.{is_blank, is_digit, is_symbol_byte}
 use Rattle.spec_text.specs.Lexemes.{Lexeme, blank, opens, closes, word, wrong, Piece, piece, string_body}

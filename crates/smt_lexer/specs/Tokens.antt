@@ -8,21 +8,21 @@ use Rattle.smt_lexer.specs.declared.TokenKind.TheVariants.{Open, Close, Word, En
 use Rattle.smt_lexer.specs.declared.Token.{Token}
 use Rattle.smt_lexer.specs.declared.Refusal.{Refusal}
 
--- what the byte at an offset and the bytes behind it begin with, and how many of them it has
+-- what the byte at an offset and the bytes after it begin with, and how many of them it has
 abbrev pub piece_from : List ℕ → ℕ → Piece
 piece_from text at = first_piece (slice_index text at) (drop (at + 1) text)
 
 -- The first lexeme from an offset on stands at a place, up to another place, and the others stand from there on. Before it stands nothing but white space and comments, for `lexemes_from` passes over nothing else.
 pub record Stands (text : List ℕ) (from : ℕ) (place after : Place) (x : Lexeme) : Type 0 where
-  -- it is the first, and the others are those behind it
+  -- it is the first, and the others are those after it
   pub first : lexemes_from text from ≡ (place.offset, x) ∷ lexemes_from text after.offset
-  -- it stands at the offset or behind it
+  -- it stands at the offset or after it
   pub behind : from ≤ place.offset
   -- it has one byte at least
   pub longer : place.offset < after.offset
   -- it is what the bytes at the place begin with
   pub own : (piece_from text place.offset).lexeme ≡ x
-  -- it ends right behind its own bytes: what white space follows stands behind that
+  -- it ends right after its own bytes: what white space follows comes after that
   pub ends : after.offset ≡ place.offset + (piece_from text place.offset).size
 
 -- no lexeme stands from an offset on, and the place is the end of the text
@@ -38,7 +38,7 @@ IsToken text from place after Close = Stands text from place after closes
 IsToken text from place after (Word k bytes) = Stands text from place after (word k bytes.now)
 IsToken text from place after End = Ends text from place after
 
--- the next token from a place on with the place behind it, or the fault that stands there before any token
+-- the next token from a place on with the place after it, or the fault that stands there before any token
 abbrev pub IsNext : List ℕ → Place → Result (Token × Place) Refusal → Type 0
 IsNext text at (Ok r) = IsToken text at.offset r.0.place r.1 r.0.kind × IsPlaceOf text r.0.place × IsPlaceOf text r.1
 IsNext text at (Err r) = (lexemes_from text at.offset ≡ (r.place.offset, wrong r.fault) ∷ []) × IsPlaceOf text r.place

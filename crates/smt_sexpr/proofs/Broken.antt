@@ -12,12 +12,12 @@ use Rattle.spec_text.specs.Readings.{depth, depth_all, IsBroken}
 use Rattle.spec_text.proofs.Reading.{same_first, heads}
 use Rattle.smt_sexpr.specs.Open.{Context, top, inside, spelled_in, flat_in, open_in, IsUnfinished}
 
--- behind n open lists the lexemes begin with no tree that may stand there, and with no end of a list
+-- after n open lists the lexemes begin with no tree that may stand there, and with no end of a list
 record Stuck (n : ℕ) (xs : List (ℕ × Lexeme)) : Type 0 where
   no_end : (at : ℕ) (ys : List (ℕ × Lexeme)) → xs ≡ (at, closes) ∷ ys → n ≡ 0
   no_tree : (t : Tree) (ys : List (ℕ × Lexeme)) → xs ≡ spelled t ++ ys → nesting_limit < n + depth t
 
--- behind n open lists, the last of them among these, the lexemes do not go on to its end
+-- after n open lists, the last of them among these, the lexemes do not go on to its end
 abbrev Blocks : ℕ → List (ℕ × Lexeme) → Type 0
 Blocks n xs = (ts : Trees) (end : ℕ) (ys : List (ℕ × Lexeme)) → xs ≡ spelled_all ts ++ (end, closes) ∷ ys → nesting_limit < n + depth_all ts
 

@@ -1,4 +1,4 @@
--- What an item more does to what was read so far.
+-- What an item more does to what was read up to here.
 use Rattle.std.proofs.Common.{◌≡◌, ℕ, ◌-◌, List, [], ◌∷◌, ◌++◌, length, set, get_or, sym, ap, ◌∙◌, refl, append_assoc, length-append, append-nil, arith}
 use Rattle.std.proofs.lemmas.List.{set_at, get_or_at}
 use Rattle.spec_text.specs.declared.Kind.{Kind}

@@ -46,7 +46,7 @@ module _ (text : List ℕ) where
   pub lexemes_rise : (at : ℕ) → Rise at (length text) (lexemes_from text at)
   lexemes_rise at = rise_all 0 at (drop at text) refl
 
-  -- what stands behind others is the first from its own offset on
+  -- what comes after others is the first from its own offset on
   abbrev Resumes : List (ℕ × Lexeme) → Type 0
   Resumes xs = (front : List (ℕ × Lexeme)) (at : ℕ) (x : Lexeme) (rest : List (ℕ × Lexeme)) → xs ≡ front ++ (at, x) ∷ rest → IsToken x → lexemes_from text at ≡ (at, x) ∷ rest
 
@@ -83,7 +83,7 @@ module _ (text : List ℕ) where
   pub resumes : (from : ℕ) → Resumes (lexemes_from text from)
   resumes from = resumes_all 0 from (drop from text) refl
 
--- lexemes that rise from a bound on, or from behind it
+-- lexemes that rise from a bound on, or from after it
 abbrev RiseFrom : ℕ → ℕ → List (ℕ × Lexeme) → Type 0
 RiseFrom low high xs = (from : ℕ) × (low ≤ from) × Rise from high xs
 

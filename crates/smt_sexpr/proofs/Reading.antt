@@ -81,7 +81,7 @@ shallow_closed (inside outer at rows) end m h = shallow_push outer (list at rows
 abbrev fault_at_depth : List ℕ → ℕ → List (ℕ × Lexeme) → Option Located
 fault_at_depth text n xs = first_fault nesting_limit (length text) n xs
 
--- what is known of lexemes behind n open lists when they were read up to an offset, and more lists are open
+-- what is known of lexemes after n open lists when they were read up to an offset, and more lists are open
 pub record Reading (text : List ℕ) (n : ℕ) (xs : List (ℕ × Lexeme)) (items : List Item) (places : List ℕ) (at : ℕ) : Type 0 where
   pub context : Context
   pub unfinished : IsUnfinished context
@@ -112,7 +112,7 @@ module _ (text : List ℕ) (n : ℕ) (xs : List (ℕ × Lexeme)) (items : List I
       broken_in (length text) n r.context xs (lexemes_from text at) f r.unfinished r.read (rw (← count) r.faults) (rw (← count) b)
 
   module _ (place after : ℕ) where
-    -- the lexeme behind what was read
+    -- the lexeme after what was read
     moved : (x : Lexeme) → lexemes_from text at ≡ (place, x) ∷ lexemes_from text after → fault_at_depth text n xs ≡ fault_at_depth text (n + length places) ((place, x) ∷ lexemes_from text after)
     moved x e = r.faults ∙ ap (fault_at_depth text (n + length places)) e
 

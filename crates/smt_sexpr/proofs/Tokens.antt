@@ -14,7 +14,7 @@ use Rattle.smt_lexer.specs.Tokens as lexer
 use Rattle.smt_sexpr.specs.Printing.{gap, token_bytes, wants_space, last_of, HasNoToken, IsTreeFrom}
 use Rattle.smt_sexpr.proofs.Offsets.{IsToken, Rise, lexemes_rise}
 
--- what is written of lexemes, the first of them behind a space where one is wanted
+-- what is written of lexemes, the first of them after a space where one is wanted
 abbrev pub written : Bool → List (ℕ × Lexeme) → List ℕ
 written wanted [] = []
 written wanted ((at, opens) ∷ xs) = (gap wanted ++ 40 ∷ []) ++ written false xs

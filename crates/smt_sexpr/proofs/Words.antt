@@ -10,7 +10,7 @@ use Rattle.spec_text.specs.Lexemes.{Lexeme, blank, opens, closes, word, wrong, P
 use Rattle.spec_text.proofs.Offsets.{next_here}
 use Rattle.smt_sexpr.specs.Means.{marks, bytes_at}
 
--- a word's bytes stand behind its marks
+-- a word's bytes come after its marks
 abbrev IsSpeltBy : List ℕ → Lexeme → Type 0
 IsSpeltBy bs (word k w) = w ≡ take (length w) (drop (marks k) bs)
 IsSpeltBy bs _ = ⊤
@@ -30,7 +30,7 @@ front_split test (b ∷ bs) = go (test b) (front_split test bs)
     go true h = ap (λ xs. b ∷ xs) h
     go false h = refl
 
--- a front of two lists one after the other
+-- a prefix of two lists one after the other
 taken : (xs ys : List ℕ) → xs ≡ take (length xs) (xs ++ ys)
 taken xs ys = sym (take_at xs ys (length xs) refl)
 
@@ -143,7 +143,7 @@ module _ (text : List ℕ) where
   pub words_stand : (at : ℕ) → AreWordsOf text (lexemes 0 at (drop at text))
   words_stand at = words_from 0 at (drop at text) refl
 
--- a word in front has no more bytes than the text
+-- a first word has no more bytes than the text
 pub word_size : (text : List ℕ) (from at : ℕ) (k : Kind) (w : List ℕ) (rest : List (ℕ × Lexeme)) → lexemes 0 from (drop from text) ≡ (at, word k w) ∷ rest → length w ≤ length text
 word_size text from at k w rest e =
     let s = subst (AreWordsOf text) e (words_stand text from) in

@@ -1,4 +1,4 @@
--- What was read so far of an s-expression: the lists that are open, and what stands in each.
+-- What was read up to here of an s-expression: the lists that are open, and what stands in each.
 use Rattle.std.specs.Prelude.{◌≡◌, ℕ, List, [], ◌∷◌, ◌++◌, length, ⊤}
 use Rattle.spec_text.specs.Lexemes.{Lexeme, opens}
 use Rattle.spec_text.specs.Trees.{Tree, Trees, list, none, more, spelled_all}
@@ -26,12 +26,12 @@ abbrev pub closed : Context → ℕ → Context
 closed (top rows) end = top rows
 closed (inside outer at rows) end = push outer (list at rows end)
 
--- the lexemes so far; an open list's has no end yet
+-- the lexemes up to here; an open list's has no end yet
 abbrev pub spelled_in : Context → List (ℕ × Lexeme)
 spelled_in (top rows) = spelled_all rows
 spelled_in (inside outer at rows) = spelled_in outer ++ (at, opens) ∷ spelled_all rows
 
--- the items so far; an open list's has no end and no number yet
+-- the items up to here; an open list's has no end and no number yet
 abbrev pub flat_in : Context → List Item
 flat_in (top rows) = flat_all rows
 flat_in (inside outer at rows) = flat_in outer ++ items.List at 0 0 ∷ flat_all rows

@@ -16,7 +16,7 @@ pub enum Item {
     List(u32, u32, u32),
 }
 
-/// Trees of a text, one after the other: a cursor, which the functions of this crate take apart from its front.
+/// Trees of a text, one after the other: a cursor, which the functions of this crate take apart from its start.
 ///
 /// Contracts see it as the trees that it means (`trees_meant`), or as the first of them (`tree_meant`).
 #[derive(Clone, Copy, Debug)]

@@ -105,7 +105,7 @@ pub fn want_keyword(name: &[u8], word: Word<'_>) -> Option<()>
     None
 }
 
-/// Takes the atom in front, and gives the trees after it too: `None` where there is no tree, or a list in front.
+/// Takes the first atom, and gives the trees after it too: `None` where there is no tree, or a first list.
 pub fn word_first(trees: Trees<'_>) -> Option<(Word<'_>, Trees<'_>)>
     ensures gives { option_map word_rest result ≡ first_word (trees_meant trees.entry) }
     ensures less { IfSome result (λ x. size_of x.1 < size_of trees.entry) }
@@ -124,7 +124,7 @@ pub fn word_first(trees: Trees<'_>) -> Option<(Word<'_>, Trees<'_>)>
     }
 }
 
-/// Takes the list in front, and gives the trees in it and those after it: `None` where there is no tree, or an atom in
+/// Takes the first list, and gives the trees in it and those after it: `None` where there is no tree, or an atom in
 /// front.
 pub fn list_first(trees: Trees<'_>) -> Option<(Trees<'_>, Trees<'_>)>
     ensures gives { option_map list_rest result ≡ first_list (trees_meant trees.entry) }
@@ -160,7 +160,7 @@ pub fn want_end(trees: Trees<'_>) -> Option<()>
     }
 }
 
-/// Gives the offset of the list in front and the trees in it: `None` where there is no tree, or an atom in front.
+/// Gives the offset of the first list and the trees in it: `None` where there is no tree, or an atom in front.
 pub fn list_inside(trees: Trees<'_>) -> Option<(u64, Trees<'_>)>
     ensures gives { option_map inside_view result ≡ inside_of (tree_meant trees.entry) }
     ensures inside { IfSome result (λ x. size_of x.1 < size_of trees.entry) }
@@ -171,7 +171,7 @@ pub fn list_inside(trees: Trees<'_>) -> Option<(u64, Trees<'_>)>
     }
 }
 
-/// Gives the offset of the first byte of the tree in front; 0 where there is none.
+/// Gives the offset of the first byte of the first tree; 0 where there is none.
 pub fn offset(trees: Trees<'_>) -> u64
     ensures { result ≡ offset_of (tree_meant trees.entry) }
 {

@@ -19,7 +19,7 @@ use Rattle.solve_core.specs.declared.trail.Trail.{Trail}
 pub same_place : (xs : List Lit) (k : ℕ) (a b : Lit) → k < length xs → get_or xs k a ≡ a → get_or xs k b ≡ b → a ≡ b
 same_place xs k a b lt e f = sym e ∙ get_or_default xs k a b lt ∙ f
 
--- what stands before a place is in the front
+-- what stands before a place is in the prefix
 pub in_front : (xs : List Lit) (k p : ℕ) (l : Lit) → k < p → k < length xs → get_or xs k l ≡ l → Contains (take p xs) l
 in_front xs k p l lt within e = (k, go xs k p lt within, at xs k p lt within ∙ e)
   where
@@ -35,7 +35,7 @@ in_front xs k p l lt within e = (k, go xs k p lt within, at xs k p lt within ∙
     at (x ∷ xs) zero (suc p) lt w = refl
     at (x ∷ xs) (suc k) (suc p) lt w = at xs k p (omega (arith, lt)) (omega (arith, w))
 
--- what is in a front stands before its end
+-- what is in a prefix stands before its end
 pub from_front : (xs : List Lit) (p : ℕ) (l : Lit) → Contains (take p xs) l → (k : ℕ) × (k < p) × (k < length xs) × (get_or xs k l ≡ l)
 from_front xs p l (k, lt, e) = go xs k p lt e
   where
@@ -46,7 +46,7 @@ from_front xs p l (k, lt, e) = go xs k p lt e
     go (x ∷ xs) zero (suc p) w e = (0, omega arith, omega arith, e)
     go (x ∷ xs) (suc k) (suc p) w e = let h = go xs k p (omega (arith, w)) e in (suc h.0, omega (arith, h.1), omega (arith, h.2), h.3)
 
--- a front is in a longer one
+-- a prefix is in a longer one
 pub front_in : (xs : List Lit) (p q : ℕ) (l : Lit) → p ≤ q → Contains (take p xs) l → Contains (take q xs) l
 front_in xs p q l le i = let h = from_front xs p l i in in_front xs h.0 q l (omega (arith, h.1, le)) h.2 h.3
 
@@ -81,7 +81,7 @@ module _ (clauses : List (List Lit)) (held : List Lit) (reasons : List (Option �
   later_open at q m le lt e i = (t.was_open q m lt e).not_held (front_in held at q m le i)
 
   module _ (clash at : ℕ) (l : Lit) (lt : at < length held) (here : get_or held at l ≡ l) (marked : List Lit) (premises : List ℕ) (clause : List Lit) (cut : ℕ) (r : RestsAt clauses held reasons clash (at + 1) (followed_to marked premises clause cut)) where
-    -- a decision of the clause is behind this place
+    -- a decision of the clause is after this place
     behind : (m : Lit) → Contains clause m → Contains (take at held) (lit_complement m) → ⊥
     behind m i j =
         let d = r.decisions m i in

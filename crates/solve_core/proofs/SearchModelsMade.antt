@@ -37,7 +37,7 @@ affirms_by t l s (Some k) truths sign is fits e =
     let none : terms_of us ≡ nil = no_arguments f (terms_of us) bare (subst (λ ts. head_takes (Apply f) (map sort_of ts) ≡ true) (sym (list_of-terms_of us)) takes) in
     (k_in, sign, is ∙ (λ i. app (head_meant t.symbols (e i)) (none i)))
 
--- the symbol in front, if there is one
+-- the first symbol, if there is one
 abbrev symbol_in : Term → Symbol
 symbol_in (app (Apply s) ts) = s
 symbol_in (app h ts) = no_symbol

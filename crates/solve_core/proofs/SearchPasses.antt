@@ -70,7 +70,7 @@ SoFar clauses seen old new before after true = Advances clauses old new before a
 SoFar clauses seen old new before after false = (new ≡ old) × (after ≡ before) × IsQuiet seen old
 
 module _ (clauses seen : List (List Lit)) (old mid : List Lit) (before between : List (Option ℕ)) where
-  -- so far it only adds
+  -- up to here it only adds
   pub so_far_advances : (b : Bool) → SoFar clauses seen old mid before between b → Advances clauses old mid before between
   so_far_advances true m = m.0
   so_far_advances false m = subst (λ (h : List Lit). Advances clauses old h before between) (sym m.0) (subst (λ (rs : List (Option ℕ)). Advances clauses old old before rs) (sym m.1) (advances_none clauses old before))

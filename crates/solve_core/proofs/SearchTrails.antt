@@ -38,7 +38,7 @@ module _ {A : Type 0} (xs : List A) (x : A) where
       go (y ∷ ys) zero le = refl
       go (y ∷ ys) (suc k) le = ap (λ zs. y ∷ zs) (go ys k (omega (arith, le)))
 
--- the front of a list of its own length
+-- the prefix of a list of its own length
 pub take_whole : {A : Type 0} (xs : List A) → take (length xs) xs ≡ xs
 take_whole [] = refl
 take_whole (x ∷ xs) = ap (λ zs. x ∷ zs) (take_whole xs)

@@ -16,7 +16,7 @@ use Rattle.sort_check.proofs.Subterms.{AreSubterms, member_subterms}
 use Rattle.sort_check.proofs.Growing.{grows_same, grows_along, grows_by, all_mean_kept, builds_after}
 use Rattle.sort_check.proofs.Kept.{conjunction_keeps}
 
--- Numbers of the terms that were put, behind those that there were, and the terms that come.
+-- Numbers of the terms that were put, after those that there were, and the terms that come.
 pub record IsPut (old now : TableView) (before : List TermId) (all : List Term) (parts : List TermId) (rest : List Term) : Type 0 where
   -- what was put
   pub done : List Term

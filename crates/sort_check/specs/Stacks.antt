@@ -1,4 +1,4 @@
--- The values that were read so far, and the terms that they stand for.
+-- The values that were read up to here, and the terms that they stand for.
 use Rattle.std.specs.Prelude.{◌≡◌, ℕ, ◌<◌, ◌++◌, ◌∷◌, [], Bool, true, false, List, length, take, Option, Some, None, Result, Ok, Err}
 use Rattle.spec_terms.specs.Terms.{Term}
 use Rattle.term_core.specs.declared.ids.TermId.{TermId}

@@ -26,7 +26,7 @@ pub struct Frame<'a> {
 /// arguments.
 ///
 /// `BadShape` at the list comes where there is no argument, or no word in front that could be a head, and `Reserved` at
-/// the word in front where it is a reserved one. It takes no memory. Source: SMT-LIB 2.6, section 3.6.
+/// the first word where it is a reserved one. It takes no memory. Source: SMT-LIB 2.6, section 3.6.
 pub fn begin<'a>(
     at: u64,
     inside: Trees<'a>,

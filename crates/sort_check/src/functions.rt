@@ -107,7 +107,7 @@ pub fn function_named(
 
 /// Finds the function without arguments that an atom at an offset is.
 ///
-/// `UnknownSymbol` comes at a number too, since none is known so far, `BadShape` at a string or a keyword, and `Reserved`
+/// `UnknownSymbol` comes at a number too, since none is known up to here, `BadShape` at a string or a keyword, and `Reserved`
 /// at a reserved word. It takes no memory. Source: SMT-LIB 2.6, section 3.6.
 pub fn atom_function(
     table: &TermTable,

@@ -74,7 +74,7 @@ fn read_limited(
 /// which must be in the table. The table keeps what it had, and has the subterms of what was read.
 ///
 /// - `Fault` is the first fault, with its offset. It is looked for from left to right, and in a list in this order: its
-///   shape (`BadShape` at the list), a reserved word in front (`Reserved` at the word), the faults of its arguments, its
+///   shape (`BadShape` at the list), a first reserved word (`Reserved` at the word), the faults of its arguments, its
 ///   name (`UnknownSymbol` at the name), and how many arguments it has (`WrongCount` at the list). Of an atom, a number
 ///   is an `UnknownSymbol`, as a name that is not known is, a string or a keyword is a `BadShape`, a reserved word is
 ///   `Reserved`, and a function that takes arguments a `WrongCount`. A symbol and a defined name take none.

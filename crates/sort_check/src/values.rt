@@ -1,4 +1,4 @@
-//! The terms that were read so far.
+//! The terms that were read up to here.
 
 ghost use Rattle.std.specs.Prelude.{◌-◌, ◌≤◌, List, length, drop};
 ghost use Rattle.spec_terms.specs.Terms.{Term};

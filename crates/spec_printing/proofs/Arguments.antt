@@ -62,7 +62,7 @@ ground_closed symbols t h u k = go (Contains-append_cases (ground symbols) [] t 
     go (inl c) = absurd (no_member u (subst (λ us. Contains us u) (All-contains (λ x. arguments_of x ≡ []) (ground symbols) t (ground_bare symbols) c) k))
     go (inr c) = absurd (no_member t c)
 
--- a term behind others that hold its arguments
+-- a term after others that hold its arguments
 pub closed_more : (us : List Term) (t : Term) → IsClosed us → AreAmong (arguments_of t) us → IsClosed (us ++ t ∷ [])
 closed_more us t closed args u h v k = Contains-append_left us (t ∷ []) v (go (Contains-append_cases us (t ∷ []) u h))
   where

@@ -29,7 +29,7 @@ use Rattle.spec_printing.proofs.CommandShapes.{assume_read, bare_step_read, full
 use Rattle.spec_printing.proofs.Room.{IsWithin, fit_within, no_more}
 use Rattle.spec_printing.proofs.Standing.{Stands, assume_stands, step_stands, definition_stands, new_assume, new_step, new_definition, known_fits, next_fits, references_read, references_are_symbols}
 
--- what is known, by the names and the entries so far
+-- what is known, by the names and the entries up to here
 abbrev pub known : List Symbol → List Term → List (Name × Term) → List Entry → Known
 known symbols asserted names entries = record { scope = record { symbols = symbols; defined = names }; asserted = asserted; entries = entries }
 

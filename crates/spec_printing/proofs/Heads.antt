@@ -64,7 +64,7 @@ module _ (symbols : List Symbol) (declared : AreDeclared symbols) (told : Told) 
       let c = found_constant symbols declared s.name s known in
       absurd (omega (arith, none_taken (map sort_of (t ∷ ts)) (subst (λ ps. same_sorts ps (map sort_of (t ∷ ts)) ≡ true) c.1 takes), sorts_count (t ∷ ts)))
 
-  -- a symbol in front, with bars or without
+  -- a first symbol, with bars or without
   front_form : (at : ℕ) (n : Name) (b : Bool) → head_form at (cond b Simple Quoted) n ≡ applies at n
   front_form at n true = refl
   front_form at n false = refl

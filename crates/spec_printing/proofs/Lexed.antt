@@ -100,6 +100,6 @@ all_lexed lines h = lexed_at 0 (length (proof_text lines)) lines (behind_unsat (
     same_alone : (ls : List Line) → behind_unsat (lexemes 0 0 (proof_text ls)) ≡ lexemes 0 0 (proof_text ls)
     same_alone ls = ap behind_unsat (start_read 0 (flat_map line_text ls ++ codes ")\n")) ∙ sym (start_read 0 (flat_map line_text ls ++ codes ")\n"))
 
--- behind an answer
+-- after an answer
 pub answered_lexed : (lines : List Line) → All IsWritableLine lines → AreCommandsOf (codes "unsat\n" ++ proof_text lines) (commands_at 6 lines)
 answered_lexed lines h = lexed_at 6 (length (codes "unsat\n" ++ proof_text lines)) lines (behind_unsat (lexemes 0 0 (codes "unsat\n" ++ proof_text lines))) (unsat_read (proof_text lines)) h

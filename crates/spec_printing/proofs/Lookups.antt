@@ -17,7 +17,7 @@ use Rattle.spec_proofs.specs.Commands.{Entry}
 use Rattle.spec_proofs.specs.Known.{clause_of, entry_names}
 use Rattle.spec_printing.specs.Meaning.{numbered}
 
--- what is found with one more behind, which is the one that is looked for or not
+-- what is found with one more after, which is the one that is looked for or not
 abbrev pub extended : {A : Type 0} → Option A → Bool → A → Option A
 extended (Some a) b c = Some a
 extended None true c = Some c
@@ -90,7 +90,7 @@ rest_same : (p xs ys : Name) → p ++ xs ≡ p ++ ys → xs ≡ ys
 rest_same [] xs ys e = e
 rest_same (b ∷ p) xs ys e = rest_same p xs ys (ap (drop 1) e)
 
--- names with one front and numbers behind it are one where the numbers are
+-- names with one front and numbers after it are one where the numbers are
 pub told_apart : (p : Name) (m n : ℕ) → m < 2 ^ 64 → n < 2 ^ 64 → Decides (bytes_eq (p ++ decimal m) (p ++ decimal n)) (n ≡ m)
 told_apart p m n h g =
     let d = bytes_eq-Decides (p ++ decimal m) (p ++ decimal n) in

@@ -50,7 +50,7 @@ has_none n (false ∷ bs) zero e = refl
 has_none n (true ∷ bs) (suc j) e = has_none (suc n) bs j e
 has_none n (false ∷ bs) (suc j) e = has_none n bs j e
 
--- numbers do not depend on what is behind
+-- numbers do not depend on what is after
 pub counted_front : (n : ℕ) (bs cs : List Bool) (j : ℕ) → j < length bs → get_or (counted n (bs ++ cs)) j None ≡ get_or (counted n bs) j None
 counted_front n [] cs j lt = absurd (omega (arith, lt))
 counted_front n (true ∷ bs) cs zero lt = refl
@@ -175,7 +175,7 @@ inference_number h t (true ∷ bs) («assumption» u ∷ xs) (suc j) x e f = beh
 inference_number h t (true ∷ bs) (by_rule r ps c ∷ xs) (suc j) x e f = behind_stepped h t bs r ps c xs _ x (inference_number h (suc t) bs xs j x e f)
 inference_number h t (false ∷ bs) (y ∷ xs) (suc j) x e f = behind_none h t bs y xs _ x (inference_number h t bs xs j x e f)
 
--- numbers do not depend on what is behind
+-- numbers do not depend on what is after
 pub inferences_front : (h t : ℕ) (bs cs : List Bool) (xs ys : Derivation) (j : ℕ) → length bs ≡ length xs → j < length bs → get_or (counted_inferences h t (bs ++ cs) (xs ++ ys)) j None ≡ get_or (counted_inferences h t bs xs) j None
 inferences_front h t [] cs xs ys j e lt = absurd (omega (arith, lt))
 inferences_front h t (b ∷ bs) cs [] ys j e lt = absurd (omega (arith, e))

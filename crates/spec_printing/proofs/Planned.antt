@@ -47,7 +47,7 @@ not_second : (a b : Bool) → a ≡ true → a && b ≡ false → b ≡ false
 not_second true b e f = f
 not_second false b e f = absurd (false≢true e)
 
--- what the definitions so far make known
+-- what the definitions up to here make known
 abbrev told_terms : List Term → Told
 told_terms ts = record { terms = ts; assumes = []; steps = [] }
 
@@ -239,7 +239,7 @@ record EndsEmpty (lines : List Line) : Type 0 where
 behind_lines : (front lines : List Line) → EndsEmpty lines → EndsEmpty (front ++ lines)
 behind_lines front lines e = record { earlier = front ++ e.earlier; number = e.number; rule = e.rule; premises = e.premises; last = ap (λ ls. front ++ ls) e.last ∙ sym (append_assoc front e.earlier (steps e.number [] e.rule e.premises ∷ [])) }
 
--- no line behind the last mark
+-- no line after the last mark
 no_more : (name : Term → Argument) (refer : ℕ → Reference) (h t : ℕ) (xs : Derivation) → inference_lines name refer xs (counted_inferences h t [] xs) ≡ []
 no_more name refer h t [] = refl
 no_more name refer h t (x ∷ xs) = refl

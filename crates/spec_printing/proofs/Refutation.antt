@@ -15,7 +15,7 @@ definition : IsDefinition (constant (codes "p") Truth ∷ []) nothing_told 1 Not
 unfolding sort_of
 definition = record { number = refl; head = tt; arguments = p ∷ []; told = refl; some = λ e. cc; takes = refl; term = refl; sort = refl }
 
--- each line is right behind those before it
+-- each line is right after those before it
 pub right : AreRightLines (constant (codes "p") Truth ∷ []) (p ∷ negated p ∷ []) refutation
 right =
     let one = with_definition nothing_told (negated p) in

@@ -63,7 +63,7 @@ clause_told k (stepped n) = numbered k.steps n
 abbrev pub ArePremises : Told → List Reference → List Clause → Type 0
 ArePremises k ps cs = map (clause_told k) ps ≡ map Some cs
 
--- a symbol in front is that of its name
+-- a first symbol is that of its name
 abbrev pub IsDeclaredHead : List Symbol → Head → Type 0
 IsDeclaredHead symbols (Apply s) = symbol_named symbols s.name ≡ Some s
 IsDeclaredHead symbols h = Unit {0}

@@ -14,7 +14,7 @@ module _ {L : Type 0} (complement : L → L) (premises : List (List L)) (clause 
   abbrev Known : L → Type 0
   Known l = Derives complement premises (map complement clause) l
 
-  -- from the last premise to the first: each literal of the clause so far is false
+  -- from the last premise to the first: each literal of the clause up to here is false
   each_false : (so_far : List L) (ps : List (List L)) → IsWithin ps premises → IsChain complement so_far ps clause → (l : L) → Contains so_far l → Known (complement l)
   each_false so_far [] inside chain l here = given (complement l) (to_image complement clause l (chain l here))
   each_false so_far (p ∷ ps) inside chain l here = go (each_false chain.0 ps (λ q q_in. inside q (later p ps q q_in)) chain.2) (chain.1.rest_of_one l here)

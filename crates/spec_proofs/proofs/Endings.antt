@@ -50,7 +50,7 @@ one_row_end end rest (broken f) (broken g) a b = ap broken (one_break end 0 rest
 one_row_end end rest (left_over at) f a b = absurd a
 one_row_end end rest e (left_over at) a b = absurd b
 
--- a tree behind the list
+-- a tree after the list
 abbrev IsLeft : List (ℕ × Lexeme) → ℕ → Type 0
 IsLeft after at = (t : Tree) × (rest : List (ℕ × Lexeme)) × AreTrees 0 after (more t none) rest × (offset_of t ≡ at)
 
@@ -82,7 +82,7 @@ list_free : (end : ℕ) (rest : List (ℕ × Lexeme)) (e : Ending) → EndsList 
 list_free end rest e (inl h) = subst (BeginsNoTree 1) (sym h.2) (close_begins_no_tree 1 h.0 h.1)
 list_free end rest e (inr h) = h.1.no_tree
 
--- what is behind a lexeme
+-- what is after a lexeme
 abbrev behind_first : List (ℕ × Lexeme) → List (ℕ × Lexeme)
 behind_first [] = []
 behind_first (x ∷ xs) = xs

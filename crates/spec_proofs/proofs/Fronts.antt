@@ -1,4 +1,4 @@
--- A verdict on the fronts of two texts is that on the whole texts.
+-- A verdict on the prefixes of two texts is that on the whole texts.
 use Rattle.std.proofs.Common.{◌≡◌, ◌+◌, ℕ, Bool, true, false, List, length, take, nat_lt, Option, Some, Ok, Err, inl, inr, refl, subst, arith, length-take}
 use Rattle.std.proofs.lemmas.Bool.Decides.{nat_tests}
 use Rattle.std.proofs.lemmas.List.{take-take, take_all}
@@ -15,7 +15,7 @@ use Rattle.spec_proofs.specs.Texts.{behind_unsat, begins_listed, Ending, complet
 use Rattle.spec_proofs.specs.Judging.{with_command, FaultBy, FirstFault}
 use Rattle.spec_proofs.specs.Accepted.{IsJudged, IsVerdict}
 
--- of a front the same bytes are kept
+-- of a prefix the same bytes are kept
 pub same_kept : (n : ℕ) (text : List ℕ) → take n (take (n + 1) text) ≡ take n text
 same_kept n text = take-take n (n + 1) text (omega arith)
 
@@ -23,11 +23,11 @@ same_kept n text = take-take n (n + 1) text (omega arith)
 same_long : (n : ℕ) (text : List ℕ) → nat_lt n (length (take (n + 1) text)) ≡ nat_lt n (length text)
 same_long n text = grind (arith, nat_tests, length-take (n + 1) text)
 
--- a text that has no more bytes is its front
+-- a text that has no more bytes is its prefix
 whole_front : (n : ℕ) (text : List ℕ) → nat_lt n (length text) ≡ false → take (n + 1) text ≡ text
 whole_front n text h = take_all (n + 1) text (grind (arith, nat_tests))
 
--- a script is read by its front
+-- a script is read by its prefix
 pub read_by : (text : List ℕ) (ts : Trees) (found : Option Located) → IsReadUpTo (front text) ts found → IsReadUpTo text ts found
 read_by text ts found r = record {
   rest = r.rest;
@@ -67,7 +67,7 @@ end_of_long limit k m n complete ts found h = any_end limit k m n (text_fault to
 end_of_long limit k m n (broken f) ts found h = any_end limit k m n (text_fault (at_limit true f)) ts found h
 end_of_long limit k m n (left_over at) ts found h = any_end limit k m n (fault_at at BadShape) ts found h
 
--- the end of the front is that of the text, or does not matter
+-- the end of the prefix is that of the text, or does not matter
 fault_by : (limit : Option ℕ) (k : Known) (text : List ℕ) (e : Ending) (ts : Trees) (found : Option Fault) → FirstFault limit k (length (front text)) (ending_fault (is_long text) e) ts found → FirstFault limit k (length text) (ending_fault (is_long text) e) ts found
 fault_by limit k text e ts found h = go (is_long text) (whole_front text_limit text) h
   where

@@ -39,11 +39,11 @@ fronts true (t ∷ ls) = t ∷ []
 fronts false (app Not (cons t nil) ∷ ls) = t ∷ []
 fronts _ _ = []
 
--- the term in front gives the clause by the scheme
+-- the first term gives the clause by the scheme
 abbrev pub given_by : Scheme → Clause → Bool
 given_by s c = list_any (λ t. list_any (same_clause c) (clauses_by s t)) (fronts s.positive c)
 
--- a term stands in front of the clauses that it gives
+-- a term comes before the clauses that it gives
 front_alone : (p : Bool) (t : Term) (ls : Clause) → fronts p (signed p t ∷ ls) ≡ t ∷ []
 front_alone true t ls = refl
 front_alone false t ls = refl

@@ -13,7 +13,7 @@ use Rattle.spec_proofs.specs.Good.{commands_in, known_after, AreRight, AreGood}
 head_is : (c d : Command) (cs ds : List Command) → c ∷ cs ≡ d ∷ ds → c ≡ d
 head_is c d cs ds e = cc
 
--- what is behind it
+-- what is after it
 tail_is : (c d : Command) (cs ds : List Command) → c ∷ cs ≡ d ∷ ds → cs ≡ ds
 tail_is c d cs ds e = cc
 

@@ -121,7 +121,7 @@ module _ (i : Interpretation) where
   abbrev pub IsTrue : Clause → Type 0
   IsTrue c = clause_true i c ≡ true
 
-  -- a clause that is true where what stands behind its first term has truth values
+  -- a clause that is true where what comes after its first term has truth values
   abbrev pub Holds : Clause → Type 0
   Holds [] = ⊥
   Holds (t ∷ ls) = All (HasTruth i) ls → IsTrue (t ∷ ls)
@@ -148,7 +148,7 @@ module _ (i : Interpretation) where
   three P f (cons a (cons b (cons c nil))) n = f a b c
   three P f _ n = absurd n
 
-  -- each argument alone, behind the term in front
+  -- each argument alone, after the first term
   one_each : (u : Term) (f : Term → Term) (ts : List Term) → All (λ t. Holds (u ∷ f t ∷ [])) ts → All Holds (map (λ ls. u ∷ ls) (map (λ t. f t ∷ []) ts))
   one_each u f ts h = All-map Holds (λ ls. u ∷ ls) (map (λ t. f t ∷ []) ts) (All-map (λ ls. Holds (u ∷ ls)) (λ t. f t ∷ []) ts h)
 
@@ -288,7 +288,7 @@ module _ (i : Interpretation) where
   unfolding value_at values_at
   ite_neg2_sound = record { core = tt; each = three (IsSoundAt ite_neg2) λ a b c. only _ (λ _. chosen_neg2 (term_true i a) (value_at i b) (value_at i c)) }
 
-  -- what two negations negate, behind the negation of these
+  -- what two negations negate, after the negation of these
   innermost_sound : (ts : Terms) → IsSoundAt not_not ts
   unfolding value_at values_at
   innermost_sound (cons (app Not (cons t nil)) nil) = only _ (λ _. by_one (λ x. not (not (not (x && true) && true) && true) || (x || false)) refl refl (term_true i t))
@@ -359,7 +359,7 @@ module _ (i : Interpretation) where
   kind_sound rules.NotIte2 = ite_neg2_sound
   kind_sound _ = tt
 
-  -- a clause that some term gives is true, where what stands behind its first term has truth values
+  -- a clause that some term gives is true, where what comes after its first term has truth values
   pub given_true : (s : Scheme) → IsSound s → (t u : Term) (clause : Clause) → Contains (clauses_by s t) (u ∷ clause) → All (HasTruth i) clause → IsTrue (u ∷ clause)
   given_true s sound t u clause here truths = All-contains Holds (clauses_by s t) (u ∷ clause) (clauses_hold s sound t) here truths
 

@@ -139,7 +139,7 @@ listed_verdict = contradicts listed (first_items (trees_in listed)) complete lis
 pub double_negation_verdict : IsVerdict contradiction 1 double_negation None
 double_negation_verdict = contradicts double_negation (trees_in double_negation) complete double_negation_is_read _ None None double_negation_commands (inl ((0, omega arith, refl), inl (twice, inl ((1, omega arith, refl), inl (twice_resolves, (3, record { name = codes "t2"; clause = [] }, omega arith, refl, refl))))))
 
--- two negations in front of a literal, and the literal
+-- two negations before a literal, and the literal
 doubled : IsResolvent ((p ∷ []) ∷ []) (negated (negated p) ∷ [])
 unfolding literal_of
 doubled = let premises = (literal true ∷ []) ∷ [] in both_ways (literal true) (alike premises _ (literal true ∷ []) (literal true) ((0, omega arith, refl)) ((0, omega arith, refl)) (one true)) (given (literal false) ((0, omega arith, refl)))
@@ -189,7 +189,7 @@ nothing_verdict = contradicts nothing (trees_in nothing) complete nothing_is_rea
 pub tautology_verdict : IsVerdict contradiction 1 tautology (Some (fault_at 41 NoEmptyClause))
 tautology_verdict = contradicts tautology (trees_in tautology) complete tautology_is_read _ None _ tautology_commands (inl (always, (no_empty_in_one (with_entry known (codes "t1") (p ∷ negated p ∷ [])) (codes "t1") p (negated p ∷ []) refl, refl)))
 
--- commands in one list, behind which a tree stands
+-- commands in one list, after which a tree stands
 followed_list : (end at close : ℕ) (xs : List (ℕ × Lexeme)) (ts : Trees) (t : Tree) (rest : List (ℕ × Lexeme)) → xs ≡ (at, opens) ∷ spelled_all ts ++ (close, closes) ∷ (spelled_all (more t none) ++ rest) → 1 + depth_all ts ≤ nesting_limit → 0 + depth_all (more t none) ≤ nesting_limit → AreCommands true end xs ts (left_over (offset_of t))
 followed_list end at close xs ts t rest e within room =
     let after = spelled_all (more t none) ++ rest in
@@ -226,12 +226,12 @@ end_behind ((a, opens) ∷ xs) ys at = end_behind xs ys at
 end_behind ((a, word k n) ∷ xs) ys at = end_behind xs ys at
 end_behind ((a, wrong f) ∷ xs) ys at = end_behind xs ys at
 
--- lexemes without an end of a list, and without a word in front, begin with no tree
+-- lexemes without an end of a list, and without a first word, begin with no tree
 no_tree_begins : (n : ℕ) (xs : List (ℕ × Lexeme)) → has_end xs ≡ false → begins_word xs ≡ false → (t : Tree) (ys : List (ℕ × Lexeme)) → xs ≡ spelled t ++ ys → nesting_limit < n + depth t
 no_tree_begins n xs no_end no_word (atom at k bytes) ys e = absurd (false≢true (sym no_word ∙ ap begins_word e))
 no_tree_begins n xs no_end no_word (list at ts end) ys e = absurd (false≢true (sym no_end ∙ ap has_end e ∙ ap has_end (append_assoc ((at, opens) ∷ spelled_all ts) ((end, closes) ∷ []) ys) ∙ end_behind ((at, opens) ∷ spelled_all ts) ys end))
 
--- what is behind the first command
+-- what is after the first command
 abbrev unclosed_rest : List (ℕ × Lexeme)
 unclosed_rest = (14, opens) ∷ (15, word Simple (codes "step")) ∷ (20, word Simple (codes "t1")) ∷ (23, opens) ∷ (24, word Simple (codes "cl")) ∷ []
 

@@ -29,14 +29,14 @@ FaultsLaw = (text : List ℕ) (at n : ℕ) (earlier rest : List (ℕ × Lexeme))
 abbrev EndsWith : List (ℕ × Lexeme) → List (ℕ × Lexeme) → Type 0
 EndsWith all xs = (earlier : List (ℕ × Lexeme)) × (all ≡ earlier ++ xs)
 
--- what stands behind one of them, or behind several
+-- what comes after one of them, or after several
 behind_one : (all : List (ℕ × Lexeme)) (x : ℕ × Lexeme) (xs : List (ℕ × Lexeme)) → EndsWith all (x ∷ xs) → EndsWith all xs
 behind_one all x xs h = (h.0 ++ x ∷ [], h.1 ∙ sym (append_assoc h.0 (x ∷ []) xs))
 
 behind_all : (all front xs : List (ℕ × Lexeme)) → EndsWith all (front ++ xs) → EndsWith all xs
 behind_all all front xs h = (h.0 ++ front, h.1 ∙ sym (append_assoc h.0 front xs))
 
--- the lexemes behind the word
+-- the lexemes after the word
 behind_word : (xs : List (ℕ × Lexeme)) → EndsWith xs (behind_unsat xs)
 behind_word [] = ([], refl)
 behind_word ((at, blank) ∷ xs) = ([], refl)

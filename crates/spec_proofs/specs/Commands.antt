@@ -20,7 +20,7 @@ pub record Entry : Type 0 where
 
 -- What is known before a command: the script's symbols and assertions, the names that the proof defines, and the earlier assumes and steps.
 pub record Known : Type 0 where
-  -- the declared symbols, and the names that are defined so far
+  -- the declared symbols, and the names that are defined up to here
   pub scope : Scope
   -- the terms of the current assertions
   pub asserted : List Term
@@ -60,7 +60,7 @@ pub record Parts : Type 0 where
   -- whether there are discharged assumptions
   pub discharge : Bool
 
--- no keyword so far
+-- no keyword for now
 abbrev pub no_parts : Parts
 no_parts = record { rule = None; premises = None; args = false; discharge = false }
 
@@ -97,11 +97,11 @@ with_rule p t = passes (is_new p.rule) >>= λ new. symbol_in t >>= λ r. Some (r
 abbrev pub with_premises : Parts → Tree → Option Parts
 with_premises p t = passes (is_new p.premises) >>= λ new. symbols_in t >>= λ ps. Some (record { rule = p.rule; premises = Some ps; args = p.args; discharge = p.discharge })
 
--- `:args (a ..)`; what the arguments are does not matter so far
+-- `:args (a ..)`; what the arguments are does not matter for now
 abbrev pub with_args : Parts → Tree → Option Parts
 with_args p t = passes (not p.args) >>= λ new. list_in t >>= λ as_list. Some (record { rule = p.rule; premises = p.premises; args = true; discharge = p.discharge })
 
--- `:discharge (d ..)`; which they are does not matter so far
+-- `:discharge (d ..)`; which they are does not matter for now
 abbrev pub with_discharge : Parts → Tree → Option Parts
 with_discharge p t = passes (not p.discharge) >>= λ new. symbols_in t >>= λ ds. Some (record { rule = p.rule; premises = p.premises; args = p.args; discharge = true })
 

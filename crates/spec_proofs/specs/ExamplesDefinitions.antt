@@ -45,7 +45,7 @@ pub two_kinds_of_names : unread_in (codes "(assume h1 p)(define-fun h1 () Bool p
 unfolding lexemes first_piece built command_of shaped shape_of assume_shape step_shape define_shape parts_of read_shape fresh_name new_term_name in_proof known_rule known_clause premise_of premises_of term_alone term_in terms_in roomy_terms with_subterms with_all_subterms same_term require ◌>>=◌ read_commands
 two_kinds_of_names = refl
 
--- a definition has no parameters so far
+-- a definition has no parameters for now
 pub with_parameters : unread_in (codes "(assume h1 p)\n(define-fun f ((x Bool)) Bool x)") ≡ Some (2, 1, BadShape)
 unfolding lexemes first_piece built command_of shaped shape_of assume_shape step_shape define_shape parts_of read_shape fresh_name new_term_name in_proof known_rule known_clause premise_of premises_of term_alone term_in terms_in roomy_terms with_subterms with_all_subterms same_term require ◌>>=◌ read_commands
 with_parameters = refl
@@ -85,7 +85,7 @@ pub name_of_a_theory : unread_in (codes "(define-fun true () Bool p)") ≡ Some 
 unfolding lexemes first_piece built command_of shaped shape_of assume_shape step_shape define_shape parts_of read_shape fresh_name new_term_name in_proof known_rule known_clause premise_of premises_of term_alone term_in terms_in roomy_terms with_subterms with_all_subterms same_term require ◌>>=◌ read_commands
 name_of_a_theory = refl
 
--- of which not all have terms so far
+-- of which not all have terms for now
 pub name_of_a_theory_to_come : unread_in (codes "(define-fun + () Bool p)") ≡ Some (1, 13, TwiceName)
 unfolding lexemes first_piece built command_of shaped shape_of assume_shape step_shape define_shape parts_of read_shape fresh_name new_term_name in_proof known_rule known_clause premise_of premises_of term_alone term_in terms_in roomy_terms with_subterms with_all_subterms same_term require ◌>>=◌ read_commands
 name_of_a_theory_to_come = refl

@@ -94,7 +94,7 @@ name_room (Some limit) k at =
     in_proof (require (nat_lt (length k.scope.symbols + length k.scope.defined) limit) at Full)
 
 -- a command by its shape, which stands at an offset, within a limit; in a definition the term has the sort that is
--- stated, since Bool is the one sort so far
+-- stated, since Bool is the one sort for now
 unfoldable pub read_shape : Option ℕ → Known → ℕ → Shape → Read Command
 read_shape limit k at (assumes h t) = do
   n ← fresh_name k h

@@ -1,4 +1,4 @@
--- Resolution by unit propagation, over literals of any kind with a complement. Source: own; every chain in which each binary resolution takes the clause so far and a premise passes.
+-- Resolution by unit propagation, over literals of any kind with a complement. Source: own; every chain in which each binary resolution takes the clause up to here and a premise passes.
 use Rattle.std.specs.Prelude.{◌≡◌, ◌≢◌, ◌⊎◌, List, [], ◌∷◌, map, Contains}
 
 -- What unit propagation over the premises gives, beginning with what is assumed: a literal of a premise whose other literals are all false.
@@ -27,7 +27,7 @@ pub record IsBinary {L : Type 0} (complement : L → L) (one other third : List 
   pub rest_of_one : (l : L) → Contains one l → (l ≡ pivot) ⊎ Contains third l
   pub rest_of_other : (l : L) → Contains other l → (l ≡ complement pivot) ⊎ Contains third l
 
--- a chain: the clause so far is resolved with one premise after the other, and what comes last is within the clause
+-- a chain: the clause up to here is resolved with one premise after the other, and what comes last is within the clause
 abbrev pub IsChain : {L : Type 0} → (L → L) → List L → List (List L) → List L → Type 0
 IsChain complement so_far [] clause = IsWithin so_far clause
 IsChain {L} complement so_far (p ∷ ps) clause = (next : List L) × IsBinary complement so_far p next × IsChain complement next ps clause

@@ -31,7 +31,7 @@ abbrev pub flipped : Term → Term
 flipped (app Not (cons t nil)) = t
 flipped t = negated t
 
--- one premise of one literal, whose complement in front of the clause gives a clause of the scheme
+-- one premise of one literal, whose complement before the clause gives a clause of the scheme
 abbrev pub IsTurned : Scheme → List Clause → Clause → Type 0
 IsTurned s ((u ∷ []) ∷ []) clause = IsGiven s (flipped u ∷ clause)
 IsTurned s _ clause = ⊥

@@ -12,9 +12,9 @@ use Rattle.spec_proofs.specs.declared.Rest.TheVariants.{Nothing, One, Two, AnyOn
 
 -- Which clauses a term gives: its head, whether it stands in front as it is or negated, and what stands after it.
 pub record Scheme : Type 0 where
-  -- the head of the term in front
+  -- the head of the first term
   pub head : Head
-  -- whether the term in front is meant as it stands
+  -- whether the first term is meant as it stands
   pub positive : Bool
   -- the literals after it, by its arguments
   pub rest : Rest

@@ -9,12 +9,12 @@ use Rattle.spec_text.specs.Readings.{IsBroken, AreTrees, kept, too_long, at_limi
 use Rattle.spec_proofs.specs.declared.ProofKind.TheVariants.{BadShape}
 use Rattle.spec_proofs.specs.Faults.{Fault, fault_at, text_fault}
 
--- the lexemes without a word `unsat` in front
+-- the lexemes without a first word `unsat`
 abbrev pub behind_unsat : List (ℕ × Lexeme) → List (ℕ × Lexeme)
 behind_unsat ((at, word k n) ∷ xs) = if is_symbol k then (if bytes_eq n (codes "unsat") then xs else (at, word k n) ∷ xs) else (at, word k n) ∷ xs
 behind_unsat xs = xs
 
--- a list in front whose first item is a list, or which is empty
+-- a first list whose first item is a list, or which is empty
 abbrev pub begins_listed : List (ℕ × Lexeme) → Bool
 begins_listed ((a, opens) ∷ (b, opens) ∷ xs) = true
 begins_listed ((a, opens) ∷ (b, closes) ∷ xs) = true

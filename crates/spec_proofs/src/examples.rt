@@ -32,7 +32,7 @@ pub fn good_proofs_have_no_limit()
     refutation_is_accepted();
 }
 
-/// States that a disjunction is opened, that literals which stand twice are left out, and that two negations in front of a
+/// States that a disjunction is opened, that literals which stand twice are left out, and that two negations before a
 /// term count for nothing.
 pub fn rules_are_taken()
     ensures opened { IsVerdict disjunction 1 opened None }

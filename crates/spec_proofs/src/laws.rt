@@ -31,7 +31,7 @@ pub fn rules_are_sound()
         → IsRight rule premises clause → clause_true i clause ≡ true }
 {}
 
-/// States that each chain of binary resolutions passes, where each resolves the clause so far with a premise: premises
+/// States that each chain of binary resolutions passes, where each resolves the clause up to here with a premise: premises
 /// may be used in any order and as often as wanted, and so in the order in which they stand.
 pub fn chains_are_resolvents()
     ensures any { (premises : List Clause) (first : Clause) (rest : List Clause) (clause : Clause)

@@ -71,41 +71,41 @@ pub enum Rule {
     IteNeg2,
     /// `not_not`: three negations are one.
     NotNot,
-    /// `and`: `and_pos`, with the term in front as the premise.
+    /// `and`: `and_pos`, with the first term as the premise.
     And,
-    /// `not_and`: `and_neg`, with the term in front as the premise.
+    /// `not_and`: `and_neg`, with the first term as the premise.
     NotAnd,
-    /// `not_or`: `or_neg`, with the term in front as the premise.
+    /// `not_or`: `or_neg`, with the first term as the premise.
     NotOr,
-    /// `implies`: `implies_pos`, with the term in front as the premise.
+    /// `implies`: `implies_pos`, with the first term as the premise.
     Implies,
-    /// `not_implies1`: `implies_neg1`, with the term in front as the premise.
+    /// `not_implies1`: `implies_neg1`, with the first term as the premise.
     NotImplies1,
-    /// `not_implies2`: `implies_neg2`, with the term in front as the premise.
+    /// `not_implies2`: `implies_neg2`, with the first term as the premise.
     NotImplies2,
-    /// `equiv1`: `equiv_pos2`, with the term in front as the premise.
+    /// `equiv1`: `equiv_pos2`, with the first term as the premise.
     Equiv1,
-    /// `equiv2`: `equiv_pos1`, with the term in front as the premise.
+    /// `equiv2`: `equiv_pos1`, with the first term as the premise.
     Equiv2,
-    /// `not_equiv1`: `equiv_neg2`, with the term in front as the premise.
+    /// `not_equiv1`: `equiv_neg2`, with the first term as the premise.
     NotEquiv1,
-    /// `not_equiv2`: `equiv_neg1`, with the term in front as the premise.
+    /// `not_equiv2`: `equiv_neg1`, with the first term as the premise.
     NotEquiv2,
-    /// `xor1`: `xor_pos1`, with the term in front as the premise.
+    /// `xor1`: `xor_pos1`, with the first term as the premise.
     Xor1,
-    /// `xor2`: `xor_pos2`, with the term in front as the premise.
+    /// `xor2`: `xor_pos2`, with the first term as the premise.
     Xor2,
-    /// `not_xor1`: `xor_neg1`, with the term in front as the premise.
+    /// `not_xor1`: `xor_neg1`, with the first term as the premise.
     NotXor1,
-    /// `not_xor2`: `xor_neg2`, with the term in front as the premise.
+    /// `not_xor2`: `xor_neg2`, with the first term as the premise.
     NotXor2,
-    /// `ite1`: `ite_pos1`, with the term in front as the premise.
+    /// `ite1`: `ite_pos1`, with the first term as the premise.
     Ite1,
-    /// `ite2`: `ite_pos2`, with the term in front as the premise.
+    /// `ite2`: `ite_pos2`, with the first term as the premise.
     Ite2,
-    /// `not_ite1`: `ite_neg1`, with the term in front as the premise.
+    /// `not_ite1`: `ite_neg1`, with the first term as the premise.
     NotIte1,
-    /// `not_ite2`: `ite_neg2`, with the term in front as the premise.
+    /// `not_ite2`: `ite_neg2`, with the first term as the premise.
     NotIte2,
 }
 
@@ -118,7 +118,7 @@ pub struct Side {
     pub positive: bool,
 }
 
-/// Says which literals stand behind a term in a clause that a rule gives without premises, by the term's arguments.
+/// Says which literals come after a term in a clause that a rule gives without premises, by the term's arguments.
 /// Source: Alethe specification, rules; to say it so is own.
 #[derive(Clone, Copy, Debug, PartialEq, Eq)]
 pub enum Rest {
@@ -137,7 +137,7 @@ pub enum Rest {
 }
 
 /// Tells why a proof is not accepted: P1 to P8, P10 and P11. Of several faults the first in the text counts, but for
-/// `NoSuchCheck`, which counts before all others, and `NoEmptyClause`, which counts behind all others.
+/// `NoSuchCheck`, which counts before all others, and `NoEmptyClause`, which counts after all others.
 #[derive(Clone, Copy, Debug, PartialEq, Eq)]
 pub enum ProofKind {
     /// P1: the text cannot be read on, by a fault E1 to E7: at the fault's place.

@@ -25,7 +25,7 @@ pub fn symbols_have_names()
 
 /// States that a printed model is read as one list of definitions, one for each symbol in its order, and that the body of each
 /// has the value that the interpretation gives the symbol: so the text says the values of all symbols. The symbols are constants
-/// of sort Bool so far. Source: SMT-LIB 2.6, sections 4.1.8 and 4.2.6.
+/// of sort Bool for now. Source: SMT-LIB 2.6, sections 4.1.8 and 4.2.6.
 pub fn model_texts_say_their_interpretation()
     ensures { (i : Interpretation) (symbols : List Symbol) → All IsTruthConstant symbols → Interprets i symbols
         → (ts : Trees) × (end : ℕ) × IsRead (model_text i symbols) (more (list 0 ts end) none) × DefineAll i symbols ts }

@@ -1,4 +1,4 @@
--- The commands of a script that there are so far, by their own shape. Source: SMT-LIB 2.6, section 3.9.
+-- The commands of a script that there are up to here, by their own shape. Source: SMT-LIB 2.6, section 3.9.
 use Rattle.std.specs.Prelude.{ℕ, Bool, ◌||◌, List, [], ◌∷◌, Option, Some, None, Ok, codes, if◌then◌else◌}
 use Rattle.spec_text.specs.declared.Kind.{Kind}
 use Rattle.spec_text.specs.declared.Fault.TheVariants.{BadShape, UnknownCommand}
@@ -73,7 +73,7 @@ shaped at None = refused at BadShape
 abbrev pub verb_named : Kind → Name → Option Verb
 verb_named k n = if is_reserved k then look_up verbs n else None
 
--- the word in front of a list
+-- the word before a list
 abbrev pub verb_of : Tree → Option Verb
 verb_of (atom at k n) = verb_named k n
 verb_of (list at ts end) = None

@@ -229,7 +229,7 @@ pub name_before_sort : refused_in (codes "(declare-const and Int)") ≡ (1, 16, 
 unfolding lexemes first_piece built command_of set_option declare_const term_in terms_in roomy_terms with_subterms with_all_subterms same_term require ◌>>=◌ step faults_after
 name_before_sort = refl
 
--- the one sort so far is Bool
+-- the one sort for now is Bool
 pub sorts : refused_in (codes "(declare-const p Int)(declare-const p (Bool))(declare-const p let)(declare-const p 5)") ≡ (1, 18, UnknownSort) ∷ (1, 39, UnknownSort) ∷ (1, 63, Reserved) ∷ (1, 84, BadShape) ∷ []
 unfolding lexemes first_piece built command_of set_option declare_const term_in terms_in roomy_terms with_subterms with_all_subterms same_term require ◌>>=◌ step faults_after
 sorts = refl

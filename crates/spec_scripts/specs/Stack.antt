@@ -42,7 +42,7 @@ empty_stack = record { symbols = []; assertions = []; print_success = true }
 abbrev pub names_of : List Symbol → List Name
 names_of ss = map (λ (s : Symbol). s.name) ss
 
--- the names of theory Reals that Core does not have: they may not be declared, though no term has them so far
+-- the names of theory Reals that Core does not have: they may not be declared, though no term has them for now
 abbrev pub reals_names : List Name
 reals_names = codes "-" ∷ codes "+" ∷ codes "*" ∷ codes "/" ∷ codes "<" ∷ codes "<=" ∷ codes ">" ∷ codes ">=" ∷ []
 
@@ -70,7 +70,7 @@ new_name symbols w =
     require (not (is_taken symbols w.bytes)) w.at Twice >>= λ new.
     Ok w.bytes
 
--- a sort by its name: Bool alone so far
+-- a sort by its name: Bool alone for now
 abbrev pub sort_named : ℕ → Name → Answer Sort
 sort_named at n = if bytes_eq n (codes "Bool") then Ok Truth else refused at UnknownSort
 
@@ -100,7 +100,7 @@ abbrev pub with_success : ℕ → Stack → Option Bool → Answer Stack
 with_success at s (Some b) = Ok (record { symbols = s.symbols; assertions = s.assertions; print_success = b })
 with_success at s None = refused at BadShape
 
--- the one option that is known so far
+-- the one option that is known up to here
 abbrev pub is_known_option : Name → Bool
 is_known_option k = bytes_eq k (codes "print-success")
 

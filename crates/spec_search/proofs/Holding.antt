@@ -62,7 +62,7 @@ module _ (i : Interpretation) where
   innermost_truth (app Not (cons t nil) ∷ []) inner ls h = same_truth (t ∷ []) ls h (inner (app Not (cons t nil)) (first (app Not (cons t nil)) []))
   innermost_truth _ inner ls h = absurd (none ls h)
 
-  -- each literal behind a term has a truth value
+  -- each literal after a term has a truth value
   rest_truth : (r : Rest) (ts : List Term) → All (HasTruth i) ts → HaveInner ts → (ls : Clause) → Contains (rests_of r ts) ls → All (HasTruth i) ls
   rest_truth Nothing ts each inner ls h = same_truth [] ls h (All-nil (HasTruth i))
   rest_truth (One x) ts each inner ls h = same_truth (side_of ts x ∷ []) ls h (only_truth (side_of ts x) (side_truth ts x each))

@@ -38,17 +38,17 @@ module _ (v : Truths) (t : Term) (met : (c : Clause) → Contains (clauses_of t)
       let given : Contains (clauses_by s t) (before rest) = subst (λ b. Contains (if b then map before (rests_of s.rest (arguments_of t)) else []) (before rest)) (sym formula) (to_image before (rests_of s.rest (arguments_of t)) rest rest_in) in
       ap (λ b. b || list_any (term_true_by v) rest) (sym (signed_true v s.positive t)) ∙ met (before rest) (in_flat (λ x. clauses_by x t) schemes s (before rest) s_in given)
 
-  -- nothing behind the term
+  -- nothing after the term
   pub alone : (h : Head) (p : Bool) → Contains schemes (record { head = h; positive = p; rest = Nothing }) → is_formula_of h t ≡ true → sign p (term_true_by v t) || false ≡ true
   alone h p s_in formula = by_scheme (record { head = h; positive = p; rest = Nothing }) s_in formula [] (first [] [])
 
-  -- one argument behind it
+  -- one argument after it
   pub with_one : (h : Head) (p : Bool) (x : Side) → Contains schemes (record { head = h; positive = p; rest = One x }) → is_formula_of h t ≡ true → sign p (term_true_by v t) || (sign x.positive (term_true_by v (slice_index_or (arguments_of t) x.place no_term)) || false) ≡ true
   with_one h p x s_in formula =
       let u = slice_index_or (arguments_of t) x.place no_term in
       ap (λ b. sign p (term_true_by v t) || (b || false)) (sym (signed_true v x.positive u)) ∙ by_scheme (record { head = h; positive = p; rest = One x }) s_in formula (side_of (arguments_of t) x ∷ []) (first (side_of (arguments_of t) x ∷ []) [])
 
-  -- two arguments behind it
+  -- two arguments after it
   pub with_two : (h : Head) (p : Bool) (x y : Side) → Contains schemes (record { head = h; positive = p; rest = Two x y }) → is_formula_of h t ≡ true → sign p (term_true_by v t) || (sign x.positive (term_true_by v (slice_index_or (arguments_of t) x.place no_term)) || (sign y.positive (term_true_by v (slice_index_or (arguments_of t) y.place no_term)) || false)) ≡ true
   with_two h p x y s_in formula =
       let u = slice_index_or (arguments_of t) x.place no_term in
@@ -56,11 +56,11 @@ module _ (v : Truths) (t : Term) (met : (c : Clause) → Contains (clauses_of t)
       let ls = side_of (arguments_of t) x ∷ side_of (arguments_of t) y ∷ [] in
       ap₂ (λ b c. sign p (term_true_by v t) || (b || (c || false))) (sym (signed_true v x.positive u)) (sym (signed_true v y.positive w)) ∙ by_scheme (record { head = h; positive = p; rest = Two x y }) s_in formula ls (first ls [])
 
-  -- any one argument behind it
+  -- any one argument after it
   pub with_any : (h : Head) (p q : Bool) → Contains schemes (record { head = h; positive = p; rest = AnyOne q }) → is_formula_of h t ≡ true → (u : Term) → Contains (arguments_of t) u → sign p (term_true_by v t) || (sign q (term_true_by v u) || false) ≡ true
   with_any h p q s_in formula u u_in = ap (λ b. sign p (term_true_by v t) || (b || false)) (sym (signed_true v q u)) ∙ by_scheme (record { head = h; positive = p; rest = AnyOne q }) s_in formula (signed q u ∷ []) (to_image (λ w. signed q w ∷ []) (arguments_of t) u u_in)
 
-  -- each argument behind it
+  -- each argument after it
   pub with_each : (h : Head) (p q : Bool) → Contains schemes (record { head = h; positive = p; rest = Each q }) → is_formula_of h t ≡ true → sign p (term_true_by v t) || list_any (term_true_by v) (map (signed q) (arguments_of t)) ≡ true
   with_each h p q s_in formula = by_scheme (record { head = h; positive = p; rest = Each q }) s_in formula (map (signed q) (arguments_of t)) (first (map (signed q) (arguments_of t)) [])
 

@@ -157,7 +157,7 @@ module _ (us : List Term) (closed : IsClosed us) where
         ]
         go _ all h = absurd (none c h)
 
-    -- each literal behind the term in front
+    -- each literal after the first term
     rest_over : (r : Rest) → HasPlaces (length ts) r → (c : Clause) → Contains (rests_of r ts) c → (u : Term) → Contains c u → IsOver u
     rest_over Nothing h c i u j = elim (cases [] [] c i) [ inl e ↦ absurd (none u (subst (λ (d : Clause). Contains d u) (sym e) j)) | inr k ↦ absurd (none c k) ]
     rest_over (One x) h c i u j = elim (cases (side_of ts x ∷ []) [] c i) [

@@ -7,11 +7,11 @@ use Rattle.spec_text.specs.Trees.{Trees, atom, list, none, more}
 use Rattle.spec_terms.specs.Terms.{Symbol, constant, Truth, True, False, And, Or, Xor, Implies, Equal, Ite, Term, of, constant_term, negated}
 use Rattle.spec_terms.specs.Reading.{Scope, scope_of, with_definition, term_in, terms_in}
 
--- The trees behind a lexeme up to the end of its list, and behind the closing parentheses of the lists around it.
+-- The trees after a lexeme up to the end of its list, and after the closing parentheses of the lists around it.
 pub record Built : Type 0 where
-  -- the trees behind it in its own list
+  -- the trees after it in its own list
   pub here : Trees
-  -- of each list around it the closing parenthesis, with the trees behind that
+  -- of each list around it the closing parenthesis, with the trees after that
   pub around : List (ℕ × Trees)
 
 -- a list of the trees before its closing parenthesis
@@ -19,7 +19,7 @@ abbrev pub with_list : ℕ → Trees → List (ℕ × Trees) → Built
 with_list at us [] = record { here = none; around = [] }
 with_list at us ((end, ts) ∷ rest) = record { here = more (list at us end) ts; around = rest }
 
--- a lexeme before what stands behind it
+-- a lexeme before what comes after it
 abbrev pub with_lexeme : ℕ → Lexeme → Built → Built
 with_lexeme at (word k bytes) b = record { here = more (atom at k bytes) b.here; around = b.around }
 with_lexeme at closes b = record { here = none; around = (at, b.here) ∷ b.around }
@@ -136,7 +136,7 @@ pub constant_applied : read (codes "(not (p q))") ≡ refused 5 WrongCount
 unfolding lexemes first_piece built term_in terms_in require ◌>>=◌
 constant_applied = refl
 
--- arguments are read before the name in front of them
+-- arguments are read before the name before them
 pub arguments_first : read (codes "(zz yy)") ≡ refused 4 UnknownSymbol
 unfolding lexemes first_piece built term_in terms_in require ◌>>=◌
 arguments_first = refl
@@ -146,12 +146,12 @@ pub from_the_left : read (codes "(and p (not xx) yy)") ≡ refused 12 UnknownSym
 unfolding lexemes first_piece built term_in terms_in require ◌>>=◌
 from_the_left = refl
 
--- an unknown name in front is told at the name
+-- an unknown name in front is reported at the name
 pub unknown_head : read (codes "(zz p)") ≡ refused 1 UnknownSymbol
 unfolding lexemes first_piece built term_in terms_in require ◌>>=◌
 unknown_head = refl
 
--- a reserved word in front is told before the arguments
+-- a first reserved word is known before the arguments
 pub quantifier : read (codes "(forall yy)") ≡ refused 1 Reserved
 unfolding lexemes first_piece built term_in terms_in require ◌>>=◌
 quantifier = refl
@@ -171,7 +171,7 @@ pub letters_in_bars : read (codes "|let|") ≡ refused 0 UnknownSymbol
 unfolding lexemes first_piece built term_in terms_in require ◌>>=◌
 letters_in_bars = refl
 
--- numbers are not known so far
+-- numbers are not known for now
 pub numeral : read (codes "5") ≡ refused 0 UnknownSymbol
 unfolding lexemes first_piece built term_in terms_in require ◌>>=◌
 numeral = refl
@@ -191,7 +191,7 @@ pub keyword : read (codes ":named") ≡ refused 0 BadShape
 unfolding lexemes first_piece built term_in terms_in require ◌>>=◌
 keyword = refl
 
--- a list in front of another is told at the outer one, before its own fault
+-- a list before another is reported at the outer one, before its own fault
 pub list_in_front : read (codes "((p) q)") ≡ refused 0 BadShape
 unfolding lexemes first_piece built term_in terms_in require ◌>>=◌
 list_in_front = refl

@@ -5,7 +5,7 @@ use Rattle.spec_text.specs.declared.Kind.TheVariants.{Simple, Quoted, Reserved}
 use Rattle.spec_text.specs.Bytes.{Name}
 use Rattle.spec_text.specs.Trees.{Tree, Trees, atom, list, none, more}
 
--- No term; a reserved word in front, at an offset; or a symbol in front, at an offset, before arguments.
+-- No term; a first reserved word, at an offset; or a first symbol, at an offset, before arguments.
 pub data Form : Type 0 where
   -- no term is written so
   malformed : Form
@@ -14,7 +14,7 @@ pub data Form : Type 0 where
   -- the offset of the symbol, and its name
   applies : ℕ → Name → Form
 
--- an atom in front of arguments, by its kind
+-- an atom before arguments, by its kind
 abbrev pub head_form : ℕ → Kind → Name → Form
 head_form at Simple n = applies at n
 head_form at Quoted n = applies at n

@@ -1,4 +1,4 @@
--- The term as read of a text, or its first fault: its shape, then a reserved word in front, then the arguments from left to right, then its own name and number of arguments. Source: SMT-LIB 2.6, section 3.6; the order of faults is own.
+-- The term as read of a text, or its first fault: its shape, then a first reserved word, then the arguments from left to right, then its own name and number of arguments. Source: SMT-LIB 2.6, section 3.6; the order of faults is own.
 use Rattle.std.specs.Prelude.{ℕ, List, [], ◌∷◌, ◌++◌, length, Option, Some, None, Ok, ◌==◌, if◌then◌else◌}
 use Rattle.std.specs.Str.{bytes_eq}
 use Rattle.spec_text.specs.declared.Kind.{Kind}
@@ -54,7 +54,7 @@ applied_as None None None place at ts = refused place UnknownSymbol
 abbrev pub applied : Scope → ℕ → Name → ℕ → List Term → Answer Term
 applied scope place n at ts = applied_as (look_up theory n) (symbol_named scope.symbols n) (look_up scope.defined n) place at ts
 
--- an atom: numbers are not known so far
+-- an atom: numbers are not known for now
 abbrev pub atom_term : Scope → ℕ → Kind → Name → Answer Term
 atom_term scope at Numeral n = refused at UnknownSymbol
 atom_term scope at Decimal n = refused at UnknownSymbol

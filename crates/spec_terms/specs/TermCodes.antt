@@ -98,12 +98,12 @@ unfoldable mutual
   terms_tree nil = gnil
   terms_tree (cons t ts) = gcons (term_tree t) (terms_tree ts)
 
--- the front of a pair
+-- the prefix of a pair
 abbrev first : Gv → Gv
 first (gcons a b) = a
 first _ = gnil
 
--- what is behind it
+-- what is after it
 abbrev rest : Gv → Gv
 rest (gcons a b) = b
 rest _ = gnil

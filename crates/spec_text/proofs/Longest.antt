@@ -49,7 +49,7 @@ number_front bytes ds (b ∷ bs) e n = split bytes (b == 46) _ _
     decimal_front bytes ds (front is_digit bs) (drop (length (front is_digit bs)) bs) (e ∙ ap (λ (c : ℕ). ds ++ c ∷ bs) point ∙ ap (λ (cs : List ℕ). ds ++ 46 ∷ cs) (front_then_rest is_digit bs) ∙ sym (append_assoc ds (46 ∷ front is_digit bs) (drop (length (front is_digit bs)) bs))) n (front_is_run is_digit bs))
     (λ t. ended_front bytes ds (b ∷ bs) (length ds) Numeral e refl (numeral ds n) (λ h. h))
 
--- what a string's body is of the bytes behind the opening quote
+-- what a string's body is of the bytes after the opening quote
 record IsBody (bs body : List ℕ) : Type 0 where
   rest : List ℕ
   inside : IsInside body

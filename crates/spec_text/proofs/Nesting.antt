@@ -7,7 +7,7 @@ use Rattle.spec_text.specs.Trees.{Tree, Trees, atom, list, none, more, spelled, 
 use Rattle.spec_text.specs.Faults.{Located, located, first_fault}
 use Rattle.spec_text.proofs.Blanks.{HasNoBlank}
 
--- trees, and behind them the ends of lists that began before, each with the trees behind it
+-- trees, and after them the ends of lists that began before, each with the trees after it
 pub record Behind : Type 0 where
   pub trees : Trees
   pub outer : List (ℕ × Trees)

@@ -32,7 +32,7 @@ decimal_fits : (size : ℕ) (digits fraction rest : List ℕ) → length digits 
 decimal_fits size digits [] rest h = omega (arith, h)
 decimal_fits size digits (d ∷ ds) rest h = ended_fits size rest (length digits + 1 + length (d ∷ ds)) Decimal _ h
 
--- a front is no longer than the whole
+-- a prefix is no longer than the whole
 pub front_within : (test : ℕ → Bool) (bs : List ℕ) → length (front test bs) ≤ length bs
 front_within test bs = omega (arith, ap length (front_then_rest test bs), length-append (front test bs) (drop (length (front test bs)) bs))
 
@@ -81,7 +81,7 @@ abbrev Stand : ℕ → ℕ → List (ℕ × Lexeme) → Type 0
 Stand low high [] = Unit {0}
 Stand low high (x ∷ xs) = StandsBy low high x.0 x.1 × Stand low high xs
 
--- what stands behind a byte
+-- what comes after a byte
 pub next_here : (text : List ℕ) (at b : ℕ) (bs : List ℕ) → drop at text ≡ b ∷ bs → drop (at + 1) text ≡ bs
 next_here text at b bs e = sym (drop-drop 1 at text) ∙ ap (drop 1) e
 
@@ -108,7 +108,7 @@ module _ (text : List ℕ) (low : ℕ) where
 lexemes_stand : (text : List ℕ) (at : ℕ) → Stand at (length text) (lexemes_from text at)
 lexemes_stand text at = stands_from text at 0 at (drop at text) (omega arith) refl
 
--- what stands behind others
+-- what comes after others
 stand_behind : (low high : ℕ) (earlier rest : List (ℕ × Lexeme)) → Stand low high (earlier ++ rest) → Stand low high rest
 stand_behind low high [] rest h = h
 stand_behind low high (x ∷ earlier) rest h = stand_behind low high earlier rest h.1
@@ -153,13 +153,13 @@ first_stands limit low high (suc n) ((at, closes) ∷ xs) h = first_stands limit
 first_stands limit low high n ((at, word k bytes) ∷ xs) h = first_stands limit low high n xs h.1
 first_stands limit low high n ((at, wrong f) ∷ xs) h = h.0
 
--- trees that stand in a text behind other lexemes have their offsets there
+-- trees that stand in a text after other lexemes have their offsets there
 pub trees_in_text : (text : List ℕ) (at : ℕ) (earlier rest : List (ℕ × Lexeme)) (ts : Trees) → lexemes_from text at ≡ earlier ++ (spelled_all ts ++ rest) → AllOffsetsOf (λ n. (at ≤ n) × (n < length text)) ts
 trees_in_text text at earlier rest ts e = (trees_stand at (length text) ts rest (stand_behind at (length text) earlier (spelled_all ts ++ rest) (subst (Stand at (length text)) e (lexemes_stand text at)))).0
 
 pub tree_in_text : (text : List ℕ) (at : ℕ) (t : Tree) (rest : List (ℕ × Lexeme)) → lexemes_from text at ≡ spelled t ++ rest → AllOffsets (λ n. (at ≤ n) × (n < length text)) t
 tree_in_text text at t rest e = (tree_stands at (length text) t rest (subst (Stand at (length text)) e (lexemes_stand text at))).0
 
--- the first fault of what stands in a text behind other lexemes has its offset there
+-- the first fault of what stands in a text after other lexemes has its offset there
 pub fault_in_text : (text : List ℕ) (at limit n : ℕ) (earlier rest : List (ℕ × Lexeme)) (f : Located) → lexemes_from text at ≡ earlier ++ rest → first_fault limit (length text) n rest ≡ Some f → f.offset ≤ length text
 fault_in_text text at limit n earlier rest f e h = subst (StandsAt (length text)) h (first_stands limit at (length text) n rest (stand_behind at (length text) earlier rest (subst (Stand at (length text)) e (lexemes_stand text at))))

@@ -22,7 +22,7 @@ lexemes_skip zero at bs = ap (λ k. lexemes 0 k bs) (sym (add-zero at))
 lexemes_skip (suc n) at [] = refl
 lexemes_skip (suc n) at (b ∷ bs) = lexemes_skip n (at + 1) bs ∙ ap (λ k. lexemes 0 k (drop n bs)) (omega arith)
 
--- what may stand behind a word: nothing, a space, or the end of a list
+-- what may come after a word: nothing, a space, or the end of a list
 abbrev pub Ends : List ℕ → Type 0
 Ends [] = ⊤
 Ends (b ∷ bs) = (is_symbol_byte b ≡ false) × ((b == 34) ≡ false)
@@ -119,7 +119,7 @@ abbrev mutual
   moved_all at none = none
   moved_all at (more t ts) = more (moved at t) (moved_all (at + length (printed t) + 1) ts)
 
--- a tree is read from what is printed of it, whatever may stand behind
+-- a tree is read from what is printed of it, whatever may come after
 abbrev pub IsReadAt : Tree → Type 0
 IsReadAt t = (at : ℕ) (rest : List ℕ) → Ends rest → lexemes 0 at (printed t ++ rest) ≡ spelled (moved at t) ++ lexemes 0 (at + length (printed t)) rest
 

@@ -8,7 +8,7 @@ use Rattle.spec_text.specs.Faults.{Located, nesting_limit, first_fault}
 use Rattle.spec_text.specs.Readings.{depth, depth_all, Stops, StopsAt, kept, limited, is_long, IsReadUpTo}
 use Rattle.spec_text.proofs.Reading.{same_first}
 
--- no tree that may stand behind n open lists is in front
+-- no tree that may come after n open lists is in front
 abbrev pub BeginsNoTree : ℕ → List (ℕ × Lexeme) → Type 0
 BeginsNoTree n xs = (t : Tree) (ys : List (ℕ × Lexeme)) → xs ≡ spelled t ++ ys → nesting_limit < n + depth t
 
@@ -30,7 +30,7 @@ one_row n (more t ts) (more u us) xs ys a b free free_too e =
     let r = one_row n ts us xs ys within_t within_u free free_too s.1 in
     (ap (λ x. more x ts) s.0 ∙ ap (more u) r.0, r.1)
 
--- no tree stands in front of nothing
+-- no tree comes before nothing
 pub nothing_begins_no_tree : (n : ℕ) → BeginsNoTree n []
 nothing_begins_no_tree n (atom at k bytes) ys e = cc
 nothing_begins_no_tree n (list at ts end) ys e = cc

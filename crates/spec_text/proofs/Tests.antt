@@ -91,7 +91,7 @@ passes_consists test (b ∷ bs) e =
     let parts = and_parts (test b) (all_pass test bs) e in
     (parts.0, passes_consists test bs parts.1)
 
--- a byte of symbols that is no digit, and bytes of symbols behind it
+-- a byte of symbols that is no digit, and bytes of symbols after it
 pub record IsSymbolic (b : ℕ) (bs : List ℕ) : Type 0 where
   pub no_number : is_digit b ≡ false
   pub run : Consists is_symbol_byte (b ∷ bs)

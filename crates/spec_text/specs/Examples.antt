@@ -17,12 +17,12 @@ pub string_with_quotes : lexemes 0 0 (codes "\"a\"\"b\" let") ≡ (0, word Text 
 unfolding lexemes first_piece string_body after_quote
 string_with_quotes = refl
 
--- a point behind a numeral has a digit behind it
+-- a point after a numeral has a digit after it
 pub point_without_digits : lexical_fault (codes "(1. a)") ≡ located 2 BadChar
 unfolding lexemes first_piece first_fault
 point_without_digits = refl
 
--- behind a decimal stands no byte of symbols
+-- after a decimal stands no byte of symbols
 pub two_points : lexical_fault (codes "1.5.2") ≡ located 3 BadChar
 unfolding lexemes first_piece first_fault
 two_points = refl
@@ -32,17 +32,17 @@ pub two_zeros : lexical_fault (codes "00") ≡ located 1 BadChar
 unfolding lexemes first_piece first_fault
 two_zeros = refl
 
--- a backslash in a quoted symbol is told before the missing bar
+-- a backslash in a quoted symbol is known before the missing bar
 pub backslash_before_no_bar : lexical_fault (codes "(|a\\b") ≡ located 3 BadChar
 unfolding lexemes first_piece first_fault
 backslash_before_no_bar = refl
 
--- a quoted symbol that does not end is told at its bar
+-- a quoted symbol that does not end is reported at its bar
 pub no_bar : lexical_fault (codes "(|ab") ≡ located 1 UnclosedQuote
 unfolding lexemes first_piece first_fault
 no_bar = refl
 
--- a string that does not end is told at its quote
+-- a string that does not end is reported at its quote
 pub no_quote : lexical_fault (codes "(a \"b") ≡ located 3 UnclosedString
 unfolding lexemes first_piece first_fault string_body after_quote
 no_quote = refl
@@ -52,12 +52,12 @@ pub quotes_that_close_nothing : lexical_fault (codes "(\"a\"\"") ≡ located 1 U
 unfolding lexemes first_piece first_fault string_body after_quote
 quotes_that_close_nothing = refl
 
--- an open list is told at the end
+-- an open list is reported at the end
 pub unclosed : lexical_fault (codes "(a (b)") ≡ located 6 UnclosedList
 unfolding lexemes first_piece first_fault
 unclosed = refl
 
--- a parenthesis that closes nothing is told before a list that is open at the end
+-- a parenthesis that closes nothing is known before a list that is open at the end
 pub stray : lexical_fault (codes "(a))b(") ≡ located 3 StrayClose
 unfolding lexemes first_piece first_fault
 stray = refl

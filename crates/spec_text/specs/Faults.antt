@@ -13,7 +13,7 @@ pub record Located : Type 0 where
 abbrev pub located : ℕ → Fault → Option Located
 located at f = Some (record { offset = at; fault = f })
 
--- the first fault of lexemes behind so many open lists, where the text ends at an offset and so many lists may be open at once
+-- the first fault of lexemes after so many open lists, where the text ends at an offset and so many lists may be open at once
 unfoldable pub first_fault : (limit end : ℕ) → ℕ → List (ℕ × Lexeme) → Option Located
 first_fault limit end zero [] = None
 first_fault limit end (suc n) [] = located end UnclosedList

@@ -26,24 +26,24 @@ abbrev pub ended : List ℕ → ℕ → Lexeme → Piece
 ended [] n x = piece x n
 ended (b ∷ bs) n x = if is_symbol_byte b then piece (wrong BadChar) n else piece x n
 
--- digits, a point, and the digits behind it, of which there is one at least
+-- digits, a point, and the digits after it, of which there is one at least
 abbrev pub decimal : List ℕ → List ℕ → List ℕ → Piece
 decimal digits [] rest = piece (wrong BadChar) (length digits)
 decimal digits (d ∷ ds) rest = ended rest (length digits + 1 + length (d ∷ ds)) (word Decimal (digits ++ 46 ∷ d ∷ ds))
 
--- digits, with the bytes behind them
+-- digits, with the bytes after them
 abbrev pub number : List ℕ → List ℕ → Piece
 number digits [] = piece (word Numeral digits) (length digits)
 number digits (b ∷ bs) = if b == 46 then decimal digits (front is_digit bs) (drop (length (front is_digit bs)) bs) else ended (b ∷ bs) (length digits) (word Numeral digits)
 
 -- strings may hold any byte (own: the standard has printable characters and white space there)
 unfoldable mutual
-  -- the bytes behind an opening quote up to the closing one, as written; there, two quotes stand for one
+  -- the bytes after an opening quote up to the closing one, as written; there, two quotes stand for one
   pub string_body : List ℕ → Option (List ℕ)
   string_body [] = None
   string_body (b ∷ bs) = if b == 34 then after_quote bs else option_map (λ body. b ∷ body) (string_body bs)
 
-  -- the same from behind a quote on: with a second one it is a pair, else it was the closing one
+  -- the same from after a quote on: with a second one it is a pair, else it was the closing one
   pub after_quote : List ℕ → Option (List ℕ)
   after_quote [] = Some []
   after_quote (b ∷ bs) = if b == 34 then option_map (λ body. 34 ∷ 34 ∷ body) (string_body bs) else Some []
@@ -53,12 +53,12 @@ abbrev pub string : Option (List ℕ) → Piece
 string None = piece (wrong UnclosedString) 0
 string (Some body) = piece (word Text body) (length body + 2)
 
--- a name behind an opening bar, and what stands behind the name
+-- a name after an opening bar, and what comes after the name
 abbrev pub quoted : Name → List ℕ → Piece
 quoted name [] = piece (wrong UnclosedQuote) 0
 quoted name (b ∷ bs) = if b == 124 then piece (word Quoted name) (length name + 2) else piece (wrong BadChar) (length name + 1)
 
--- a keyword by its name behind the colon, of which there is one byte at least; it may begin with a digit (own)
+-- a keyword by its name after the colon, of which there is one byte at least; it may begin with a digit (own)
 abbrev pub keyword : Name → Piece
 keyword [] = piece (wrong BadChar) 0
 keyword (b ∷ bs) = piece (word Keyword (b ∷ bs)) (length (b ∷ bs) + 1)
@@ -67,7 +67,7 @@ keyword (b ∷ bs) = piece (word Keyword (b ∷ bs)) (length (b ∷ bs) + 1)
 abbrev pub symbol : Name → Piece
 symbol name = piece (word (if among reserved_words name then Reserved else Simple) name) (length name)
 
--- what a byte and the bytes behind it begin with
+-- what a byte and the bytes after it begin with
 unfoldable pub first_piece : ℕ → List ℕ → Piece
 first_piece b bs =
     if is_blank b then piece blank 1

@@ -1,4 +1,4 @@
--- The lexicon as a table: which bytes spell which lexeme. Source: SMT-LIB 2.6, section 3.1. Own: strings, quoted symbols and comments may hold any other byte, where the standard has printable characters and white space, and behind a keyword's colon may stand any bytes of symbols, where it has a simple symbol.
+-- The lexicon as a table: which bytes spell which lexeme. Source: SMT-LIB 2.6, section 3.1. Own: strings, quoted symbols and comments may hold any other byte, where the standard has printable characters and white space, and after a keyword's colon may stand any bytes of symbols, where it has a simple symbol.
 use Rattle.std.specs.Prelude.{◌≡◌, ◌≢◌, ◌≤◌, ℕ, Bool, true, false, List, [], ◌∷◌, ◌++◌, length, take, drop, ◌==◌}
 use Rattle.spec_text.specs.declared.Kind.TheVariants.{Numeral, Decimal, Text, Simple, Quoted, Reserved, Keyword}
 use Rattle.spec_text.specs.Bytes.{is_blank, is_in_comment, is_digit, is_symbol_byte, is_in_bars, among, reserved_words}
@@ -39,20 +39,20 @@ abbrev pub BeginsWithout : (ℕ → Bool) → List ℕ → Type 0
 BeginsWithout test [] = Unit {0}
 BeginsWithout test (b ∷ bs) = test b ≡ false
 
--- behind a number stands no byte of symbols, and behind a string no quote
+-- after a number stands no byte of symbols, and after a string no quote
 abbrev pub CanFollow : Lexeme → List ℕ → Type 0
 CanFollow (word Numeral name) rest = BeginsWithout is_symbol_byte rest
 CanFollow (word Decimal name) rest = BeginsWithout is_symbol_byte rest
 CanFollow (word Text name) rest = BeginsWithout (λ b. b == 34) rest
 CanFollow x rest = Unit {0}
 
--- so many bytes at the front are this lexeme
+-- so many bytes at the prefix are this lexeme
 pub record Begins (bytes : List ℕ) (n : ℕ) (x : Lexeme) : Type 0 where
   pub within : n ≤ length bytes
   pub spelled : Spells (take n bytes) x
   pub behind : CanFollow x (drop n bytes)
 
--- so many bytes at the front are this lexeme, and no more of them are any
+-- so many bytes at the prefix are this lexeme, and no more of them are any
 pub record IsLongest (bytes : List ℕ) (n : ℕ) (x : Lexeme) : Type 0 where
   pub begins : Begins bytes n x
   pub longest : (m : ℕ) (y : Lexeme) → Begins bytes m y → m ≤ n

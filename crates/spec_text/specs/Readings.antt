@@ -18,7 +18,7 @@ abbrev mutual
   depth_all none = 0
   depth_all (more t ts) = max (depth t) (depth_all ts)
 
--- behind n open lists the lexemes begin with no tree and with no end of a list: their first fault stands before
+-- after n open lists the lexemes begin with no tree and with no end of a list: their first fault stands before
 pub record IsBroken (end n : ℕ) (xs : List (ℕ × Lexeme)) (f : Located) : Type 0 where
   -- it is their first fault
   pub fault : first_fault nesting_limit end n xs ≡ Some f
@@ -27,14 +27,14 @@ pub record IsBroken (end n : ℕ) (xs : List (ℕ × Lexeme)) (f : Located) : Ty
   -- a tree that stands in front is nested too deep
   pub no_tree : (t : Tree) (ys : List (ℕ × Lexeme)) → xs ≡ spelled t ++ ys → nesting_limit < n + depth t
 
--- the lexemes are these trees, nested no deeper than they may be behind n open lists, and then the rest
+-- the lexemes are these trees, nested no deeper than they may be after n open lists, and then the rest
 pub record AreTrees (n : ℕ) (xs : List (ℕ × Lexeme)) (ts : Trees) (rest : List (ℕ × Lexeme)) : Type 0 where
-  -- the trees stand in front of the rest
+  -- the trees come before the rest
   pub split : xs ≡ spelled_all ts ++ rest
   -- none is nested too deep
   pub within : n + depth_all ts ≤ nesting_limit
 
--- where the reading of trees behind n open lists stops: at the end of the lexemes where none is open, at the end of the innermost open list, or at what is broken
+-- where the reading of trees after n open lists stops: at the end of the lexemes where none is open, at the end of the innermost open list, or at what is broken
 abbrev pub StopsAt : ℕ → ℕ → List (ℕ × Lexeme) → Type 0
 StopsAt end n rest =
     ((n ≡ 0) × (rest ≡ []))
@@ -84,13 +84,13 @@ limited long (Some f) = Some (at_limit long f)
 
 -- a text is these trees, and then ends or is broken
 pub record IsReadUpTo (text : List ℕ) (ts : Trees) (found : Option Located) : Type 0 where
-  -- the lexemes behind the trees
+  -- the lexemes after the trees
   pub rest : List (ℕ × Lexeme)
   -- the trees stand in front
   pub trees : AreTrees 0 (lexemes 0 0 (kept text)) ts rest
   -- what stops the reading of the bytes that are kept
   pub stop : Option Located
-  -- it stands behind the trees
+  -- it comes after the trees
   pub stops : Stops (length (kept text)) rest stop
   -- it is that of the whole text
   pub is : found ≡ limited (is_long text) stop

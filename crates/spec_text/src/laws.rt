@@ -47,8 +47,8 @@ pub fn a_text_is_read_up_to_one_end()
         → (ts ≡ us) × (f ≡ g) }
 {}
 
-/// Says that behind so many open lists lexemes are trees up to one end: where what is behind the trees begins with no
-/// tree, but for one nested too deep, the trees and what is behind them are one.
+/// Says that after so many open lists lexemes are trees up to one end: where what is after the trees begins with no
+/// tree, but for one nested too deep, the trees and what is after them are one.
 pub fn lexemes_are_read_up_to_one_end()
     ensures { (n : ℕ) (xs rest others : List (ℕ × Lexeme)) (ts us : Trees) → AreTrees n xs ts rest → AreTrees n xs us others
         → ((t : Tree) (ys : List (ℕ × Lexeme)) → rest ≡ spelled t ++ ys → nesting_limit < n + depth t)
@@ -56,14 +56,14 @@ pub fn lexemes_are_read_up_to_one_end()
         → (ts ≡ us) × (rest ≡ others) }
 {}
 
-/// Says that each text is s-expressions, from each offset on and behind so many open lists, up to what stops their reading.
+/// Says that each text is s-expressions, from each offset on and after so many open lists, up to what stops their reading.
 pub fn each_text_is_read()
     ensures { (text : List ℕ) (at n : ℕ) → n ≤ nesting_limit
         → (ts : Trees) × (rest : List (ℕ × Lexeme)) × AreTrees n (lexemes_from text at) ts rest × StopsAt (length text) n rest }
 {}
 
 /// Says that the offsets of trees lie in the text that they stand in, from the offset on from which it was read: that of
-/// one tree in front, and of trees behind other lexemes.
+/// one tree in front, and of trees after other lexemes.
 pub fn trees_stand_in_their_text()
     ensures first { (text : List ℕ) (at : ℕ) (t : Tree) (rest : List (ℕ × Lexeme)) → lexemes_from text at ≡ spelled t ++ rest
         → AllOffsets (λ n. (at ≤ n) × (n < length text)) t }
@@ -71,7 +71,7 @@ pub fn trees_stand_in_their_text()
         → lexemes_from text at ≡ earlier ++ (spelled_all ts ++ rest) → AllOffsetsOf (λ n. (at ≤ n) × (n < length text)) ts }
 {}
 
-/// Says that the first fault of lexemes of a text lies in the text or at its end, behind whatever other lexemes and
+/// Says that the first fault of lexemes of a text lies in the text or at its end, after whatever other lexemes and
 /// however many open lists.
 pub fn lexical_faults_stand_in_their_text()
     ensures { (text : List ℕ) (at n : ℕ) (earlier rest : List (ℕ × Lexeme)) (f : Located) → lexemes_from text at ≡ earlier ++ rest

@@ -54,7 +54,7 @@ heads_take symbols nodes whole h ts c =
     let w = is_written symbols nodes whole (app h ts) c in
     subst TakesItsOwn (sym w.2) (subst (λ us. head_takes (head_meant symbols w.0.head) (map sort_of us) ≡ true) (sym (list_of-terms_of (clause_at tv w.0.arguments))) w.1.sorts)
 
--- the symbol in front, if there is one, is among these
+-- the first symbol, if there is one, is among these
 abbrev IsDeclared : List Symbol → Head → Type 0
 IsDeclared symbols (Apply s) = Contains symbols s
 IsDeclared symbols h = Unit {0}

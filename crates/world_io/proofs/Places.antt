@@ -23,7 +23,7 @@ named_at [] k t name h e s = absurd (omega arith)
 named_at (u ∷ es) zero t name h e s = rw (← e) (ap (λ b. cond b (Some t.1) (text_named (map text_of es) name)) s)
 named_at (u ∷ es) (suc k) t name h e s = named_at es k t name (omega arith) e s
 
--- a front that was copied, and what stands behind it
+-- a prefix that was copied, and what comes after it
 pub moved_front : (text buf left copied : List ℕ) (o n : ℕ) → left ≡ drop o text → copied ≡ take n left → n ≤ length left → drop o text ≡ take n (copied ++ drop n buf) ++ drop (o + n) text
 moved_front text buf left copied o n l c h =
     let len : length copied ≡ n = rw c (length-take-le n left h) in

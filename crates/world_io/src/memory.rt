@@ -8,7 +8,7 @@ use crate::{Bytes, Failed, NoMemory, Shelf, Sink};
 use std::alloc::Global;
 use std::marker::Model;
 
-/// Holds texts under names in memory, and fails the calls that it is told to fail.
+/// Holds texts under names in memory, and fails the calls that it has to fail.
 ///
 /// The calls of `begin` and `read` are numbered from 0 together.
 #[derive(Drop)]
@@ -103,7 +103,7 @@ impl Shelf for MemShelf {
     }
 }
 
-/// Keeps in memory what is written, and fails the writes that it is told to fail.
+/// Keeps in memory what is written, and fails the writes that it has to fail.
 ///
 /// The writes are numbered from 0.
 #[derive(Drop)]
@@ -154,7 +154,7 @@ impl MemSink {
         })
     }
 
-    /// Lends the bytes written so far. It takes no memory.
+    /// Lends the bytes written up to here. It takes no memory.
     pub fn written(&self) -> &[u8]
         ensures { result.now ≡ self.now.written }
     {

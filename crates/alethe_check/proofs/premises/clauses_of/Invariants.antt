@@ -1,4 +1,4 @@
--- The clauses so far.
+-- The clauses up to here.
 use Rattle.std.proofs.Common.{◌≡◌, All, map, take}
 use Rattle.term_core.specs.Tables.{AreIn, clause_at}
 use Rattle.alethe_check.specs.Holding.{clauses_numbered}

@@ -1,4 +1,4 @@
--- The numbers so far.
+-- The numbers up to here.
 use Rattle.std.proofs.Common.{ℕ, Contains, take}
 use Rattle.std.specs.Prelude.{◌↔◌}
 use Rattle.alethe_check.proofs.premises.distinct.Given as goal

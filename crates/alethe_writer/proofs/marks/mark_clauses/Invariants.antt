@@ -1,4 +1,4 @@
--- The terms of the marked clauses so far are marked.
+-- The terms of the marked clauses up to here are marked.
 use Rattle.alethe_writer.proofs.Printed.{AreOfFirst}
 use Rattle.alethe_writer.proofs.marks.mark_clauses.Given as goal
 

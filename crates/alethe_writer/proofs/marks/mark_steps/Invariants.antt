@@ -1,4 +1,4 @@
--- The numbers so far are marked.
+-- The numbers up to here are marked.
 use Rattle.std.proofs.Common.{take}
 use Rattle.proof_log.specs.Logs.{numbers_of}
 use Rattle.alethe_writer.specs.Marks.{Marks}

@@ -1,4 +1,4 @@
--- The numbers so far are marked.
+-- The numbers up to here are marked.
 use Rattle.std.proofs.Common.{take}
 use Rattle.alethe_writer.specs.Marks.{Marks, plain_numbers}
 use Rattle.alethe_writer.proofs.marks.mark_terms.Given as goal

@@ -1,4 +1,4 @@
--- The numbers so far, and those to come.
+-- The numbers up to here, and those to come.
 use Rattle.std.proofs.Common.{◌≡◌, ◌+◌, ◌≤◌, ◌++◌, drop}
 use Rattle.spec_printing.specs.Plans.{counted_inferences}
 use Rattle.term_core.specs.Tables.{TableView}

@@ -1,4 +1,4 @@
--- The numbers so far, and those to come.
+-- The numbers up to here, and those to come.
 use Rattle.std.proofs.Common.{◌≡◌, ◌+◌, ◌≤◌, ◌++◌, drop}
 use Rattle.spec_printing.specs.Plans.{counted, compounds}
 use Rattle.alethe_writer.proofs.plans.number_terms.Given as goal

@@ -1,4 +1,4 @@
--- The numbers so far are below the bound.
+-- The numbers up to here are below the bound.
 use Rattle.std.proofs.Common.{◌<◌, ◌≤◌, length, take, All}
 use Rattle.clausify.proofs.marks.bound_of.Given as goal
 

@@ -1,4 +1,4 @@
--- The numbers so far are marked.
+-- The numbers up to here are marked.
 use Rattle.std.proofs.Common.{take}
 use Rattle.clausify.specs.Marks.{Marks}
 use Rattle.clausify.proofs.marks.mark_each.Given as goal

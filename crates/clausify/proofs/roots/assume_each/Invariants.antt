@@ -1,4 +1,4 @@
--- The terms so far are assumed.
+-- The terms up to here are assumed.
 use Rattle.std.proofs.Common.{[], ◌∷◌, map, take}
 use Rattle.term_core.specs.Tables.{clause_at}
 use Rattle.clausify.specs.Clausified.{Grows}

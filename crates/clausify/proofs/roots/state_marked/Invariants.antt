@@ -1,4 +1,4 @@
--- The clauses of the marked terms so far are stated.
+-- The clauses of the marked terms up to here are stated.
 use Rattle.std.proofs.Common.{[], take}
 use Rattle.std.specs.Prelude.{flat_map}
 use Rattle.spec_search.specs.Base.{clauses_of}

@@ -1,4 +1,4 @@
--- The clause has the arguments so far.
+-- The clause has the arguments up to here.
 use Rattle.std.proofs.Common.{◌≡◌, ◌∷◌, map, take}
 use Rattle.spec_terms.specs.Subsets.{arguments_of}
 use Rattle.spec_proofs.specs.Schemes.{signed}

@@ -1,4 +1,4 @@
--- The clauses of the arguments so far are stated.
+-- The clauses of the arguments up to here are stated.
 use Rattle.std.proofs.Common.{[], ◌∷◌, map, take}
 use Rattle.spec_terms.specs.Subsets.{arguments_of}
 use Rattle.spec_proofs.specs.Schemes.{signed}

@@ -1,4 +1,4 @@
--- The clauses of the rules so far are stated.
+-- The clauses of the rules up to here are stated.
 use Rattle.std.proofs.Common.{[], take}
 use Rattle.term_core.specs.Tables.{term_at}
 use Rattle.clausify.specs.Clausified.{Grows}

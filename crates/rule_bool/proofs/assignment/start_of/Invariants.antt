@@ -1,4 +1,4 @@
--- The complements so far.
+-- The complements up to here.
 use Rattle.std.proofs.Common.{map, take}
 use Rattle.rule_bool.specs.Literals.{lit_complement, IsConsistent}
 use Rattle.rule_bool.specs.Literals.{SameLits}

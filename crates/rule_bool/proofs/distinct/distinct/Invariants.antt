@@ -1,4 +1,4 @@
--- The literals so far.
+-- The literals up to here.
 use Rattle.std.proofs.Common.{take}
 use Rattle.rule_bool.specs.Literals.{SameLits}
 use Rattle.rule_bool.proofs.distinct.distinct.Given as goal

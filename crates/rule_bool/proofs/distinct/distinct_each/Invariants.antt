@@ -1,4 +1,4 @@
--- The clauses so far.
+-- The clauses up to here.
 use Rattle.std.proofs.Common.{take}
 use Rattle.std.specs.List.{AllZip}
 use Rattle.rule_bool.specs.Literals.{lists, IsSetOf}

@@ -1,4 +1,4 @@
--- The clauses so far are in the lists.
+-- The clauses up to here are in the lists.
 use Rattle.rule_bool.specs.Literals.{lists}
 use Rattle.rule_bool.proofs.Noting.{HasIndexed}
 use Rattle.rule_bool.proofs.occurrences.occurrences_of.Given as goal

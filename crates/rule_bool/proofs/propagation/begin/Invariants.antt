@@ -1,4 +1,4 @@
--- The premises so far are tracked.
+-- The premises up to here are tracked.
 use Rattle.rule_bool.specs.Literals.{lists}
 use Rattle.rule_bool.proofs.Stepping.{HasBegun}
 use Rattle.rule_bool.proofs.propagation.begin.Given as goal

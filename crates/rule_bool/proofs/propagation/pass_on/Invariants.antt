@@ -1,4 +1,4 @@
--- The premises of the numbers so far have lost a literal.
+-- The premises of the numbers up to here have lost a literal.
 use Rattle.std.proofs.Common.{drop}
 use Rattle.rule_bool.specs.Literals.{lists}
 use Rattle.rule_bool.proofs.Stepping.{IsLosing}

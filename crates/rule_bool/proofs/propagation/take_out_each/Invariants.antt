@@ -1,4 +1,4 @@
--- The literals so far were taken out.
+-- The literals up to here were taken out.
 use Rattle.std.proofs.Common.{◌+◌, ◌-◌, length}
 use Rattle.rule_bool.specs.Literals.{lists}
 use Rattle.rule_bool.specs.Propagation.{untouched}

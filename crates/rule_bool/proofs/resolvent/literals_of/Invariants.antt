@@ -1,4 +1,4 @@
--- The literals so far.
+-- The literals up to here.
 use Rattle.std.proofs.Common.{take}
 use Rattle.term_core.specs.Tables.{clause_at}
 use Rattle.rule_bool.specs.Resolvents.{Means}

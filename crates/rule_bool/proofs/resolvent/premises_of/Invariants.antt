@@ -1,4 +1,4 @@
--- The premises so far.
+-- The premises up to here.
 use Rattle.std.proofs.Common.{map, take}
 use Rattle.term_core.specs.Tables.{clause_at}
 use Rattle.rule_bool.specs.Literals.{lists}

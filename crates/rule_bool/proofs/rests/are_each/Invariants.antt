@@ -1,4 +1,4 @@
--- The terms so far are the arguments so far.
+-- The terms up to here are the arguments up to here.
 use Rattle.std.proofs.Common.{◌≡◌, map, take}
 use Rattle.spec_proofs.specs.Schemes.{signed}
 use Rattle.term_core.specs.Tables.{clause_at}

@@ -1,4 +1,4 @@
--- The numbers so far are the table's.
+-- The numbers up to here are the table's.
 use Rattle.term_core.specs.Tables.{AreIn}
 use Rattle.rule_bool.proofs.rule_tests.clause_of.Given as goal
 

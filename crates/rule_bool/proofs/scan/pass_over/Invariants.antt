@@ -1,4 +1,4 @@
--- What the premises behind have come to.
+-- What the premises after have come to.
 use Rattle.std.proofs.Common.{drop}
 use Rattle.rule_bool.specs.Literals.{lists}
 use Rattle.rule_bool.proofs.Passes.{SoFar}

@@ -1,4 +1,4 @@
--- That what stands behind the term is as its arguments say.
+-- That what comes after the term is as its arguments say.
 use Rattle.term_core.specs.Tables.{shape_of}
 use Rattle.rule_bool.proofs.Given.{gives_by}
 use Rattle.rule_bool.proofs.schemes.gives_rest.Goals as goal

@@ -1,4 +1,4 @@
--- That a term gives the clause behind the premise's complement, or no term does.
+-- That a term gives the clause after the premise's complement, or no term does.
 use Rattle.rule_bool.proofs.Given.{front_in, not_turned_many, not_turned_front, turned_there, not_turned}
 use Rattle.rule_bool.proofs.schemes.turned.Goals as goal
 

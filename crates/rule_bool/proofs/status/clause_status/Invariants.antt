@@ -1,4 +1,4 @@
--- The status of the literals so far.
+-- The status of the literals up to here.
 use Rattle.std.proofs.Common.{take}
 use Rattle.rule_bool.specs.Statuses.{HasStatus}
 use Rattle.rule_bool.proofs.status.clause_status.Given as goal

@@ -1,4 +1,4 @@
--- The clause has the terms so far.
+-- The clause has the terms up to here.
 use Rattle.std.proofs.Common.{◌≤◌, length, take}
 use Rattle.spec_proofs.specs.Resolution.{IsWithin}
 use Rattle.rule_bool.proofs.within.has_each.Given as goal

@@ -1,4 +1,4 @@
--- The places so far have other terms.
+-- The places up to here have other terms.
 use Rattle.std.proofs.Common.{Contains, take}
 use Rattle.rule_bool.proofs.within.place_in.Given as goal
 

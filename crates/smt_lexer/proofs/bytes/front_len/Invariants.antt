@@ -1,4 +1,4 @@
--- The run goes on behind the bytes that were passed.
+-- The run goes on after the bytes that were passed.
 use Rattle.std.proofs.Common.{◌≡◌, ◌+◌, ◌≤◌, length, drop}
 use Rattle.spec_text.specs.Bytes.{front}
 use Rattle.smt_lexer.specs.Classes.{test_of}

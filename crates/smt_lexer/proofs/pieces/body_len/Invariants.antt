@@ -1,4 +1,4 @@
--- The body goes on behind the bytes that were passed.
+-- The body goes on after the bytes that were passed.
 use Rattle.std.proofs.Common.{length, ◌-◌, ◌≤◌}
 use Rattle.smt_lexer.proofs.Strings.{GoesOn}
 use Rattle.smt_lexer.proofs.pieces.body_len.Given as goal

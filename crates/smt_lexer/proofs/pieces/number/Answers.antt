@@ -1,4 +1,4 @@
--- A point stands behind the digits, and digits behind it.
+-- A point comes after the digits, and digits after it.
 use Rattle.std.proofs.Common.{arith, ◌∙◌, sym}
 use Rattle.std.proofs.lemmas.List.{take_rest}
 use Rattle.std.proofs.lemmas.Bool.Decides.{nat_tests}

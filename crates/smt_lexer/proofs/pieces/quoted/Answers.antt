@@ -1,4 +1,4 @@
--- The byte behind the name is a bar.
+-- The byte after the name is a bar.
 use Rattle.std.proofs.Common.{arith}
 use Rattle.std.proofs.lemmas.Bool.Decides.{nat_tests}
 use Rattle.smt_lexer.proofs.Fronts.{quoted_is}

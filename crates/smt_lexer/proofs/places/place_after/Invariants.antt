@@ -1,4 +1,4 @@
--- The place so far is one of the text, and not behind the end.
+-- The place up to here is one of the text, and not after the end.
 use Rattle.std.proofs.Common.{◌-◌, ◌≤◌}
 use Rattle.spec_text.specs.Places.{IsPlaceOf}
 use Rattle.smt_lexer.proofs.places.place_after.Given as goal

@@ -1,4 +1,4 @@
--- What is marked so far.
+-- What is marked up to here.
 use Rattle.std.proofs.Common.{take}
 use Rattle.solve_core.specs.Analyses.{MarksEach}
 use Rattle.solve_core.proofs.analysis.mark_each.Given as goal

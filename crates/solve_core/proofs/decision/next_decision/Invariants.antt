@@ -1,4 +1,4 @@
--- The clauses so far are settled.
+-- The clauses up to here are settled.
 use Rattle.std.proofs.Common.{take}
 use Rattle.rule_bool.specs.Literals.{lists}
 use Rattle.solve_core.specs.Search.{AreSettled}

@@ -1,4 +1,4 @@
--- What the literals so far come to.
+-- What the literals up to here come to.
 use Rattle.std.proofs.Common.{take}
 use Rattle.solve_core.specs.Search.{FindsUnassigned}
 use Rattle.solve_core.proofs.decision.unassigned_in.Given as goal

@@ -1,4 +1,4 @@
--- The steps of the numbers so far.
+-- The steps of the numbers up to here.
 use Rattle.std.proofs.Common.{◌≡◌, take}
 use Rattle.solve_core.specs.Rounds.{steps_at}
 use Rattle.solve_core.proofs.log_learned.steps_of.Given as goal

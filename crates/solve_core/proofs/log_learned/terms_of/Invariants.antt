@@ -1,4 +1,4 @@
--- The terms of the literals so far.
+-- The terms of the literals up to here.
 use Rattle.std.proofs.Common.{◌≡◌, map, take}
 use Rattle.solve_core.proofs.log_learned.terms_of.Given as goal
 

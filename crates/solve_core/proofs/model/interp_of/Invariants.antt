@@ -1,4 +1,4 @@
--- The tables so far.
+-- The tables up to here.
 use Rattle.std.proofs.Common.{◌≡◌, map, take}
 use Rattle.term_core.specs.Valuations.{table_meant}
 use Rattle.solve_core.specs.SearchModels.{constant_table}

@@ -1,4 +1,4 @@
--- That the truth values are those that the literals so far give.
+-- That the truth values are those that the literals up to here give.
 use Rattle.std.proofs.Common.{◌∷◌, ◌++◌, ◌∙◌, [], sym, ap, subst, take, arith}
 use Rattle.std.proofs.lemmas.List.{take_more}
 use Rattle.term_core.specs.declared.ids.Lit.{Lit}

@@ -1,4 +1,4 @@
--- The truth values that the literals so far give.
+-- The truth values that the literals up to here give.
 use Rattle.std.proofs.Common.{take}
 use Rattle.solve_core.specs.SearchModels.{AreTruthsOf}
 use Rattle.solve_core.proofs.model.truths_by_symbol.Given as goal

@@ -1,4 +1,4 @@
--- What holds so far is of the table.
+-- What holds up to here is of the table.
 use Rattle.std.proofs.Common.{All}
 use Rattle.term_core.specs.declared.ids.Lit.{Lit}
 use Rattle.term_core.specs.Tables.{IsIn}

@@ -1,4 +1,4 @@
--- What the passes so far have added; each leaves fewer terms open.
+-- What the passes up to here have added; each leaves fewer terms open.
 use Rattle.rule_bool.specs.Literals.{lists}
 use Rattle.solve_core.specs.Search.{Advances, atoms_in, open_count}
 use Rattle.solve_core.proofs.propagate.propagate.Given as goal

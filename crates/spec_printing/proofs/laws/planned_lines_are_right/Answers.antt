@@ -1,4 +1,4 @@
--- The lines are built up from the front.
+-- The lines are built up from the prefix.
 use Rattle.spec_printing.proofs.Planned.{planned}
 use Rattle.spec_printing.proofs.laws.planned_lines_are_right.Goals as goal
 

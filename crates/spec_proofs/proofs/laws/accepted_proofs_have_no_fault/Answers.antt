@@ -13,7 +13,7 @@ use Rattle.spec_proofs.specs.Accepted.{IsAccepted, IsVerdict, no_such_check}
 use Rattle.spec_proofs.proofs.Good.{wrong_end}
 use Rattle.spec_proofs.proofs.laws.accepted_proofs_have_no_fault.Goals as goal
 
--- without a fault the text is no longer than it may be, and nothing stands behind its commands
+-- without a fault the text is no longer than it may be, and nothing comes after its commands
 is_whole : (end : ℕ) (k : Known) (ts : Trees) (long : Bool) (e : Ending) → FirstFault (Some term_limit) k end (ending_fault long e) ts None → (long ≡ false) × (e ≡ complete) × FirstFault (Some term_limit) k end None ts None
 is_whole end k ts false complete h = (refl, refl, h)
 is_whole end k ts true complete h = absurd (wrong_end (Some term_limit) end k (text_fault too_long) ts h)

@@ -1,4 +1,4 @@
--- Each fault is given at an offset of the commands, or by the lexemes behind them.
+-- Each fault is given at an offset of the commands, or by the lexemes after them.
 use Rattle.spec_proofs.proofs.Within.{verdict_in}
 use Rattle.spec_proofs.proofs.laws.faults_stand_in_their_proof.Goals as goal
 

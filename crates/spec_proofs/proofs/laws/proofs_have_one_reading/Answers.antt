@@ -1,4 +1,4 @@
--- That what is behind commands begins with no tree.
+-- That what is after commands begins with no tree.
 use Rattle.spec_proofs.proofs.Endings.{one_text}
 use Rattle.spec_proofs.proofs.laws.proofs_have_one_reading.Goals as goal
 

@@ -1,4 +1,4 @@
--- The bytes that are read, and whether there are more, are told by the front.
+-- The bytes that are read, and whether there are more, are reported by the prefix.
 use Rattle.spec_proofs.proofs.Fronts.{verdict_of_fronts}
 use Rattle.spec_proofs.proofs.laws.verdicts_need_a_front_alone.Goals as goal
 

@@ -1,4 +1,4 @@
--- Both rows stand in front of the same lexemes.
+-- Both rows come before the same lexemes.
 use Rattle.std.proofs.Common.{◌∙◌, sym}
 use Rattle.spec_text.proofs.Stopping.{one_row}
 use Rattle.spec_text.proofs.laws.lexemes_are_read_up_to_one_end.Goals as goal

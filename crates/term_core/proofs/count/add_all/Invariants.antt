@@ -1,4 +1,4 @@
--- The numbers so far came.
+-- The numbers up to here came.
 use Rattle.std.proofs.Common.{take}
 use Rattle.term_core.specs.Counting.{Adds}
 use Rattle.term_core.proofs.count.add_all.Given as goal

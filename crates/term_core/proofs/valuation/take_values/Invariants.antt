@@ -1,4 +1,4 @@
--- The values of the arguments so far are taken.
+-- The values of the arguments up to here are taken.
 use Rattle.std.proofs.Common.{◌≡◌, take}
 use Rattle.term_core.specs.Valuations.{values_of}
 use Rattle.term_core.proofs.valuation.take_values.Given as goal

@@ -1,4 +1,4 @@
--- The values so far give the next.
+-- The values up to here give the next.
 use Rattle.std.proofs.Common.{sym, subst, rules}
 use Rattle.std.proofs.lemmas.Result.{IfOk-weaker}
 use Rattle.term_core.specs.Valuations.{AreValues}

@@ -1,4 +1,4 @@
--- The values so far are those of the first terms.
+-- The values up to here are those of the first terms.
 use Rattle.std.proofs.Common.{◌≡◌, length}
 use Rattle.spec_terms.specs.Values.{Interpretation}
 use Rattle.term_core.specs.Valuations.{Stands, AreValues}

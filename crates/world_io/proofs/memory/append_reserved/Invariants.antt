@@ -1,4 +1,4 @@
--- The bytes so far were appended, and the block stays.
+-- The bytes up to here were appended, and the block stays.
 use Rattle.std.proofs.Common.{◌≡◌, ◌+◌, ◌++◌, take, vec_len, vec_capacity}
 use Rattle.world_io.proofs.memory.append_reserved.Given as goal
 

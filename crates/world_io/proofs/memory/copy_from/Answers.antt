@@ -1,4 +1,4 @@
--- What was copied is a front of what was left.
+-- What was copied is a prefix of what was left.
 use Rattle.std.proofs.Common.{arith}
 use Rattle.world_io.proofs.Places.{moved_front}
 use Rattle.world_io.proofs.memory.copy_from.Goals as goal

@@ -1,4 +1,4 @@
--- No entry so far has the name.
+-- No entry up to here has the name.
 use Rattle.std.proofs.Common.{◌≡◌, drop, map}
 use Rattle.world_io.specs.Memory.{text_named, text_of}
 use Rattle.world_io.proofs.memory.place_of.Given as goal

@@ -1,4 +1,4 @@
--- The clauses so far, whose numbers are the log's.
+-- The clauses up to here, whose numbers are the log's.
 use Rattle.std.proofs.Common.{◌≡◌, take}
 use Rattle.proof_log.specs.Logs.{AreOf, clauses_in}
 use Rattle.proof_log.proofs.log.ProofLog.clauses_of.Given as goal

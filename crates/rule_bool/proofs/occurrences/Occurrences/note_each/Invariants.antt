@@ -1,4 +1,4 @@
--- The literals so far are noted.
+-- The literals up to here are noted.
 use Rattle.std.proofs.Common.{take}
 use Rattle.rule_bool.specs.Occurring.{Notes}
 use Rattle.rule_bool.proofs.occurrences.Occurrences.note_each.Given as goal

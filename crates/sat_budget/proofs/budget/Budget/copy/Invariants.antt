@@ -1,4 +1,4 @@
--- The clauses so far.
+-- The clauses up to here.
 use Rattle.std.proofs.Common.{◌≡◌, take}
 use Rattle.sat_budget.specs.Budgets.{lists}
 use Rattle.sat_budget.proofs.budget.Budget.copy.Given as goal

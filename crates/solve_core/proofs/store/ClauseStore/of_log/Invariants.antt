@@ -1,4 +1,4 @@
--- The store of the steps so far.
+-- The store of the steps up to here.
 use Rattle.std.proofs.Common.{take}
 use Rattle.solve_core.specs.Stores.{IsStoreOf}
 use Rattle.solve_core.proofs.store.ClauseStore.of_log.Given as goal

@@ -1,4 +1,4 @@
--- The numbers so far are of the table's.
+-- The numbers up to here are of the table's.
 use Rattle.std.proofs.Common.{ℕ, ◌<◌, get_or}
 use Rattle.term_core.specs.declared.ids.TermId.{TermId}
 use Rattle.term_core.specs.Tables.{IsIn}

@@ -1,4 +1,4 @@
--- The symbol in front of each term is declared.
+-- The symbol before each term is declared.
 use Rattle.std.proofs.Common.{Contains, subst}
 use Rattle.spec_terms.specs.Terms.{Symbol, Apply, Terms, app}
 use Rattle.term_core.proofs.TermsClosed.{heads_declared}

@@ -1,4 +1,4 @@
--- The term at hand, with the parity so far, has the literal of the whole.
+-- The term at hand, with the parity up to here, has the literal of the whole.
 use Rattle.std.proofs.Common.{◌≡◌}
 use Rattle.spec_terms.specs.Literals.{literal_of}
 use Rattle.term_core.specs.Tables.{term_at, IsIn}
