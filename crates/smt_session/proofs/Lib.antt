@@ -1,5 +1,5 @@
 -- Lemmas on sessions and runs.
-pub mod Handing
+pub mod Delivering
 pub mod Showing
 pub mod Taking
 pub mod TextRuns

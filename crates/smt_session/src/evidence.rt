@@ -1,12 +1,12 @@
 //! What a check finds, with what shows it.
 
-ghost use Rattle.std.specs.Prelude.{◌≡◌, ℕ, List, IfOk};
+ghost use Rattle.std.specs.Prelude.{◌≡◌, ℕ, List, IfOk, OnErr};
 ghost use Rattle.spec_terms.specs.Terms.{Term};
 ghost use Rattle.spec_scripts.specs.Stack.{Stack};
 ghost use Rattle.spec_scripts.specs.Current.{IsKeptStack};
 ghost use Rattle.spec_runs.specs.Evidence.{Limits as SpokenLimits, terms_of};
 ghost use Rattle.solve_core.specs.Decisions.{IsJustified};
-ghost use Rattle.smt_session.specs.Sessions.{limits_meant, IsHeld, IsShown, HasLearned, Checks};
+ghost use Rattle.smt_session.specs.Sessions.{limits_meant, IsHeld, IsShown, Checks};
 
 use alethe_writer::printable::{logs_are_over_their_terms, terms_are_printable};
 use alethe_writer::{Plan, prepare};
@@ -39,7 +39,10 @@ fn evidence_of(
     outcome: Outcome,
 ) -> Result<(Evidence, Budget), NoMemory>
     requires { (terms : List Term) × (conflicts : ℕ) × IsJustified table.now terms conflicts outcome }
-    ensures { IfOk result (λ x. (limits : SpokenLimits) (s : Stack) → IsKeptStack limits.terms s → s.symbols ≡ table.now.symbols → IsJustified table.now (terms_of s) limits.conflicts outcome → IsShown limits table.now s x.0 x.1 × HasLearned table.now s x.1) }
+    ensures shown { IfOk result (λ x. (limits : SpokenLimits) (s : Stack) → IsKeptStack limits.terms s
+        → s.symbols ≡ table.now.symbols → IsJustified table.now (terms_of s) limits.conflicts outcome
+        → IsShown limits table.now s x.0 x.1) }
+    ensures budget { IfOk result (λ x. x.1 ≡ outcome.budget) }
 {
     commands_keep_stacks();
     logs_are_over_their_terms();
@@ -61,7 +64,8 @@ fn evidence_of(
 
 /// Checks what is asserted, and keeps what was learned in the budget.
 ///
-/// `NoMemory` comes where memory ran out; script and budget are then as they were.
+/// The budget is then that of the decision, under the limit on conflicts. `NoMemory` comes where memory ran out; script and
+/// budget are then as they were.
 pub(crate) fn check(
     alloc: Global,
     script: &mut Script,
@@ -69,7 +73,10 @@ pub(crate) fn check(
     limits: &Limits,
 ) -> Result<Evidence, NoMemory>
     requires { (s : Stack) × IsHeld limits.now.terms script.old s }
-    ensures { (s : Stack) → IsHeld limits.now.terms script.old s → Checks (limits_meant limits.now) s result script.new budget.old budget.new }
+    ensures checks { (s : Stack) → IsHeld limits.now.terms script.old s
+        → Checks (limits_meant limits.now) s result script.new budget.new }
+    ensures limit { IfOk result (λ _. budget.new.limit ≡ limits.now.conflicts) }
+    ensures same { OnErr result (budget.new ≡ budget.old) }
 {
     stacks_stand_in_grown_tables();
     let len = script.table.len();

@@ -2,12 +2,12 @@
 #![tactic(auto)]
 
 mod evidence;
-#[cfg(test)]
-mod handing_tests;
 mod mode;
 mod responses;
 mod session;
 mod status;
+#[cfg(test)]
+mod step_tests;
 #[cfg(test)]
 mod text_tests;
 mod whole_text;

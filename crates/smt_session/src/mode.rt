@@ -5,6 +5,6 @@
 pub enum Mode {
     /// The standard's responses alone.
     Solve,
-    /// Behind the answer of each check a model, a proof or a reason too.
+    /// After the answer of each check a model, a proof or a reason, too.
     Certify,
 }

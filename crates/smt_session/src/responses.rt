@@ -8,7 +8,7 @@ ghost use Rattle.spec_runs.specs.Evidence.{Found};
 ghost use Rattle.spec_runs.specs.Responses.{Response as SpokenResponse, Answered, answer_text, evidence_text, shown_text, success_by, response_text};
 ghost use Rattle.sat_budget.specs.Budgets.{BudgetView};
 ghost use Rattle.term_core.specs.Tables.{TableView};
-ghost use Rattle.smt_session.specs.Sessions.{mode_meant, IsEvidence, IsResponse, after_meant};
+ghost use Rattle.smt_session.specs.Sessions.{mode_meant, IsEvidence, IsResponse, IsResponseOf, IsSomeResponse, after_meant, Delivers};
 
 use crate::evidence::Evidence;
 use crate::mode::Mode;
@@ -39,7 +39,8 @@ pub(crate) enum Response {
 
 /// Tells what comes after a command that is answered so.
 pub(crate) fn after_of(response: &Response) -> After
-    ensures { (t : TableView) (text : List ℕ) (budget : BudgetView) (r : SpokenResponse) → IsResponse t text budget response.now r → result ≡ after_meant r }
+    ensures { (t : TableView) (text : List ℕ) (budget : BudgetView) (r : SpokenResponse)
+        → IsResponse t text budget response.now r → result ≡ after_meant r }
 {
     match response {
         Response::Success | Response::Unsupported | Response::Answered(_) => After::Went,
@@ -50,7 +51,8 @@ pub(crate) fn after_of(response: &Response) -> After
 
 /// The word that answers a check.
 fn word_of(evidence: &Evidence) -> Word
-    ensures { (t : TableView) (budget : BudgetView) (f : Found) → IsEvidence t budget evidence.now f → answer_text f ≡ word_line result }
+    ensures { (t : TableView) (budget : BudgetView) (f : Found) → IsEvidence t budget evidence.now f
+        → answer_text f ≡ word_line result }
 {
     match evidence {
         Evidence::Model(_) => Word::Sat,
@@ -62,7 +64,9 @@ fn word_of(evidence: &Evidence) -> Word
 /// Writes what shows that the answer of a check is right.
 fn send_evidence<K: Sink>(table: &TermTable, evidence: &Evidence, out: &mut K) -> Result<(), Failed>
     requires { (budget : BudgetView) × (f : Found) × IsEvidence table.now budget evidence.now f }
-    ensures { (budget : BudgetView) (s : Stack) (f : Found) → s.symbols ≡ table.now.symbols → IsEvidence table.now budget evidence.now f → Sends (evidence_text s f) result (K.written out.old) (K.written out.new) (K.faults out.old) (K.faults out.new) }
+    ensures { (budget : BudgetView) (s : Stack) (f : Found) → s.symbols ≡ table.now.symbols
+        → IsEvidence table.now budget evidence.now f
+        → Sends (evidence_text s f) result (K.state out.old) (K.state out.new) }
 {
     match evidence {
         Evidence::Model(interp) => send_model(interp, table.symbols(), out),
@@ -79,7 +83,9 @@ fn send_answer<K: Sink>(
     out: &mut K,
 ) -> Result<(), Failed>
     requires { (budget : BudgetView) × (f : Found) × IsEvidence table.now budget evidence.now f }
-    ensures { (budget : BudgetView) (s : Stack) (f : Found) → s.symbols ≡ table.now.symbols → IsEvidence table.now budget evidence.now f → Sends (answer_text f ++ shown_text (mode_meant mode) s f) result (K.written out.old) (K.written out.new) (K.faults out.old) (K.faults out.new) }
+    ensures { (budget : BudgetView) (s : Stack) (f : Found) → s.symbols ≡ table.now.symbols
+        → IsEvidence table.now budget evidence.now f
+        → Sends (answer_text f ++ shown_text (mode_meant mode) s f) result (K.state out.old) (K.state out.new) }
 {
     word(word_of(evidence), out)?;
     match mode {
@@ -90,7 +96,7 @@ fn send_answer<K: Sink>(
 
 /// Writes `success`, where that is printed.
 fn send_success<K: Sink>(print: bool, out: &mut K) -> Result<(), Failed>
-    ensures { Sends (success_by print) result (K.written out.old) (K.written out.new) (K.faults out.old) (K.faults out.new) }
+    ensures { Sends (success_by print) result (K.state out.old) (K.state out.new) }
 {
     if print {
         return word(Word::Success, out);
@@ -105,8 +111,9 @@ fn write_response<K: Sink>(
     response: &Response,
     out: &mut K,
 ) -> Result<(), Failed>
-    requires { (text : List ℕ) × (budget : BudgetView) × (r : SpokenResponse) × IsResponse script.now.table text budget response.now r }
-    ensures { (text : List ℕ) (budget : BudgetView) (a : Answered) → IsResponse script.now.table text budget response.now a.response → a.stack.symbols ≡ script.now.table.symbols → a.stack.print_success ≡ script.now.print_success → Sends (response_text (mode_meant mode) text a) result (K.written out.old) (K.written out.new) (K.faults out.old) (K.faults out.new) }
+    requires { IsSomeResponse script.now.table response.now }
+    ensures { (text : List ℕ) (budget : BudgetView) (a : Answered) → IsResponseOf script.now text budget response.now a
+        → Sends (response_text (mode_meant mode) text a) result (K.state out.old) (K.state out.new) }
 {
     match response {
         Response::Success | Response::Ended => send_success(script.print_success, out),
@@ -116,15 +123,16 @@ fn write_response<K: Sink>(
     }
 }
 
-/// Writes a response, and hands on what waits of it.
+/// Writes a response, and passes on what waits of it: then nothing waits in a buffer.
 pub(crate) fn send_response<K: Sink>(
     mode: Mode,
     script: &Script,
     response: &Response,
     out: &mut K,
 ) -> Result<(), Failed>
-    requires { (text : List ℕ) × (budget : BudgetView) × (r : SpokenResponse) × IsResponse script.now.table text budget response.now r }
-    ensures { (text : List ℕ) (budget : BudgetView) (a : Answered) → IsResponse script.now.table text budget response.now a.response → a.stack.symbols ≡ script.now.table.symbols → a.stack.print_success ≡ script.now.print_success → Sends (response_text (mode_meant mode) text a) result (K.written out.old) (K.written out.new) (K.faults out.old) (K.faults out.new) }
+    requires { IsSomeResponse script.now.table response.now }
+    ensures { (text : List ℕ) (budget : BudgetView) (a : Answered) → IsResponseOf script.now text budget response.now a
+        → Delivers (response_text (mode_meant mode) text a) result (K.state out.old) (K.state out.new) }
 {
     write_response(mode, script, response, out)?;
     out.flush()

@@ -2,8 +2,9 @@
 
 ghost use Rattle.std.specs.Prelude.{◌≡◌, ◌≤◌, [], IfOk, IsErrOf};
 ghost use Rattle.world_io.specs.Outside.{Rose};
+ghost use Rattle.world_io.specs.Writing.{SinkView};
 ghost use Rattle.spec_scripts.specs.Stack.{Stack, empty_stack};
-ghost use Rattle.smt_session.specs.Sessions.{limits_meant, IsHeld, IsSession, Takes, Rejects, Stepped};
+ghost use Rattle.smt_session.specs.Sessions.{limits_meant, IsHeld, IsSession, Takes, KeepsBudget, Rejects, Stepped};
 
 use crate::evidence::check;
 use crate::mode::Mode;
@@ -12,6 +13,8 @@ use assertion_stack::{Effect, Script};
 use sat_budget::{Budget, Limits};
 use smt_lexer::Refused;
 use smt_sexpr::Sexpr;
+use spec_printing::laws::commands_keep_names_that_can_be_written;
+use spec_runs::laws::what_is_shown_is_so;
 use spec_scripts::laws::commands_keep_stacks;
 use std::alloc::Global;
 use std::marker::Model;
@@ -31,9 +34,9 @@ pub enum After {
 /// Tells why a step came to no end.
 #[derive(Clone, Copy, Debug, PartialEq, Eq)]
 pub enum Halt {
-    /// Memory was wanting: the session is as before the command, and nothing was written.
+    /// Memory ran out: the session is as before the command, and nothing was written.
     Memory,
-    /// The sink failed: the session is as after the command, and a front of its response was written.
+    /// The sink failed: the session is as after the command, and a prefix of its response was written.
     Sink,
 }
 
@@ -60,6 +63,7 @@ pub struct Session {
 }
 
 impl Model for Session {
+    ghost use Rattle.std.specs.Prelude.{◌≡◌};
     ghost use Rattle.spec_scripts.specs.Stack.{Stack};
     ghost use Rattle.std.specs.Coded.{codes};
     ghost use Rattle.term_core.specs.Tables.{table_code};
@@ -71,7 +75,7 @@ impl Model for Session {
 
     ghost view = { λ x. record { script = x.script; limits = x.limits; mode = x.mode; budget = x.budget } };
 
-    ghost invariant = { λ x. (s : Stack) × IsHeld x.limits.terms x.script s };
+    ghost invariant = { λ x. ((s : Stack) × IsHeld x.limits.terms x.script s) × (x.budget.limit ≡ x.limits.conflicts) };
 }
 
 impl Session {
@@ -80,9 +84,11 @@ impl Session {
     /// `limits` are those of each check, but `terms`: how many constants may be declared, and how many different subterms
     /// a command may have. `NoMemory` comes where memory ran out.
     pub fn new(alloc: Global, limits: &Limits, mode: Mode) -> Result<Session, NoMemory>
-        ensures { IfOk result (λ x. IsSession x empty_stack × (x.limits ≡ limits.now) × (x.mode ≡ mode) × (x.budget.learned ≡ [])) }
+        ensures begun { IfOk result (λ x. IsSession x empty_stack × (x.limits ≡ limits.now) × (x.mode ≡ mode)) }
+        ensures budget { IfOk result (λ x. (x.budget.learned ≡ []) × (x.budget.limit ≡ limits.now.conflicts)) }
     {
         commands_keep_stacks();
+        commands_keep_names_that_can_be_written();
         let budget = Budget::new(alloc, limits)?;
         Ok(Session {
             alloc,
@@ -93,26 +99,30 @@ impl Session {
         })
     }
 
-    /// Gives the budget of the last check that was answered, with the clauses that it learned, whatever the answer was; before the
-    /// first one there are none. It takes no memory.
+    /// Gives the budget of the last check that was answered, with its limit on conflicts and the clauses that it learned, whatever
+    /// the answer was; before the first one there are none. It takes no memory.
     pub fn budget(&self) -> &Budget
-        ensures { result.now ≡ self.now.budget }
+        ensures budget { result.now ≡ self.now.budget }
+        ensures limit { result.now.limit ≡ self.now.limits.conflicts }
     {
         &self.budget
     }
 
     /// Takes the command that an s-expression is, and writes what it is answered.
     ///
-    /// It takes its memory first, then changes the session, then writes. `Memory` comes where memory ran out: the session
-    /// is as before the command, and nothing was written. `Sink` comes only where the sink's count of faults rose in this
-    /// call: the session is as after the command, and a front of its response was written.
+    /// It takes its memory first, then changes the session, then writes, and passes on what was written: then nothing waits
+    /// in a buffer. `Memory` comes where memory ran out: the session is as before the command, and nothing was written.
+    /// `Sink` comes only where the sink's count of faults rose in this call, and there was no room for the response: the
+    /// session is as after the command, and a prefix of its response was written.
     /// Source: SMT-LIB 2.6, sections 3.9 and 4.2.
     pub fn step<K: Sink>(&mut self, command: &Sexpr<'_>, out: &mut K) -> Result<After, Halt>
         ensures same { (self.new.limits ≡ self.old.limits) × (self.new.mode ≡ self.old.mode) }
-        ensures stepped { (s : Stack) → IsSession self.old s → Stepped s command.now self.old self.new result (record { old = K.written out.old; new = K.written out.new; faults_old = K.faults out.old; faults_new = K.faults out.new }) }
-        ensures failed { IsErrOf result Halt.Sink → Rose (K.faults out.old) (K.faults out.new) }
-        ensures count { K.faults out.old ≤ K.faults out.new }
+        ensures limit { self.new.budget.limit ≡ self.new.limits.conflicts }
+        ensures stepped { Stepped self.old self.new command.now result (K.state out.old) (K.state out.new) }
+        ensures failed { IsErrOf result Halt.Sink → Rose (K.state out.old).faults (K.state out.new).faults }
+        ensures count { (K.state out.old).faults ≤ (K.state out.new).faults }
     {
+        what_is_shown_is_so();
         let response = take(
             self.alloc,
             &mut self.script,
@@ -136,9 +146,13 @@ fn take(
     command: &Sexpr<'_>,
 ) -> Result<Response, NoMemory>
     requires { (s : Stack) × IsHeld limits.now.terms script.old s }
-    ensures { (s : Stack) → IsHeld limits.now.terms script.old s → Takes (limits_meant limits.now) s command.now result script.new budget.old budget.new }
+    ensures takes { (s : Stack) → IsHeld limits.now.terms script.old s
+        → Takes (limits_meant limits.now) s command.now result script.new budget.new }
+    ensures budget { KeepsBudget result budget.old budget.new }
+    ensures limit { budget.old.limit ≡ limits.now.conflicts → budget.new.limit ≡ limits.now.conflicts }
 {
     commands_keep_stacks();
+    commands_keep_names_that_can_be_written();
     match script.command(alloc, command, limits.terms) {
         Ok(Effect::Done) => Ok(Response::Success),
         Ok(Effect::Unsupported) => Ok(Response::Unsupported),

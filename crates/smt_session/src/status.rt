@@ -8,12 +8,12 @@ ghost use Rattle.smt_session.specs.Runs.{code_of};
 pub enum Status {
     /// The input was read to its end, or to `exit`, and nothing was refused; of a proof that is judged, it is accepted.
     Done,
-    /// A command was refused, or the text has a fault behind which it cannot be read on; of a proof that is judged, it is not
+    /// A command was refused, or the text has a fault after which it cannot be read on; of a proof that is judged, it is not
     /// accepted.
     Refused,
-    /// The words are not those of a run, and the usage text was written.
+    /// The arguments are not those of a run, and the usage text was written.
     Words,
-    /// Memory was wanting, and the run ended at once.
+    /// Memory ran out, and the run ended at once.
     Memory,
     /// The shelf failed, and the run ended at once.
     ReadFault,

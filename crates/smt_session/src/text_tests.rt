@@ -1,189 +1,253 @@
-//! Tests of runs of texts, with the bytes that they write, and over sinks that fail; and of sessions, command by command.
+//! Tests of runs of texts, with the bytes that they write, and over sinks that fail.
 
-use crate::{After, Halt, Mode, Session, Status, run_text};
+ghost use Rattle.std.specs.Prelude.{◌≡◌};
+
+use crate::{Mode, run_text};
 use sat_budget::Limits;
-use smt_sexpr::LimitedText;
 use std::alloc::Global;
 use std::test::Fail;
 use world_io::{MemSink, NoMemory};
 
-/// A run: how much is written, how many conflicts a check may have, how many terms there may be, and the text; then the
-/// status and what is written.
-type Row = (Mode, u64, u64, &'static str, Status, &'static str);
+/// Runs, as rows. A row is a line with the number of the status, how much is written, how many conflicts a check may have and how
+/// many terms there may be; then the text; then, after a line `----`, what is written. A line `====` is between rows. They are one
+/// constant, since a table of them takes many times as long to prove.
+const ROWS: &str = "0 solve 1000000 1000000
 
-/// The eight disjunctions of three constants or their negations, a check, and the line before them.
-const EIGHT: &str =
-    "(set-option :print-success false)\n(declare-const a Bool)(declare-const b Bool)(declare-const c Bool)\n(assert (or a b c))(assert (or a b (not c)))(assert (or a (not b) c))(assert (or a (not b) (not c)))(assert (or (not a) b c))(assert (or (not a) b (not c)))(assert (or (not a) (not b) c))(assert (or (not a) (not b) (not c)))(check-sat)";
+----
+====
+0 solve 1000000 1000000
+ ; a note
+----
+====
+0 certify 1000000 1000000
+(set-option :print-success false)
+(check-sat)
+----
+sat
+(
+)
+====
+0 solve 1000000 1000000
+(assert false)(check-sat)
+----
+success
+unsat
+====
+0 certify 1000000 1000000
+(assert false)(check-sat)
+----
+success
+unsat
+(
+(define-fun @p1 () Bool (not false))
+(assume h1 false)
+(step t1 (cl @p1) :rule false)
+(step t2 (cl) :rule resolution :premises (t1 h1))
+)
+====
+0 certify 1000000 1000000
+(set-option :print-success false)(declare-const p Bool)(declare-const |q r| Bool)(assert (and p (not |q r|)))(check-sat)
+----
+sat
+(
+  (define-fun p () Bool true)
+  (define-fun |q r| () Bool false)
+)
+====
+0 certify 1 1000000
+(set-option :print-success false)
+(declare-const a Bool)(declare-const b Bool)(declare-const c Bool)
+(assert (or a b c))(assert (or a b (not c)))(assert (or a (not b) c))(assert (or a (not b) (not c)))(assert (or (not a) b c))(assert (or (not a) b (not c)))(assert (or (not a) (not b) c))(assert (or (not a) (not b) (not c)))(check-sat)
+----
+unknown
+(conflicts 1)
+====
+0 solve 1 1000000
+(set-option :print-success false)
+(declare-const a Bool)(declare-const b Bool)(declare-const c Bool)
+(assert (or a b c))(assert (or a b (not c)))(assert (or a (not b) c))(assert (or a (not b) (not c)))(assert (or (not a) b c))(assert (or (not a) b (not c)))(assert (or (not a) (not b) c))(assert (or (not a) (not b) (not c)))(check-sat)
+----
+unknown
+====
+0 solve 8 1000000
+(set-option :print-success false)
+(declare-const a Bool)(declare-const b Bool)(declare-const c Bool)
+(assert (or a b c))(assert (or a b (not c)))(assert (or a (not b) c))(assert (or a (not b) (not c)))(assert (or (not a) b c))(assert (or (not a) b (not c)))(assert (or (not a) (not b) c))(assert (or (not a) (not b) (not c)))(check-sat)
+----
+unsat
+====
+1 solve 1000000 1000000
+(set-option :print-success false)
+(check-sat)
+(echo \"open
+----
+sat
+(error \"3:7: UnclosedString\")
+====
+0 solve 1000000 1000000
+(exit)(check-sat)
+----
+success
+====
+0 solve 1000000 1000000
+(exit)(
+----
+success
+====
+0 solve 1000000 1000000
+(set-option :verbosity 1)
+----
+unsupported
+====
+1 solve 1000000 1000000
+(set-option :print-success 1)
+----
+(error \"1:1: BadShape\")
+====
+1 solve 1000000 1000000
+(pop 1)
+(check-sat)
+----
+(error \"1:2: UnknownCommand\")
+sat
+====
+1 solve 1000000 1000000
+()x
+ 5(5)
+----
+(error \"1:1: BadShape\")
+(error \"1:3: BadShape\")
+(error \"2:2: BadShape\")
+(error \"2:4: UnknownCommand\")
+====
+1 solve 1000000 1000000
+(assert p)(declare-const p Int)(declare-const @p Bool)
+----
+(error \"1:9: UnknownSymbol\")
+(error \"1:28: UnknownSort\")
+(error \"1:47: Reserved\")
+====
+1 solve 1000000 1000000
+(declare-const p Bool)
+(declare-const p Bool)
+(assert (not p p))
+----
+success
+(error \"2:16: Twice\")
+(error \"3:9: WrongCount\")
+====
+1 solve 1000000 4
+(set-option :print-success false)
+(declare-const p Bool)(declare-const q Bool)
+(assert (or p q (not p)))
+(assert (and p (or p q (not p))))
+(check-sat)
+----
+(error \"4:1: Full\")
+sat
+====
+1 solve 1000000 2
+(declare-const p Bool)
+(declare-const q Bool)
+(declare-const r Bool)
+ (assert (or p q))
+(declare-const r U)
+(assert (not p))
+(check-sat)
+----
+success
+success
+(error \"3:1: Full\")
+(error \"4:2: Full\")
+(error \"5:18: UnknownSort\")
+success
+sat
+====
+1 solve 1000000 2
+(declare-const p Bool)
+(assert (and p (not p)))
+(assert p)
+(check-sat)(assert (not p))
+(assert p)(check-sat)
+----
+success
+(error \"2:1: Full\")
+success
+sat
+success
+success
+unsat
+====
+1 solve 1000000 1000000
+(check-sat)
+)
+----
+sat
+(error \"2:1: StrayClose\")
+====
+1 solve 1000000 1000000
+(check-sat)
+(check-sat
+----
+sat
+(error \"2:11: UnclosedList\")
+";
 
 const MANY: u64 = 1_000_000;
 
-const ROWS: &[Row] = &[
-    (Mode::Solve, MANY, MANY, "", Status::Done, ""),
-    (Mode::Solve, MANY, MANY, " ; a note", Status::Done, ""),
-    (
-        Mode::Certify,
-        MANY,
-        MANY,
-        "(set-option :print-success false)\n(check-sat)",
-        Status::Done,
-        "sat\n(\n)\n",
-    ),
-    (
-        Mode::Solve,
-        MANY,
-        MANY,
-        "(assert false)(check-sat)",
-        Status::Done,
-        "success\nunsat\n",
-    ),
-    (
-        Mode::Certify,
-        MANY,
-        MANY,
-        "(assert false)(check-sat)",
-        Status::Done,
-        "success\nunsat\n(\n(define-fun @p1 () Bool (not false))\n(assume h1 false)\n(step t1 (cl @p1) :rule false)\n(step t2 (cl) :rule resolution :premises (t1 h1))\n)\n",
-    ),
-    (
-        Mode::Certify,
-        MANY,
-        MANY,
-        "(set-option :print-success false)(declare-const p Bool)(declare-const |q r| Bool)(assert (and p (not |q r|)))(check-sat)",
-        Status::Done,
-        "sat\n(\n  (define-fun p () Bool true)\n  (define-fun |q r| () Bool false)\n)\n",
-    ),
-    (
-        Mode::Certify,
-        1,
-        MANY,
-        EIGHT,
-        Status::Done,
-        "unknown\n(conflicts 1)\n",
-    ),
-    (Mode::Solve, 1, MANY, EIGHT, Status::Done, "unknown\n"),
-    (Mode::Solve, 8, MANY, EIGHT, Status::Done, "unsat\n"),
-    (
-        Mode::Solve,
-        MANY,
-        MANY,
-        "(set-option :print-success false)\n(check-sat)\n(echo \"open",
-        Status::Refused,
-        "sat\n(error \"3:7: UnclosedString\")\n",
-    ),
-    (
-        Mode::Solve,
-        MANY,
-        MANY,
-        "(exit)(check-sat)",
-        Status::Done,
-        "success\n",
-    ),
-    (
-        Mode::Solve,
-        MANY,
-        MANY,
-        "(exit)(",
-        Status::Done,
-        "success\n",
-    ),
-    (
-        Mode::Solve,
-        MANY,
-        MANY,
-        "(set-option :verbosity 1)",
-        Status::Done,
-        "unsupported\n",
-    ),
-    (
-        Mode::Solve,
-        MANY,
-        MANY,
-        "(set-option :print-success 1)",
-        Status::Refused,
-        "(error \"1:1: BadShape\")\n",
-    ),
-    (
-        Mode::Solve,
-        MANY,
-        MANY,
-        "(pop 1)\n(check-sat)",
-        Status::Refused,
-        "(error \"1:2: UnknownCommand\")\nsat\n",
-    ),
-    (
-        Mode::Solve,
-        MANY,
-        MANY,
-        "()x\n 5(5)",
-        Status::Refused,
-        "(error \"1:1: BadShape\")\n(error \"1:3: BadShape\")\n(error \"2:2: BadShape\")\n(error \"2:4: UnknownCommand\")\n",
-    ),
-    (
-        Mode::Solve,
-        MANY,
-        MANY,
-        "(assert p)(declare-const p Int)(declare-const @p Bool)",
-        Status::Refused,
-        "(error \"1:9: UnknownSymbol\")\n(error \"1:28: UnknownSort\")\n(error \"1:47: Reserved\")\n",
-    ),
-    (
-        Mode::Solve,
-        MANY,
-        MANY,
-        "(declare-const p Bool)\n(declare-const p Bool)\n(assert (not p p))",
-        Status::Refused,
-        "success\n(error \"2:16: Twice\")\n(error \"3:9: WrongCount\")\n",
-    ),
-    (
-        Mode::Solve,
-        MANY,
-        4,
-        "(set-option :print-success false)\n(declare-const p Bool)(declare-const q Bool)\n(assert (or p q (not p)))\n(assert (and p (or p q (not p))))\n(check-sat)",
-        Status::Refused,
-        "(error \"4:1: Full\")\nsat\n",
-    ),
-    (
-        Mode::Solve,
-        MANY,
-        2,
-        "(declare-const p Bool)\n(declare-const q Bool)\n(declare-const r Bool)\n (assert (or p q))\n(declare-const r U)\n(assert (not p))\n(check-sat)",
-        Status::Refused,
-        "success\nsuccess\n(error \"3:1: Full\")\n(error \"4:2: Full\")\n(error \"5:18: UnknownSort\")\nsuccess\nsat\n",
-    ),
-    (
-        Mode::Solve,
-        MANY,
-        2,
-        "(declare-const p Bool)\n(assert (and p (not p)))\n(assert p)\n(check-sat)(assert (not p))\n(assert p)(check-sat)",
-        Status::Refused,
-        "success\n(error \"2:1: Full\")\nsuccess\nsat\nsuccess\nsuccess\nunsat\n",
-    ),
-    (
-        Mode::Solve,
-        MANY,
-        MANY,
-        "(check-sat)\n)",
-        Status::Refused,
-        "sat\n(error \"2:1: StrayClose\")\n",
-    ),
-    (
-        Mode::Solve,
-        MANY,
-        MANY,
-        "(check-sat)\n(check-sat",
-        Status::Refused,
-        "sat\n(error \"2:11: UnclosedList\")\n",
-    ),
-];
+/// A row, taken apart.
+#[derive(Clone, Copy)]
+struct Row<'a> {
+    status: &'a str,
+    mode: Mode,
+    conflicts: u64,
+    terms: u64,
+    text: &'a str,
+    written: &'a str,
+}
 
-/// Runs a row into a sink.
-fn run_row(alloc: Global, row: &Row, out: &mut MemSink) -> Status {
+/// Gives how much a row's run writes.
+fn mode_of(name: &str) -> Mode {
+    if name == "certify" {
+        return Mode::Certify;
+    }
+    Mode::Solve
+}
+
+/// Gives the number that digits stand for.
+pub(crate) fn number_of(digits: &str) -> Option<u64> {
+    match digits.parse::<u64>() {
+        Ok(n) => Some(n),
+        Err(_) => None,
+    }
+}
+
+/// Takes a row apart.
+fn row_of(row: &str) -> Option<Row<'_>> {
+    let (head, texts) = row.split_once('\n')?;
+    let (status, head) = head.split_once(' ')?;
+    let (mode, head) = head.split_once(' ')?;
+    let (conflicts, terms) = head.split_once(' ')?;
+    let (text, written) = texts.split_once("\n----\n")?;
+    Some(Row {
+        status,
+        mode: mode_of(mode),
+        conflicts: number_of(conflicts)?,
+        terms: number_of(terms)?,
+        text,
+        written,
+    })
+}
+
+/// Runs a row into a sink, and tells whether its status is this one.
+fn ends_with(alloc: Global, row: &Row<'_>, status: &str, out: &mut MemSink) -> bool {
     let limits = Limits {
-        conflicts: row.1,
+        conflicts: row.conflicts,
         pivots: MANY,
-        terms: row.2,
+        terms: row.terms,
     };
-    run_text(alloc, row.3.as_bytes(), &limits, row.0, out)
+    let found = run_text(alloc, row.text.as_bytes(), &limits, row.mode, out);
+    number_of(status) == Some(u64::from(found.code()))
 }
 
 /// Makes a sink with room for 4096 bytes, which takes at most `most` bytes in a write and fails the write with the number `failing`.
@@ -191,150 +255,53 @@ fn sink_of(alloc: Global, most: u64, failing: u64) -> Result<MemSink, NoMemory> 
     MemSink::new(alloc, 4096, most, Vec::from_slice(alloc, &[failing])?)
 }
 
-/// Makes a sink with room for so many bytes.
-fn sink_with_room(alloc: Global, room: u64) -> Result<MemSink, NoMemory> {
-    MemSink::new(alloc, room, room, Vec::new(alloc))
+/// Gives the first row that ends otherwise, or writes something else, over a sink that takes so many bytes in a write.
+fn first_other(alloc: Global, most: u64) -> Result<Option<&'static str>, NoMemory> {
+    for text in ROWS.split("====\n") {
+        let Some(row) = row_of(text) else {
+            return Ok(Some(text));
+        };
+        let mut out = sink_of(alloc, most, 100_000)?;
+        if !ends_with(alloc, &row, row.status, &mut out)
+            || out.written() != row.written.as_bytes()
+        {
+            return Ok(Some(text));
+        }
+    }
+    Ok(None)
+}
+
+/// Tells whether a row ends with status 5 after `n` bytes, where write `n` fails.
+fn is_cut(alloc: Global, row: &Row<'_>, n: usize) -> Result<bool, NoMemory> {
+    let mut out = sink_of(alloc, 1, n as u64)?;
+    let start = row.written.as_bytes().get(..n).unwrap_or(&[]);
+    Ok(ends_with(alloc, row, "5", &mut out) && out.written() == start)
+}
+
+/// Gives the first row that does not end so at each of its bytes.
+fn first_uncut(alloc: Global) -> Result<Option<&'static str>, NoMemory> {
+    for text in ROWS.split("====\n") {
+        let Some(row) = row_of(text) else {
+            return Ok(Some(text));
+        };
+        for n in 0..row.written.len() {
+            if !is_cut(alloc, &row, n)? {
+                return Ok(Some(text));
+            }
+        }
+    }
+    Ok(None)
 }
 
 #[test]
 fn texts_write_their_transcripts(rt: HostRuntime) -> Result<(), Fail> {
-    for row in ROWS.iter() {
-        for most in [1u64, 4096] {
-            let mut out = sink_of(rt.alloc(), most, 100_000)?;
-            assert_eq!(rt; run_row(rt.alloc(), row, &mut out), row.4, "{}", row.3);
-            assert_eq!(rt; out.written(), row.5.as_bytes(), "{}", row.3);
-        }
-    }
+    assert_eq!(rt; first_other(rt.alloc(), 1)?, None);
+    assert_eq!(rt; first_other(rt.alloc(), 4096)?, None);
     Ok(())
 }
 
 #[test]
 fn a_write_that_fails_ends_the_run(rt: HostRuntime) -> Result<(), Fail> {
-    for row in ROWS.iter() {
-        let want = row.5.as_bytes();
-        for k in 0..want.len() {
-            let mut out = sink_of(rt.alloc(), 1, k as u64)?;
-            assert_eq!(rt;
-                run_row(rt.alloc(), row, &mut out),
-                Status::WriteFault,
-                "{}, write {k}",
-                row.3
-            );
-            assert_eq!(rt; out.written(), &want[..k], "{}, write {k}", row.3);
-        }
-    }
-    Ok(())
-}
-
-/// Gives a session the first command of a text, and tells what comes after it, where there is one.
-fn step(
-    alloc: Global,
-    session: &mut Session,
-    text: &str,
-    out: &mut MemSink,
-) -> Option<Result<After, Halt>> {
-    let limited = LimitedText::new(text.as_bytes());
-    let (command, _) = match limited.next_one(alloc, limited.start()) {
-        Ok(Some(read)) => read,
-        _ => return None,
-    };
-    Some(session.step(&command, out))
-}
-
-/// Commands of one session of which each check may learn from one conflict: what comes after each, how many clauses the last check
-/// has learned, and what is written.
-const STEPS: &[(&str, After, u64, &str)] = &[
-    ("(check-sat)", After::Went, 0, "sat\n"),
-    ("(declare-const a Bool)", After::Went, 0, "success\n"),
-    ("(declare-const b Bool)", After::Went, 0, "success\n"),
-    ("(declare-const c Bool)", After::Went, 0, "success\n"),
-    ("(assert (or a b c))", After::Went, 0, "success\n"),
-    ("(assert (or a b (not c)))", After::Went, 0, "success\n"),
-    ("(assert (or a (not b) c))", After::Went, 0, "success\n"),
-    (
-        "(assert (or a (not b) (not c)))",
-        After::Went,
-        0,
-        "success\n",
-    ),
-    ("(assert (or (not a) b c))", After::Went, 0, "success\n"),
-    (
-        "(assert (or (not a) b (not c)))",
-        After::Went,
-        0,
-        "success\n",
-    ),
-    (
-        "(assert (or (not a) (not b) c))",
-        After::Went,
-        0,
-        "success\n",
-    ),
-    (
-        "(assert (or (not a) (not b) (not c)))",
-        After::Went,
-        0,
-        "success\n",
-    ),
-    ("(check-sat)", After::Went, 1, "unknown\n"),
-    (
-        "(assert d)",
-        After::Refused,
-        1,
-        "(error \"1:9: UnknownSymbol\")\n",
-    ),
-    ("(set-option :k v)", After::Went, 1, "unsupported\n"),
-    ("(check-sat)", After::Went, 1, "unknown\n"),
-    ("(assert false)", After::Went, 1, "success\n"),
-    ("(check-sat)", After::Went, 0, "unsat\n"),
-    ("(set-option :print-success false)", After::Went, 0, ""),
-    ("(exit 1)", After::Refused, 0, "(error \"1:1: BadShape\")\n"),
-    ("(exit)", After::Ended, 0, ""),
-];
-
-#[test]
-fn steps_have_their_responses(rt: HostRuntime) -> Result<(), Fail> {
-    let limits = Limits {
-        conflicts: 1,
-        pivots: MANY,
-        terms: MANY,
-    };
-    let mut session = Session::new(rt.alloc(), &limits, Mode::Solve)?;
-    for (text, want, learned, written) in STEPS.iter() {
-        let mut out = sink_with_room(rt.alloc(), 4096)?;
-        assert_eq!(rt;
-            step(rt.alloc(), &mut session, text, &mut out),
-            Some(Ok(*want)),
-            "{text}"
-        );
-        assert_eq!(rt; out.written(), written.as_bytes(), "{text}");
-        assert_eq!(rt; session.budget().learnt_len(), *learned, "{text}");
-    }
-    Ok(())
-}
-
-#[test]
-fn a_session_is_as_after_the_command_where_the_sink_fails(rt: HostRuntime) -> Result<(), Fail> {
-    let limits = Limits {
-        conflicts: MANY,
-        pivots: MANY,
-        terms: MANY,
-    };
-    let mut session = Session::new(rt.alloc(), &limits, Mode::Certify)?;
-    let mut out = sink_with_room(rt.alloc(), 4)?;
-    let declared = step(rt.alloc(), &mut session, "(declare-const p Bool)", &mut out);
-    assert_eq!(rt; declared, Some(Err(Halt::Sink)));
-    assert_eq!(rt; out.written(), b"succ".as_slice());
-    let asserted = step(rt.alloc(), &mut session, "(assert p)", &mut out);
-    assert_eq!(rt; asserted, Some(Err(Halt::Sink)));
-    let mut out = sink_with_room(rt.alloc(), 4096)?;
-    let again = step(rt.alloc(), &mut session, "(declare-const p Bool)", &mut out);
-    assert_eq!(rt; again, Some(Ok(After::Refused)));
-    let checked = step(rt.alloc(), &mut session, "(check-sat)", &mut out);
-    assert_eq!(rt; checked, Some(Ok(After::Went)));
-    assert_eq!(rt;
-        out.written(),
-        b"(error \"1:16: Twice\")\nsat\n(\n  (define-fun p () Bool true)\n)\n".as_slice()
-    );
+    assert_eq!(rt; first_uncut(rt.alloc())?, None);
     Ok(())
 }

@@ -9,17 +9,15 @@ use Rattle.solve_core.specs.Rounds.{HasEvidence}
 use Rattle.smt_session.proofs.Showing.{model_shown, any_reason_shown}
 use Rattle.smt_session.proofs.evidence.evidence_of.Goals as goal
 
-pub returns-in-Sat : goal.returns-in-Sat
-returns-in-Sat c = λ limits s kept symbols h.
+pub returns-in-Sat-clause-shown : goal.returns-in-Sat-clause-shown
+returns-in-Sat-clause-shown c = λ limits s kept symbols h.
     let t = c.args.table.now in
-    let o = c.args.outcome in (
-      model_shown limits t s symbols o.log o.budget o.budget (λ i. c.commands_keep_stacks.ensures.value limits.terms s i kept) c.in-Sat.interp
-          (subst (HasEvidence t (terms_of s) o.log o.budget) c.in-Sat.is h.evidence),
-      (derivation_in t o.log, h.learning.learns),
-    )
+    let o = c.args.outcome in
+    model_shown limits t s symbols o.log o.budget o.budget (λ i. c.commands_keep_stacks.ensures.value limits.terms s i kept) c.in-Sat.interp
+    (subst (HasEvidence t (terms_of s) o.log o.budget) c.in-Sat.is h.evidence)
 
-pub returns-in_ok-plan-in-Unsat : goal.returns-in_ok-plan-in-Unsat
-returns-in_ok-plan-in-Unsat c = λ limits s kept symbols h.
+pub returns-in_ok-plan-in-Unsat-clause-shown : goal.returns-in_ok-plan-in-Unsat-clause-shown
+returns-in_ok-plan-in-Unsat-clause-shown c = λ limits s kept symbols h.
     let t = c.args.table.now in
     let o = c.args.outcome in
     let d = derivation_in t o.log in
@@ -38,17 +36,11 @@ returns-in_ok-plan-in-Unsat c = λ limits s kept symbols h.
       plan = p;
       planned = c.in_ok-plan-in-Unsat.ensures.plan;
       written = refl;
-    } in (
-      (
-        proof (proof_text (lines_of t.terms d p)),
-        is_proof,
-        (h.log_right, c.in_ok-plan-in-Unsat.ensures.fits, refl),
-      ),
-      (d, h.learning.learns),
-    )
+    } in
+    (proof (proof_text (lines_of t.terms d p)), is_proof, (h.log_right, c.in_ok-plan-in-Unsat.ensures.fits, refl))
 
-pub returns-in-Unknown : goal.returns-in-Unknown
-returns-in-Unknown c = λ limits s kept symbols h.
+pub returns-in-Unknown-clause-shown : goal.returns-in-Unknown-clause-shown
+returns-in-Unknown-clause-shown c = λ limits s kept symbols h.
     let t = c.args.table.now in
     let o = c.args.outcome in
-    (any_reason_shown limits t s symbols o.log o.budget o.budget c.in-Unknown.reason h.limit_is (subst (HasEvidence t (terms_of s) o.log o.budget) c.in-Unknown.is h.evidence), (derivation_in t o.log, h.learning.learns))
+    any_reason_shown limits t s symbols o.log o.budget o.budget c.in-Unknown.reason h.limit_is (subst (HasEvidence t (terms_of s) o.log o.budget) c.in-Unknown.is h.evidence)

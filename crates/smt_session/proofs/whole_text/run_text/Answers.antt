@@ -3,5 +3,5 @@ use Rattle.smt_session.specs.Sessions.{limits_meant, mode_meant}
 use Rattle.smt_session.proofs.Saying.{says_so}
 use Rattle.smt_session.proofs.whole_text.run_text.Goals as goal
 
-pub returns-clause-runs : goal.returns-clause-runs
-returns-clause-runs g c = says_so c.answers_say_what_is_so.ensures.whole c.answers_say_what_is_so.ensures.begun (limits_meant c.args.limits.now) (mode_meant c.args.mode) c.args.bytes.now c.run_commands.result _ c.run_commands.ensures.runs
+pub returns : goal.returns
+returns g c = says_so c.answers_say_what_is_so.ensures.whole c.answers_say_what_is_so.ensures.begun (limits_meant c.args.limits.now) (mode_meant c.args.mode) c.args.bytes.now c.run_commands.result _ _ c.run_commands.ensures

@@ -1,25 +1,40 @@
--- A front of the response is written.
-use Rattle.std.proofs.Common.{subst}
-use Rattle.world_io.specs.Outside.{AppendsPrefix}
-use Rattle.spec_runs.specs.Responses.{Answers, response_text}
-use Rattle.smt_sexpr.specs.Items.{text_of, tree_of}
-use Rattle.smt_session.specs.Sessions.{limits_meant, mode_meant, IsHeld, SessionView, ChangesBudget}
-use Rattle.smt_session.proofs.Taking.{keeps_lists}
+-- What the command is answered was written, or a prefix of it.
+use Rattle.std.proofs.Common.{refl, subst}
+use Rattle.world_io.specs.Writing.{Sent, NotSent}
+use Rattle.smt_sexpr.specs.Items.{text_of}
+use Rattle.smt_session.specs.Sessions.{IsHeld, SessionView, IsResponseOf, IsAnswered, written_for}
+use Rattle.smt_session.proofs.Taking.{is_answered}
 use Rattle.smt_session.proofs.session.Session.step.Goals as goal
 
 pub returns-clause-stepped : goal.returns-clause-stepped
 returns-clause-stepped g c = λ s h.
     let x = c.args.command.now in
+    let r = c.in_ok-response.response in
+    let old : SessionView = record { script = c.self.inside.script; limits = c.self.inside.limits; mode = c.self.inside.mode; budget = c.self.inside.budget } in
+    let new : SessionView = record { script = c.take.new.script; limits = c.self.inside.limits; mode = c.self.inside.mode; budget = c.take.new.budget } in
     let held : IsHeld c.self.inside.limits.terms c.self.inside.script s = rw (← c.self.view_is) at h in
-    let k = c.in_ok-response.ensures s held in
-    let w = c.in-Err.ensures (text_of x) c.take.new.budget k.0 k.2 k.3.script.symbols k.3.script.option in
-    let new : SessionView = record { script = c.take.new.script; limits = c.self.inside.limits; mode = c.self.inside.mode; budget = c.take.new.budget } in (
-      k.0,
-      record {
-        answers = subst (λ (v : SessionView). Answers (limits_meant v.limits) s (tree_of x) k.0) c.self.view_is k.1;
-        stands = k.3;
-        lists = keeps_lists (text_of x) c.in_ok-response.response k.0.response k.0.stack c.args.self.now new k.2 (subst (λ (v : SessionView). ChangesBudget new.script.table k.0.stack c.in_ok-response.response v.budget c.take.new.budget) c.self.view_is k.4);
-      },
-      subst (λ (v : SessionView). AppendsPrefix (g.K.Sink.written c.args.out.now) (g.K.Sink.written c.send_response.new.out) (response_text (mode_meant v.mode) (text_of x) k.0)) c.self.view_is w.0,
-      w.1,
+    let k = c.in_ok-response.ensures.takes s held in
+    let so = is_answered c.what_is_shown_is_so.ensures.at s x r old new k refl c.in_ok-response.ensures.budget in
+    let of : IsResponseOf c.take.new.script (text_of x) c.take.new.budget r k.a = record { is = k.is; symbols = k.held.script.symbols; option = k.held.script.option } in
+    let w = c.in-Err.ensures (text_of x) c.take.new.budget k.a of in (
+      k.a,
+      subst (λ (v : SessionView). IsAnswered s x v new k.a) c.self.view_is so,
+      subst (λ (v : SessionView). NotSent (written_for v x k.a) (g.K.Sink.state c.args.out.now) (g.K.Sink.state c.send_response.new.out)) c.self.view_is w,
+    )
+
+pub returns-in-Ok-clause-stepped : goal.returns-in-Ok-clause-stepped
+returns-in-Ok-clause-stepped g c = λ s h.
+    let x = c.args.command.now in
+    let r = c.in_ok-response.response in
+    let old : SessionView = record { script = c.self.inside.script; limits = c.self.inside.limits; mode = c.self.inside.mode; budget = c.self.inside.budget } in
+    let new : SessionView = record { script = c.take.new.script; limits = c.self.inside.limits; mode = c.self.inside.mode; budget = c.take.new.budget } in
+    let held : IsHeld c.self.inside.limits.terms c.self.inside.script s = rw (← c.self.view_is) at h in
+    let k = c.in_ok-response.ensures.takes s held in
+    let so = is_answered c.what_is_shown_is_so.ensures.at s x r old new k refl c.in_ok-response.ensures.budget in
+    let of : IsResponseOf c.take.new.script (text_of x) c.take.new.budget r k.a = record { is = k.is; symbols = k.held.script.symbols; option = k.held.script.option } in
+    let w = c.in-Ok.ensures (text_of x) c.take.new.budget k.a of in (
+      k.a,
+      subst (λ (v : SessionView). IsAnswered s x v new k.a) c.self.view_is so,
+      c.after_of.ensures c.take.new.script.table (text_of x) c.take.new.budget k.a.response k.is,
+      (subst (λ (v : SessionView). Sent (written_for v x k.a) (g.K.Sink.state c.args.out.now) (g.K.Sink.state c.send_response.new.out)) c.self.view_is w.0, w.1),
     )
