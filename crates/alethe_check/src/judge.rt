@@ -119,6 +119,7 @@ fn judge_one(alloc: Global, state: &mut ProofState, sexpr: &Sexpr<'_>) -> Result
         (command_of (Some term_limit) (known_view state.old) (tree_of sexpr.now)) result state.new }
     ensures sound { OnOk result (IsSound state.new) }
 {
+    // A `match`, and no `?`: the clause goes by cases on the result, and each arm then closes by itself.
     let command = match proof_command(alloc, state, sexpr.trees()) {
         Ok(command) => command,
         Err(error) => return Err(error),
@@ -155,7 +156,7 @@ fn judge_sequence(
             Err(Refused::Fault(refusal)) => return Ok(SequenceEnd::Broken(refusal)),
             Err(Refused::Memory) => return Err(CommandError::Memory),
         };
-        // A `match`, and no `?`: so the proof gets what is so after each of the two.
+        // As in `judge_one`: what is so after an error is a case of the clause.
         match judge_one(alloc, state, &sexpr) {
             Ok(()) => place = after,
             Err(error) => return Err(error),

@@ -112,6 +112,7 @@ pub(crate) fn read_premises(
         let Some((first, others)) = split(rest) else {
             return Ok(made);
         };
+        // A `match`, and no `?`: the error's case of the clause is an answer of its own.
         match premise(state, first) {
             Ok(number) => made.push(number)?,
             Err(error) => return Err(error),
