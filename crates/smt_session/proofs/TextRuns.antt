@@ -1,5 +1,5 @@
 -- A text that is run command by command by a session.
-use Rattle.std.proofs.Common.{◌≡◌, ◌≤◌, ℕ, Bool, true, false, ◌||◌, List, [], ◌∷◌, ◌++◌, length, Option, Some, None, refl, sym, ap, ◌∙◌, subst, append-nil, arith}
+use Rattle.std.proofs.Common.{◌≡◌, ℕ, Bool, true, false, ◌||◌, List, [], ◌∷◌, ◌++◌, length, Option, Some, None, refl, sym, ap, ◌∙◌, subst, append-nil, arith}
 use Rattle.std.specs.List.{list_any}
 use Rattle.std.proofs.lemmas.Grind.{flat_map-append}
 use Rattle.world_io.specs.Writing.{SinkView, Sent, NotSent}
@@ -12,7 +12,7 @@ use Rattle.spec_text.specs.Readings.{Stops, kept, is_long, limited}
 use Rattle.spec_replies.specs.Lines.{error_text}
 use Rattle.spec_scripts.specs.Stack.{Stack, empty_stack}
 use Rattle.spec_runs.specs.Evidence.{Limits}
-use Rattle.spec_runs.specs.Responses.{Mode, Response, success, not_supported, answered, ended, rejected, Answered, Answers, response_text, fault_text, is_rejected, is_end}
+use Rattle.spec_runs.specs.Responses.{Mode, Response, success, not_supported, answered, ended, rejected, Answered, Answers, response_text, is_rejected, is_end}
 use Rattle.spec_runs.specs.Transcripts.{answers_text, closing_text, is_fault, IsTranscript}
 use Rattle.spec_runs.proofs.Running.{Going, going_begins, answered_on, EachIsRead, told_more, ends_more, begun_here, text_ends, line_begun, begun_next, script_ends}
 use Rattle.smt_lexer.specs.declared.Refusal.{Refusal}
@@ -63,7 +63,7 @@ module _ (limits : Limits) (mode : Mode) (text : List ℕ) (old : SinkView) wher
   abbrev bytes : List ℕ
   bytes = kept text
 
-  -- So far the commands of the text were answered, and this was written.
+  -- Up to here the commands of the text were answered, and this was written.
   pub record IsGoing (x : SessionView) (at : ℕ) (refused : Bool) (now : SinkView) : Type 0 where
     pub stack : Stack
     pub given : List Answered
@@ -97,7 +97,7 @@ module _ (limits : Limits) (mode : Mode) (text : List ℕ) (old : SinkView) wher
   nothing_begun r = ([], begun_here limits mode text bytes refl 0 empty_stack [] (going_begins limits bytes 0 refl) r, nothing)
 
   module _ (x : SessionView) (from : Place) (refused : Bool) (now : SinkView) (i : IsGoing x from.offset refused now) where
-    -- what was written so far
+    -- what was written up to here
     abbrev written : List ℕ
     written = answers_text mode bytes i.given
 

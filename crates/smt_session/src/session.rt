@@ -2,7 +2,6 @@
 
 ghost use Rattle.std.specs.Prelude.{◌≡◌, ◌≤◌, [], IfOk, IsErrOf};
 ghost use Rattle.world_io.specs.Outside.{Rose};
-ghost use Rattle.world_io.specs.Writing.{SinkView};
 ghost use Rattle.spec_scripts.specs.Stack.{Stack, empty_stack};
 ghost use Rattle.smt_session.specs.Sessions.{limits_meant, IsHeld, IsSession, Takes, KeepsBudget, Rejects, Stepped};
 
@@ -50,7 +49,7 @@ impl From<NoMemory> for Halt {
     }
 }
 
-/// Holds what a script has stated so far, what its checks may spend, and what the last check learned.
+/// Holds what a script has stated up to here, what its checks may spend, and what the last check learned.
 ///
 /// Contracts see it as a stack of the definitions, by the relation `IsSession`. Source: SMT-LIB 2.6, section 4.2.
 #[derive(Drop)]

@@ -1,7 +1,5 @@
 //! Tests of sessions, command by command: their responses, over sinks that fail and through buffers.
 
-ghost use Rattle.std.specs.Prelude.{◌≡◌};
-
 use crate::text_tests::number_of;
 use crate::{After, Halt, Mode, Session, Status, run_text};
 use sat_budget::Limits;

@@ -1,7 +1,5 @@
 //! Tests of runs of texts, with the bytes that they write, and over sinks that fail.
 
-ghost use Rattle.std.specs.Prelude.{◌≡◌};
-
 use crate::{Mode, run_text};
 use sat_budget::Limits;
 use std::alloc::Global;

@@ -28,7 +28,7 @@ module _ (limits : Limits) where
     abbrev Left : (ℕ → Answer Taken → Type 0) → Answer Taken → Response → Stack → Type 0
     Left P r response stack = Follows response (Begins limits stack ts) given → with_check (record { response = response; stack = stack }) (checks_in given) ≡ before ++ c ∷ after → P (suc (length before)) r
 
-    -- the check is behind it
+    -- the check is after it
     abbrev Behind : Stack → ℕ → Answer Taken → Type 0
     Behind s k r = (at_check s k r (λ next n. stack_at limits.terms next n ts) ≡ Some c.stack) × Justifies limits c.stack c.found
 

@@ -18,14 +18,14 @@ use Rattle.spec_runs.specs.Transcripts.{Follows, Runs, Begins, answers_text, clo
 nothing_first : (xs : List (ℕ × Lexeme)) → AreTrees 0 xs none xs
 nothing_first xs = record { split = refl; within = omega arith }
 
--- a tree in front, and then others
+-- a first tree, and then others
 first_tree : (xs ys : List (ℕ × Lexeme)) (t : Tree) → xs ≡ spelled t ++ ys → depth t ≤ nesting_limit → (us : Trees) (rest : List (ℕ × Lexeme)) → AreTrees 0 ys us rest → AreTrees 0 xs (more t us) rest
 first_tree xs ys t e flat us rest h = record {
   split = e ∙ ap (λ zs. spelled t ++ zs) h.split ∙ sym (append_assoc (spelled t) (spelled_all us) rest);
   within = omega (arith, flat, h.within);
 }
 
--- behind a response that does not end the script all else follows
+-- after a response that does not end the script all else follows
 follows_on : (r : Response) (P : List Answered → Type 0) (given : List Answered) → is_end r ≡ false → P given → Follows r P given
 follows_on success P given e h = h
 follows_on not_supported P given e h = h
@@ -33,7 +33,7 @@ follows_on (answered f) P given e h = h
 follows_on ended P given e h = cc
 follows_on (rejected f) P given e h = h
 
--- behind one that does, nothing
+-- after one that does, nothing
 follows_none : (r : Response) (P : List Answered → Type 0) → is_end r ≡ true → Follows r P []
 follows_none success P e = cc
 follows_none not_supported P e = cc
@@ -41,7 +41,7 @@ follows_none (answered f) P e = cc
 follows_none ended P e = refl
 follows_none (rejected f) P e = cc
 
--- behind a response nothing need be answered yet
+-- after a response nothing need be answered yet
 follows_nothing : (r : Response) (limits : Limits) (s : Stack) (ts : Trees) → Follows r (Begins limits s ts) []
 unfolding Begins
 follows_nothing success limits s ts = tt
@@ -67,7 +67,7 @@ begins_all limits s (more t ts) [] h = tt
 begins_all limits s (more t ts) (a ∷ given) h = (h.0, follows_weaker a.response (Runs limits a.stack ts) (Begins limits a.stack ts) given (begins_all limits a.stack ts given) h.1)
 
 module _ (limits : Limits) (bytes : List ℕ) where
-  -- The commands up to an offset were answered so: what is answered from there on is answered behind them.
+  -- The commands up to an offset were answered so: what is answered from there on is answered after them.
   pub record Going (at : ℕ) (stack : Stack) (given : List Answered) : Type 0 where
     pub onward : (us : Trees) (rest : List (ℕ × Lexeme)) → AreTrees 0 (lexemes_from bytes at) us rest
         → (ts : Trees) × AreTrees 0 (lexemes 0 0 bytes) ts rest

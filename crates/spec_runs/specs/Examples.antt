@@ -63,7 +63,7 @@ check_of_nothing = record {
 abbrev pub unknown_first : List ℕ
 unknown_first = codes "(pop 1)\n(check-sat)(exit)(check-sat)"
 
--- a command that is refused is passed over, and nothing is answered behind `exit`
+-- a command that is refused is passed over, and nothing is answered after `exit`
 pub refused_and_left : IsTranscript limits solve unknown_first (codes "(error \"1:2: UnknownCommand\")\nsat\nsuccess\n") true
 unfolding lexemes first_piece built command_of require ◌>>=◌ step Runs digits
 refused_and_left = record {
@@ -93,7 +93,7 @@ unknown_option = record {
   told = refl;
 }
 
--- of a run that was cut short behind its first answer so much was written
+-- of a run that was cut short after its first answer so much was written
 pub first_answer : IsBegun limits solve option_first (codes "unsupported\n")
 unfolding lexemes first_piece built command_of set_option require ◌>>=◌ step Begins
 first_answer = record {

@@ -1,4 +1,4 @@
--- What commands are answered, and what is written for that. Source: SMT-LIB 2.6, sections 3.9 and 4.2; the evidence behind an answer is own.
+-- What commands are answered, and what is written for that. Source: SMT-LIB 2.6, sections 3.9 and 4.2; the evidence after an answer is own.
 use Rattle.std.specs.Prelude.{◌≡◌, ℕ, Bool, true, false, List, [], ◌++◌, Ok, Err, if◌then◌else◌}
 use Rattle.spec_text.specs.Places.{line_of, column_of, name_of}
 use Rattle.spec_text.specs.Faults.{Located}
@@ -30,14 +30,14 @@ pub data Response : Type 0 where
   -- it was refused, for this fault
   rejected : Located → Response
 
--- What a command is answered, and what stands behind it.
+-- What a command is answered, and what comes after it.
 pub record Answered : Type 0 where
   -- the response
   pub response : Response
-  -- the stack behind the command
+  -- the stack after the command
   pub stack : Stack
 
--- what a command that was taken is answered, where this stack stands behind it
+-- what a command that was taken is answered, where this stack comes after it
 abbrev pub Responds : Limits → Stack → Effect → Response → Type 0
 Responds limits s done r = r ≡ success
 Responds limits s unsupported r = r ≡ not_supported
@@ -69,7 +69,7 @@ evidence_text s (model i) = model_text i s.symbols
 evidence_text s (proof text) = text
 evidence_text s (unknown r d learned) = reason_line r
 
--- what is written behind the line of an answer
+-- what is written after the line of an answer
 abbrev pub shown_text : Mode → Stack → Found → List ℕ
 shown_text solve s f = []
 shown_text certify s f = evidence_text s f
@@ -94,7 +94,7 @@ abbrev pub is_rejected : Response → Bool
 is_rejected (rejected f) = true
 is_rejected _ = false
 
--- whether the script ends behind it
+-- whether the script ends after it
 abbrev pub is_end : Response → Bool
 is_end ended = true
 is_end _ = false

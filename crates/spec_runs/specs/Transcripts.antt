@@ -1,4 +1,4 @@
--- What is written for a script. Source: SMT-LIB 2.6, section 4.2; that a run goes on behind a command that is refused is one of the standard's two ways.
+-- What is written for a script. Source: SMT-LIB 2.6, section 4.2; that a run goes on after a command that is refused is one of the standard's two ways.
 use Rattle.std.specs.Prelude.{◌≡◌, ℕ, Bool, true, false, ◌||◌, List, [], ◌∷◌, ◌++◌, flat_map, Option, Some, None, ◌⊎◌}
 use Rattle.std.specs.List.{list_any}
 use Rattle.spec_text.specs.Faults.{Located}
@@ -8,7 +8,7 @@ use Rattle.spec_scripts.specs.Stack.{Stack, empty_stack}
 use Rattle.spec_runs.specs.Evidence.{Limits, Found}
 use Rattle.spec_runs.specs.Responses.{Mode, Response, answered, ended, Answered, Answers, response_text, fault_text, is_rejected, is_end}
 
--- behind a command that ends the script nothing is answered
+-- after a command that ends the script nothing is answered
 abbrev pub Follows : Response → (List Answered → Type 0) → List Answered → Type 0
 Follows ended rest given = given ≡ []
 Follows _ rest given = rest given

@@ -41,7 +41,7 @@ pub fn answers_say_what_is_so()
     what_is_shown_is_so();
 }
 
-/// States that a transcript, or a front of one, of the front of a text, of 2^26 + 1 bytes at most, is one of the whole text.
+/// States that a transcript, or a prefix of one, of the prefix of a text, of 2^26 + 1 bytes at most, is one of the whole text.
 pub fn transcripts_need_a_front_alone()
     ensures whole { (limits : Limits) (mode : Mode) (text out : List ℕ) (refused : Bool) → IsTranscript limits mode (front text) out refused
         → IsTranscript limits mode text out refused }

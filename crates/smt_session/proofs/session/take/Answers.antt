@@ -1,6 +1,6 @@
 -- By what the command came to.
-use Rattle.std.proofs.Common.{ap, refl, sym, subst}
-use Rattle.spec_scripts.specs.Stack.{Stack, Taken, done, unsupported, check, leave}
+use Rattle.std.proofs.Common.{refl, subst}
+use Rattle.spec_scripts.specs.Stack.{done, unsupported, check, leave}
 use Rattle.spec_runs.specs.Responses.{success, not_supported, answered, ended}
 use Rattle.smt_sexpr.specs.Items.{text_of, start_of, tree_of}
 use Rattle.smt_session.specs.Sessions.{limits_meant, IsHeld}

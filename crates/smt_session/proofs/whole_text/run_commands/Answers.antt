@@ -1,6 +1,6 @@
 -- Each end of a run, and each turn of it.
 use Rattle.std.proofs.Common.{◌||◌, List, ℕ, None, sym, ap, ◌∙◌, subst, arith}
-use Rattle.std.specs.Prelude.{Ok, Err}
+use Rattle.std.specs.Prelude.{Ok}
 use Rattle.spec_text.specs.Places.{IsPlaceOf}
 use Rattle.spec_text.specs.Lexemes.{lexemes_from}
 use Rattle.spec_text.specs.Readings.{kept}

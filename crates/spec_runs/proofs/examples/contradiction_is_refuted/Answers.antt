@@ -21,7 +21,7 @@ use Rattle.spec_runs.specs.Transcripts.{Runs}
 use Rattle.spec_runs.proofs.Refuted.{shown}
 use Rattle.spec_runs.proofs.examples.contradiction_is_refuted.Goals as goal
 
--- what stands behind the declaration, and behind the first assertion
+-- what comes after the declaration, and after the first assertion
 abbrev declared : Stack
 declared = record { symbols = contradiction_stack.symbols; assertions = []; print_success = true }
 

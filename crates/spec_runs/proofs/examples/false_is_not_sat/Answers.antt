@@ -21,7 +21,7 @@ use Rattle.spec_runs.specs.Transcripts.{Follows, Runs, closing, closing_text}
 use Rattle.spec_runs.specs.Examples.{limits, false_asserted}
 use Rattle.spec_runs.proofs.examples.false_is_not_sat.Goals as goal
 
--- what stands behind the assertion
+-- what comes after the assertion
 abbrev asserted : Stack
 asserted = with_assertion empty_stack (atom 8 Simple (codes "false")) (of False [])
 

@@ -1,4 +1,4 @@
--- What is written behind a fault of a text.
+-- What is written after a fault of a text.
 use Rattle.std.proofs.Common.{◌≡◌, ℕ, ◌+◌, ◌<◌, List, [], ◌∷◌, ◌++◌, Some, refl, ap, arith}
 use Rattle.std.specs.Fmt.{digits}
 use Rattle.spec_text.specs.declared.Fault.TheVariants.{StrayClose}

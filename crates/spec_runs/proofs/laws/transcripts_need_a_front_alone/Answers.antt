@@ -1,4 +1,4 @@
--- That a transcript needs a front alone.
+-- That a transcript needs a prefix alone.
 use Rattle.std.proofs.Common.{◌≡◌, List, ◌++◌, ℕ, subst, ◌⊎◌}
 use Rattle.spec_text.specs.Readings.{text_limit}
 use Rattle.spec_proofs.proofs.Fronts.{same_kept, read_by}
