@@ -1,6 +1,6 @@
 //! Runs SMT-LIB scripts, and judges Alethe proofs against them.
 //!
-//! The words of the program go to the run with real files, standard input and standard output, the last behind a buffer; the
+//! The arguments of the program go to the run with real files, standard input and standard output, the last buffered; the
 //! program ends with the status of the run.
 #![tactic(auto)]
 
@@ -16,23 +16,23 @@ fn main(rt: HostRuntime) -> ExitCode {
     ExitCode::from(status_of(&rt).code())
 }
 
-/// Runs the words that the program was given.
+/// Runs what the program's arguments ask for.
 ///
-/// Words that are not UTF-8, or that cannot be had as a whole, are as no words; where memory for them or for the buffer is
-/// wanting the answer is `Memory`.
+/// Arguments that are not UTF-8, or that cannot be had as a whole, are as none; where memory for them or for the buffer runs
+/// out the answer is `Memory`.
 fn status_of<R: Files + Input + Print + Env + AllocGlobal>(rt: &R) -> Status {
     let mut shelf = HostShelf::new(rt);
     let Ok(mut out) = BufferedSink::new(rt.alloc(), HostSink::new(rt)) else {
         return Status::Memory;
     };
-    match words_of(rt) {
-        Ok(words) => run_buffered(rt.alloc(), &words, &mut shelf, &mut out),
+    match arguments_of(rt) {
+        Ok(arguments) => run_buffered(rt.alloc(), &arguments, &mut shelf, &mut out),
         Err(Unread::Unreadable) => run_buffered(rt.alloc(), &[], &mut shelf, &mut out),
         Err(Unread::Memory) => Status::Memory,
     }
 }
 
-/// Says why the words were not had.
+/// Tells why the arguments were not had.
 #[derive(Clone, Copy, Debug, PartialEq, Eq)]
 enum Unread {
     /// One is not UTF-8, or they cannot be had as a whole.
@@ -41,8 +41,8 @@ enum Unread {
     Memory,
 }
 
-/// Collects the words of the program, its name first.
-fn words_of<R: Env + AllocGlobal>(rt: &R) -> Result<Vec<String>, Unread> {
+/// Collects the arguments of the program, its name first.
+fn arguments_of<R: Env + AllocGlobal>(rt: &R) -> Result<Vec<String>, Unread> {
     match env::args(rt) {
         Ok(args) => args.collect(rt.alloc()).map_err(|_| Unread::Memory),
         Err(error) if error.kind() == ErrorKind::OutOfMemory => Err(Unread::Memory),

@@ -1,12 +1,12 @@
--- How long the line of a fault is, and that it is handed on.
-use Rattle.std.proofs.Common.{ℕ, ◌<◌, ◌≤◌, ◌^◌, List, ◌++◌, length, Option, arith}
-use Rattle.std.specs.Prelude.{codes, decimal, Result, Ok, Err, OnErr}
-use Rattle.std.specs.Io.KnownBytes.{Keeps}
+-- How long the line of a fault is.
+use Rattle.std.proofs.Common.{ℕ, ◌<◌, ◌≤◌, ◌^◌, List, ◌++◌, length, refl, arith}
+use Rattle.std.specs.Prelude.{codes, decimal, Result, Ok, Err, IsOk}
 use Rattle.std.proofs.lemmas.Fmt.{length-decimal-le}
 use Rattle.std.proofs.lemmas.List.{length-append}
-use Rattle.world_io.specs.Outside.{Rose}
-use Rattle.world_io.specs.Writing.{Sends}
 use Rattle.world_io.specs.declared.fault.Failed.{Failed}
+use Rattle.world_io.specs.Writing.{SinkView, HasRoom}
+use Rattle.world_io.proofs.Sending.{room_for_less}
+use Rattle.smt_session.specs.Sessions.{Delivers}
 use Rattle.spec_text.specs.declared.Fault.{Fault}
 use Rattle.spec_text.specs.declared.Fault.TheVariants as faults
 use Rattle.spec_text.specs.Places.{name_of}
@@ -14,8 +14,6 @@ use Rattle.spec_proofs.specs.declared.ProofKind.{ProofKind}
 use Rattle.spec_proofs.specs.declared.ProofKind.TheVariants as kinds
 use Rattle.spec_proofs.specs.Faults.{fault_name}
 use Rattle.spec_replies.specs.Lines.{error_text}
-use Rattle.smt_session.proofs.Handing.{sends_on}
-use Rattle.smt_top.specs.Calls.{SendsLine}
 use Rattle.smt_top.specs.Output.{longest_line}
 
 text_name : (f : Fault) → length (name_of f) ≤ 20
@@ -70,7 +68,7 @@ line_fits line col k l c =
     let e = d ++ name in
     omega (arith, digits, columns, kind_name k, length-append (decimal line) (codes ":"), length-append a (decimal col), length-append b (codes ": "), length-append d name, length-append e end)
 
--- a line that was written and then handed on was sent
-pub line_sent : (x : List ℕ) (r : Result (Unit {0}) Failed) (a b c : Option (List ℕ)) (f g h : ℕ) → Sends x (Ok tt) a b f g → Keeps b c → g ≤ h → OnErr r (Rose g h) → SendsLine (record { old = a; new = c; faults_old = f; faults_new = h }) x r
-line_sent x (Ok u) a b c f g h s k n e = (sends_on x (Ok u) a b c f g h s k n e).0
-line_sent x (Err x2) a b c f g h s k n e = sends_on x (Err x2) a b c f g h s k n e
+-- what fits into the longest line succeeds where there is room for that
+pub fits_in : (x : List ℕ) (r : Result (Unit {0}) Failed) (a b : SinkView) → Delivers x r a b → length x ≤ longest_line → HasRoom a longest_line → IsOk r
+fits_in x (Ok u) a b d l room = refl
+fits_in x (Err e) a b d l room = absurd (d.room (room_for_less a longest_line (length x) l room))

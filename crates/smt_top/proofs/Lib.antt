@@ -7,3 +7,4 @@ pub mod Scripts
 pub mod Lengths
 pub mod InMemory
 pub mod Buffers
+pub mod Taken

@@ -7,7 +7,7 @@ use Rattle.std.proofs.lemmas.Fmt.{decimal_is_IsNumeral, parse-decimal}
 use Rattle.std.specs.Result.{result_unwrap_or}
 use Rattle.std.specs.Str.{bytes_eq}
 use Rattle.std.specs.Str.Parse.{digits_value, ParsesUnsigned}
-use Rattle.smt_top.specs.Words.{IsNumber, number_of, most_number}
+use Rattle.smt_top.specs.Arguments.{IsNumber, number_of, most_number}
 
 abbrev test : List ℕ → ℕ → Bool
 test word n = bytes_eq word (decimal n) && (nat_le 1 n && nat_le n most_number)

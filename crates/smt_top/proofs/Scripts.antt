@@ -1,5 +1,6 @@
 -- From the run of what was read of a script to the end of a run.
 use Rattle.std.proofs.Common.{◌≡◌, inl, ℕ, Bool, List, IfSome}
+use Rattle.world_io.specs.Writing.{SinkView}
 use Rattle.spec_text.specs.Readings.{front}
 use Rattle.spec_runs.specs.Evidence.{Limits}
 use Rattle.spec_runs.specs.Responses.{Mode}
@@ -8,7 +9,7 @@ use Rattle.smt_session.specs.declared.status.Status.{Status}
 use Rattle.smt_session.specs.declared.status.Status.TheVariants.{Done, Refused, Words, Memory, ReadFault, WriteFault}
 use Rattle.smt_session.specs.Runs.{EndsText, OnTranscript, OnBegun}
 use Rattle.smt_session.proofs.Saying.{WholeSays, BegunSays}
-use Rattle.smt_top.specs.Ends.{Reads, Writes, Holdings, ScriptEnds}
+use Rattle.smt_top.specs.Ends.{Holdings, ScriptEnds}
 
 -- that a transcript needs a front of the text alone, whole and cut short
 abbrev pub WholeFront : Type 0
@@ -28,11 +29,11 @@ module _ (whole_front : WholeFront) (begun_front : BegunFront) (whole_says : Who
       let w = begun_front limits mode text begun t in
       (begun, w, begun_says limits mode text begun w, p)
 
-  -- the name's text is told, and its front was run
-  pub script_ends : (status : Status) (name : List ℕ) (holds : Holdings) (reads : Reads) (out : Writes) → IfSome (holds name) (λ t. t ≡ text) → EndsText limits mode (front text) status out → ScriptEnds status mode name limits holds reads out
-  script_ends Done name holds reads out held r = (text, held, on_transcript _ _ r)
-  script_ends Refused name holds reads out held r = (text, held, on_transcript _ _ r)
-  script_ends Words name holds reads out held r = absurd r
-  script_ends Memory name holds reads out held r = inl (text, held, on_begun _ r)
-  script_ends ReadFault name holds reads out held r = absurd r
-  script_ends WriteFault name holds reads out held r = (r.1, (text, held, on_begun _ r.0))
+  -- the name's text is known, and its front was run
+  pub script_ends : (status : Status) (name : List ℕ) (holds : Holdings) (old new : SinkView) → IfSome (holds name) (λ t. t ≡ text) → EndsText limits mode (front text) status old new → ScriptEnds status (record { mode = mode; name = name; limits = limits }) holds old new
+  script_ends Done name holds old new held r = (text, held, on_transcript _ _ r)
+  script_ends Refused name holds old new held r = (text, held, on_transcript _ _ r)
+  script_ends Words name holds old new held r = absurd r
+  script_ends Memory name holds old new held r = inl (text, held, on_begun _ r)
+  script_ends ReadFault name holds old new held r = absurd r
+  script_ends WriteFault name holds old new held r = (text, held, on_begun _ r)

@@ -1,5 +1,5 @@
 -- The definitions that contracts cite.
-pub mod Words
+pub mod Arguments
 pub mod Output
 pub mod Ends
 pub mod Calls

@@ -4,7 +4,7 @@ use Rattle.spec_text.specs.Places.{line_of, column_of}
 use Rattle.spec_proofs.specs.Faults.{Fault, fault_name}
 use Rattle.spec_replies.specs.Lines.{error_text}
 
--- how the words are to be
+-- how the arguments are to be
 abbrev pub usage : List ℕ
 usage = codes "usage: smt_cli solve [--conflicts N] [--pivots N] [NAME]\n       smt_cli certify [--conflicts N] [--pivots N] [NAME]\n       smt_cli check [--at K] SCRIPT PROOF\n"
 

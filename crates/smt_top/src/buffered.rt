@@ -1,35 +1,38 @@
-//! A run through a buffer in front of a sink.
+//! A run through a buffer before a sink.
 
-ghost use Rattle.std.specs.Prelude.{◌≡◌, ◌≢◌, ◌≤◌, ◌⊎◌, [], IsSome};
-ghost use Rattle.world_io.specs.Buffering.{sink_of, pending_in, followed_by};
-ghost use Rattle.smt_top.specs.Words.{asked};
-ghost use Rattle.smt_top.specs.Ends.{Ends, AreHeld, LastIsRead, IsUnread, is_answered};
+ghost use Rattle.std.specs.Prelude.{◌≡◌, ◌≢◌, ◌≤◌, ◌⊎◌, ℕ, List, [], IsSome};
+ghost use Rattle.world_io.specs.Outside.{Rose};
+ghost use Rattle.smt_top.specs.Arguments.{asked};
+ghost use Rattle.smt_top.specs.Ends.{Ends, AreHeld, LastIsRead, IsUnread, is_answered, through};
 
 use crate::run;
 use smt_session::Status;
 use std::alloc::Global;
 use world_io::{BufferedSink, Shelf, Sink};
 
-/// Runs the program as `run` does, through a buffer in front of a sink, and at the end hands on what waits in the buffer.
+/// Runs the program as `run` does, through a buffer before a sink, and at the end passes on what waits.
 ///
-/// The statuses are those of `run`; where what waits at the end cannot be handed on, it is `WriteFault`. After `Done`, `Refused` and
-/// `Words` nothing waits: the sink has got all that was written.
+/// The statuses are those of `run`; where what waits at the end cannot be passed on, it is `WriteFault`. After `Done`,
+/// `Refused` and `Words` nothing waits, also in the buffers of the sink: it has got all that was written.
 pub fn run_buffered<F: Shelf, K: Sink + Drop>(
     alloc: Global,
-    words: &[String],
+    arguments: &[String],
     shelf: &mut F,
     out: &mut BufferedSink<K>,
 ) -> Status
-    ensures ends { Ends result (asked words.now) (F.holds shelf.old)
-        (record { old = F.faults shelf.old; new = F.faults shelf.new })
-        (record { old = followed_by (K.written (sink_of out.old)) (pending_in out.old); new = followed_by (K.written (sink_of out.new)) (pending_in out.new); faults_old = K.faults (sink_of out.old); faults_new = K.faults (sink_of out.new) }) }
-    ensures handed_on { (result ≡ Status.Done) ⊎ ((result ≡ Status.Refused) ⊎ (result ≡ Status.Words)) → pending_in out.new ≡ [] }
-    ensures read { F.is_sound shelf.old → AreHeld (asked words.now) (F.holds shelf.old) → result ≢ Status.ReadFault }
-    ensures order { (result ≡ Status.Done) ⊎ (result ≡ Status.Refused) → LastIsRead (asked words.now) (F.holds shelf.old) (F.left shelf.new) }
-    ensures found { ((s : F) → IsSome (F.left s)) → AreHeld (asked words.now) (F.holds shelf.old) ⊎ IsUnread result (followed_by (K.written (sink_of out.old)) (pending_in out.old)) (followed_by (K.written (sink_of out.new)) (pending_in out.new)) }
-    ensures count { K.faults (sink_of out.old) ≤ K.faults (sink_of out.new) }
+    ensures ends { Ends result (asked arguments.now) (F.holds shelf.old) (through K.state out.old) (through K.state out.new) }
+    ensures passed_on { (result ≡ Status.Done) ⊎ ((result ≡ Status.Refused) ⊎ (result ≡ Status.Words))
+        → (through K.state out.new).pending ≡ [] }
+    ensures read_fault { result ≡ Status.ReadFault → Rose (F.faults shelf.old) (F.faults shelf.new) }
+    ensures read { F.is_sound shelf.old → AreHeld (asked arguments.now) (F.holds shelf.old) → result ≢ Status.ReadFault }
+    ensures order { (result ≡ Status.Done) ⊎ (result ≡ Status.Refused)
+        → LastIsRead (asked arguments.now) (F.holds shelf.old) (F.left shelf.new) }
+    ensures found { ((s : F) → IsSome (F.left s)) → AreHeld (asked arguments.now) (F.holds shelf.old)
+        ⊎ IsUnread result (through K.state out.old) (through K.state out.new) }
+    ensures same { (n : List ℕ) → F.holds shelf.new n ≡ F.holds shelf.old n }
+    ensures reads { F.faults shelf.old ≤ F.faults shelf.new }
 {
-    let status = run(alloc, words, shelf, out);
+    let status = run(alloc, arguments, shelf, out);
     if !is_answered(status) {
         return status;
     }

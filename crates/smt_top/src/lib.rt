@@ -1,6 +1,9 @@
-//! One run: it reads the words, and runs a script, or judges a proof against one.
+//! One run: it reads the arguments, and runs a script, or judges a proof against one.
 #![tactic(auto)]
 
+mod arguments;
+#[cfg(test)]
+mod arguments_tests;
 mod buffered;
 mod check_run;
 #[cfg(test)]
@@ -29,9 +32,6 @@ mod tests;
 mod verdict;
 #[cfg(test)]
 mod verdict_rows;
-mod words;
-#[cfg(test)]
-mod words_tests;
 
 pub use buffered::run_buffered;
 pub use check_run::run;

@@ -1,9 +1,9 @@
 //! Parts of a run, where no text is needed.
 
+use crate::arguments::Names;
 use crate::read::read_both;
 use crate::test_support::{AMPLE, LIMIT, PROOF, padded, shelf_of, sink_of};
 use crate::verdict::report;
-use crate::words::Names;
 use alethe_check::{Place, ProofFault, ProofKind, ProofStop};
 use smt_session::Status;
 use spec_text::Fault;

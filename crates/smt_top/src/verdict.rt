@@ -1,8 +1,7 @@
 //! Judges what was read, and writes the verdict.
 
-ghost use Rattle.std.specs.Prelude.{◌≡◌, ◌≢◌, ℕ, ◌≤◌, List};
+ghost use Rattle.std.specs.Prelude.{◌≡◌, ◌≢◌, ℕ, List};
 ghost use Rattle.spec_text.specs.Readings.{front};
-ghost use Rattle.smt_top.specs.Output.{longest_line};
 ghost use Rattle.smt_top.specs.Calls.{Judges, Reports};
 
 use crate::output::{write_fault, write_valid};
@@ -16,7 +15,8 @@ use world_io::Sink;
 ///
 /// `Fault` has the first fault of the proof. `Memory` comes where an allocation was refused.
 pub(crate) fn judge(alloc: Global, texts: &Texts, at: u64) -> Result<(), ProofStop>
-    ensures { (script proof : List ℕ) → texts.now.script ≡ front script → texts.now.proof ≡ front proof → Judges script at proof result }
+    ensures { (script proof : List ℕ) → texts.now.script ≡ front script → texts.now.proof ≡ front proof
+        → Judges script at proof result }
 {
     spec_proofs::laws::verdicts_need_a_front_alone();
     spec_proofs::laws::accepted_proofs_have_no_fault();
@@ -26,12 +26,11 @@ pub(crate) fn judge(alloc: Global, texts: &Texts, at: u64) -> Result<(), ProofSt
 
 /// Writes a verdict, and tells how the run ends by it.
 ///
-/// Where memory was wanting nothing is written.
+/// Where memory ran out nothing is written.
 pub(crate) fn report<K: Sink>(verdict: Result<(), ProofStop>, out: &mut K) -> Status
-    ensures reports { (script : List ℕ) (at : ℕ) (proof : List ℕ) → Judges script at proof verdict → Reports result script at proof (record { old = K.written out.old; new = K.written out.new; faults_old = K.faults out.old; faults_new = K.faults out.new }) }
-    ensures count { K.faults out.old ≤ K.faults out.new }
+    ensures reports { (script : List ℕ) (at : ℕ) (proof : List ℕ) → Judges script at proof verdict
+        → Reports result script at proof (K.state out.old) (K.state out.new) }
     ensures no_read { result ≢ Status.ReadFault }
-    ensures room { (most : ℕ) → K.has_room out.old most → longest_line ≤ most → result ≢ Status.WriteFault }
 {
     match verdict {
         Ok(()) => match write_valid(out) {

@@ -1,7 +1,7 @@
 -- The number that a word stands for.
 use Rattle.std.proofs.lemmas.Bool.{iff_false}
 use Rattle.smt_top.proofs.Numbers.{is_its_number, has_no_number, not_read, read_other}
-use Rattle.smt_top.proofs.words.number_of.Goals as goal
+use Rattle.smt_top.proofs.arguments.number_of.Goals as goal
 
 pub returns-in_default-clause-value : goal.returns-in_default-clause-value
 returns-in_default-clause-value c = has_no_number c.args.word.now (not_read c.args.word.now c.parse.result c.parse.ensures.value.0 c.in_default.not-Ok)

@@ -1,9 +1,9 @@
 //! Which arguments are taken, and what they ask for.
 
+use crate::arguments::{ArgumentsStop, Request, request_from};
 use crate::test_support::{
     AMPLE, PROOF, SCRIPT, USAGE, arguments_of, padded, run_both, run_on, shelf_named, sink_of,
 };
-use crate::words::{Request, WordsStop, words_of};
 use crate::{Status, run_in_memory};
 use smt_session::Mode;
 use std::alloc::Global;
@@ -51,7 +51,7 @@ smt_cli|certify|é\tcertify|é|1000000|10000000";
 /// Gives what arguments ask for as a text, or nothing where they are wrong.
 fn asked_of(alloc: Global, line: &str) -> Result<String, NoMemory> {
     let arguments = arguments_of(alloc, line)?;
-    match words_of(alloc, arguments.as_slice()) {
+    match request_from(alloc, arguments.as_slice()) {
         Ok(Request::Check(asked)) => {
             let (script, proof, at) = (asked.names.script, asked.names.proof, asked.at);
             Ok(format!(in alloc; "{script}|{proof}|{at}")?)
@@ -64,8 +64,8 @@ fn asked_of(alloc: Global, line: &str) -> Result<String, NoMemory> {
             let (name, conflicts, pivots) = (asked.name, asked.conflicts, asked.pivots);
             Ok(format!(in alloc; "{mode}|{name}|{conflicts}|{pivots}")?)
         }
-        Err(WordsStop::Wrong) => Ok(String::from_str(alloc, "wrong")?),
-        Err(WordsStop::Memory) => Err(NoMemory),
+        Err(ArgumentsStop::Wrong) => Ok(String::from_str(alloc, "wrong")?),
+        Err(ArgumentsStop::Memory) => Err(NoMemory),
     }
 }
 

@@ -1,11 +1,11 @@
-//! The words of a run, as they stand behind the program's name.
+//! The arguments of a run, as they stand after the program's name.
 
 ghost use Rattle.std.specs.Prelude.{◌≡◌, ◌↔◌, ℕ, [], false, map, option_map, option_and_then, unwrap_or, IfOk, IsTrue, IfSome, None, string_bytes};
 ghost use Rattle.clap.specs.Words.{app_of, rule_of, FailsBy, fault_of, first_of, found_of, kind_of, rows_of, subcommand_of, subcommand_rows_of};
 ghost use Rattle.clap.specs.declared.builder.command.Command.TheViews.{out-Command};
 ghost use Rattle.smt_session.specs.Sessions.{mode_meant};
 ghost use Rattle.smt_top.specs.Calls.{names_of, asked_by, Asks};
-ghost use Rattle.smt_top.specs.Words.{asked, asked_in, IsNumber, number_of, number_or, conflicts_in, run_in, names_in, option_named, needed_word, run_app, check_app, bare_app, smt_app};
+ghost use Rattle.smt_top.specs.Arguments.{asked, asked_in, IsNumber, number_of, number_or, budgets, budgets_in, run_in, names_in, option_named, required_argument, run_app, check_app, bare_app, smt_app};
 
 use clap::error::ErrorKind;
 use clap::{Arg, ArgMatches, Command, Error};
@@ -13,13 +13,13 @@ use itoa::Buffer;
 use smt_session::Mode;
 use std::alloc::{AllocError, Global};
 
-/// No number of the words is greater.
+/// No number of the arguments is greater.
 const MOST_NUMBER: u64 = 1_000_000_000;
 
-/// How many conflicts a check may learn from where no word says so.
+/// How many conflicts a check may learn from where no argument says so.
 const USUAL_CONFLICTS: u64 = 1_000_000;
 
-/// How many pivots a check may make where no word says so.
+/// How many pivots a check may make where no argument says so.
 const USUAL_PIVOTS: u64 = 10_000_000;
 
 /// Holds the names of the two texts.
@@ -31,7 +31,7 @@ pub(crate) struct Names<'a> {
     pub(crate) proof: &'a str,
 }
 
-/// Holds what the words of `check` ask for.
+/// Holds what the arguments of `check` ask for.
 #[derive(Clone, Copy)]
 pub(crate) struct CheckRequest<'a> {
     /// The names of the two texts.
@@ -40,20 +40,20 @@ pub(crate) struct CheckRequest<'a> {
     pub(crate) at: u64,
 }
 
-/// Holds what the words of `solve` and of `certify` ask for.
+/// Holds what the arguments of `solve` and of `certify` ask for.
 #[derive(Clone, Copy)]
 pub(crate) struct RunRequest<'a> {
     /// How much is written.
     pub(crate) mode: Mode,
-    /// The script's name; it is empty where no word gives one.
+    /// The script's name; it is empty where no argument gives one.
     pub(crate) name: &'a str,
     /// How many conflicts each check may learn from, from 1 to 1,000,000,000.
     pub(crate) conflicts: u64,
-    /// How many pivots each check may make, from 1 to 1,000,000,000. It has no effect so far.
+    /// How many pivots each check may make, from 1 to 1,000,000,000. It has no effect yet.
     pub(crate) pivots: u64,
 }
 
-/// Holds what the words of a run ask for.
+/// Holds what the arguments of a run ask for.
 #[derive(Clone, Copy)]
 pub(crate) enum Request<'a> {
     /// A script is to be run.
@@ -62,42 +62,45 @@ pub(crate) enum Request<'a> {
     Check(CheckRequest<'a>),
 }
 
-/// Tells why words give no request.
+/// Tells why arguments give no request.
 #[derive(Clone, Copy, Debug, PartialEq, Eq)]
-pub(crate) enum WordsStop {
-    /// The words are not those of a run.
+pub(crate) enum ArgumentsStop {
+    /// The arguments are not those of a run.
     Wrong,
-    /// Memory was wanting.
+    /// Memory ran out.
     Memory,
 }
 
-/// Gives what the words behind the program's name ask for: `solve [--conflicts N] [--pivots N] [NAME]`, `certify` with the same,
+/// Gives what the arguments after the program's name ask for: `solve [--conflicts N] [--pivots N] [NAME]`, `certify` with the same,
 /// or `check [--at K] SCRIPT PROOF`.
 ///
 /// N and K are from 1 to 1,000,000,000, in decimal digits. Where they are not given, a check may learn from 1,000,000 conflicts and
-/// make 10,000,000 pivots, K is 1, and NAME is empty. `Wrong` comes for all other words. `Memory` comes only where an allocation
-/// was refused, whatever the words are.
-pub(crate) fn words_of<'a>(alloc: Global, words: &'a [String]) -> Result<Request<'a>, WordsStop>
-    ensures { Asks (asked words.entry.now) result }
+/// make 10,000,000 pivots, K is 1, and NAME is empty. `Wrong` comes for all other arguments. `Memory` comes only where an allocation
+/// was refused, whatever the arguments are.
+pub(crate) fn request_from<'a>(
+    alloc: Global,
+    arguments: &'a [String],
+) -> Result<Request<'a>, ArgumentsStop>
+    ensures { Asks (asked arguments.entry.now) result }
 {
-    let matches = match matches_of(alloc, words) {
+    let matches = match matches_of(alloc, arguments) {
         Ok(matches) => matches,
         Err(error) => return Err(stop_of(&error)),
     };
-    request_of(&matches).ok_or(WordsStop::Wrong)
+    request_of(&matches).ok_or(ArgumentsStop::Wrong)
 }
 
-/// Tells why words give no request, by the fault that was found in them.
-fn stop_of(error: &Error) -> WordsStop
-    ensures { (result ≡ WordsStop.Memory) ↔ (kind_of error.now ≡ ErrorKind.OutOfMemory) }
+/// Tells why arguments give no request, by the fault that was found in them.
+fn stop_of(error: &Error) -> ArgumentsStop
+    ensures { (result ≡ ArgumentsStop.Memory) ↔ (kind_of error.now ≡ ErrorKind.OutOfMemory) }
 {
     match error.kind() {
-        ErrorKind::OutOfMemory => WordsStop::Memory,
-        _ => WordsStop::Wrong,
+        ErrorKind::OutOfMemory => ArgumentsStop::Memory,
+        _ => ArgumentsStop::Wrong,
     }
 }
 
-/// Makes an option of this name, with any word as its value.
+/// Makes an option of this name, with any argument as its value.
 fn option_named<'a>(alloc: Global, id: &'a str) -> Arg<'a>
     ensures rule { rule_of result ≡ option_named id.entry.now }
     ensures own { result.global ≡ false }
@@ -105,9 +108,9 @@ fn option_named<'a>(alloc: Global, id: &'a str) -> Arg<'a>
     Arg::new(alloc, id).long(id)
 }
 
-/// Makes a word that must be there.
-fn needed_word<'a>(alloc: Global, id: &'a str) -> Arg<'a>
-    ensures rule { rule_of result ≡ needed_word id.entry.now }
+/// Makes an argument that must be there.
+fn required_argument<'a>(alloc: Global, id: &'a str) -> Arg<'a>
+    ensures rule { rule_of result ≡ required_argument id.entry.now }
     ensures own { result.global ≡ false }
 {
     Arg::new(alloc, id).required(true)
@@ -135,8 +138,8 @@ fn check_command<'a>(alloc: Global) -> Result<Command<'a>, AllocError>
 {
     Command::new(alloc, "check")
         .arg(option_named(alloc, "at"))?
-        .arg(needed_word(alloc, "script"))?
-        .arg(needed_word(alloc, "proof"))
+        .arg(required_argument(alloc, "script"))?
+        .arg(required_argument(alloc, "proof"))
 }
 
 /// Makes the program's command without those below it.
@@ -165,16 +168,16 @@ fn whole_command<'a>(alloc: Global) -> Result<Command<'a>, AllocError>
         .subcommand(check)
 }
 
-/// Reads the words by the program's command.
+/// Reads the arguments by the program's command.
 ///
-/// An error of the kind `OutOfMemory` comes where an allocation was refused, one of another kind where the words have such
+/// An error of the kind `OutOfMemory` comes where an allocation was refused, one of another kind where the arguments have such
 /// a fault.
-fn matches_of<'a>(alloc: Global, words: &'a [String]) -> Result<ArgMatches<'a>, Error>
-    ensures matches { IfOk result (λ m. subcommand_rows_of m ≡ subcommand_of smt_app (map string_bytes words.entry.now)) }
-    ensures kinds { FailsBy (fault_of smt_app (map string_bytes words.entry.now)) result }
+fn matches_of<'a>(alloc: Global, arguments: &'a [String]) -> Result<ArgMatches<'a>, Error>
+    ensures matches { IfOk result (λ m. subcommand_rows_of m ≡ subcommand_of smt_app (map string_bytes arguments.entry.now)) }
+    ensures kinds { FailsBy (fault_of smt_app (map string_bytes arguments.entry.now)) result }
 {
     let command = whole_command(alloc)?;
-    command.try_get_matches_from(words)
+    command.try_get_matches_from(arguments)
 }
 
 /// Gives what the matches ask for, and `None` where they have no command with all its values.
@@ -185,7 +188,7 @@ fn request_of<'a>(matches: &ArgMatches<'a>) -> Option<Request<'a>>
     request_in(name, found)
 }
 
-/// Gives what a command of this name asks for by its matches, and `None` where it is none of the three, or a value is wanting or
+/// Gives what a command of this name asks for by its matches, and `None` where it is none of the three, or a value is missing or
 /// is no number.
 fn request_in<'a>(name: &str, found: &ArgMatches<'a>) -> Option<Request<'a>>
     ensures { option_map asked_by result ≡ asked_in (name.now, rows_of (found_of found.now)) }
@@ -214,14 +217,14 @@ fn run_in<'a>(mode: Mode, found: &ArgMatches<'a>) -> Option<RunRequest<'a>>
 /// Gives how many conflicts and how many pivots each check may have, by the values of `--conflicts` and `--pivots`, and `None`
 /// where one of them is no number.
 fn budgets_in(found: &ArgMatches<'_>) -> Option<(u64, u64)>
-    ensures { option_map (λ b. b.0) result ≡ conflicts_in (rows_of (found_of found.now)) }
+    ensures { option_map budgets result ≡ budgets_in (rows_of (found_of found.now)) }
 {
     let conflicts = number_or(USUAL_CONFLICTS, value_of(found, "conflicts"))?;
     let pivots = number_or(USUAL_PIVOTS, value_of(found, "pivots"))?;
     Some((conflicts, pivots))
 }
 
-/// Gives what the matches of `check` ask for, and `None` where a name is wanting or the value of `--at` is no number.
+/// Gives what the matches of `check` ask for, and `None` where a name is missing or the value of `--at` is no number.
 fn check_in<'a>(found: &ArgMatches<'a>) -> Option<CheckRequest<'a>>
     ensures { option_map names_of result ≡ names_in (rows_of (found_of found.now)) }
 {

@@ -1,4 +1,4 @@
--- The words of a run.
+-- The arguments of a run.
 use Rattle.std.specs.Prelude.{◌≡◌, ℕ, ◌≤◌, true, ◌&&◌, List, [], ◌∷◌, map, codes, decimal, Option, Some, None, option_map, option_and_then, unwrap_or, String, string_bytes, nat_le, if◌then◌else◌}
 use Rattle.std.specs.Str.{bytes_eq}
 use Rattle.std.specs.Str.Parse.{digits_value}
@@ -17,10 +17,21 @@ pub record Names : Type 0 where
   -- which of the script's checks is meant, from 1
   pub at : ℕ
 
--- What the words of a run ask for.
+-- What each check of a run may spend.
+pub record Budgets : Type 0 where
+  -- how many conflicts it may learn from
+  pub conflicts : ℕ
+  -- how many pivots it may make; this has no effect yet
+  pub pivots : ℕ
+
+-- the two as one
+abbrev pub budgets : ℕ × ℕ → Budgets
+budgets b = record { conflicts = b.0; pivots = b.1 }
+
+-- What the arguments of a run ask for.
 pub data Asked : Type 0 where
-  -- a script is to be run: how much is written, its name, and how many conflicts each check may learn from
-  runs : Mode → List ℕ → ℕ → Asked
+  -- a script is to be run: how much is written, its name, and what each check may spend
+  runs : Mode → List ℕ → Budgets → Asked
   -- a proof is to be judged against a script
   checks : Names → Asked
 
@@ -28,17 +39,17 @@ pub data Asked : Type 0 where
 abbrev pub option_named : Text → Rule
 option_named id = record (new_rule id) { long = Some id }
 
--- a word that must be there, in its place
-abbrev pub needed_word : Text → Rule
-needed_word id = record (new_rule id) { required = true }
+-- an argument that must be there, in its place
+abbrev pub required_argument : Text → Rule
+required_argument id = record (new_rule id) { required = true }
 
--- a command of this name with the words `[--conflicts N] [--pivots N] [NAME]`
+-- a command of this name with the arguments `[--conflicts N] [--pivots N] [NAME]`
 abbrev pub run_app : Text → App
 run_app name = with_rule (with_rule (with_rule (new_app name) (option_named (codes "conflicts"))) (option_named (codes "pivots"))) (new_rule (codes "name"))
 
 -- the command `check [--at K] SCRIPT PROOF`
 abbrev pub check_app : App
-check_app = with_rule (with_rule (with_rule (new_app (codes "check")) (option_named (codes "at"))) (needed_word (codes "script"))) (needed_word (codes "proof"))
+check_app = with_rule (with_rule (with_rule (new_app (codes "check")) (option_named (codes "at"))) (required_argument (codes "script"))) (required_argument (codes "proof"))
 
 -- the program without its commands: one must be there, and no word asks for help or a version
 abbrev pub bare_app : App
@@ -50,7 +61,7 @@ bare_app =
 abbrev pub smt_app : App
 smt_app = with_subcommand (with_subcommand (with_subcommand bare_app (run_app (codes "solve")).top) (run_app (codes "certify")).top) check_app.top
 
--- no number of the words is greater
+-- no number of the arguments is greater
 abbrev pub most_number : ℕ
 most_number = 1000000000
 
@@ -77,22 +88,23 @@ abbrev pub number_or : ℕ → Option Text → Option ℕ
 number_or usual None = Some usual
 number_or usual (Some word) = number_of word
 
--- the first, where both are numbers: how many pivots a check may make has no effect yet
-abbrev pub first_of_both : Option ℕ → Option ℕ → Option ℕ
-first_of_both (Some conflicts) (Some pivots) = Some conflicts
-first_of_both _ _ = None
+-- both budgets, where both are numbers
+abbrev pub both_budgets : Option ℕ → Option ℕ → Option Budgets
+both_budgets (Some conflicts) (Some pivots) = Some (record { conflicts = conflicts; pivots = pivots })
+both_budgets _ _ = None
 
--- how many conflicts each check may learn from, by the values of `conflicts` and `pivots` of a command's matches
-abbrev pub conflicts_in : List Row → Option ℕ
-conflicts_in rows = first_of_both (number_or usual_conflicts (first_of (codes "conflicts") rows)) (number_or usual_pivots (first_of (codes "pivots") rows))
+-- what each check may spend, by the values of `conflicts` and `pivots` of a command's matches
+abbrev pub budgets_in : List Row → Option Budgets
+budgets_in rows =
+    both_budgets (number_or usual_conflicts (first_of (codes "conflicts") rows)) (number_or usual_pivots (first_of (codes "pivots") rows))
 
--- the limits of a run in which each check may learn from so many conflicts
-abbrev pub limits_by : ℕ → Limits
-limits_by conflicts = record { conflicts = conflicts; terms = term_limit }
+-- the limits of a run in which each check may spend so much
+abbrev pub limits_by : Budgets → Limits
+limits_by budgets = record { conflicts = budgets.conflicts; terms = term_limit }
 
 -- the run that the values of a command's matches ask for; where no name is given, that of the empty name
 abbrev pub run_in : Mode → List Row → Option Asked
-run_in mode rows = option_map (λ conflicts. runs mode (unwrap_or (first_of (codes "name") rows) []) conflicts) (conflicts_in rows)
+run_in mode rows = option_map (runs mode (unwrap_or (first_of (codes "name") rows) [])) (budgets_in rows)
 
 -- all three are there
 abbrev pub all_three : Option Text → Option Text → Option ℕ → Option Names
@@ -111,17 +123,12 @@ asked_in m =
     else if bytes_eq m.0 (codes "check") then option_map checks (names_in m.1)
     else None
 
--- by the faults of the words and the command that they name
+-- by the faults of the arguments and the command that they name
 abbrev pub asked_by_faults : Kinds → Option (Text × List Row) → Option Asked
 asked_by_faults [] met = option_and_then asked_in met
 asked_by_faults (k ∷ ks) met = None
 
--- what the words of a run ask for, where they are taken; the first word is the program's name. They are taken where `clap` by its
+-- what the arguments of a run ask for, where they are taken; the first word is the program's name. They are taken where `clap` by its
 -- definition finds no fault in them for `smt_app`, and the value of each option that is given stands for a number.
 unfoldable pub asked : List (String Global) → Option Asked
-asked words = asked_by_faults (fault_of smt_app (map string_bytes words)) (subcommand_of smt_app (map string_bytes words))
-
--- the texts of a proof that is to be judged, where the words ask for that
-abbrev pub to_check : Option Asked → Option Names
-to_check (Some (checks n)) = Some n
-to_check _ = None
+asked arguments = asked_by_faults (fault_of smt_app (map string_bytes arguments)) (subcommand_of smt_app (map string_bytes arguments))
