@@ -1,5 +1,5 @@
 -- What reading the next s-expression comes to. Source: SMT-LIB 2.6, section 3.2.
-use Rattle.std.specs.Prelude.{◌≡◌, ◌+◌, ◌-◌, ◌<◌, ◌≤◌, ℕ, List, [], ◌∷◌, ◌++◌, length, Option, Some, None, Result, Ok, Err, Vec}
+use Rattle.std.specs.Prelude.{◌≡◌, ◌+◌, ◌-◌, ◌<◌, ◌≤◌, ℕ, List, [], ◌∷◌, ◌++◌, length, Result, Ok, Err, Vec}
 use Rattle.std.specs.Global.{Global}
 use Rattle.spec_text.specs.declared.Place.{Place}
 use Rattle.spec_text.specs.Places.{IsPlaceOf}
@@ -67,13 +67,6 @@ ReadsNext text from n (Ok (next.Close after)) = Closes text from n after
 ReadsNext text from n (Ok next.End) = (n ≡ 0) × (lexemes_from text from.offset ≡ [])
 ReadsNext text from n (Err (refused.Fault r)) = Breaks text n (lexemes_from text from.offset) r
 ReadsNext text from n (Err refused.Memory) = Unit {0}
-
--- the same where no list is open
-abbrev pub ReadsOne : List ℕ → Place → Result (Option (Sexpr × Place)) Refused → Type 0
-ReadsOne text from (Ok (Some x)) = Reads text from 0 x.0 x.1
-ReadsOne text from (Ok None) = lexemes_from text from.offset ≡ []
-ReadsOne text from (Err (refused.Fault r)) = Breaks text 0 (lexemes_from text from.offset) r
-ReadsOne text from (Err refused.Memory) = Unit {0}
 
 -- in n open lists the lexemes begin with the tree whose items these are, up to a place
 pub record BeginsWith (text : List ℕ) (n : ℕ) (xs : List (ℕ × Lexeme)) (is : List Item) (after : Place) : Type 0 where

@@ -5,7 +5,7 @@ ghost use Rattle.spec_text.specs.Places.{IsPlaceOf};
 ghost use Rattle.spec_text.specs.Readings.{kept, is_long, is_of_end, too_long};
 ghost use Rattle.smt_sexpr.specs.Limited.{whole_of, refusal_meant, CutsOff, ReadsNextOf, ReadsOneOf};
 
-use crate::reader::{Next, read_small};
+use crate::reader::{Next, read_next};
 use crate::sexpr::Sexpr;
 use smt_lexer::{Fault, Place, Refusal, Refused, place_after, start};
 use std::alloc::Global;
@@ -113,7 +113,7 @@ impl<'a> LimitedText<'a> {
         requires { IsPlaceOf (kept (whole_of self.now)) at }
         ensures { ReadsNextOf (whole_of self.now) at open_lists result }
     {
-        match read_small(alloc, self.bytes(), at, open_lists) {
+        match read_next(alloc, self.bytes(), at, open_lists) {
             Ok(Next::One(s, after)) => Ok(Next::One(s, after)),
             Ok(Next::Close(after)) => Ok(Next::Close(after)),
             Ok(Next::End) => {

@@ -7,7 +7,7 @@ ghost use Rattle.spec_text.specs.Faults.{nesting_limit};
 ghost use Rattle.smt_sexpr.specs.Means.{flat};
 ghost use Rattle.smt_sexpr.specs.declared.items.Item.TheVariants as item;
 ghost use Rattle.smt_sexpr.specs.Open.{Context, closed, Holds};
-ghost use Rattle.smt_sexpr.specs.Reads.{ReadsNext, ReadsOne, ReadsList};
+ghost use Rattle.smt_sexpr.specs.Reads.{ReadsNext, ReadsList};
 ghost use Rattle.smt_lexer.specs.declared.Refused.TheVariants as refused;
 
 use crate::items::Item;
@@ -140,7 +140,7 @@ fn read_word(alloc: Global, at: u64, kind: Kind, bytes: &[u8]) -> Result<Vec<Ite
 /// or the opening parenthesis that would be the 501st open one, those of before counted (`TooDeep`). Or it is out of
 /// memory, which comes at any allocation. The text may be read on from any place that an `Ok` has. Items are kept small:
 /// no offset and no size may be 2^32 or more. Source: SMT-LIB 2.6, section 3.2.
-pub(crate) fn read_small<'a>(
+pub(crate) fn read_next<'a>(
     alloc: Global,
     text: &'a [u8],
     at: Place,
@@ -182,39 +182,5 @@ pub(crate) fn read_small<'a>(
             let items = read_word(alloc, start.offset, kind, bytes)?;
             Ok(Next::One(Sexpr { text, start, items }, after))
         }
-    }
-}
-
-/// Reads as `read_small` does. Of a text of 2^32 bytes or more it reads nothing, and answers out of memory.
-pub fn read_next<'a>(
-    alloc: Global,
-    text: &'a [u8],
-    at: Place,
-    open_lists: usize,
-) -> Result<Next<'a>, Refused>
-    requires { IsPlaceOf text.now at }
-    ensures { ReadsNext text.now at open_lists result }
-{
-    if text.len() as u64 >= 1 << 32 {
-        return Err(Refused::Memory);
-    }
-    read_small(alloc, text, at, open_lists)
-}
-
-/// Reads the next s-expression from a place of a text on, where no list is open, and gives it with the place right after
-/// it, or `None` where only white space and comments are left. An `Err` is that of `read_next` with no open list.
-/// Source: SMT-LIB 2.6, section 3.2.
-pub fn read_one<'a>(
-    alloc: Global,
-    text: &'a [u8],
-    at: Place,
-) -> Result<Option<(Sexpr<'a>, Place)>, Refused>
-    requires { IsPlaceOf text.now at }
-    ensures { ReadsOne text.now at result }
-{
-    match read_next(alloc, text, at, 0) {
-        Ok(Next::One(s, after)) => Ok(Some((s, after))),
-        Ok(Next::Close(_) | Next::End) => Ok(None),
-        Err(reason) => Err(reason),
     }
 }

@@ -3,7 +3,7 @@ use Rattle.std.proofs.Common.{◌+◌, arith, ◌∙◌, ap, refl}
 use Rattle.smt_sexpr.proofs.Broken.{nothing_broken, wrong_broken, deep_broken, stray_broken}
 use Rattle.smt_sexpr.proofs.Reading.{begins_with_word, read_there, first_is}
 use Rattle.smt_sexpr.proofs.Words.{close_size, word_size}
-use Rattle.smt_sexpr.proofs.reader.read_small.Goals as goal
+use Rattle.smt_sexpr.proofs.reader.read_next.Goals as goal
 
 pub returns-in-Err : goal.returns-in-Err
 returns-in-Err c = (wrong_broken _ _ _ _ _ c.in-Err.ensures.0, c.in-Err.ensures.1)
