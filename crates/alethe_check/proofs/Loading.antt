@@ -13,8 +13,9 @@ use Rattle.smt_lexer.specs.declared.Refusal.{Refusal}
 use Rattle.smt_lexer.specs.declared.Refused.TheVariants as refusals
 use Rattle.smt_sexpr.specs.declared.sexpr.Sexpr.{Sexpr}
 use Rattle.smt_sexpr.specs.Items.{tree_of}
-use Rattle.smt_sexpr.specs.Limited.{StopsIn, IsStopped}
+use Rattle.smt_sexpr.specs.Limited.{IsStopped}
 use Rattle.smt_sexpr.specs.Reads.{Reads}
+use Rattle.smt_sexpr.proofs.Limits.{stops_in}
 use Rattle.assertion_stack.specs.declared.script.Script.{Script}
 use Rattle.assertion_stack.specs.declared.script.Effect.{Effect as CodeEffect}
 use Rattle.assertion_stack.specs.declared.script.Effect.TheVariants as effects
@@ -38,11 +39,6 @@ loading_begins bytes k x at e h = record { stack = empty_stack; stated = h; onwa
 
 read_whole : (text : List ℕ) (ts : Trees) (rest : List (ℕ × Lexeme)) (stop : Option Located) → AreTrees 0 (lexemes 0 0 (kept text)) ts rest → Stops (length (kept text)) rest stop → IsReadUpTo text ts (limited (is_long text) stop)
 read_whole text ts rest stop a s = record { rest = rest; trees = a; stop = stop; stops = s; is = refl }
-
--- what stops the bytes that are read
-stops_in : (end : ℕ) (rest : List (ℕ × Lexeme)) (stop : Option Located) → StopsIn end 0 rest stop → Stops end rest stop
-stops_in end rest None x = x.1
-stops_in end rest (Some f) b = b
 
 -- each text is read
 abbrev pub EachIsRead : List ℕ → ℕ → Type 0

@@ -1,25 +1,26 @@
 -- A text that is run command by command by a session.
 use Rattle.std.proofs.Common.{◌≡◌, ℕ, Bool, true, false, ◌||◌, List, [], ◌∷◌, ◌++◌, length, Option, Some, None, refl, sym, ap, ◌∙◌, subst, append-nil, arith}
+use Rattle.std.proofs.Math.Bool.{or-false, or-true}
 use Rattle.std.specs.List.{list_any}
-use Rattle.std.proofs.lemmas.Grind.{flat_map-append}
 use Rattle.world_io.specs.Writing.{SinkView, Sent, NotSent}
 use Rattle.world_io.proofs.Sending.{nothing_sent, sent_both, second_fails}
 use Rattle.spec_text.specs.declared.Place.{Place}
 use Rattle.spec_text.specs.Faults.{Located}
 use Rattle.spec_text.specs.Places.{IsPlaceOf, column_of, name_of}
-use Rattle.spec_text.specs.Lexemes.{Lexeme, lexemes_from}
+use Rattle.spec_text.specs.Lexemes.{lexemes_from}
 use Rattle.spec_text.specs.Readings.{Stops, kept, is_long, limited}
 use Rattle.spec_replies.specs.Lines.{error_text}
 use Rattle.spec_scripts.specs.Stack.{Stack, empty_stack}
 use Rattle.spec_runs.specs.Evidence.{Limits}
 use Rattle.spec_runs.specs.Responses.{Mode, Response, success, not_supported, answered, ended, rejected, Answered, Answers, response_text, is_rejected, is_end}
 use Rattle.spec_runs.specs.Transcripts.{answers_text, closing_text, is_fault, IsTranscript}
-use Rattle.spec_runs.proofs.Running.{Going, going_begins, answered_on, EachIsRead, told_more, ends_more, begun_here, text_ends, line_begun, begun_next, script_ends}
+use Rattle.spec_runs.proofs.Running.{answers_more, Going, going_begins, answered_on, EachIsRead, told_more, ends_more, begun_here, text_ends, line_begun, begun_next, script_ends}
 use Rattle.smt_lexer.specs.declared.Refusal.{Refusal}
 use Rattle.smt_sexpr.specs.declared.sexpr.Sexpr.{Sexpr}
 use Rattle.smt_sexpr.specs.Items.{text_of, tree_of}
 use Rattle.smt_sexpr.specs.Reads.{Reads}
-use Rattle.smt_sexpr.specs.Limited.{refusal_meant, StopsIn, IsStopped}
+use Rattle.smt_sexpr.specs.Limited.{refusal_meant, IsStopped}
+use Rattle.smt_sexpr.proofs.Limits.{stops_in}
 use Rattle.smt_session.specs.declared.session.After.{After}
 use Rattle.smt_session.specs.declared.session.After.TheVariants as afters
 use Rattle.smt_session.specs.declared.status.Status.{Status}
@@ -40,23 +41,6 @@ pub last_is_taken : (a : After) → is_last a ≡ true → is_refusal a ≡ fals
 last_is_taken afters.Went e = cc
 last_is_taken afters.Refused e = cc
 last_is_taken afters.Ended e = refl
-
-or_false : (x : Bool) → (x || false) ≡ x
-or_false true = refl
-or_false false = refl
-
-or_true : (x : Bool) → (x || true) ≡ true
-or_true true = refl
-or_true false = refl
-
--- what is written for one answer more
-answers_more : (mode : Mode) (text : List ℕ) (given : List Answered) (a : Answered) → answers_text mode text (given ++ a ∷ []) ≡ answers_text mode text given ++ response_text mode text a
-answers_more mode text given a = flat_map-append (response_text mode text) given (a ∷ []) ∙ ap (λ x. answers_text mode text given ++ x) (append-nil (response_text mode text a))
-
--- what stops the lexemes in no list stops the text
-stops_text : (end : ℕ) (rest : List (ℕ × Lexeme)) (stop : Option Located) → StopsIn end 0 rest stop → Stops end rest stop
-stops_text end rest None h = h.1
-stops_text end rest (Some f) h = h
 
 module _ (limits : Limits) (mode : Mode) (text : List ℕ) (old : SinkView) where
   -- what is read of the text
@@ -119,7 +103,7 @@ module _ (limits : Limits) (mode : Mode) (text : List ℕ) (old : SinkView) wher
       ends_plain e =
           let t = text_ends limits mode text bytes refl from.offset i.stack i.given i.going i.goes_on stop stops in
           let plain = subst (λ (l : Option Located). IsTranscript limits mode text (written ++ closing_text bytes l) (list_any (λ (a : Answered). is_rejected a.response) i.given || is_fault l)) e t in
-          by refused (subst (λ r. IsTranscript limits mode text written r) (or_false _ ∙ sym i.told) (subst (λ o. IsTranscript limits mode text o (list_any (λ (a : Answered). is_rejected a.response) i.given || false)) (append-nil _) plain))
+          by refused (subst (λ r. IsTranscript limits mode text written r) (or-false _ ∙ sym i.told) (subst (λ o. IsTranscript limits mode text o (list_any (λ (a : Answered). is_rejected a.response) i.given || false)) (append-nil _) plain))
         where
           by : (r : Bool) → IsTranscript limits mode text written r → RunsText limits mode text (ended_by r) old now
           by true t = (written, t, i.written)
@@ -135,7 +119,7 @@ module _ (limits : Limits) (mode : Mode) (text : List ℕ) (old : SinkView) wher
           by : (status : Status) → Ended r status now new → RunsText limits mode text status old new
           by statuses.Refused d =
               let t = text_ends limits mode text bytes refl from.offset i.stack i.given i.going i.goes_on stop stops in
-              let told : (list_any (λ (a : Answered). is_rejected a.response) i.given || is_fault (limited (is_long text) stop)) ≡ true = ap (λ (o : Option Located). list_any (λ (a : Answered). is_rejected a.response) i.given || is_fault o) e ∙ or_true _ in (
+              let told : (list_any (λ (a : Answered). is_rejected a.response) i.given || is_fault (limited (is_long text) stop)) ≡ true = ap (λ (o : Option Located). list_any (λ (a : Answered). is_rejected a.response) i.given || is_fault o) e ∙ or-true _ in (
                 written ++ closing_text bytes (limited (is_long text) stop),
                 subst (IsTranscript limits mode text _) told t,
                 subst (λ y. Delivered (written ++ y) old new) (sym line) (more (line_of_refusal r) new d),
@@ -156,7 +140,7 @@ module _ (limits : Limits) (mode : Mode) (text : List ℕ) (old : SinkView) wher
 
     -- the text cannot be read on
     pub ends_stopped : (r : Refusal) (new : SinkView) (status : Status) → IsStopped text 0 (lexemes_from bytes from.offset) r → Ended r status now new → RunsText limits mode text status old new
-    ends_stopped r new status h done = ends_at h.stop (stops_text (length bytes) (lexemes_from bytes from.offset) h.stop h.stops) r new status h.is h.place done
+    ends_stopped r new status h done = ends_at h.stop (stops_in (length bytes) (lexemes_from bytes from.offset) h.stop h.stops) r new status h.is h.place done
 
     module _ (s : Sexpr) (after : Place) (r : Reads bytes from 0 s after) (y : SessionView) (new : SinkView) (a : Answered) (answer : IsAnswered i.stack s x y a) (same : (y.limits ≡ x.limits) × (y.mode ≡ x.mode)) where
       -- the text of the response, as one of the bytes

@@ -16,7 +16,7 @@ asked_is : (arguments : List (String Global)) → asked arguments ≡ asked_by_f
 unfolding asked
 asked_is arguments = refl
 
--- without a fault it is told by the command that was met
+-- without a fault it is reported by the command that was met
 told : (arguments : List (String Global)) (met : Option (Text × List Row)) → fault_of smt_app (map string_bytes arguments) ≡ [] → met ≡ subcommand_of smt_app (map string_bytes arguments) → asked arguments ≡ option_and_then asked_in met
 told arguments met none same = asked_is arguments ∙ ap₂ asked_by_faults none (sym same)
 

@@ -11,7 +11,7 @@ use Rattle.smt_session.specs.Runs.{EndsText, OnTranscript, OnBegun}
 use Rattle.smt_session.proofs.Saying.{WholeSays, BegunSays}
 use Rattle.smt_top.specs.Ends.{Holdings, ScriptEnds}
 
--- that a transcript needs a front of the text alone, whole and cut short
+-- that a transcript needs a prefix of the text alone, whole and cut short
 abbrev pub WholeFront : Type 0
 WholeFront = (limits : Limits) (mode : Mode) (text out : List ℕ) (refused : Bool) → IsTranscript limits mode (front text) out refused → IsTranscript limits mode text out refused
 
@@ -29,7 +29,7 @@ module _ (whole_front : WholeFront) (begun_front : BegunFront) (whole_says : Who
       let w = begun_front limits mode text begun t in
       (begun, w, begun_says limits mode text begun w, p)
 
-  -- the name's text is known, and its front was run
+  -- the name's text is known, and its prefix was run
   pub script_ends : (status : Status) (name : List ℕ) (holds : Holdings) (old new : SinkView) → IfSome (holds name) (λ t. t ≡ text) → EndsText limits mode (front text) status old new → ScriptEnds status (record { mode = mode; name = name; limits = limits }) holds old new
   script_ends Done name holds old new held r = (text, held, on_transcript _ _ r)
   script_ends Refused name holds old new held r = (text, held, on_transcript _ _ r)

@@ -1,4 +1,4 @@
--- From the checker's answer on the fronts of two texts to the verdict on the whole texts.
+-- From the checker's answer on the prefixes of two texts to the verdict on the whole texts.
 use Rattle.std.proofs.Common.{◌≡◌, ◌≤◌, ◌+◌, ◌⊎◌, inl, inr, ℕ, List, length, take, Option, Some, None, Result, Ok, Err, sym, ap, ◌∙◌, subst, arith, length-take}
 use Rattle.std.specs.Prelude.{count_by, ◌==◌}
 use Rattle.std.proofs.lemmas.List.{take-take, take_all}
@@ -17,7 +17,7 @@ use Rattle.alethe_check.specs.Verdicts.{Answers, fault_view}
 use Rattle.smt_top.specs.Ends.{IsValid}
 use Rattle.smt_top.specs.Calls.{Judges}
 
--- that a verdict needs the fronts alone, that without a fault the proof is accepted, and that nothing is then true
+-- that a verdict needs the prefixes alone, that without a fault the proof is accepted, and that nothing is then true
 abbrev pub FrontLaw : Type 0
 FrontLaw = (script proof : List ℕ) (k : ℕ) (found : Option Fault) → IsVerdict (front script) k (front proof) found → IsVerdict script k proof found
 
@@ -27,7 +27,7 @@ AcceptedLaw = (script proof : List ℕ) (k : ℕ) → (IsVerdict script k proof 
 abbrev pub SoundLaw : Type 0
 SoundLaw = (script proof : List ℕ) (k : ℕ) → IsAccepted script k proof → HasNoModel term_limit script k
 
--- within a front each byte stands where it stands in the text
+-- within a prefix each byte stands where it stands in the text
 same_front : (n at : ℕ) (text : List ℕ) → at ≤ length (take n text) → take at (take n text) ≡ take at text
 same_front n at text within = take-take at n text (omega (arith, within, length-take n text))
 
@@ -43,7 +43,7 @@ place_in_text n text p h =
     let same = same_front n p.offset text h.within in
     record { within = omega (arith, h.within, length-take n text); line = h.line ∙ ap lines same; col = h.col ∙ ap columns same }
 
--- what was read is the front, whether there is more or not
+-- what was read is the prefix, whether there is more or not
 pub read_is_front : (end : ReadEnd) (bytes text : List ℕ) → (end ≡ Whole bytes) ⊎ (end ≡ Cut bytes) → IsReadTo (text_limit + 1) end text → bytes ≡ front text
 read_is_front end bytes text (inl is) h =
     let read = subst (λ e. IsReadTo (text_limit + 1) e text) is h in

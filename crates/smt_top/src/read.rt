@@ -14,7 +14,7 @@ use world_io::{Bytes, ReadEnd, ReadStop, Shelf, read_all};
 /// How many bytes of a text are read: as many as a text may have, and one more, by which it has too many.
 const FRONT: u64 = TEXT_LIMIT as u64 + 1;
 
-/// Holds the fronts of the two texts of a run.
+/// Holds the prefixes of the two texts of a run.
 #[derive(Drop)]
 pub(crate) struct Texts {
     /// The script.
@@ -32,7 +32,7 @@ fn bytes_of(end: ReadEnd) -> Bytes
     }
 }
 
-/// Reads the front of a name's text.
+/// Reads the prefix of a name's text.
 ///
 /// `Failed` comes only where the shelf's count of faults rose in this call, `Memory` where an allocation was refused.
 pub(crate) fn read_text<F: Shelf>(
@@ -55,7 +55,7 @@ pub(crate) fn read_text<F: Shelf>(
     Ok(bytes_of(end))
 }
 
-/// Reads the fronts of the texts of both names, the script's first.
+/// Reads the prefixes of the texts of both names, the script's first.
 ///
 /// `Failed` comes only where the shelf's count of faults rose in this call, `Memory` where an allocation was refused.
 pub(crate) fn read_both<F: Shelf>(

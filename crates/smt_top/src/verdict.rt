@@ -11,7 +11,7 @@ use smt_session::Status;
 use std::alloc::Global;
 use world_io::Sink;
 
-/// Judges a proof against the `at`-th check of a script, counted from 1, by the fronts of their texts.
+/// Judges a proof against the `at`-th check of a script, counted from 1, by the prefixes of their texts.
 ///
 /// `Fault` has the first fault of the proof. `Memory` comes where an allocation was refused.
 pub(crate) fn judge(alloc: Global, texts: &Texts, at: u64) -> Result<(), ProofStop>

@@ -1,17 +1,11 @@
 //! Terms of texts, and the first faults of texts. A text is a list, in which the terms stand.
 
-use crate::{Fault, ReadError, TermFault, terms};
+use crate::{ReadError, terms};
 use smt_sexpr::{LimitedText, list_inside};
 use std::alloc::{AllocError, Global};
 use std::test::Fail;
 use term_core::{Head, SymbolId, TermId, TermTable};
 use world_io::NoMemory;
-
-const P: TermId = TermId(0);
-
-const Q: TermId = TermId(1);
-
-const R: TermId = TermId(2);
 
 /// Where a `Full` stands.
 const AT: u64 = 77;
@@ -61,265 +55,288 @@ fn is_refused(
     text: &[u8],
     limit: u64,
     offset: u64,
-    fault: Fault,
+    fault: &str,
 ) -> bool {
     let before = table.len();
     match read(alloc, table, text, limit) {
-        Some(Err(stop)) => {
-            stop == ReadError::Fault(TermFault { offset, fault }) && table.len() == before
+        Some(Err(ReadError::Fault(found))) => {
+            found.offset == offset && found.fault.name() == fault && table.len() == before
         }
         _ => false,
     }
 }
 
-/// A text, the head and the arguments of its last term, and how many terms the table has then.
-type Row = (&'static str, Head, &'static [TermId], u64);
+/// Takes the number of a row, and what is after it.
+fn number_first(row: &str) -> Option<(u64, &str)> {
+    let (number, rest) = row.split_once(' ')?;
+    let Ok(number) = number.parse::<u64>() else {
+        return None;
+    };
+    Some((number, rest))
+}
+
+/// The head and the arguments of the last term, how many terms the table has then, and the text, a row a line.
+const HEADS: &str = "p - 3 (p)
+r - 3 (|r|)
+true - 4 (true)
+false - 4 (|false|)
+not 0 4 ((not p))
+and 0 4 ((and p))
+and 201 4 ((and r p q))
+and 01 4 ((|and| p q))
+or 1 4 ((or q))
+or 010 4 ((or p q p))
+xor 10 4 ((xor q p))
+xor 32 5 ((xor p q r))
+=> 10 4 ((=> q p))
+=> 03 5 ((=> p q r))
+= 10 4 ((= q p))
+and 34 6 ((= p q r))
+and 33 5 ((= p p p))
+not 3 5 ((distinct p q))
+and 468 10 ((distinct p q r))
+ite 102 4 ((ite q p r))
+and 343 6 ((and (not p) true (not p)))
+and 01 5 ((or (and p q)) (and p q))
+not 4 6 ((not (not (not p))))
+q - 6 ((= (not p) (and p q) ) q)
+ite 314 6 ((not p) (ite (not p) q (not q)))";
+
+/// The head of a row.
+fn head_of(word: &str) -> Option<Head> {
+    match word {
+        "p" => Some(Head::Apply(SymbolId(0))),
+        "q" => Some(Head::Apply(SymbolId(1))),
+        "r" => Some(Head::Apply(SymbolId(2))),
+        "true" => Some(Head::True),
+        "false" => Some(Head::False),
+        "not" => Some(Head::Not),
+        "and" => Some(Head::And),
+        "or" => Some(Head::Or),
+        "xor" => Some(Head::Xor),
+        "=>" => Some(Head::Implies),
+        "=" => Some(Head::Equal),
+        "ite" => Some(Head::Ite),
+        _ => None,
+    }
+}
+
+/// Whether numbers are written by these digits; none by `-`.
+fn are_digits(ids: &[TermId], digits: &str) -> bool {
+    if digits == "-" {
+        return ids.is_empty();
+    }
+    let mut rest = digits.as_bytes();
+    for id in ids {
+        let Some((digit, after)) = rest.split_first() else {
+            return false;
+        };
+        if id.0 >= 10 || id.0 + 48 != u64::from(*digit) {
+            return false;
+        }
+        rest = after;
+    }
+    rest.is_empty()
+}
+
+/// Whether the last term is the one of a row.
+fn has_head(alloc: Global, row: &str) -> Option<bool> {
+    let (head, rest) = row.split_once(' ')?;
+    let (arguments, rest) = rest.split_once(' ')?;
+    let (count, text) = number_first(rest)?;
+    let head = head_of(head)?;
+    let mut table = table_of_three(alloc).ok()?;
+    let ids = read_after_three(alloc, &mut table, text.as_bytes())?;
+    let last = ids.last().copied()?;
+    if last.0 >= table.len() {
+        return None;
+    }
+    let node = table.node(last);
+    Some(
+        table.len() == count
+            && node.head == head
+            && are_digits(node.arguments.as_slice(), arguments),
+    )
+}
 
 #[test]
 fn reads_each_head(rt: HostRuntime) -> Result<(), Fail> {
-    let alloc = rt.alloc();
-    let rows: [Row; 25] = [
-        ("(p)", Head::Apply(SymbolId(0)), &[], 3),
-        ("(|r|)", Head::Apply(SymbolId(2)), &[], 3),
-        ("(true)", Head::True, &[], 4),
-        ("(|false|)", Head::False, &[], 4),
-        ("((not p))", Head::Not, &[P], 4),
-        ("((and p))", Head::And, &[P], 4),
-        ("((and r p q))", Head::And, &[R, P, Q], 4),
-        ("((|and| p q))", Head::And, &[P, Q], 4),
-        ("((or q))", Head::Or, &[Q], 4),
-        ("((or p q p))", Head::Or, &[P, Q, P], 4),
-        ("((xor q p))", Head::Xor, &[Q, P], 4),
-        ("((xor p q r))", Head::Xor, &[TermId(3), R], 5),
-        ("((=> q p))", Head::Implies, &[Q, P], 4),
-        ("((=> p q r))", Head::Implies, &[P, TermId(3)], 5),
-        ("((= q p))", Head::Equal, &[Q, P], 4),
-        ("((= p q r))", Head::And, &[TermId(3), TermId(4)], 6),
-        ("((= p p p))", Head::And, &[TermId(3), TermId(3)], 5),
-        ("((distinct p q))", Head::Not, &[TermId(3)], 5),
-        (
-            "((distinct p q r))",
-            Head::And,
-            &[TermId(4), TermId(6), TermId(8)],
-            10,
-        ),
-        ("((ite q p r))", Head::Ite, &[Q, P, R], 4),
-        (
-            "((and (not p) true (not p)))",
-            Head::And,
-            &[TermId(3), TermId(4), TermId(3)],
-            6,
-        ),
-        ("((or (and p q)) (and p q))", Head::And, &[P, Q], 5),
-        ("((not (not (not p))))", Head::Not, &[TermId(4)], 6),
-        (
-            "((= (not p) (and p q) ) q)",
-            Head::Apply(SymbolId(1)),
-            &[],
-            6,
-        ),
-        (
-            "((not p) (ite (not p) q (not q)))",
-            Head::Ite,
-            &[TermId(3), Q, TermId(4)],
-            6,
-        ),
-    ];
-    for (text, head, arguments, count) in rows.iter() {
-        let mut table = table_of_three(alloc).expect(&rt, "memory");
-        let ids = read_after_three(alloc, &mut table, text.as_bytes());
-        let last = ids.and_then(|ids| ids.last().copied());
-        assert!(rt; table.len() == *count, "{text}");
-        if let Some(id) = last {
-            assert!(rt; id.0 < table.len(), "{text}");
-            assert!(rt; table.node(id).head == *head, "{text}");
-            assert!(rt; table.node(id).arguments.as_slice() == *arguments, "{text}");
-        } else {
-            assert!(rt; false, "{text}");
-        }
+    for row in HEADS.lines() {
+        assert!(rt; has_head(rt.alloc(), row) == Some(true), "{row}");
     }
     Ok(())
+}
+
+/// Whether two terms are read as one, and the text, a row a line.
+const CHAINS: &str = "same ((= p q r) (and (= p q) (= q r)))
+other ((= p q r) (= (= p q) r))
+other ((= p q r) (and (= p q) (= p r)))
+other ((= p q) (and (= p q)))
+same ((distinct p q) (not (= p q)))
+same ((distinct p q r) (and (not (= p q)) (not (= p r)) (not (= q r))))
+other ((distinct p q r) (and (not (= p q)) (not (= q r))))
+same ((distinct p p) (not (= p p)))
+same ((xor p q r) (xor (xor p q) r))
+other ((xor p q r) (xor p (xor q r)))
+same ((xor p q r q) (xor (xor (xor p q) r) q))
+same ((=> p q r) (=> p (=> q r)))
+other ((=> p q r) (=> (=> p q) r))
+same ((=> p q r q) (=> p (=> q (=> r q))))
+other ((and p q) (and q p))
+other ((and p q r) (and (and p q) r))
+other ((and p) p)
+other ((or p) (and p))
+same ((|or| |p| q) (or p |q|))
+same (true |true|)";
+
+/// Whether the two terms of a row are read as one where it says so.
+fn are_one(alloc: Global, row: &str) -> Option<bool> {
+    let (want, text) = row.split_once(' ')?;
+    let mut table = table_of_three(alloc).ok()?;
+    let ids = read_after_three(alloc, &mut table, text.as_bytes())?;
+    if ids.len() != 2 {
+        return None;
+    }
+    Some((ids[0] == ids[1]) == (want == "same"))
 }
 
 #[test]
 fn reads_chains_as_what_they_mean(rt: HostRuntime) -> Result<(), Fail> {
-    let alloc = rt.alloc();
-    // Two terms, and whether they are read as one.
-    let rows = [
-        ("((= p q r) (and (= p q) (= q r)))", true),
-        ("((= p q r) (= (= p q) r))", false),
-        ("((= p q r) (and (= p q) (= p r)))", false),
-        ("((= p q) (and (= p q)))", false),
-        ("((distinct p q) (not (= p q)))", true),
-        (
-            "((distinct p q r) (and (not (= p q)) (not (= p r)) (not (= q r))))",
-            true,
-        ),
-        (
-            "((distinct p q r) (and (not (= p q)) (not (= q r))))",
-            false,
-        ),
-        ("((distinct p p) (not (= p p)))", true),
-        ("((xor p q r) (xor (xor p q) r))", true),
-        ("((xor p q r) (xor p (xor q r)))", false),
-        ("((xor p q r q) (xor (xor (xor p q) r) q))", true),
-        ("((=> p q r) (=> p (=> q r)))", true),
-        ("((=> p q r) (=> (=> p q) r))", false),
-        ("((=> p q r q) (=> p (=> q (=> r q))))", true),
-        ("((and p q) (and q p))", false),
-        ("((and p q r) (and (and p q) r))", false),
-        ("((and p) p)", false),
-        ("((or p) (and p))", false),
-        ("((|or| |p| q) (or p |q|))", true),
-        ("(true |true|)", true),
-    ];
-    for (text, same) in rows.iter() {
-        let mut table = table_of_three(alloc).expect(&rt, "memory");
-        match read_after_three(alloc, &mut table, text.as_bytes()) {
-            Some(ids) => {
-                assert!(rt; ids.len() == 2, "{text}");
-                assert!(rt; (ids[0] == ids[1]) == *same, "{text}");
-            }
-            None => assert!(rt; false, "{text}"),
-        }
+    for row in CHAINS.lines() {
+        assert!(rt; are_one(rt.alloc(), row) == Some(true), "{row}");
     }
     Ok(())
 }
 
-/// A text, and the offset and name of its first fault.
-type Refusal = (&'static str, u64, Fault);
+/// The offset and the name of the first fault, and the text, a row a line.
+const REFUSALS: &str = "1 BadShape ((p))
+1 BadShape ((and))
+1 BadShape ((zz))
+1 BadShape ((forall))
+1 BadShape (())
+3 BadShape (p ())
+1 BadShape (((p) q))
+1 BadShape ((5 q))
+1 BadShape ((\"s\" zz))
+1 BadShape ((:k zz))
+1 BadShape (\"s\")
+1 BadShape (:k)
+1 UnknownSymbol (5)
+1 UnknownSymbol (1.5)
+1 UnknownSymbol (zz)
+3 UnknownSymbol (p |p |)
+5 UnknownSymbol ((zz yy))
+2 UnknownSymbol ((zz p))
+5 WrongCount ((zz (not p q) yy))
+1 Reserved (forall)
+2 Reserved ((forall yy))
+2 Reserved ((let ((x p)) x))
+2 Reserved ((! p :named a))
+2 Reserved ((as p Bool))
+1 WrongCount (and)
+1 WrongCount (not)
+1 WrongCount ((p q))
+1 WrongCount ((|p| q))
+1 WrongCount ((true p))
+1 WrongCount ((false p q))
+1 WrongCount ((not p q))
+1 WrongCount ((xor p))
+1 WrongCount ((=> p))
+1 WrongCount ((= p))
+1 WrongCount ((distinct p))
+1 WrongCount ((ite p q))
+1 WrongCount ((ite p q r p))
+6 BadShape ((not (p) zz))
+8 UnknownSymbol ((and p zz) 5)
+21 UnknownSymbol (p (or q (and r (not zz))) (not))";
 
-const REFUSALS: [Refusal; 40] = [
-    ("((p))", 1, Fault::BadShape),
-    ("((and))", 1, Fault::BadShape),
-    ("((zz))", 1, Fault::BadShape),
-    ("((forall))", 1, Fault::BadShape),
-    ("(())", 1, Fault::BadShape),
-    ("(p ())", 3, Fault::BadShape),
-    ("(((p) q))", 1, Fault::BadShape),
-    ("((5 q))", 1, Fault::BadShape),
-    ("((\"s\" zz))", 1, Fault::BadShape),
-    ("((:k zz))", 1, Fault::BadShape),
-    ("(\"s\")", 1, Fault::BadShape),
-    ("(:k)", 1, Fault::BadShape),
-    ("(5)", 1, Fault::UnknownSymbol),
-    ("(1.5)", 1, Fault::UnknownSymbol),
-    ("(zz)", 1, Fault::UnknownSymbol),
-    ("(p |p |)", 3, Fault::UnknownSymbol),
-    ("((zz yy))", 5, Fault::UnknownSymbol),
-    ("((zz p))", 2, Fault::UnknownSymbol),
-    ("((zz (not p q) yy))", 5, Fault::WrongCount),
-    ("(forall)", 1, Fault::Reserved),
-    ("((forall yy))", 2, Fault::Reserved),
-    ("((let ((x p)) x))", 2, Fault::Reserved),
-    ("((! p :named a))", 2, Fault::Reserved),
-    ("((as p Bool))", 2, Fault::Reserved),
-    ("(and)", 1, Fault::WrongCount),
-    ("(not)", 1, Fault::WrongCount),
-    ("((p q))", 1, Fault::WrongCount),
-    ("((|p| q))", 1, Fault::WrongCount),
-    ("((true p))", 1, Fault::WrongCount),
-    ("((false p q))", 1, Fault::WrongCount),
-    ("((not p q))", 1, Fault::WrongCount),
-    ("((xor p))", 1, Fault::WrongCount),
-    ("((=> p))", 1, Fault::WrongCount),
-    ("((= p))", 1, Fault::WrongCount),
-    ("((distinct p))", 1, Fault::WrongCount),
-    ("((ite p q))", 1, Fault::WrongCount),
-    ("((ite p q r p))", 1, Fault::WrongCount),
-    ("((not (p) zz))", 6, Fault::BadShape),
-    ("((and p zz) 5)", 8, Fault::UnknownSymbol),
-    (
-        "(p (or q (and r (not zz))) (not))",
-        21,
-        Fault::UnknownSymbol,
-    ),
-];
+/// Whether the text of a row is refused so.
+fn refuses(alloc: Global, table: &mut TermTable, row: &str, limit: u64) -> Option<bool> {
+    let (offset, rest) = number_first(row)?;
+    let (fault, text) = rest.split_once(' ')?;
+    Some(is_refused(alloc, table, text.as_bytes(), limit, offset, fault))
+}
 
 #[test]
 fn refuses_with_the_first_fault(rt: HostRuntime) -> Result<(), Fail> {
     let alloc = rt.alloc();
     let mut table = table_of_three(alloc).expect(&rt, "memory");
-    for (text, offset, fault) in REFUSALS.iter() {
+    for row in REFUSALS.lines() {
         assert!(rt;
-            is_refused(alloc, &mut table, text.as_bytes(), LIMIT, *offset, *fault),
-            "{text}"
+            refuses(alloc, &mut table, row, LIMIT) == Some(true),
+            "{row}"
         );
     }
     assert!(rt; table.len() == 0);
     assert!(rt; read(alloc, &mut table, b"((or p q))", LIMIT).is_some_and(|read| read.is_ok()));
-    for (text, offset, fault) in REFUSALS.iter() {
+    for row in REFUSALS.lines() {
         assert!(rt;
-            is_refused(alloc, &mut table, text.as_bytes(), LIMIT, *offset, *fault),
-            "{text}"
+            refuses(alloc, &mut table, row, LIMIT) == Some(true),
+            "{row}"
         );
     }
     assert!(rt; table.len() == 3);
     Ok(())
 }
 
+/// How many different subterms the terms have, and the text, a row a line.
+const COUNTS: &str = "0 ()
+1 (p)
+1 (p p)
+4 ((or p q (not p)))
+5 ((and p (or p q (not p))))
+6 ((= p q r))
+10 ((distinct p q r))
+4 ((distinct p p p))
+7 ((xor p q r) (=> p q r))
+3 ((not p) (not (not p)) p)";
+
+/// Whether the terms of a row have so many different subterms. What the table has already counts as what it has not, and what
+/// is there besides does not count.
+fn has_subterms(alloc: Global, row: &str) -> Option<bool> {
+    let (wanted, text) = number_first(row)?;
+    let bytes = text.as_bytes();
+    let mut table = table_of_three(alloc).ok()?;
+    for _ in 0..2 {
+        if 0 < wanted {
+            let close = is_refused(alloc, &mut table, bytes, wanted - 1, AT, "Full");
+            if !close || !is_refused(alloc, &mut table, bytes, 0, AT, "Full") {
+                return None;
+            }
+        }
+        if read(alloc, &mut table, bytes, wanted)?.is_err() {
+            return None;
+        }
+        if read(alloc, &mut table, b"(true false (ite p q r))", LIMIT)?.is_err() {
+            return None;
+        }
+    }
+    Some(true)
+}
+
 #[test]
 fn counts_different_subterms(rt: HostRuntime) -> Result<(), Fail> {
-    let alloc = rt.alloc();
-    // Texts, and how many different subterms they have.
-    let rows = [
-        ("()", 0),
-        ("(p)", 1),
-        ("(p p)", 1),
-        ("((or p q (not p)))", 4),
-        ("((and p (or p q (not p))))", 5),
-        ("((= p q r))", 6),
-        ("((distinct p q r))", 10),
-        ("((distinct p p p))", 4),
-        ("((xor p q r) (=> p q r))", 7),
-        ("((not p) (not (not p)) p)", 3),
-    ];
-    for (text, wanted) in rows.iter() {
-        let mut table = table_of_three(alloc).expect(&rt, "memory");
-        let bytes = text.as_bytes();
-        // What the table has already counts as what it has not, and what is there besides does not count.
-        for _ in 0..2 {
-            if 0 < *wanted {
-                assert!(rt;
-                    is_refused(alloc, &mut table, bytes, *wanted - 1, AT, Fault::Full),
-                    "{text}"
-                );
-                assert!(rt;
-                    is_refused(alloc, &mut table, bytes, 0, AT, Fault::Full),
-                    "{text}"
-                );
-            }
-            let fits = read(alloc, &mut table, bytes, *wanted);
-            assert!(rt; fits.is_some_and(|read| read.is_ok()), "{text}");
-            let more = read(alloc, &mut table, b"(true false (ite p q r))", LIMIT);
-            assert!(rt; more.is_some_and(|read| read.is_ok()));
-        }
+    for row in COUNTS.lines() {
+        assert!(rt; has_subterms(rt.alloc(), row) == Some(true), "{row}");
     }
     Ok(())
 }
+
+/// The offset and the name of the first fault under a limit of 4 subterms, and the text, a row a line.
+const LIMITED: &str = "77 Full ((and p (or p q (not p))))
+26 UnknownSymbol ((and p (or p q (not p))) zz)
+26 WrongCount ((and p (or p q (not p))) (not p q))
+77 Full ((xor p (or p q (not p))) (and (not r)))
+1 WrongCount ((not (distinct p q r) p))
+17 WrongCount ((= p q r p q r) (distinct p))
+18 BadShape ((=> p q r p q r) (p))";
 
 #[test]
 fn looks_for_a_fault_before_it_counts(rt: HostRuntime) -> Result<(), Fail> {
     let alloc = rt.alloc();
     let mut table = table_of_three(alloc).expect(&rt, "memory");
-    let rows = [
-        ("((and p (or p q (not p))))", AT, Fault::Full),
-        ("((and p (or p q (not p))) zz)", 26, Fault::UnknownSymbol),
-        (
-            "((and p (or p q (not p))) (not p q))",
-            26,
-            Fault::WrongCount,
-        ),
-        ("((xor p (or p q (not p))) (and (not r)))", AT, Fault::Full),
-        ("((not (distinct p q r) p))", 1, Fault::WrongCount),
-        ("((= p q r p q r) (distinct p))", 17, Fault::WrongCount),
-        ("((=> p q r p q r) (p))", 18, Fault::BadShape),
-    ];
-    for (text, offset, fault) in rows.iter() {
-        assert!(rt;
-            is_refused(alloc, &mut table, text.as_bytes(), 4, *offset, *fault),
-            "{text}"
-        );
+    for row in LIMITED.lines() {
+        assert!(rt; refuses(alloc, &mut table, row, 4) == Some(true), "{row}");
     }
     assert!(rt; table.len() == 0);
     Ok(())
@@ -351,8 +368,8 @@ fn stops_building_where_there_is_no_room(rt: HostRuntime) -> Result<(), Fail> {
     let alloc = rt.alloc();
     let mut table = TermTable::new(alloc);
     let text = hundred_distinct(alloc, &mut table).expect(&rt, "memory");
-    assert!(rt; is_refused(alloc, &mut table, &text, 50, AT, Fault::Full));
-    assert!(rt; is_refused(alloc, &mut table, &text, 10_000, AT, Fault::Full));
+    assert!(rt; is_refused(alloc, &mut table, &text, 50, AT, "Full"));
+    assert!(rt; is_refused(alloc, &mut table, &text, 10_000, AT, "Full"));
     assert!(rt; read(alloc, &mut table, &text, 10_001).is_some_and(|read| read.is_ok()));
     assert!(rt; table.len() == 10_001);
     Ok(())
@@ -378,7 +395,7 @@ fn reads_lists_nested_500_deep(rt: HostRuntime) -> Result<(), Fail> {
     let alloc = rt.alloc();
     let mut table = table_of_three(alloc).expect(&rt, "memory");
     let text = nested(alloc, 499).expect(&rt, "memory");
-    assert!(rt; is_refused(alloc, &mut table, &text, 499, AT, Fault::Full));
+    assert!(rt; is_refused(alloc, &mut table, &text, 499, AT, "Full"));
     assert!(rt; read(alloc, &mut table, &text, 500).is_some_and(|read| read.is_ok()));
     assert!(rt; table.len() == 500);
     let text = nested(alloc, 500).expect(&rt, "memory");

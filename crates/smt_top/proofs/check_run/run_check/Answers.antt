@@ -1,4 +1,4 @@
--- Both texts were read, and the verdict on them is told.
+-- Both texts were read, and the verdict on them is known.
 use Rattle.smt_top.specs.Calls.{names_of}
 use Rattle.smt_top.proofs.Statuses.{ends_with}
 use Rattle.smt_top.proofs.check_run.run_check.Goals as goal

@@ -1,4 +1,4 @@
--- The checker's verdict on two fronts is that on the texts.
+-- The checker's verdict on two prefixes is that on the texts.
 use Rattle.std.proofs.Common.{◌∙◌}
 use Rattle.smt_top.proofs.Verdicts.{judged_by}
 use Rattle.smt_top.proofs.verdict.judge.Goals as goal
