@@ -20,7 +20,7 @@ PROOF = "(assume h1 p)(assume h2 (not p))(step t1 (cl) :rule resolution :premise
 
 
 def padded(text, size):
-    """The text with spaces behind it, so many bytes in all."""
+    """The text with spaces after it, so many bytes in all."""
     return text + " " * (size - len(text))
 
 
@@ -60,7 +60,7 @@ def refused(column, name):
 
 ROWS = [
     ("script and spaces, 2^26 bytes", lambda: padded(SCRIPT, LIMIT), lambda: PROOF, "valid"),
-    ("one byte more, behind the check", lambda: padded(SCRIPT, LIMIT + 1), lambda: PROOF, "valid"),
+    ("one byte more, after the check", lambda: padded(SCRIPT, LIMIT + 1), lambda: PROOF, "valid"),
     ("proof and spaces, 2^26 bytes", lambda: SCRIPT, lambda: padded(PROOF, LIMIT), "valid"),
     ("one byte more", lambda: SCRIPT, lambda: padded(PROOF, LIMIT + 1), refused(LIMIT + 1, "TooLong")),
     ("script of many assertions", lambda: many_assertions(LIMIT), lambda: PROOF, "valid"),

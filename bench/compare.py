@@ -13,7 +13,7 @@ solve well-formed      scripts, of which output and status are foretold
 solve ill-formed       scripts with about a third of the commands ill-formed
 solve damaged          texts of scripts, changed at some places
 certify                the answers are foretold; models and proofs are judged, and so is the form of their text
-check certified        proofs that `certify` printed, which have to be valid, alone and behind the answer
+check certified        proofs that `certify` printed, which have to be valid, alone and after the answer
 check changed          such proofs, changed in their parts or in their bytes
 check invented         proofs of steps by all rules, mostly right, and single steps, right or near to it
 check forms            forms of a small proof, with odd names, attributes, definitions and ends

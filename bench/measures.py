@@ -26,7 +26,7 @@ def lines_of(path):
 
 def is_test(path):
     name = os.path.basename(path)
-    return name.endswith("tests.rt") or name == "tests.rt" or "test_support" in name
+    return name.endswith(("tests.rt", "_rows.rt")) or "test_support" in name
 
 
 def bodies(lines):

@@ -4,7 +4,7 @@
 #     bench/refuse_alloc.sh EXECUTABLE WORDS..
 #
 # WORDS are those of `solve`, `certify` or `check`, and name files: standard input is empty. Each run has to end out of memory, with
-# status 3 and a front of what is written where no allocation is refused (of `check` with nothing), or with the same status and
+# status 3 and a prefix of what is written where no allocation is refused (of `check` with nothing), or with the same status and
 # output as that run. Any other one is printed, and the script then ends with status 1. It needs a C compiler and the GNU C
 # library.
 set -euo pipefail
@@ -21,7 +21,7 @@ trap 'rm -rf "$folder"' EXIT
 library=$folder/refuse_alloc.so wanted=$folder/wanted output=$folder/output
 cc -O1 -Wall -shared -fPIC -o "$library" "$(dirname "$0")/refuse_alloc.c" -ldl
 
-# Tells whether the output is a front of the wanted one; of `check` whether there is none.
+# Tells whether the output is a prefix of the wanted one; of `check` whether there is none.
 is_front() {
     local size
     size=$(stat -c %s "$output")
