@@ -25,7 +25,7 @@ abbrev pub FaultsStand : Type 0
 FaultsStand = (script proof : List ℕ) (k : ℕ) (f : Fault) → IsVerdict script k proof (Some f) → f.offset ≤ length proof
 
 module _ (script : List ℕ) (k : ℕ) (proof : List ℕ) where
-  -- a verdict with a fault, told
+  -- a verdict with a fault is what is answered
   answered : (f : Fault) (r : ProofStop) → IsVerdict script k proof (Some f) → Refuses proof f.offset f.kind r → Answers script k proof (Err r)
   answered f (stops.Fault g) v s =
       let same : f ≡ fault_view g = λ i. record { offset = sym s.1 i; kind = sym s.0 i } in

@@ -129,6 +129,6 @@ Tells-trans t u v a b c one two three cs ds f g = record {
   made = Makes-trans a b c one two three f.made g.made;
 }
 
--- clauses told where they are the same
+-- the same of clauses that are the same
 pub Tells-same : (t u : TableView) (old new : List Logged) (steps all : List StepId) (cs ds : List Clause) → cs ≡ ds → Tells (listed t old steps) (listed u new all) cs → Tells (listed t old steps) (listed u new all) ds
 Tells-same t u old new steps all cs ds e tells = subst (Tells (listed t old steps) (listed u new all)) e tells

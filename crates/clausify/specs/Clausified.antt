@@ -1,4 +1,4 @@
--- The clauses of terms in a log, and what making them leaves. Source: own; Tseitin 1968.
+-- The clauses of terms in a log, and what making them leaves. Source: Tseitin 1968.
 use Rattle.std.specs.Prelude.{◌≡◌, ◌+◌, ◌<◌, List, ◌++◌, length, map, All, Contains}
 use Rattle.std.specs.List.{range_with_len}
 use Rattle.spec_terms.specs.Terms.{Term}

@@ -31,7 +31,7 @@ use world_io::NoMemory;
 /// and memory in proportion to the number of its term, however few subterms that has. So several terms want `clauses_of_all`.
 ///
 /// `NoMemory` comes where a clause or a term of it finds no memory; then table and log are as they were.
-/// Source: own; Tseitin 1968; Alethe specification, the rules without premises.
+/// Source: Tseitin 1968; Alethe specification, the rules without premises.
 pub fn clauses_of(
     alloc: Global,
     table: &mut TermTable,
@@ -60,7 +60,7 @@ pub fn clauses_of(
 /// and `or_neg` look for the argument that a clause has, so a term of n arguments costs in the order of n^2 comparisons of numbers.
 ///
 /// `NoMemory` comes where a clause or a term of it finds no memory; then table and log are as they were.
-/// Source: own; Tseitin 1968; Alethe specification, the rules without premises.
+/// Source: Tseitin 1968; Alethe specification, the rules without premises.
 pub fn clauses_of_all(
     alloc: Global,
     table: &mut TermTable,

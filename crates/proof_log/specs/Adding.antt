@@ -35,7 +35,7 @@ pub record IsAdded (t : TableView) (old : List Logged) (l : Logged) (id : StepId
   -- with it, the log is right over the table
   pub right : IsLogOf t new
 
--- what comes of adding a clause: it is right and stands last, or it isn't and nothing is changed, or nothing is changed for out of memory
+-- what comes of adding a clause: it is right and stands last, or it isn't and nothing is changed, or memory runs out and nothing is changed
 abbrev pub Adds : TableView → List Logged → Logged → Result StepId LogFault → List Logged → Type 0
 Adds t old l (Ok id) new = IsAdded t old l id new
 Adds t old l (Err RuleFails) new = (FollowsFrom (derivation_in t old) (inference_of t l) → ⊥) × (new ≡ old)

@@ -6,7 +6,7 @@ use std::marker::Model;
 
 /// Names a clause of a log by its number, from 0 for the oldest.
 ///
-/// Source: own; Alethe specification, names of steps.
+/// Source: Alethe specification, names of steps.
 #[derive(Clone, Copy, Debug, Default, PartialEq, Eq, Hash)]
 pub struct StepId(pub u64);
 

@@ -20,7 +20,7 @@ lexeme_of (whats.Wrong f) = wrong f
 abbrev pub piece_of : Found → Piece
 piece_of f = piece (lexeme_of f.what) f.size
 
--- what a first byte says
+-- what a first byte begins
 abbrev pub head_at : ℕ → Head
 head_at b =
     if is_blank b then heads.Blank

@@ -33,7 +33,7 @@ pub struct Found<'a> {
     pub size: usize,
 }
 
-/// What a first byte says.
+/// What a first byte begins.
 #[derive(Clone, Copy, Debug, PartialEq, Eq)]
 enum Head {
     /// White space.
@@ -60,7 +60,7 @@ enum Head {
     Other,
 }
 
-/// Says what a first byte says. Source: SMT-LIB 2.6, section 3.1.
+/// Says what a first byte begins. Source: SMT-LIB 2.6, section 3.1.
 fn head_of(b: u8) -> Head
     ensures { result ≡ head_at b }
 {

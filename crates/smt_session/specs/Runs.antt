@@ -38,7 +38,7 @@ HasRun limits mode text refused old new = (all : List ℕ) × IsTranscript limit
 abbrev pub HasStopped : Limits → Mode → List ℕ → SinkView → SinkView → Type 0
 HasStopped limits mode text old new = (begun : List ℕ) × IsBegun limits mode text begun × Delivered begun old new
 
--- not all of it was written: the sink failed
+-- a prefix of it was written, for which the sink had no room as a whole: the sink failed
 abbrev pub HasBegun : Limits → Mode → List ℕ → SinkView → SinkView → Type 0
 HasBegun limits mode text old new = (begun : List ℕ) × IsBegun limits mode text begun × NotSent begun old new
 

@@ -61,7 +61,7 @@ abbrev pub ProofIsLast : Option Names → Holdings → Option (List ℕ) → Typ
 ProofIsLast None holds left = ⊤
 ProofIsLast (Some n) holds left = TakesText (holds n.proof) left
 
--- a prefix of a right output was written, and not all of it: of the usage text, or of a verdict on the texts
+-- a prefix of a right output was written, for which the sink had no room as a whole: of the usage text, or of a verdict on the texts
 abbrev pub WritesPrefix : Option Names → Holdings → SinkView → SinkView → Type 0
 WritesPrefix None holds old new = NotSent usage old new
 WritesPrefix (Some n) holds old new =

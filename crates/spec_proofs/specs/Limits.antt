@@ -1,4 +1,4 @@
--- When a good proof is within the limits: those on bytes, on nesting, and on terms and names. Source: own.
+-- When a good proof is within the limits: those on bytes, on nesting, and on terms and names.
 use Rattle.std.specs.Prelude.{◌≡◌, ℕ, ◌+◌, ◌≤◌, Bool, true, false, List, Some}
 use Rattle.spec_text.specs.Faults.{nesting_limit}
 use Rattle.spec_text.specs.Readings.{depth_all, is_long}

@@ -1,4 +1,4 @@
--- Resolution by unit propagation, over literals of any kind with a complement. Source: own; every chain in which each binary resolution takes the clause up to here and a premise passes.
+-- Resolution by unit propagation, over literals of any kind with a complement. Every chain passes in which each binary resolution takes the last resolvent and a premise.
 use Rattle.std.specs.Prelude.{◌≡◌, ◌≢◌, ◌⊎◌, List, [], ◌∷◌, map, Contains}
 
 -- What unit propagation over the premises gives, beginning with what is assumed: a literal of a premise whose other literals are all false.

@@ -1,4 +1,4 @@
--- The commands of a script that there are up to here, by their own shape. Source: SMT-LIB 2.6, section 3.9.
+-- The commands that a script may have, by their own shape. Source: SMT-LIB 2.6, section 3.9.
 use Rattle.std.specs.Prelude.{ℕ, Bool, ◌||◌, List, [], ◌∷◌, Option, Some, None, Ok, codes, if◌then◌else◌}
 use Rattle.spec_text.specs.declared.Kind.{Kind}
 use Rattle.spec_text.specs.declared.Fault.TheVariants.{BadShape, UnknownCommand}

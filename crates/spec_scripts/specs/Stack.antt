@@ -100,7 +100,7 @@ abbrev pub with_success : ℕ → Stack → Option Bool → Answer Stack
 with_success at s (Some b) = Ok (record { symbols = s.symbols; assertions = s.assertions; print_success = b })
 with_success at s None = refused at BadShape
 
--- the one option that is known up to here
+-- the only option that is known
 abbrev pub is_known_option : Name → Bool
 is_known_option k = bytes_eq k (codes "print-success")
 

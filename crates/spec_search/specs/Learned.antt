@@ -1,4 +1,4 @@
--- Learned clauses: each says what unit propagation over the clauses before it does not give. Source: own; Davis, Logemann and Loveland 1962 for propagation.
+-- Learned clauses: each says what unit propagation over the clauses before it does not give. Source: Davis, Logemann and Loveland 1962 for propagation.
 use Rattle.std.specs.Prelude.{◌≢◌, ◌⊎◌, Bool, ◌&&◌, if◌then◌else◌, List, [], ◌∷◌, ◌++◌, Contains}
 use Rattle.std.specs.Bool.{beq}
 use Rattle.spec_terms.specs.Terms.{same_term}

@@ -1,4 +1,4 @@
--- Truths that meet clauses, and what they say of terms. Source: own; Tseitin 1968.
+-- Truths that meet clauses, and what they say of terms. Source: Tseitin 1968.
 use Rattle.std.specs.Prelude.{◌≡◌, Bool, true, ◌&&◌, List, map, All, Contains}
 use Rattle.std.specs.List.{list_any}
 use Rattle.spec_terms.specs.Terms.{Symbol, Apply, Truth, Term, Terms, app, list_of, sort_of, all_same, head_takes}
@@ -29,6 +29,6 @@ abbrev pub Obeys : Truths → Term → Type 0
 Obeys v (app (Apply s) ts) = Unit {0}
 Obeys v (app h ts) = (i : Interpretation) → value_by v (app h ts) ≡ head_value i h (map (value_by v) (list_of ts))
 
--- each subterm with a declared symbol in front has the value that the truths give it
+-- each application of a declared symbol has the value that the truths give it
 abbrev pub Realizes : Interpretation → Truths → List Term → Type 0
 Realizes i v terms = (s : Symbol) (ts : Terms) → Contains (subterms_of terms) (app (Apply s) ts) → value_at i (app (Apply s) ts) ≡ truth (v (app (Apply s) ts))

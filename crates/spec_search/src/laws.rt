@@ -107,8 +107,8 @@ pub fn learned_clauses_are_true()
 }
 
 /// States that truths which meet the base clauses of terms give each subterm the value of its head at its arguments'
-/// values; and that the terms are true under each interpretation that gives the subterms with a declared symbol in front
-/// the truths that these have. Source: own; Tseitin 1968.
+/// values; and that the terms are true under each interpretation that gives the applications of declared symbols
+/// the truths that these have. Source: Tseitin 1968.
 pub fn base_clauses_define_their_terms()
     ensures obey { (terms : List Term) (v : Truths) → AreFormulas (subterms_of terms) → Meets v (base_clauses terms)
         → (t : Term) → Contains (subterms_of terms) t → Obeys v t }

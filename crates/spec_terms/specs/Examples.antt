@@ -136,7 +136,7 @@ pub constant_applied : read (codes "(not (p q))") ≡ refused 5 WrongCount
 unfolding lexemes first_piece built term_in terms_in require ◌>>=◌
 constant_applied = refl
 
--- arguments are read before the name before them
+-- arguments are read before the name that is applied to them
 pub arguments_first : read (codes "(zz yy)") ≡ refused 4 UnknownSymbol
 unfolding lexemes first_piece built term_in terms_in require ◌>>=◌
 arguments_first = refl
@@ -146,12 +146,12 @@ pub from_the_left : read (codes "(and p (not xx) yy)") ≡ refused 12 UnknownSym
 unfolding lexemes first_piece built term_in terms_in require ◌>>=◌
 from_the_left = refl
 
--- an unknown name in front is reported at the name
+-- an unknown head is reported at its own place
 pub unknown_head : read (codes "(zz p)") ≡ refused 1 UnknownSymbol
 unfolding lexemes first_piece built term_in terms_in require ◌>>=◌
 unknown_head = refl
 
--- a first reserved word is known before the arguments
+-- a reserved word as the head is reported before the arguments
 pub quantifier : read (codes "(forall yy)") ≡ refused 1 Reserved
 unfolding lexemes first_piece built term_in terms_in require ◌>>=◌
 quantifier = refl
@@ -196,7 +196,7 @@ pub list_in_front : read (codes "((p) q)") ≡ refused 0 BadShape
 unfolding lexemes first_piece built term_in terms_in require ◌>>=◌
 list_in_front = refl
 
--- as is a number in front
+-- as is a number as the head
 pub number_in_front : read (codes "(5 yy)") ≡ refused 0 BadShape
 unfolding lexemes first_piece built term_in terms_in require ◌>>=◌
 number_in_front = refl

@@ -5,7 +5,7 @@ use Rattle.spec_text.specs.declared.Kind.TheVariants.{Simple, Quoted, Reserved}
 use Rattle.spec_text.specs.Bytes.{Name}
 use Rattle.spec_text.specs.Trees.{Tree, Trees, atom, list, none, more}
 
--- No term; a first reserved word, at an offset; or a first symbol, at an offset, before arguments.
+-- The shapes of a list: none of a term; a reserved word as its head, at an offset; or a symbol as its head, at an offset, with arguments.
 pub data Form : Type 0 where
   -- no term is written so
   malformed : Form

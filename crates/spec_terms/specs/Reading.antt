@@ -1,4 +1,4 @@
--- The term as read of a text, or its first fault: its shape, then a first reserved word, then the arguments from left to right, then its own name and number of arguments. Source: SMT-LIB 2.6, section 3.6; the order of faults is own.
+-- The term as read of a text, or its first fault: its shape, then a reserved word as its head, then the arguments from left to right, then its own name and number of arguments. Source: SMT-LIB 2.6, section 3.6; the order of faults is own.
 use Rattle.std.specs.Prelude.{ℕ, List, [], ◌∷◌, ◌++◌, length, Option, Some, None, Ok, ◌==◌, if◌then◌else◌}
 use Rattle.std.specs.Str.{bytes_eq}
 use Rattle.spec_text.specs.declared.Kind.{Kind}

@@ -98,7 +98,7 @@ unfoldable mutual
   terms_tree nil = gnil
   terms_tree (cons t ts) = gcons (term_tree t) (terms_tree ts)
 
--- the prefix of a pair
+-- the first of a pair
 abbrev first : Gv → Gv
 first (gcons a b) = a
 first _ = gnil

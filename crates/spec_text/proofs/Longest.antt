@@ -16,7 +16,7 @@ begins_with : (bytes xs rest : List ℕ) (n : ℕ) (x : Lexeme) → bytes ≡ xs
 begins_with bytes xs rest n x e l spelled behind = record {
   within = omega (arith, ap length e, length-append xs rest);
   spelled = subst (λ (ys : List ℕ). Spells ys x) (sym (ap (take n) e ∙ take_at xs rest n (sym l))) spelled;
-  behind = subst (CanFollow x) (sym (ap (drop n) e ∙ drop_at xs rest n (sym l))) behind;
+  after = subst (CanFollow x) (sym (ap (drop n) e ∙ drop_at xs rest n (sym l))) behind;
 }
 
 -- it is a fault, or so many bytes begin with it
@@ -136,7 +136,7 @@ no_longer : (b : ℕ) (bs : List ℕ) (m : ℕ) (y : Lexeme) → Begins (b ∷ b
 no_longer b bs m y h =
     let whole : take m (b ∷ bs) ++ drop m (b ∷ bs) ≡ b ∷ bs = take-append-drop m (b ∷ bs) in
     let size : length (take m (b ∷ bs)) ≡ m = length-take-le m (b ∷ bs) h.within in
-    subst (λ (k : ℕ). Reaches (first_piece b bs).lexeme (first_piece b bs).size k) size (subst (λ (xs : List ℕ). Reaches (piece_of xs).lexeme (piece_of xs).size (length (take m (b ∷ bs)))) whole (reach (take m (b ∷ bs)) y h.spelled (drop m (b ∷ bs)) h.behind))
+    subst (λ (k : ℕ). Reaches (first_piece b bs).lexeme (first_piece b bs).size k) size (subst (λ (xs : List ℕ). Reaches (piece_of xs).lexeme (piece_of xs).size (length (take m (b ∷ bs)))) whole (reach (take m (b ∷ bs)) y h.spelled (drop m (b ∷ bs)) h.after))
 
 pub first_is_longest : (b : ℕ) (bs : List ℕ) → IsFirst (b ∷ bs) (first_piece b bs).lexeme (first_piece b bs).size
 first_is_longest b bs = go (first_piece b bs).lexeme (first_piece b bs).size (is_front b bs) (no_longer b bs)

@@ -1,4 +1,4 @@
--- Members of lists: of a list with an item in front or at its end, of images, and of what the items of a list give.
+-- Members of lists: of a list with an item before it or at its end, of images, and of what the items of a list give.
 use Rattle.std.proofs.Common.{◌≡◌, ℕ, zero, suc, ◌<◌, ◌⊎◌, inl, inr, List, [], ◌∷◌, ◌++◌, length, map, get_or, Contains, refl, sym, ap, ◌∙◌, subst, arith}
 use Rattle.std.specs.Prelude.{flat_map}
 use Rattle.std.proofs.lemmas.List.{length-map, get_or-map}

@@ -25,7 +25,7 @@ record Parsed (end n : ℕ) (xs : List (ℕ × Lexeme)) : Type 0 where
 parsed_none : (end n : ℕ) (xs : List (ℕ × Lexeme)) → n ≤ nesting_limit → HasNoBlank xs → StopsAt end n xs → Parsed end n xs
 parsed_none end n xs le h stop = record { ts = none; rest = xs; trees = record { split = refl; within = omega (arith, le) }; stop = stop; shorter = omega arith; no_blank = h }
 
--- a tree more in front
+-- one tree more before the others
 parsed_more : (end n : ℕ) (xs ys : List (ℕ × Lexeme)) (t : Tree) → xs ≡ spelled t ++ ys → length ys ≤ length xs → n + depth t ≤ nesting_limit → Parsed end n ys → Parsed end n xs
 parsed_more end n xs ys t e shorter within p = record {
   ts = more t p.ts;
@@ -64,7 +64,7 @@ mutual
       ∙ passed end n t (spelled_all ts ++ xs) (omega (arith, h, le-max_left (depth t) (depth_all ts)))
       ∙ passed_all end n ts xs (omega (arith, h, le-max_right (depth t) (depth_all ts)))
 
--- the lexeme in front
+-- the first lexeme
 abbrev in_front : List (ℕ × Lexeme) → Lexeme
 in_front [] = blank
 in_front (x ∷ xs) = x.1
@@ -124,7 +124,7 @@ too_deep end n at ys e = record {
     deep (atom a k bytes) zs g = let front : opens ≡ word k bytes = ap in_front g in absurd cc
     deep (list a us close) zs g = grind (arith, nat_tests, e)
 
--- a first list, with what follows it
+-- a list, with what follows it
 closed_list : (end fuel n at : ℕ) (xs : List (ℕ × Lexeme)) → length xs < fuel → n ≤ nesting_limit → HasNoBlank xs → (q : Parsed end (suc n) xs) → suc n ≤ nesting_limit
     → ((ys : List (ℕ × Lexeme)) → length ys < fuel → HasNoBlank ys → Parsed end n ys) → StopsAt end (suc n) q.rest → Parsed end n ((at, opens) ∷ xs)
 closed_list end fuel n at xs lt le h q less rec (inl x) = let zero_is : suc n ≡ 0 = x.0 in absurd (omega (arith, zero_is))
@@ -136,7 +136,7 @@ closed_list end fuel n at xs lt le h q less rec (inr (inl x)) =
     parsed_more end n ((at, opens) ∷ xs) ys (list at q.ts close) (ap (λ zs. (at, opens) ∷ zs) (q.trees.split ∙ ap (λ zs. spelled_all q.ts ++ zs) x.3 ∙ sym (append_assoc (spelled_all q.ts) ((close, closes) ∷ []) ys))) (omega (arith, small)) (omega (arith, q.trees.within)) (rec ys (omega (arith, small, lt)) clean)
 closed_list end fuel n at xs lt le h q less rec (inr (inr x)) = parsed_none end n ((at, opens) ∷ xs) le h (inr (inr (x.0, list_broken end n at xs q.rest q.ts x.0 less q.trees x.1)))
 
--- a first list, where it may be opened or not
+-- a list, where it may be opened or not
 opened : (end fuel n at : ℕ) (xs : List (ℕ × Lexeme)) → suc (length xs) < suc fuel → n ≤ nesting_limit → HasNoBlank xs → (c : Bool) → nat_lt n nesting_limit ≡ c
     → (suc n ≤ nesting_limit → Parsed end (suc n) xs) → ((ys : List (ℕ × Lexeme)) → length ys < fuel → HasNoBlank ys → Parsed end n ys) → Parsed end n ((at, opens) ∷ xs)
 opened end fuel n at xs lt le h true e inner rec =

@@ -8,11 +8,11 @@ use Rattle.spec_text.specs.Faults.{Located, nesting_limit, first_fault}
 use Rattle.spec_text.specs.Readings.{depth, depth_all, Stops, StopsAt, kept, limited, is_long, IsReadUpTo}
 use Rattle.spec_text.proofs.Reading.{same_first}
 
--- no tree that may come after n open lists is in front
+-- what comes does not begin with a tree that n open lists allow
 abbrev pub BeginsNoTree : ℕ → List (ℕ × Lexeme) → Type 0
 BeginsNoTree n xs = (t : Tree) (ys : List (ℕ × Lexeme)) → xs ≡ spelled t ++ ys → nesting_limit < n + depth t
 
--- a tree that may stand in front does not stand before what begins with none
+-- what begins with a tree is not what begins with none
 no_more : (n : ℕ) (u : Tree) (us : Trees) (xs ys : List (ℕ × Lexeme)) → n + max (depth u) (depth_all us) ≤ nesting_limit → BeginsNoTree n xs → xs ≡ (spelled u ++ spelled_all us) ++ ys → ⊥
 no_more n u us xs ys within free e =
     let deep = free u (spelled_all us ++ ys) (e ∙ append_assoc (spelled u) (spelled_all us) ys) in

@@ -32,7 +32,7 @@ pub two_zeros : lexical_fault (codes "00") ≡ located 1 BadChar
 unfolding lexemes first_piece first_fault
 two_zeros = refl
 
--- a backslash in a quoted symbol is known before the missing bar
+-- a backslash in a quoted symbol is reported before the missing bar
 pub backslash_before_no_bar : lexical_fault (codes "(|a\\b") ≡ located 3 BadChar
 unfolding lexemes first_piece first_fault
 backslash_before_no_bar = refl
@@ -57,7 +57,7 @@ pub unclosed : lexical_fault (codes "(a (b)") ≡ located 6 UnclosedList
 unfolding lexemes first_piece first_fault
 unclosed = refl
 
--- a parenthesis that closes nothing is known before a list that is open at the end
+-- a parenthesis that closes nothing is reported before a list that is open at the end
 pub stray : lexical_fault (codes "(a))b(") ≡ located 3 StrayClose
 unfolding lexemes first_piece first_fault
 stray = refl

@@ -46,13 +46,13 @@ CanFollow (word Decimal name) rest = BeginsWithout is_symbol_byte rest
 CanFollow (word Text name) rest = BeginsWithout (λ b. b == 34) rest
 CanFollow x rest = Unit {0}
 
--- so many bytes at the prefix are this lexeme
+-- the first n bytes are this lexeme
 pub record Begins (bytes : List ℕ) (n : ℕ) (x : Lexeme) : Type 0 where
   pub within : n ≤ length bytes
   pub spelled : Spells (take n bytes) x
-  pub behind : CanFollow x (drop n bytes)
+  pub after : CanFollow x (drop n bytes)
 
--- so many bytes at the prefix are this lexeme, and no more of them are any
+-- the first n bytes are this lexeme, and no longer prefix is any
 pub record IsLongest (bytes : List ℕ) (n : ℕ) (x : Lexeme) : Type 0 where
   pub begins : Begins bytes n x
   pub longest : (m : ℕ) (y : Lexeme) → Begins bytes m y → m ≤ n

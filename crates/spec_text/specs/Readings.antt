@@ -24,7 +24,7 @@ pub record IsBroken (end n : ℕ) (xs : List (ℕ × Lexeme)) (f : Located) : Ty
   pub fault : first_fault nesting_limit end n xs ≡ Some f
   -- a list that could end is none of the n
   pub no_end : (at : ℕ) (ys : List (ℕ × Lexeme)) → xs ≡ (at, closes) ∷ ys → n ≡ 0
-  -- a tree that stands in front is nested too deep
+  -- the first tree is nested too deep
   pub no_tree : (t : Tree) (ys : List (ℕ × Lexeme)) → xs ≡ spelled t ++ ys → nesting_limit < n + depth t
 
 -- the lexemes are these trees, nested no deeper than they may be after n open lists, and then the rest
@@ -86,7 +86,7 @@ limited long (Some f) = Some (at_limit long f)
 pub record IsReadUpTo (text : List ℕ) (ts : Trees) (found : Option Located) : Type 0 where
   -- the lexemes after the trees
   pub rest : List (ℕ × Lexeme)
-  -- the trees stand in front
+  -- the trees come first
   pub trees : AreTrees 0 (lexemes 0 0 (kept text)) ts rest
   -- what stops the reading of the bytes that are kept
   pub stop : Option Located

@@ -63,7 +63,7 @@ pub fn each_text_is_read()
 {}
 
 /// Says that the offsets of trees lie in the text that they stand in, from the offset on from which it was read: that of
-/// one tree in front, and of trees after other lexemes.
+/// one tree before other trees, and of trees after other lexemes.
 pub fn trees_stand_in_their_text()
     ensures first { (text : List ℕ) (at : ℕ) (t : Tree) (rest : List (ℕ × Lexeme)) → lexemes_from text at ≡ spelled t ++ rest
         → AllOffsets (λ n. (at ≤ n) × (n < length text)) t }

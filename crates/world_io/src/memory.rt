@@ -1,4 +1,4 @@
-//! A shelf and a sink in memory, which can be told to fail.
+//! A shelf and a sink in memory, which can be made to fail.
 
 ghost use Rattle.std.specs.Prelude.{◌≡◌, ◌+◌, ◌-◌, ◌≤◌, ◌<◌, ◌++◌, ◌⊎◌, [], length, map, min, take, drop, Some, None, MatchBool, MatchOption, Contains, IfOk, IsOk, vec_len, vec_capacity};
 ghost use Rattle.world_io.specs.Memory.{text_of, text_named, text_at, ShelfState, SinkState, next_number, seen_sink, Begins, Reads, Writes};
