@@ -1,0 +1,11 @@
+-- What sorts, terms and signatures of the whole language are, and what they mean.
+pub mod Fractions
+pub mod Literals
+pub mod Terms
+pub mod Values
+pub mod Theory
+pub mod Signatures
+pub mod Forms
+pub mod TermValues
+pub mod Meaning
+pub mod Examples
