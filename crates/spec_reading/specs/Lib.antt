@@ -1,0 +1,7 @@
+-- The reading of texts into terms.
+pub mod Names
+pub mod Sorts
+pub mod Reading
+pub mod Definitions
+pub mod Subterms
+pub mod OnLiterals
