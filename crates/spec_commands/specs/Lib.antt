@@ -1,0 +1,7 @@
+-- The commands of a script, what they leave, and what is current at a check.
+pub mod Commands
+pub mod Stack
+pub mod Checks
+pub mod OnLiterals
+pub mod Examples
+pub mod CheckExamples

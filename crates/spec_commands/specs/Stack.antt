@@ -1,0 +1,249 @@
+-- What stands after commands, and what they answer. Source: SMT-LIB 2.6, sections 4.1.4 and 4.2; the order of faults, the limits and the reach of a check are own.
+use Rattle.std.specs.Prelude.{ℕ, suc, Bool, true, false, not, ◌&&◌, List, [], ◌∷◌, ◌++◌, map, Option, Some, None, Ok, codes, if◌then◌else◌}
+use Rattle.std.specs.Str.{bytes_eq}
+use Rattle.spec_text.specs.declared.Fault.TheVariants.{BadShape, Reserved, UnknownLogic, WrongMode, Full}
+use Rattle.spec_text.specs.Bytes.{Name, among}
+use Rattle.spec_text.specs.Shapes.{is_symbol, is_reserved}
+use Rattle.spec_text.specs.Answers.{Answer, ◌>>=◌, refused, require}
+use Rattle.spec_text.specs.Trees.{Tree, atom, list, offset_of}
+use Rattle.spec_sorts.specs.Terms.{Sort, Truth, Declared, Head, True, False, Not, And, Or, Xor, Implies, Equal, Ite, Apply, Term, Terms, app, nil, cons, same_sort}
+use Rattle.spec_sorts.specs.Signatures.{Definition, Declaration, of_sort, of_function, declared, Signature, definition}
+use Rattle.spec_reading.specs.Names.{script, new_name, is_function, is_sort}
+use Rattle.spec_reading.specs.Sorts.{sort_in, sorts_in}
+use Rattle.spec_reading.specs.Reading.{reading_of_sort}
+use Rattle.spec_reading.specs.Definitions.{definitions_in}
+use Rattle.spec_reading.specs.Subterms.{has_room}
+use Rattle.spec_commands.specs.Commands.{Command, SetLogic, SetOption, SetInfo, DeclareSort, DefineSort, DeclareFun, DefineFun, Assert, CheckSat, Echo, Exit, command_of}
+
+-- An asserted expression: its text, and the term that it is read as.
+pub record Assertion : Type 0 where
+  -- the text as it stands in the script
+  pub text : Tree
+  -- the term that it is read as
+  pub term : Term
+
+-- A declaration, and the level that it belongs to: 0 for the first one.
+pub record Entry : Type 0 where
+  -- the number of levels that were open when it was made
+  pub level : ℕ
+  -- what is declared
+  pub declaration : Declaration
+
+-- The options that are known. Source: SMT-LIB 2.6, section 4.1.7.
+pub record Options : Type 0 where
+  -- `:print-success`: whether commands that were taken are answered
+  pub print_success : Bool
+  -- `:produce-models`
+  pub models : Bool
+  -- `:produce-proofs`
+  pub proofs : Bool
+  -- `:produce-assertions`
+  pub assertions : Bool
+
+-- What commands leave.
+pub record Stack : Type 0 where
+  -- what is declared and defined, in its order, each with its level
+  pub names : List Entry
+  -- the assertions of each level, in their order: the first level, and after it each that is open
+  pub levels : List (List Assertion)
+  -- the options
+  pub options : Options
+  -- whether a command has set the logic or come without one
+  pub started : Bool
+
+-- nothing declared, nothing asserted, and the options as they are at first
+abbrev pub empty_stack : Stack
+empty_stack = record { names = []; levels = [] ∷ []; options = record { print_success = true; models = false; proofs = false; assertions = false }; started = false }
+
+-- all that is declared and defined, in its order
+abbrev pub signature_of : Stack → Signature
+signature_of s = map (λ (e : Entry). e.declaration) s.names
+
+-- lists one after the other
+abbrev pub joined : {A : Type 0} → List (List A) → List A
+joined [] = []
+joined (xs ∷ rest) = xs ++ joined rest
+
+-- the current assertions, the oldest first
+abbrev pub assertions_of : Stack → List Assertion
+assertions_of s = joined s.levels
+
+-- the terms of assertions, in their order
+abbrev pub terms_asserted : List Assertion → List Term
+terms_asserted assertions = map (λ (a : Assertion). a.term) assertions
+
+-- how many levels are open above the first one
+abbrev pub levels_open : List (List Assertion) → ℕ
+levels_open [] = 0
+levels_open (l ∷ []) = 0
+levels_open (l ∷ m ∷ ls) = suc (levels_open (m ∷ ls))
+
+-- one assertion more at the last level
+abbrev pub with_last : List (List Assertion) → Assertion → List (List Assertion)
+with_last [] a = (a ∷ []) ∷ []
+with_last (l ∷ []) a = (l ++ a ∷ []) ∷ []
+with_last (l ∷ m ∷ ls) a = l ∷ with_last (m ∷ ls) a
+
+-- the stack after a command that ends the start
+abbrev pub begun : Stack → Stack
+begun s = record s { started = true }
+
+-- a declaration more, at the last level
+abbrev pub with_declaration : Stack → Declaration → Stack
+with_declaration s d = record s { names = s.names ++ record { level = levels_open s.levels; declaration = d } ∷ [] }
+
+-- definitions more, at the last level
+abbrev pub with_definitions : Stack → List Definition → Stack
+with_definitions s [] = s
+with_definitions s (d ∷ ds) = with_definitions (with_declaration s (definition d)) ds
+
+-- an assertion more, at the last level
+abbrev pub with_assertion : Stack → Tree → Term → Stack
+with_assertion s t u = record s { levels = with_last s.levels (record { text = t; term = u }) }
+
+-- the logics that may be set; all have one language. Source: SMT-LIB 2.6, section 4.2.1, and the names of SMT-LIB's logics.
+abbrev pub logics : List Name
+logics = codes "QF_UFLRA" ∷ codes "QF_UF" ∷ codes "QF_LRA" ∷ codes "QF_RDL" ∷ codes "ALL" ∷ []
+
+-- a truth value as it is written for an option
+abbrev pub truth_named : Name → Option Bool
+truth_named n = if bytes_eq n (codes "true") then Some true else if bytes_eq n (codes "false") then Some false else None
+
+-- a symbol's truth value
+abbrev pub truth_if : Bool → Name → Option Bool
+truth_if true n = truth_named n
+truth_if false n = None
+
+-- the truth value of a text
+abbrev pub truth_in : Tree → Option Bool
+truth_in (atom at k n) = truth_if (is_symbol k) n
+truth_in (list at ts end) = None
+
+-- The names of the options that are known.
+pub data Key : Type 0 where
+  -- `print-success`, `produce-models`, `produce-proofs`, `produce-assertions`
+  success_key models_key proofs_key assertions_key : Key
+
+-- which name is which
+abbrev pub key_named : Name → Option Key
+key_named n =
+    if bytes_eq n (codes "print-success") then Some success_key
+    else if bytes_eq n (codes "produce-models") then Some models_key
+    else if bytes_eq n (codes "produce-proofs") then Some proofs_key
+    else if bytes_eq n (codes "produce-assertions") then Some assertions_key
+    else None
+
+-- the options with one of them set
+abbrev pub with_option : Key → Bool → Options → Options
+with_option success_key b o = record o { print_success = b }
+with_option models_key b o = record o { models = b }
+with_option proofs_key b o = record o { proofs = b }
+with_option assertions_key b o = record o { assertions = b }
+
+-- What is answered to a command that is not refused.
+pub data Effect : Type 0 where
+  -- it is done; its option is not known
+  done unsupported : Effect
+  -- a check is asked for, with these assumptions
+  check : List Assertion → Effect
+  -- a text is to be written, without its quotes
+  say : List ℕ → Effect
+  -- the script ends
+  leave : Effect
+
+-- A command that was taken: what it answers, and what it leaves.
+pub record Taken : Type 0 where
+  -- the answer
+  pub effect : Effect
+  -- what stands after it
+  pub stack : Stack
+
+-- what is done, with what it leaves
+abbrev pub did : Stack → Taken
+did s = record { effect = done; stack = s }
+
+-- an option set to a value: one that is not known changes nothing, whatever the value is; the command stands at an offset
+abbrev pub option_set : ℕ → Stack → Option Key → Option Bool → Answer Taken
+option_set at s (Some k) (Some b) = Ok (did (record s { options = with_option k b s.options }))
+option_set at s (Some k) None = refused at BadShape
+option_set at s None value = Ok (record { effect = unsupported; stack = s })
+
+-- a head that a check reaches: theory Core, and Bool constants
+abbrev pub head_in_reach : Head → Bool
+head_in_reach True = true
+head_in_reach False = true
+head_in_reach Not = true
+head_in_reach And = true
+head_in_reach Or = true
+head_in_reach Xor = true
+head_in_reach Implies = true
+head_in_reach Equal = true
+head_in_reach Ite = true
+head_in_reach (Apply f) = bare f.parameters && same_sort Truth f.result
+  where
+    bare : List Sort → Bool
+    bare [] = true
+    bare (s ∷ ss) = false
+head_in_reach h = false
+
+-- the search reaches each head of a term, for now
+unfoldable mutual
+  -- in a term
+  pub is_in_reach : Term → Bool
+  is_in_reach (app h ts) = head_in_reach h && are_in_reach ts
+
+  -- in terms
+  pub are_in_reach : Terms → Bool
+  are_in_reach nil = true
+  are_in_reach (cons t ts) = is_in_reach t && are_in_reach ts
+
+-- the search reaches each of the assertions
+abbrev pub all_in_reach : List Assertion → Bool
+all_in_reach [] = true
+all_in_reach (a ∷ rest) = is_in_reach a.term && all_in_reach rest
+
+-- a stack with room for its names and a command's terms, or the fault at the command's offset
+abbrev pub roomy : (limit at : ℕ) → List Term → Stack → Answer Taken
+roomy limit at ts s = require (has_room limit (signature_of s) ts) at Full >>= λ room. Ok (did s)
+
+-- the terms of definitions, in their order
+abbrev pub terms_defined : List Definition → List Term
+terms_defined ds = map (λ (d : Definition). d.term) ds
+
+-- what a command answers and leaves, or its first fault: `limit` bounds the names, and the different subterms of a command's
+-- terms; `at` is the command's offset
+abbrev pub performed : (limit at : ℕ) → Stack → Command → Answer Taken
+performed limit at s (SetLogic x) =
+    require (not (is_reserved x.kind)) x.at Reserved >>= λ free.
+    require (among logics x.bytes) x.at UnknownLogic >>= λ known.
+    require (not s.started) at WrongMode >>= λ early.
+    Ok (did (begun s))
+performed limit at s (SetOption k v) = option_set at s (key_named k) (truth_in v)
+performed limit at s SetInfo = Ok (did s)
+performed limit at s (DeclareSort x) =
+    new_name script (is_sort (signature_of s)) x >>= λ n.
+    roomy limit at [] (begun (with_declaration s (of_sort n (Declared n))))
+performed limit at s (DefineSort x t) =
+    new_name script (is_sort (signature_of s)) x >>= λ n.
+    sort_in (signature_of s) t >>= λ sort.
+    roomy limit at [] (begun (with_declaration s (of_sort n sort)))
+performed limit at s (DeclareFun x ts t) =
+    new_name script (is_function (signature_of s)) x >>= λ n.
+    sorts_in (signature_of s) ts >>= λ parameters.
+    sort_in (signature_of s) t >>= λ result.
+    roomy limit at [] (begun (with_declaration s (of_function (declared (record { name = n; parameters = parameters; result = result })))))
+performed limit at s (DefineFun d) =
+    definitions_in script (signature_of s) d >>= λ ds.
+    roomy limit at (terms_defined ds) (begun (with_definitions s ds))
+performed limit at s (Assert t) =
+    reading_of_sort script (signature_of s) [] Truth t >>= λ r.
+    roomy limit at (r.term ∷ []) (begun (with_assertion (with_definitions s r.made) t r.term))
+performed limit at s (CheckSat place) =
+    require (all_in_reach (assertions_of s)) place UnknownLogic >>= λ reached.
+    Ok (record { effect = check []; stack = begun s })
+performed limit at s (Echo text) = Ok (record { effect = say text; stack = s })
+performed limit at s Exit = Ok (record { effect = leave; stack = s })
+
+-- the command of a tree, taken after a stack
+unfoldable pub step : ℕ → Stack → Tree → Answer Taken
+step limit s t = command_of t >>= λ c. performed limit (offset_of t) s c
