@@ -1,17 +1,28 @@
 -- Bytes that go out or come in piece by piece.
-use Rattle.std.proofs.Common.{◌≡◌, ℕ, ◌+◌, ◌≤◌, ◌<◌, List, [], ◌∷◌, ◌++◌, length, take, drop, get_or, Option, Some, None, refl, sym, ap, ◌∙◌, append_assoc, length-append, zero-add, suc, arith}
+use Rattle.std.proofs.Common.{◌≡◌, ℕ, ◌+◌, ◌≤◌, ◌<◌, ◌⊎◌, List, [], ◌∷◌, ◌++◌, length, take, drop, get_or, Option, Some, None, refl, sym, ap, ◌∙◌, append_assoc, length-append, zero-add, suc, inl, inr, arith}
 use Rattle.std.proofs.lemmas.List.{take-append-le, drop_more, take-append-drop, take_more, append-nil}
 use Rattle.std.proofs.lemmas.Grind.{flat_map-append}
+use Rattle.std.proofs.lemmas.Bool.{cases_lt}
 use Rattle.std.specs.Io.KnownBytes.{Appends, Consumes}
 use Rattle.std.specs.Prelude.{IfSome, Result, Ok, Err, OnErr, flat_map}
 use Rattle.world_io.specs.Outside.{AppendsPrefix}
 
 -- what was read is a prefix of some text, the one that is known
-pub cut_of : (left new : Option (List ℕ)) (got cut : List ℕ) (limit : ℕ) → limit ≤ length got → cut ≡ take limit got → Consumes left new got → (text : List ℕ) × ((limit ≤ length text) × (cut ≡ take limit text)) × IfSome left (λ t. t ≡ text)
+pub cut_of : (left new : Option (List ℕ)) (got cut : List ℕ) (limit : ℕ) → limit < length got → cut ≡ take limit got → Consumes left new got → (text : List ℕ) × ((limit < length text) × (cut ≡ take limit text)) × IfSome left (λ t. t ≡ text)
 cut_of None new got cut limit h e c = (got, (h, e), tt)
 cut_of (Some bytes) None got cut limit h e c = absurd c
 cut_of (Some bytes) (Some rest) got cut limit h e c =
-    (bytes, (omega (arith, ap length c, length-append got rest), e ∙ sym (rw c (take-append-le limit got rest h))), refl)
+    (bytes, (omega (arith, ap length c, length-append got rest), e ∙ sym (rw c (take-append-le limit got rest (omega arith)))), refl)
+
+prefix_by : (bytes got rest cut : List ℕ) (n : ℕ) → (length got < n) ⊎ (n ≤ length got) → cut ≡ take n got → (length got < n → bytes ≡ got) → bytes ≡ got ++ rest → cut ≡ take n bytes
+prefix_by bytes got rest cut n (inl few) e w c = e ∙ ap (take n) (sym (w few))
+prefix_by bytes got rest cut n (inr many) e w c = e ∙ sym (rw c (take-append-le n got rest many))
+
+-- so many bytes of a text were read, or all where it has fewer
+pub prefix_of : (left new : Option (List ℕ)) (got cut : List ℕ) (n : ℕ) → cut ≡ take n got → (length got < n → IfSome left (λ t. t ≡ got)) → Consumes left new got → (text : List ℕ) × (cut ≡ take n text) × IfSome left (λ t. t ≡ text)
+prefix_of None new got cut n e w c = (got, e, tt)
+prefix_of (Some bytes) None got cut n e w c = absurd c
+prefix_of (Some bytes) (Some rest) got cut n e w c = (bytes, prefix_by bytes got rest cut n (cases_lt (length got) n) e w c, refl)
 
 take_past : (x y : List ℕ) (k : ℕ) → take (length x + k) (x ++ y) ≡ x ++ take k y
 take_past [] y k = rw zero-add refl

@@ -22,6 +22,6 @@ pub use bytes::{Bytes, NoMemory};
 pub use fault::Failed;
 pub use host::{HostShelf, HostSink};
 pub use memory::{MemShelf, MemSink};
-pub use read::{ReadEnd, ReadStop, read_all};
+pub use read::{ReadEnd, ReadStop, read_all, read_prefix};
 pub use shelf::Shelf;
 pub use sink::{Sink, write_all, write_pieces};

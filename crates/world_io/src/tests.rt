@@ -101,12 +101,12 @@ fn numbers(alloc: Global, text: &str) -> Result<Vec<u64>, NoMemory> {
 /// Limits, how many bytes a read gives at most, whether the text `abcdef` is then read whole, and what is read of it.
 const LIMITS: &str = "0|9|cut|
 5|9|cut|abcde
-6|9|cut|abcdef
+6|9|whole|abcdef
 7|9|whole|abcdef
 most|9|whole|abcdef
 0|1|cut|
 5|1|cut|abcde
-6|1|cut|abcdef
+6|1|whole|abcdef
 7|1|whole|abcdef
 ";
 
