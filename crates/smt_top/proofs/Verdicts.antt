@@ -1,16 +1,13 @@
 -- From the checker's answer on the prefixes of two texts to the verdict on the whole texts.
-use Rattle.std.proofs.Common.{◌≡◌, ◌≤◌, ◌+◌, ◌⊎◌, inl, inr, ℕ, List, length, take, Option, Some, None, Result, Ok, Err, sym, ap, ◌∙◌, subst, arith, length-take}
+use Rattle.std.proofs.Common.{◌≡◌, ◌≤◌, ◌+◌, ℕ, List, length, take, Option, Some, None, Result, Ok, Err, ap, ◌∙◌, subst, arith, length-take}
 use Rattle.std.specs.Prelude.{count_by, ◌==◌}
-use Rattle.std.proofs.lemmas.List.{take-take, take_all}
+use Rattle.std.proofs.lemmas.List.{take-take}
 use Rattle.spec_text.specs.declared.Place.{Place}
 use Rattle.spec_text.specs.Places.{since_break, IsPlaceOf}
 use Rattle.spec_text.specs.Readings.{text_limit, front}
 use Rattle.spec_scripts.specs.Stack.{HasNoModel, term_limit}
 use Rattle.spec_proofs.specs.Faults.{Fault}
 use Rattle.spec_proofs.specs.Accepted.{IsAccepted, IsVerdict}
-use Rattle.world_io.specs.Ends.{IsReadTo}
-use Rattle.world_io.specs.declared.read.ReadEnd.{ReadEnd}
-use Rattle.world_io.specs.declared.read.ReadEnd.TheVariants.{Whole, Cut}
 use Rattle.alethe_check.specs.declared.ProofStop.{ProofStop}
 use Rattle.alethe_check.specs.declared.ProofStop.TheVariants as stops
 use Rattle.alethe_check.specs.Verdicts.{Answers, fault_view}
@@ -42,15 +39,6 @@ place_in_text : (n : ℕ) (text : List ℕ) (p : Place) → IsPlaceOf (take n te
 place_in_text n text p h =
     let same = same_front n p.offset text h.within in
     record { within = omega (arith, h.within, length-take n text); line = h.line ∙ ap lines same; col = h.col ∙ ap columns same }
-
--- what was read is the prefix, whether there is more or not
-pub read_is_front : (end : ReadEnd) (bytes text : List ℕ) → (end ≡ Whole bytes) ⊎ (end ≡ Cut bytes) → IsReadTo (text_limit + 1) end text → bytes ≡ front text
-read_is_front end bytes text (inl is) h =
-    let read = subst (λ e. IsReadTo (text_limit + 1) e text) is h in
-    read.1 ∙ sym (take_all (text_limit + 1) text (omega (arith, read.0)))
-read_is_front end bytes text (inr is) h =
-    let read = subst (λ e. IsReadTo (text_limit + 1) e text) is h in
-    read.1
 
 valid_by : FrontLaw → AcceptedLaw → SoundLaw → (script proof : List ℕ) (at : ℕ) → IsVerdict (front script) at (front proof) None → IsValid script at proof
 valid_by fronts accepts sound script proof at h =

@@ -1,15 +1,14 @@
 //! Reads the two texts of a run.
 
-ghost use Rattle.std.specs.Prelude.{◌≡◌, ◌≢◌, ℕ, ◌+◌, ◌≤◌, List, IfOk, IfSome, IsSome, IsOk, IsErrOf};
+ghost use Rattle.std.specs.Prelude.{◌≡◌, ◌≢◌, ℕ, ◌≤◌, List, IfOk, IfSome, IsSome, IsOk, IsErrOf};
 ghost use Rattle.world_io.specs.Outside.{Rose};
-ghost use Rattle.world_io.specs.Ends.{IsReadTo};
-ghost use Rattle.spec_text.specs.Readings.{front, text_limit};
+ghost use Rattle.spec_text.specs.Readings.{front};
 ghost use Rattle.smt_top.specs.Ends.{TakesText};
 
 use crate::arguments::Names;
 use smt_sexpr::TEXT_LIMIT;
 use std::alloc::Global;
-use world_io::{Bytes, ReadEnd, ReadStop, Shelf, read_all};
+use world_io::{Bytes, ReadStop, Shelf, read_prefix};
 
 /// How many bytes of a text are read: as many as a text may have, and one more, by which it has too many.
 const FRONT: u64 = TEXT_LIMIT as u64 + 1;
@@ -21,15 +20,6 @@ pub(crate) struct Texts {
     pub(crate) script: Bytes,
     /// The proof.
     pub(crate) proof: Bytes,
-}
-
-/// Gives the bytes that were read, whether there are more or not.
-fn bytes_of(end: ReadEnd) -> Bytes
-    ensures { (text : List ℕ) → IsReadTo (text_limit + 1) end text → result ≡ front text }
-{
-    match end {
-        ReadEnd::Whole(bytes) | ReadEnd::Cut(bytes) => bytes,
-    }
 }
 
 /// Reads the prefix of a name's text.
@@ -51,8 +41,7 @@ pub(crate) fn read_text<F: Shelf>(
         × (IsSome (F.holds shelf.old name.now) → result ≢ Err ReadStop.Failed) }
 {
     shelf.begin(name)?;
-    let end = read_all(alloc, shelf, FRONT)?;
-    Ok(bytes_of(end))
+    read_prefix(alloc, shelf, FRONT)
 }
 
 /// Reads the prefixes of the texts of both names, the script's first.
