@@ -106,7 +106,7 @@ impl<'a> LimitedText<'a> {
     ///   parenthesis where none is (`StrayClose`), or the opening parenthesis that would be the 501st open one, those of
     ///   before counted (`TooDeep`). Where the text has more bytes than are read, `TooLong` comes at the first of the others
     ///   in the place of the end, and of a string, a quoted symbol or a list that does not end before it.
-    /// - `Memory` may come at any allocation, and nowhere else. It says nothing of the text.
+    /// - `Memory` means that an allocation was refused. No clause says when it comes, and it says nothing of the text.
     ///
     /// The text may be read on from any place that an `Ok` has. Source: SMT-LIB 2.6, section 3.2.
     pub fn next(&self, alloc: Global, at: Place, open_lists: usize) -> Result<Next<'a>, Refused>
