@@ -3,7 +3,7 @@ use Rattle.std.specs.Prelude.{◌≡◌, refl, ℕ, Bool, true, false, ◌&&◌,
 use Rattle.spec_text.specs.Bytes.{Name}
 use Rattle.spec_text.specs.Answers.{Answer}
 use Rattle.spec_text.specs.Trees.{Trees, none, more}
-use Rattle.spec_terms.specs.Examples.{trees_in}
+use Rattle.spec_sorts.specs.Written.{trees_in}
 use Rattle.spec_sorts.specs.Terms.{Term, same_term}
 use Rattle.spec_sorts.specs.Signatures.{Declaration, of_sort, of_function, known_name}
 use Rattle.spec_commands.specs.Stack.{Entry, Options, Stack, Taken, empty_stack, assertions_of, terms_asserted, step}

@@ -6,7 +6,7 @@ use Rattle.spec_text.specs.Places.{line_of, column_of}
 use Rattle.spec_text.specs.Faults.{Located}
 use Rattle.spec_text.specs.Answers.{Answer}
 use Rattle.spec_text.specs.Trees.{Trees, none, more}
-use Rattle.spec_terms.specs.Examples.{trees_in}
+use Rattle.spec_sorts.specs.Written.{trees_in}
 use Rattle.spec_commands.specs.Stack.{Stack, Effect, leave, Taken, empty_stack, step}
 use Rattle.spec_commands.specs.OnLiterals.{commands_on_literals}
 

@@ -4,4 +4,5 @@ pub mod Sorts
 pub mod Reading
 pub mod Definitions
 pub mod Subterms
+pub mod Agreement
 pub mod OnLiterals

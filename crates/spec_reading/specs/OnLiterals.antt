@@ -2,7 +2,7 @@
 use Rattle.std.specs.Prelude.{⊤}
 use Rattle.spec_text.specs.Lexemes.{lexemes, first_piece, string_body}
 use Rattle.spec_text.specs.Answers.{◌>>=◌, require}
-use Rattle.spec_terms.specs.Examples.{built}
+use Rattle.spec_sorts.specs.Written.{built}
 use Rattle.spec_sorts.specs.Fractions.{gcd}
 use Rattle.spec_sorts.specs.Literals.{literal_value}
 use Rattle.spec_sorts.specs.Terms.{sort_of, same_term, filled}

@@ -1,4 +1,5 @@
 -- What sorts, terms and signatures of the whole language are, and what they mean.
+pub mod Lists
 pub mod Fractions
 pub mod Literals
 pub mod Terms
@@ -8,4 +9,5 @@ pub mod Signatures
 pub mod Forms
 pub mod TermValues
 pub mod Meaning
+pub mod Written
 pub mod Examples

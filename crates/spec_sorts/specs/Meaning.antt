@@ -5,7 +5,7 @@ use Rattle.spec_text.specs.declared.Kind.{Kind}
 use Rattle.spec_text.specs.declared.Kind.TheVariants.{Numeral, Decimal, Simple, Quoted}
 use Rattle.spec_text.specs.Bytes.{Name}
 use Rattle.spec_text.specs.Trees.{Tree, Trees, atom, list, none, more}
-use Rattle.spec_terms.specs.Lists.{left, right, neighbours, all_pairs, all_pass}
+use Rattle.spec_sorts.specs.Lists.{left, right, neighbours, all_pairs, all_pass}
 use Rattle.spec_sorts.specs.Fractions.{Fraction, opposite, minus, divide}
 use Rattle.spec_sorts.specs.Literals.{literal_value}
 use Rattle.spec_sorts.specs.Terms.{Sort}

@@ -5,7 +5,7 @@ use Rattle.std.specs.Str.{bytes_eq}
 use Rattle.spec_text.specs.declared.Fault.{Fault}
 use Rattle.spec_text.specs.declared.Fault.TheVariants.{NotLinear, ZeroDivisor}
 use Rattle.spec_text.specs.Bytes.{Name}
-use Rattle.spec_terms.specs.Lists.{left, right, neighbours, all_pairs}
+use Rattle.spec_sorts.specs.Lists.{left, right, neighbours, all_pairs}
 use Rattle.spec_sorts.specs.Terms.{Sort, Truth, Number, Head, True, False, Not, And, Or, Xor, Implies, Equal, Ite, Minus, Plus, Times, Divide, Less, AtMost, Literal, Term, Terms, app, nil, cons, of, no_term, negated, pair, same_sort, all_same}
 
 -- what a list of pairs has for a name

@@ -1,0 +1,2 @@
+-- Lemmas on terms: what each head is read as, and parameters.
+pub mod Heads
