@@ -188,11 +188,11 @@ mutual
   pub fine : (w : Setting) (s : Signature) (b : Bound) (t : Tree) (r : Reading) → reading w s b t ≡ Ok r → IsFine w s → IsFine w (with_definitions s r.made)
   fine w s b (atom at k n) r e a = let p = went _ _ _ e in subst (λ (x : Reading). IsFine w (with_definitions s x.made)) (answer (Ok (plain p.first)) r p.then) (fine_none w s a)
   fine w s b (list at none end) r e a = absurd (answer (refused at BadShape) r e)
-  fine w s b (list at (more head us) end) r e a = go (form head us) (fine_all w s b us) (fine_let w s b us) (fine_annotated w s b at us) e
+  fine w s b (list at (more head us) end) r e a = go (form head us) (fine_all w s b us) (fine_let w s b at us) (fine_annotated w s b at us) e
     where
       go : (f : Form)
           → ((rs : Readings) → readings w s b us ≡ Ok rs → IsFine w s → IsFine w (with_definitions s rs.made))
-          → ((r : Reading) → let_reading w s b us ≡ Ok r → IsFine w s → IsFine w (with_definitions s r.made))
+          → ((r : Reading) → let_reading w s b at us ≡ Ok r → IsFine w s → IsFine w (with_definitions s r.made))
           → ((r : Reading) → annotated_reading w s b at us ≡ Ok r → IsFine w s → IsFine w (with_definitions s r.made))
           → by_form w s b at us f ≡ Ok r → IsFine w (with_definitions s r.made)
       go malformed x y z e = absurd (answer (refused at BadShape) r e)
@@ -214,13 +214,13 @@ mutual
       (fine_both w s p.first.made q.first.made (fine_all w (with_definitions s p.first.made) b ts q.first q.was (fine w s b t p.first p.was a)))
 
   -- and those of a body under bindings
-  fine_let : (w : Setting) (s : Signature) (b : Bound) (ts : Trees) (r : Reading) → let_reading w s b ts ≡ Ok r → IsFine w s → IsFine w (with_definitions s r.made)
-  fine_let w s b (more (list at bindings end) (more body none)) r e a =
+  fine_let : (w : Setting) (s : Signature) (b : Bound) (at : ℕ) (ts : Trees) (r : Reading) → let_reading w s b at ts ≡ Ok r → IsFine w s → IsFine w (with_definitions s r.made)
+  fine_let w s b at (more (list place bindings end) (more body none)) r e a =
       let p = went _ _ _ e in
       let q = went _ _ _ p.then in
       subst (λ (x : Reading). IsFine w (with_definitions s x.made)) (answer (Ok _) r q.then)
       (fine_both w s p.first.made q.first.made (fine w (with_definitions s p.first.made) (p.first.bound ++ b) body q.first q.was (fine_bindings w s b [] bindings p.first p.was a)))
-  fine_let w s b _ r e a = absurd (answer (refused 0 BadShape) r e)
+  fine_let w s b at _ r e a = absurd (answer (refused at BadShape) r e)
 
   -- and those of bindings
   fine_bindings : (w : Setting) (s : Signature) (b : Bound) (names : List Name) (ts : Trees) (r : Bindings) → bindings_reading w s b names ts ≡ Ok r → IsFine w s → IsFine w (with_definitions s r.made)

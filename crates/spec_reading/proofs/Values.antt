@@ -153,7 +153,7 @@ by_form w s b at us f = elim f [
   | malformed ↦ refused at BadShape
   | reserved place ↦ refused place Reserved
   | applies place n ↦ (readings w s b us >>= λ r. applied (with_definitions s r.made) b place n at r.terms >>= λ t. Ok (record { made = r.made; term = t }))
-  | binds ↦ let_reading w s b us
+  | binds ↦ let_reading w s b at us
   | annotates ↦ annotated_reading w s b at us
 ]
 
@@ -171,11 +171,11 @@ module _ (i : Interpretation) (ps : List Value) (m : Meaning) where
         let a = went _ _ _ e in
         atom_sound i ps m s b at k n a.first a.was (agrees_before i m s (map definition r.made) h) ∙ ap (λ (x : Reading). value_at i ps x.term) (answer (Ok (plain a.first)) r a.then)
     sound w s b (list at none end) r e h = absurd (answer (refused at BadShape) r e)
-    sound w s b (list at (more head us) end) r e h = go (form head us) (sound_all w s b us) (sound_let w s b us) (sound_first w s b at us) e h
+    sound w s b (list at (more head us) end) r e h = go (form head us) (sound_all w s b us) (sound_let w s b at us) (sound_first w s b at us) e h
       where
         go : (f : Form)
             → ((rs : Readings) → readings w s b us ≡ Ok rs → Agrees i m (with_definitions s rs.made) → values_of m (values_bound i ps b) us ≡ map (value_at i ps) rs.terms)
-            → ((r : Reading) → let_reading w s b us ≡ Ok r → Agrees i m (with_definitions s r.made) → let_value m (values_bound i ps b) us ≡ value_at i ps r.term)
+            → ((r : Reading) → let_reading w s b at us ≡ Ok r → Agrees i m (with_definitions s r.made) → let_value m (values_bound i ps b) us ≡ value_at i ps r.term)
             → ((r : Reading) → annotated_reading w s b at us ≡ Ok r → Agrees i m (with_definitions s r.made) → first_value m (values_bound i ps b) us ≡ value_at i ps r.term)
             → by_form w s b at us f ≡ Ok r → Agrees i m (with_definitions s r.made) → form_value m (values_bound i ps b) us f ≡ value_at i ps r.term
         go malformed all one two e h = absurd (answer (refused at BadShape) r e)
@@ -203,8 +203,8 @@ module _ (i : Interpretation) (ps : List Value) (m : Meaning) where
         ∙ ap (λ (x : Readings). map (value_at i ps) x.terms) same
 
     -- a body under bindings has its term's value
-    pub sound_let : (w : Setting) (s : Signature) (b : Bound) (ts : Trees) (r : Reading) → let_reading w s b ts ≡ Ok r → Agrees i m (with_definitions s r.made) → let_value m (values_bound i ps b) ts ≡ value_at i ps r.term
-    sound_let w s b (more (list at bindings end) (more body none)) r e h =
+    pub sound_let : (w : Setting) (s : Signature) (b : Bound) (at : ℕ) (ts : Trees) (r : Reading) → let_reading w s b at ts ≡ Ok r → Agrees i m (with_definitions s r.made) → let_value m (values_bound i ps b) ts ≡ value_at i ps r.term
+    sound_let w s b at (more (list place bindings end) (more body none)) r e h =
         let a = went _ _ _ e in
         let c = went _ _ _ a.then in
         let same = answer (Ok _) r c.then in
@@ -212,7 +212,7 @@ module _ (i : Interpretation) (ps : List Value) (m : Meaning) where
         ap (λ bs. value_of m bs body) (ap (λ vs. vs ++ values_bound i ps b) (sym (sound_bindings w s b [] bindings a.first a.was k.0)) ∙ sym (map-append (λ (p : Name × Term). (p.0, value_at i ps p.1)) a.first.bound b))
         ∙ sound w (with_definitions s a.first.made) (a.first.bound ++ b) body c.first c.was k.1
         ∙ ap (λ (x : Reading). value_at i ps x.term) same
-    sound_let w s b _ r e h = absurd (answer (refused 0 BadShape) r e)
+    sound_let w s b at _ r e h = absurd (answer (refused at BadShape) r e)
 
     -- bound names have their terms' values
     pub sound_bindings : (w : Setting) (s : Signature) (b : Bound) (names : List Name) (ts : Trees) (r : Bindings) → bindings_reading w s b names ts ≡ Ok r → Agrees i m (with_definitions s r.made) → values_bound i ps r.bound ≡ bound_values m (values_bound i ps b) ts

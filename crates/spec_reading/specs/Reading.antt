@@ -136,7 +136,7 @@ unfoldable mutual
         readings w s b us >>= λ r.
         applied (with_definitions s r.made) b place n at r.terms >>= λ t.
         Ok (record { made = r.made; term = t })
-    | binds ↦ let_reading w s b us
+    | binds ↦ let_reading w s b at us
     | annotates ↦ annotated_reading w s b at us
   ]
 
@@ -148,13 +148,13 @@ unfoldable mutual
       readings w (with_definitions s r.made) b ts >>= λ rs.
       Ok (record { made = r.made ++ rs.made; terms = r.term ∷ rs.terms })
 
-  -- bindings, and a body under them
-  pub let_reading : Setting → Signature → Bound → Trees → Answer Reading
-  let_reading w s b (more (list at bindings end) (more body none)) =
+  -- bindings, and a body under them; the whole stands at an offset
+  pub let_reading : Setting → Signature → Bound → ℕ → Trees → Answer Reading
+  let_reading w s b at (more (list place bindings end) (more body none)) =
       bindings_reading w s b [] bindings >>= λ r.
       reading w (with_definitions s r.made) (r.bound ++ b) body >>= λ t.
       Ok (record { made = r.made ++ t.made; term = t.term })
-  let_reading w s b us = refused 0 BadShape
+  let_reading w s b at us = refused at BadShape
 
   -- bindings after some names: each name before its term, in which none of the names is bound
   pub bindings_reading : Setting → Signature → Bound → List Name → Trees → Answer Bindings

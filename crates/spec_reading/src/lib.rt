@@ -5,13 +5,16 @@
 //! `specs/`.
 #![tactic(auto)]
 
-ghost use Rattle.std.specs.Prelude.{◌≡◌, List, [], Ok};
+ghost use Rattle.std.specs.Prelude.{◌≡◌, List, [], Ok, Err};
 ghost use Rattle.spec_text.specs.Trees.{Tree};
+ghost use Rattle.spec_text.specs.Faults.{Located};
+ghost use Rattle.spec_text.specs.Offsets.{HasOffset};
 ghost use Rattle.spec_sorts.specs.Values.{Value, Interpretation};
 ghost use Rattle.spec_sorts.specs.TermValues.{value_at};
 ghost use Rattle.spec_sorts.specs.Signatures.{Definition, Signature, with_definitions};
 ghost use Rattle.spec_sorts.specs.Meaning.{Meaning, value_of, meaning_of, value_under};
 ghost use Rattle.spec_reading.specs.Names.{Setting, script};
+ghost use Rattle.spec_reading.specs.Sorts.{sort_in};
 ghost use Rattle.spec_reading.specs.Reading.{Bound, Reading, reading};
 ghost use Rattle.spec_reading.specs.Definitions.{Parts, definitions_in};
 ghost use Rattle.spec_reading.specs.Agreement.{Agrees, values_bound, AreSound};
@@ -44,4 +47,12 @@ pub fn readings_keep_signatures_sound()
         → AreSound (with_definitions s r.made) }
     ensures defined { (w : Setting) (s : Signature) (d : Parts) (ds : List Definition) → AreSound s
         → definitions_in w s d ≡ Ok ds → AreSound (with_definitions s ds) }
+{}
+
+/// States that the first fault of a text that is read as a term, or as a sort, stands at the offset of one of its atoms or
+/// lists.
+pub fn faults_stand_in_their_text()
+    ensures term { (w : Setting) (s : Signature) (b : Bound) (t : Tree) (f : Located) → reading w s b t ≡ Err f
+        → HasOffset t f.offset }
+    ensures sort { (s : Signature) (t : Tree) (f : Located) → sort_in s t ≡ Err f → HasOffset t f.offset }
 {}
