@@ -25,7 +25,8 @@ fn gives_rest(table: &TermTable, head: Head, rest: Rest, id: TermId, behind: &[T
     requires form { IsStating head rest }
     requires id { IsIn table.now id }
     requires behind { AreIn table.now behind.now }
-    ensures { Tests (GivesRest (head_meant table.now.symbols head) rest (term_at table.now id) (clause_at table.now behind.now)) result }
+    ensures { Tests (GivesRest (head_meant table.now.symbols head) rest (term_at table.now id)
+        (clause_at table.now behind.now)) result }
 {
     table.all_terms_are_bool();
     let node = table.node(id);
