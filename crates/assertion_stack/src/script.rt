@@ -2,7 +2,7 @@
 //!
 //! The commands are `set-option`, `declare-const` of sort Bool, `assert`, `check-sat` and `exit`.
 
-ghost use Rattle.std.specs.Prelude.{◌≡◌, ℕ, ◌≤◌, ◌<◌, [], true, false, List, length, OnErr, MatchOption, ◌∷◌};
+ghost use Rattle.std.specs.Prelude.{◌≡◌, ℕ, ◌≤◌, ◌<◌, [], true, false, List, length, IfOk, OnErr, MatchOption, ◌∷◌};
 ghost use Rattle.spec_text.specs.Places.{IsPlaceOf};
 ghost use Rattle.spec_text.specs.Trees.{more, none};
 ghost use Rattle.spec_scripts.specs.Stack.{with_success, performed, Stack, empty_stack, is_taken, new_name, sort_in, truth_named, truth_in, is_known_option};
@@ -76,7 +76,7 @@ impl Script {
     /// shape (`BadShape` at its parenthesis), then its parts in reading order (for a new name `Reserved`, `Twice`; for a
     /// sort `UnknownSort`, `Reserved`, `BadShape`; for a term `BadShape`, `Reserved`, `UnknownSymbol`, `WrongCount`), then
     /// `Full` at its parenthesis. `Memory` may come at any allocation, and says nothing of the command. After each of these
-    /// the script is as it was, its table too. Source: SMT-LIB 2.6, sections 3.9 and 4.2.
+    /// the script is as it was, its table too; so it is after `Check`. Source: SMT-LIB 2.6, sections 3.9 and 4.2.
     pub fn command(
         &mut self,
         alloc: Global,
@@ -85,6 +85,7 @@ impl Script {
     ) -> Result<Effect, Refused>
         ensures steps { (s : Stack) → IsStack self.old s → Steps limit s sexpr.now result self.new }
         ensures same { OnErr result (self.new ≡ self.old) }
+        ensures check { IfOk result (λ effect. effect ≡ Effect.Check → self.new ≡ self.old) }
     {
         spec_scripts::laws::faults_stand_in_their_command();
         sexpr.offsets_have_places();
@@ -280,6 +281,7 @@ fn perform(
     ensures becomes { (s : Stack) → IsStack script.old s
         → Becomes (performed limit at s (command_view command.entry)) s result script.new }
     ensures same { OnErr result (script.new ≡ script.old) }
+    ensures check { command.entry ≡ ScriptCommand.CheckSat → script.new ≡ script.old }
 {
     match command {
         ScriptCommand::SetOption(name, value) => set_option(script, at, name, value),
@@ -292,7 +294,8 @@ fn perform(
 
 /// Says what a command is answered that was taken.
 fn answer(command: &ScriptCommand<'_>) -> Effect
-    ensures { effect_meant result ≡ effect_of (command_view command.now) }
+    ensures effect { effect_meant result ≡ effect_of (command_view command.now) }
+    ensures check { result ≡ Effect.Check → command.now ≡ ScriptCommand.CheckSat }
 {
     match command {
         ScriptCommand::SetOption(name, _) => {
@@ -316,6 +319,7 @@ fn take(
 ) -> Result<Effect, ReadError>
     ensures takes { (s : Stack) → IsStack script.old s → Takes limit s (tree_meant trees.entry) result script.new }
     ensures same { OnErr result (script.new ≡ script.old) }
+    ensures check { IfOk result (λ effect. effect ≡ Effect.Check → script.new ≡ script.old) }
 {
     let command = match script_command(trees) {
         Ok(command) => command,

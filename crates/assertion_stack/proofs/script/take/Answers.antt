@@ -10,7 +10,7 @@ pub returns-in-Ok-perform-clause-takes : goal.returns-in-Ok-perform-clause-takes
 returns-in-Ok-perform-clause-takes c s h =
     let p = c.in-Ok-perform.ensures.becomes s h in
     let view = command_view c.in-Ok.command in
-    (record { effect = _; stack = p.0 }, command_done c.args.limit s (tree_meant c.args.trees) view c.offset.result p.0 c.in-Ok.ensures c.offset.ensures p.1, c.answer.ensures, p.2)
+    (record { effect = _; stack = p.0 }, command_done c.args.limit s (tree_meant c.args.trees) view c.offset.result p.0 c.in-Ok.ensures c.offset.ensures p.1, c.answer.ensures.effect, p.2)
 
 pub returns-in-Err-perform-clause-takes : goal.returns-in-Err-perform-clause-takes
 returns-in-Err-perform-clause-takes c s h =
