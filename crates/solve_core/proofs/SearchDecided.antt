@@ -1,13 +1,15 @@
 -- What a search begins with.
-use Rattle.std.proofs.Common.{◌≡◌, ℕ, ◌<◌, List, [], ◌++◌, length, get_or, take, map, All, Contains, sym, ap, ◌∙◌, subst, arith}
-use Rattle.std.proofs.lemmas.List.{get_or_default, append-nil, length-map}
-use Rattle.std.proofs.lemmas.List.Elements.{All-nil, Contains-append_left}
+use Rattle.std.proofs.Common.{◌≡◌, ℕ, ◌+◌, ◌<◌, List, [], ◌++◌, length, get_or, take, map, All, Contains, sym, ap, ◌∙◌, subst, arith}
+use Rattle.std.proofs.lemmas.List.{get_or_default, get_or-map, append-nil, length-map}
+use Rattle.std.proofs.lemmas.List.FromFn.{get_or-range_with_len}
+use Rattle.std.proofs.lemmas.List.Elements.{All-nil, All-contains, Contains-append_left, Contains-get_or}
 use Rattle.std.proofs.Math.Seq.{take-append_seam}
 use Rattle.spec_text.proofs.Members.{to_image, from_image}
 use Rattle.spec_terms.specs.Terms.{Term}
 use Rattle.spec_terms.specs.Literals.{Clause, Literal, literals_of}
 use Rattle.spec_terms.specs.Subterms.{subterms_of}
-use Rattle.spec_search.specs.Derivations.{AssumesAmong}
+use Rattle.spec_proofs.specs.Resolution.{IsWithin}
+use Rattle.spec_search.specs.Derivations.{AssumesAmong, conclusion, conclusion_at, inference_at, no_inference}
 use Rattle.spec_search.specs.Base.{base_clauses}
 use Rattle.spec_search.specs.Spent.{IsLearnedFrom, IsAtomOf}
 use Rattle.term_core.specs.declared.ids.TermId.{TermId}
@@ -43,6 +45,28 @@ module _ (t u : TableView) (roots : List TermId) (roots_in : AreIn t roots) (log
 
   as_many : length log ≡ length (base_clauses (clause_at t roots))
   as_many = omega (arith, m.count, ap length none, h.count)
+
+  -- each number of the log is one of the steps
+  numbered : (k : ℕ) → k < length log → (x : StepId) × Contains steps x × (x.0 ≡ k)
+  numbered k lt =
+      let short : k < length steps = omega (arith, lt, m.count, ap length none) in
+      let zero : length old + k ≡ k = omega (arith, ap length none) in
+      let order = ap (λ (ns : List ℕ). get_or ns k 0) m.order ∙ get_or-range_with_len (length old) (length steps) k 0 short ∙ zero in
+      (get_or steps k no_step, Contains-get_or steps k no_step short, sym (get_or-map (λ (x : StepId). x.0) steps k no_step 0 short) ∙ order)
+
+  -- each inference states a base clause
+  states : All (λ x. Contains (base_clauses (clause_at t roots)) (conclusion x)) (derivation_in u log)
+  states k d lt =
+      let x = numbered k (rw length-map at lt) in
+      let same : stated u log x.0 ≡ conclusion (get_or (derivation_in u log) k d) = ap (conclusion_at (derivation_in u log)) x.2 ∙ ap conclusion (get_or_default (derivation_in u log) k no_inference d lt) in
+      subst (Contains (base_clauses (clause_at t roots))) same (h.only (stated u log x.0) (to_image (stated u log) steps x.0 x.1))
+
+  -- and each base clause is stated
+  each : IsWithin (base_clauses (clause_at t roots)) (map conclusion (derivation_in u log))
+  each c i =
+      let x = from_image (stated u log) steps c (h.base c i) in
+      let lt : x.0.0 < length (derivation_in u log) = rw length-map (All-contains (λ (y : StepId). y.0 < length log) steps x.0 h.there x.1) in
+      subst (Contains (map conclusion (derivation_in u log))) x.2 (to_image conclusion (derivation_in u log) (inference_at (derivation_in u log) x.0.0) (Contains-get_or (derivation_in u log) x.0.0 no_inference lt))
 
   assumes : All (λ l. AssumesAmong (clause_at t roots) (inference_of u l)) log
   assumes = subst (λ (xs : List Logged). All (λ l. AssumesAmong (clause_at t roots) (inference_of u l)) xs) (sym log_is)
@@ -105,7 +129,7 @@ module _ (t u : TableView) (roots : List TermId) (roots_in : AreIn t roots) (log
     derived = All-nil (IsLearnedFrom (clause_at t roots) (derivation_in u log));
     atoms = All-nil (λ c. All (λ (l : Literal). IsAtomOf (clause_at t roots) l.atom) c);
     new = tt;
-    steps_made = steps_start (clause_at t roots) (derivation_in u log) (rw length-map as_many);
+    steps_made = steps_start (clause_at t roots) (derivation_in u log) (rw length-map as_many) states each;
   })
 
 -- a table that is the same has all that it had

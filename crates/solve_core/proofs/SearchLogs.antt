@@ -1,10 +1,11 @@
 -- What a log says with one step more.
-use Rattle.std.proofs.Common.{◌≡◌, ℕ, ◌<◌, List, [], ◌∷◌, ◌++◌, length, get_or, All, sym, ap, ◌∙◌, subst, arith, refl, append_assoc}
+use Rattle.std.proofs.Common.{◌≡◌, ℕ, ◌<◌, List, [], ◌∷◌, ◌++◌, length, get_or, map, All, Contains, sym, ap, ◌∙◌, subst, arith, refl, append_assoc}
 use Rattle.std.proofs.lemmas.List.{append-nil, length-append, length-map, map-append}
 use Rattle.std.proofs.lemmas.List.Elements.{All-nil, All-push}
 use Rattle.spec_terms.specs.Terms.{Term}
 use Rattle.spec_terms.specs.Literals.{Clause, Literal, literals_of}
 use Rattle.spec_search.specs.Derivations.{Inference, by_rule, Derivation, no_inference, conclusion, conclusion_at, IsDerivation, AssumesAmong, IsDerivedFrom}
+use Rattle.spec_proofs.specs.Resolution.{IsWithin}
 use Rattle.spec_proofs.specs.declared.Rule.TheVariants.{Resolution}
 use Rattle.spec_search.specs.Base.{base_clauses}
 use Rattle.spec_search.specs.Spent.{IsLearnedFrom}
@@ -40,13 +41,15 @@ steps_more terms d clauses ps c h = record {
   more = h.more ++ by_rule Resolution ps c ∷ [];
   all = ap (λ (e : Derivation). e ++ by_rule Resolution ps c ∷ []) h.all ∙ append_assoc h.base h.more (by_rule Resolution ps c ∷ []);
   count = h.count;
+  stated = h.stated;
+  each = h.each;
   resolved = All-push IsByResolution h.more (by_rule Resolution ps c) h.resolved refl;
   same = map-append (λ (x : Inference). literals_of (conclusion x)) h.more (by_rule Resolution ps c ∷ []) ∙ ap (λ (cs : List (List Literal)). cs ++ literals_of c ∷ []) h.same;
 }
 
 -- at the start there are the base clauses alone
-pub steps_start : (terms : List Term) (d : Derivation) → length d ≡ length (base_clauses terms) → HasSteps terms d []
-steps_start terms d count = record { base = d; more = []; all = sym (append-nil d); count = count; resolved = All-nil IsByResolution; same = refl }
+pub steps_start : (terms : List Term) (d : Derivation) → length d ≡ length (base_clauses terms) → All (λ x. Contains (base_clauses terms) (conclusion x)) d → IsWithin (base_clauses terms) (map conclusion d) → HasSteps terms d []
+steps_start terms d count stated each = record { base = d; more = []; all = sym (append-nil d); count = count; stated = stated; each = each; resolved = All-nil IsByResolution; same = refl }
 
 -- over a table
 module _ (t : TableView) (log : List Logged) (x : Logged) where

@@ -84,7 +84,8 @@ abbrev pub IsByResolution : Inference → Type 0
 IsByResolution («assumption» u) = ⊥
 IsByResolution (by_rule r ps c) = r ≡ Resolution
 
--- The derivation has an inference for each base clause of the terms, and after them one by resolution for each of these clauses, in order.
+-- The derivation states the base clauses of the terms, all of them and no others, in as many inferences; and after them each of
+-- these clauses, in order, by resolution.
 pub record HasSteps (terms : List Term) (d : Derivation) (clauses : List (List Literal)) : Type 0 where
   -- the inferences of the base clauses, and those after them
   pub base : Derivation
@@ -93,6 +94,10 @@ pub record HasSteps (terms : List Term) (d : Derivation) (clauses : List (List L
   pub all : d ≡ base ++ more
   -- there are as many as base clauses
   pub count : length base ≡ length (base_clauses terms)
+  -- each states a base clause
+  pub stated : All (λ x. Contains (base_clauses terms) (conclusion x)) base
+  -- each base clause is stated
+  pub each : IsWithin (base_clauses terms) (map conclusion base)
   -- and those after them are by resolution
   pub resolved : All IsByResolution more
   -- and state these clauses

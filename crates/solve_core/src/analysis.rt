@@ -20,8 +20,9 @@ pub(crate) struct Analysis {
     pub(crate) premises: Vec<usize>,
     /// The negations of the decisions that it rests on, newest first.
     pub(crate) clause: Vec<Lit>,
-    /// How many literals stay where that clause is learned: all before the decision that is the second of those negated, or before
-    /// all decisions where there is no second.
+    /// How many literals stay where that clause is learned. Before each decision among them two literals of the clause are
+    /// unassigned. It is the place of the decision after the second newest of those negated, or of the first decision where there
+    /// is no second; that it is no earlier, no clause says.
     pub(crate) backjump: usize,
 }
 
