@@ -1,10 +1,11 @@
 -- What the answers of checks mean. Source: SMT-LIB 2.6, section 4.2.5; that the text of a proof, or of a model, means so much is own.
-use Rattle.std.specs.Prelude.{◌≡◌, ℕ, suc, false, List, [], ◌∷◌, ◌++◌}
+use Rattle.std.specs.Prelude.{◌≡◌, ◌^◌, ◌<◌, ℕ, suc, false, List, [], ◌∷◌, ◌++◌, length}
 use Rattle.spec_text.specs.Readings.{is_long}
 use Rattle.spec_text.specs.Trees.{Trees, list, none, more, IsRead}
 use Rattle.spec_terms.specs.Terms.{Symbol}
 use Rattle.spec_terms.specs.Values.{Interpretation, Interprets}
 use Rattle.spec_scripts.specs.Stack.{Stack, term_limit, IsCurrent, MakesTrue, HasNoModel}
+use Rattle.spec_proofs.specs.Good.{IsGood}
 use Rattle.spec_proofs.specs.Accepted.{IsAccepted}
 use Rattle.spec_replies.specs.declared.Word.TheVariants.{Unsat}
 use Rattle.spec_replies.specs.Lines.{word_line}
@@ -37,6 +38,8 @@ MeansAt s (unknown r d learned) = Unit {0}
 pub record ProofMeans (limit : ℕ) (text : List ℕ) (k : ℕ) (p : List ℕ) : Type 0 where
   -- no interpretation makes true what is asserted there, however long the proof is
   pub no_model : HasNoModel limit text k
+  -- it is good of that check, whatever the limits of the checker are; its length is a number of 64 bits
+  pub good : length p < 2 ^ 64 → IsGood limit text k p
   -- it is accepted of that check, if it is no longer than a text may be, and the limit is that of the checker
   pub accepted : limit ≡ term_limit → is_long p ≡ false → IsAccepted text k p
   -- so it is after the line of the answer

@@ -13,7 +13,7 @@ ghost use Rattle.spec_runs.specs.Meaning.{MeansAt, Says, AllSay};
 /// States what the answer of a check means. Of a stack that commands left, with names that can be printed: a model makes
 /// true what is asserted, and so does each interpretation with the values that its printed text defines; where there is a
 /// proof, no interpretation does, however long it is. Of a check of a text where this stack is current, it means the same;
-/// and a proof is accepted of that check, if its text is not too long and the limit on terms is that of the checker.
+/// and a proof is good of that check, and accepted, if its text is not too long and the limit on terms is that of the checker.
 pub fn what_is_shown_is_so()
     ensures at { (limits : Limits) (s : Stack) (f : Found) → IsKeptStack limits.terms s → AreWritable s.symbols
         → Justifies limits s f → MeansAt s f }
@@ -27,6 +27,7 @@ pub fn what_is_shown_is_so()
     spec_replies::laws::model_texts_say_their_interpretation();
     spec_printing::laws::declared_names_can_be_written();
     spec_printing::laws::planned_lines_are_right();
+    spec_printing::laws::printed_proofs_are_good();
     spec_printing::laws::printed_proofs_are_accepted();
 }
 

@@ -1,11 +1,12 @@
 -- That what is shown is so.
-use Rattle.std.proofs.Common.{◌≡◌, ◌++◌, ℕ, List, All, get_or, true, sym, ap, ◌∙◌, subst}
+use Rattle.std.proofs.Common.{◌≡◌, ◌^◌, ◌<◌, ◌++◌, ℕ, List, All, length, get_or, true, sym, ap, ◌∙◌, subst, arith}
 use Rattle.std.proofs.lemmas.List.Elements.{All-map}
 use Rattle.spec_text.specs.Readings.{is_long}
 use Rattle.spec_terms.specs.Values.{truth, is_true, Interpretation}
 use Rattle.spec_terms.specs.Meaning.{value_under}
 use Rattle.spec_scripts.specs.Stack.{Stack, Assertion, IsCurrent, MakesTrue}
 use Rattle.spec_scripts.specs.Current.{IsKeptStack}
+use Rattle.spec_proofs.specs.Good.{IsGood}
 use Rattle.spec_proofs.specs.Accepted.{IsAccepted}
 use Rattle.spec_proofs.specs.Clauses.{term_true}
 use Rattle.spec_replies.specs.declared.Word.TheVariants.{Unsat}
@@ -14,6 +15,7 @@ use Rattle.spec_printing.specs.Lines.{Line, proof_text}
 use Rattle.spec_printing.specs.Meaning.{AreRightLines}
 use Rattle.spec_printing.specs.Plans.{lines_of}
 use Rattle.spec_printing.specs.ReadBack.{AreWritable}
+use Rattle.spec_printing.proofs.Sizes.{text_size}
 use Rattle.spec_runs.specs.Evidence.{Limits, Found, model, proof, unknown, terms_of, IsModelOf, IsProofOf, Justifies}
 use Rattle.spec_runs.specs.Meaning.{ModelMeans, MeansAt, ProofMeans, Means}
 use Rattle.spec_runs.proofs.Soundness.{HaveSoundRules, lines_refute}
@@ -76,6 +78,9 @@ module _ (c : goal.After-printed_proofs_are_accepted) where
     of_proof : (p : List ℕ) → IsProofOf s p → ((i : Interpretation) → IsModelOf s i → ⊥) → ProofMeans limit text k p
     of_proof p h none = record {
       no_model = λ i m. none i (is_model i m);
+      good = λ short.
+          let few : length (lines s p h) < 2 ^ 64 = omega (arith, short, ap length h.written, (text_size (lines s p h)).1) in
+          subst (IsGood limit text k) (sym h.written) (c.printed_proofs_are_good.ensures.alone limit text k s (lines s p h) current (right s p h) few);
       accepted = λ e short.
           let here = subst (λ n. IsCurrent n text k s) e current in
           let accepted = c.printed_proofs_are_accepted.ensures.alone text k s (lines s p h) here (right s p h) (sym (ap is_long h.written) ∙ short) in
