@@ -1,0 +1,4 @@
+-- What numbers are.
+pub mod Fractions
+pub mod Bounds
+pub mod Examples
