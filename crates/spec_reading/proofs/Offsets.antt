@@ -1,6 +1,6 @@
 -- The first fault of a text stands at an offset of it.
 use Rattle.std.proofs.Common.{◌≡◌, ℕ, Bool, true, false, List, [], ◌∷◌, ◌++◌, length, map, Option, Some, None, cond, subst}
-use Rattle.std.specs.Prelude.{Err, not, ◌&&◌, ◌||◌, codes, ◌==◌}
+use Rattle.std.specs.Prelude.{Ok, Err, not, ◌&&◌, ◌||◌, codes, ◌==◌}
 use Rattle.std.specs.Str.{bytes_eq}
 use Rattle.spec_text.specs.declared.Kind.{Kind}
 use Rattle.spec_text.specs.declared.Kind.TheVariants.{Numeral, Decimal, Text, Simple, Quoted, Reserved as word_kind, Keyword}
@@ -14,7 +14,7 @@ use Rattle.spec_text.specs.Trees.{Tree, Trees, atom, list, none, more, offset_of
 use Rattle.spec_text.specs.Offsets.{AllOffsets, AllOffsetsOf, HasOffset, own_offsets}
 use Rattle.spec_text.proofs.AnswerLaws.{Stands, stands_in_turn, require_stands, own_offset}
 use Rattle.spec_sorts.specs.Literals.{is_wide}
-use Rattle.spec_sorts.specs.Terms.{Sort, same_sort, same_sorts, Term, sort_of}
+use Rattle.spec_sorts.specs.Terms.{Sort, Truth, Number, same_sort, same_sorts, Term, sort_of}
 use Rattle.spec_sorts.specs.Theory.{look_up, Rule, takes_count, sorts_fit, theory}
 use Rattle.spec_sorts.specs.Signatures.{Known, declared, defined, Signature, known_as, sort_as, with_definitions}
 use Rattle.spec_sorts.specs.Forms.{Form, malformed, reserved, applies, binds, annotates, word_form, form, is_let, is_annotated, Next, a_keyword, a_name, after_keyword, named_words}
@@ -25,13 +25,8 @@ use Rattle.spec_reading.specs.Definitions.{Parts, parameters_in, bound_parameter
 use Rattle.spec_reading.proofs.Values.{by_form}
 
 module _ (P : ℕ → Type 0) where
-  -- one of two answers
-  either : {A : Type 0} (c : Bool) (a b : Answer A) → Stands P a → Stands P b → Stands P (cond c a b)
-  either true a b h k = h
-  either false a b h k = k
-
   -- a new name
-  name_stands : (w : Setting) (taken : Name → Bool) (x : Word) → P x.at → Stands P (new_name w taken x)
+  pub name_stands : (w : Setting) (taken : Name → Bool) (x : Word) → P x.at → Stands P (new_name w taken x)
   name_stands w taken x h =
       stands_in_turn P (require (not (is_barred w x)) x.at Reserved) _ (require_stands P _ x.at Reserved h) λ free.
       stands_in_turn P (require (not (taken x.bytes)) x.at Twice) _ (require_stands P _ x.at Twice h) λ new. tt
@@ -42,7 +37,12 @@ module _ (P : ℕ → Type 0) where
   found_stands at None h = h
 
   named_sort_stands : (s : Signature) (at : ℕ) (n : Name) → P at → Stands P (sort_named s at n)
-  named_sort_stands s at n h = either (bytes_eq n (codes "Bool")) _ _ tt (either (bytes_eq n (codes "Real")) _ _ tt (found_stands at (sort_as s n) h))
+  named_sort_stands s at n h = go (bytes_eq n (codes "Bool")) (bytes_eq n (codes "Real"))
+    where
+      go : (is_bool is_real : Bool) → Stands P (cond is_bool (Ok Truth) (cond is_real (Ok Number) (sort_found at (sort_as s n))))
+      go true r = tt
+      go false true = tt
+      go false false = found_stands at (sort_as s n) h
 
   pub sort_stands : (s : Signature) (t : Tree) → AllOffsets P t → Stands P (sort_in s t)
   sort_stands s (list at ts end) h = h.0
