@@ -1,3 +1,4 @@
--- Lemmas on commands: their parts, and the places of their faults.
+-- Lemmas on commands: their parts, the places of their faults, and what they keep.
 pub mod Parts
 pub mod Offsets
+pub mod Kept

@@ -89,18 +89,3 @@ pub record MakesTrue (limit : ℕ) (i : Interpretation) (text : List ℕ) (k : �
 -- check
 abbrev pub HasNoModel : ℕ → List ℕ → ℕ → Type 0
 HasNoModel limit text k = (i : Interpretation) → MakesTrue limit i text k → ⊥
-
--- the assertion was read with the oldest names of the signature, before those that it made and all later ones
-pub record WasRead (s : Signature) (a : Assertion) : Type 0 where
-  -- the names before it
-  pub before : Signature
-  -- the names after it
-  pub after : Signature
-  -- what it was read as
-  pub found : Reading
-  -- it was read with the names before it
-  pub read : reading script before [] a.text ≡ Ok found
-  -- as its term
-  pub same : found.term ≡ a.term
-  -- the names before it, those that it made, and the others are those of the signature
-  pub names : s ≡ with_definitions before found.made ++ after

@@ -2,6 +2,7 @@
 pub mod Commands
 pub mod Stack
 pub mod Checks
+pub mod Kept
 pub mod OnLiterals
 pub mod Examples
 pub mod CheckExamples

@@ -144,14 +144,14 @@ own_last None s d h k = tt
 own_last (Some f) s d h k = known_last s (defined d) f k (flip f d.name h)
 
 -- a new name is not taken
-not_taken : (w : Setting) (taken : Name → Bool) (x : Word) (n : Name) → new_name w taken x ≡ Ok n → taken n ≡ false
+pub not_taken : (w : Setting) (taken : Name → Bool) (x : Word) (n : Name) → new_name w taken x ≡ Ok n → taken n ≡ false
 not_taken w taken x n e =
     let a = went _ _ _ e in
     let b = went _ _ _ a.then in
     subst (λ m. taken m ≡ false) (answer (Ok x.bytes) n b.then) (not_true (taken x.bytes) (require_true (not (taken x.bytes)) x.at Twice b.first b.was))
 
 -- a name that is no function's is unknown
-unknown : (s : Signature) (n : Name) → is_function s n ≡ false → known_as s n ≡ None
+pub unknown : (s : Signature) (n : Name) → is_function s n ≡ false → known_as s n ≡ None
 unknown s n h = not_some (known_as s n) (neither_of (is_of_theory n) (is_some (known_as s n)) h).two
 
 -- the text has the term's value wherever what names give agrees with the signature
