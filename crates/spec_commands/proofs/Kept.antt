@@ -85,9 +85,9 @@ module _ (limit : ℕ) where
   kept_with s ds new h = record {
     names = subst AreSound (sym (signature_with s ds)) new;
     assertions =
-      subst (λ x. All (IsAsserted limit x) (assertions_of (with_definitions s ds))) (sym (signature_with s ds))
-      (subst (λ ls. All (IsAsserted limit (signatures.with_definitions (signature_of s) ds)) (joined ls)) (sym (levels_with s ds))
-      (All-weaker (IsAsserted limit (signature_of s)) (IsAsserted limit (signature_of s ++ map definition ds)) (asserted_later limit (signature_of s) (map definition ds)) (assertions_of s) h.assertions));
+        subst (λ x. All (IsAsserted limit x) (assertions_of (with_definitions s ds))) (sym (signature_with s ds))
+        (subst (λ ls. All (IsAsserted limit (signatures.with_definitions (signature_of s) ds)) (joined ls)) (sym (levels_with s ds))
+        (All-weaker (IsAsserted limit (signature_of s)) (IsAsserted limit (signature_of s ++ map definition ds)) (asserted_later limit (signature_of s) (map definition ds)) (assertions_of s) h.assertions));
   }
 
   -- an assertion more
@@ -150,7 +150,7 @@ module _ (limit : ℕ) where
       let named = with_definitions s r.made in
       let b = roomy_ok at (r.term ∷ []) (begun (with_assertion named t r.term)) d a.then in
       let was : WasRead (signature_of named) (record { text = t; term = r.term }) =
-        record { before = sig; after = []; found = r; read = read; same = refl; names = signature_with s r.made ∙ sym (append-nil (signatures.with_definitions sig r.made)) } in
+      record { before = sig; after = []; found = r; read = read; same = refl; names = signature_with s r.made ∙ sym (append-nil (signatures.with_definitions sig r.made)) } in
       let room = second_holds (nat_le (length (signature_of named)) limit) (nat_le (length (subterms_of (r.term ∷ []))) limit) b.0 in
       subst (λ (x : Taken). IsKept limit x.stack) b.1
       (kept_asserted named t r.term (record { read = was; sort = sorted; room = room }) (kept_with s r.made (fine script sig [] t r read (h.names, tt)).0 h))

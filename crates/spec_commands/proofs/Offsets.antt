@@ -1,8 +1,8 @@
 -- The fault of a command stands at an offset of its text.
-use Rattle.std.proofs.Common.{◌≡◌, ℕ, Bool, true, false, List, [], ◌∷◌, Option, Some, None, subst}
+use Rattle.std.proofs.Common.{◌≡◌, ℕ, Bool, List, [], ◌∷◌, Option, Some, None, subst}
 use Rattle.std.specs.Prelude.{Err, not}
-use Rattle.spec_text.specs.declared.Fault.TheVariants.{Reserved, Twice, UnknownLogic, WrongMode, Full}
-use Rattle.spec_text.specs.Bytes.{Name, among}
+use Rattle.spec_text.specs.declared.Fault.TheVariants.{Reserved, UnknownLogic, WrongMode, Full}
+use Rattle.spec_text.specs.Bytes.{among}
 use Rattle.spec_text.specs.Faults.{Located}
 use Rattle.spec_text.specs.Shapes.{is_reserved}
 use Rattle.spec_text.specs.Answers.{require}

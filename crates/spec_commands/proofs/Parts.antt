@@ -2,13 +2,13 @@
 use Rattle.std.proofs.Common.{ℕ, Bool, true, false, Option}
 use Rattle.std.specs.Prelude.{Some, codes}
 use Rattle.std.specs.Str.{bytes_eq}
-use Rattle.spec_text.specs.Shapes.{◌>>=◌, Word, passes, first_word, first_list, only_tree, no_tree, is_keyword}
+use Rattle.spec_text.specs.Shapes.{◌>>=◌, passes, first_word, first_list, only_tree, no_tree, is_keyword}
 use Rattle.spec_text.specs.Trees.{Tree, Trees, atom, list, none, more}
 use Rattle.spec_text.specs.Offsets.{AllOffsets, AllOffsetsOf}
 use Rattle.spec_text.proofs.ShapeLaws.{Holds, holds_in_turn, tree_stands, FrontStands, word_stands}
 use Rattle.spec_sorts.specs.Forms.{is_name, are_named}
 use Rattle.spec_reading.proofs.Offsets.{DefinitionStands}
-use Rattle.spec_commands.specs.Commands.{Command, SetLogic, SetOption, SetInfo, DeclareSort, DefineSort, DeclareFun, DefineFun, Assert, CheckSat, Echo, Exit, Verb, sets_logic, sets_option, sets_info, declares_sort, defines_sort, declares_const, declares_fun, defines_fun, asserts, checks, echoes, exits, is_numeral, is_string, one_at_most, first_name, first_tree, set_logic, set_option, set_info, declare_sort, define_sort, declare_const, declare_fun, define_fun, assertion, echo, alone, command_by}
+use Rattle.spec_commands.specs.Commands.{Command, SetLogic, SetInfo, DeclareSort, DefineSort, DeclareFun, DefineFun, Assert, CheckSat, Verb, sets_logic, sets_option, sets_info, declares_sort, defines_sort, declares_const, declares_fun, defines_fun, asserts, checks, echoes, exits, is_numeral, is_string, one_at_most, first_name, first_tree, set_logic, set_option, set_info, declare_sort, define_sort, declare_const, declare_fun, define_fun, assertion, echo, command_by}
 
 module _ (P : ℕ → Type 0) where
   -- the parts of a command stand at offsets with the property

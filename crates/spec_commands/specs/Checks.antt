@@ -1,14 +1,12 @@
 -- What is current at a check, and what makes it true. Source: SMT-LIB 2.6, sections 4.1.4 and 4.2.5.
-use Rattle.std.specs.Prelude.{◌≡◌, ℕ, zero, suc, ◌^◌, true, List, [], ◌++◌, All, Option, Some, None, Ok, Err}
+use Rattle.std.specs.Prelude.{◌≡◌, ℕ, zero, suc, ◌^◌, true, List, ◌++◌, All, Option, Some, None, Ok, Err}
 use Rattle.spec_text.specs.Faults.{Located}
 use Rattle.spec_text.specs.Readings.{IsReadUpTo}
 use Rattle.spec_text.specs.Answers.{Answer}
 use Rattle.spec_text.specs.Trees.{Trees, none, more}
 use Rattle.spec_sorts.specs.Values.{truth, Interpretation, Interprets}
-use Rattle.spec_sorts.specs.Signatures.{Signature, symbols_in, with_definitions}
+use Rattle.spec_sorts.specs.Signatures.{Signature, symbols_in}
 use Rattle.spec_sorts.specs.Meaning.{value_under}
-use Rattle.spec_reading.specs.Names.{script}
-use Rattle.spec_reading.specs.Reading.{Reading, reading}
 use Rattle.spec_commands.specs.Stack.{Assertion, Stack, Effect, check, leave, Taken, empty_stack, signature_of, assertions_of, step}
 
 -- A check: what stands there, and what it assumes beside that.

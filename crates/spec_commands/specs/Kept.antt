@@ -1,5 +1,5 @@
 -- What holds of what commands leave.
-use Rattle.std.specs.Prelude.{◌≡◌, ℕ, true, List, [], ◌∷◌, ◌++◌, length, nat_le, All, Ok}
+use Rattle.std.specs.Prelude.{◌≡◌, ℕ, true, [], ◌∷◌, ◌++◌, length, nat_le, All, Ok}
 use Rattle.spec_sorts.specs.Terms.{Truth, same_sort, sort_of}
 use Rattle.spec_sorts.specs.Signatures.{Signature, with_definitions}
 use Rattle.spec_reading.specs.Names.{script}

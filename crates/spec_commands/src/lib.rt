@@ -38,5 +38,5 @@ pub fn assertions_have_their_texts_value()
     ensures kept { (limit : ℕ) (text : List ℕ) (k : ℕ) (c : Check) → IsCurrent limit text k c → IsKept limit c.stack }
     ensures value { (limit : ℕ) (text : List ℕ) (k : ℕ) (c : Check) → IsCurrent limit text k c → (i : Interpretation)
         → All (λ (a : Assertion). value_under i (signature_of c.stack) a.text ≡ value_at i [] a.term)
-              (assertions_of c.stack) }
+        (assertions_of c.stack) }
 {}

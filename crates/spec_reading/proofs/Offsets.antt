@@ -9,7 +9,7 @@ use Rattle.spec_text.specs.declared.Fault.TheVariants.{BadShape, Twice, Reserved
 use Rattle.spec_text.specs.Bytes.{Name}
 use Rattle.spec_text.specs.Faults.{Located}
 use Rattle.spec_text.specs.Shapes.{Word}
-use Rattle.spec_text.specs.Answers.{Answer, require}
+use Rattle.spec_text.specs.Answers.{require}
 use Rattle.spec_text.specs.Trees.{Tree, Trees, atom, list, none, more, offset_of}
 use Rattle.spec_text.specs.Offsets.{AllOffsets, AllOffsetsOf, HasOffset, own_offsets}
 use Rattle.spec_text.proofs.AnswerLaws.{Stands, stands_in_turn, require_stands, own_offset}

@@ -6,3 +6,4 @@ pub mod Definitions
 pub mod Subterms
 pub mod Agreement
 pub mod OnLiterals
+pub mod Examples

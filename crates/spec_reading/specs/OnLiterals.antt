@@ -3,7 +3,7 @@ use Rattle.std.specs.Prelude.{⊤}
 use Rattle.spec_text.specs.Lexemes.{lexemes, first_piece, string_body}
 use Rattle.spec_text.specs.Answers.{◌>>=◌, require}
 use Rattle.spec_sorts.specs.Written.{built}
-use Rattle.spec_sorts.specs.Fractions.{gcd}
+use Rattle.spec_numbers.specs.Fractions.{gcd}
 use Rattle.spec_sorts.specs.Literals.{literal_value}
 use Rattle.spec_sorts.specs.Terms.{sort_of, same_term, filled}
 use Rattle.spec_sorts.specs.Theory.{is_constant, is_divisor, is_zero_divisor}

@@ -5,7 +5,7 @@ use Rattle.std.proofs.lemmas.List.{map-append}
 use Rattle.std.proofs.Math.ListN.{get_or-map}
 use Rattle.std.proofs.Math.Bool.{and-true}
 use Rattle.spec_text.specs.Bytes.{Name}
-use Rattle.spec_sorts.specs.Fractions.{minus, divide}
+use Rattle.spec_numbers.specs.Fractions.{minus, divide}
 use Rattle.spec_sorts.specs.Lists.{left, right, neighbours, all_pairs, all_pass}
 use Rattle.spec_sorts.specs.Terms.{Xor, Implies, Equal, Minus, Divide, Less, AtMost, Parameter, Term, Terms, app, nil, cons, terms_of, no_term, pair, filled, filled_all}
 use Rattle.spec_sorts.specs.Values.{Value, truth, number_in, same_value, is_true, all_true, any_true, different, chosen, Interpretation}

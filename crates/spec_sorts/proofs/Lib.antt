@@ -1,2 +1,3 @@
--- Lemmas on terms: what each head is read as, and parameters.
+-- Lemmas on terms: what each head is read as, parameters, and values within 128 bits.
 pub mod Heads
+pub mod Bounded

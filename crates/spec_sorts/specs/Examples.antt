@@ -5,7 +5,7 @@ use Rattle.spec_text.specs.Lexemes.{lexemes, first_piece}
 use Rattle.spec_text.specs.Bytes.{Name}
 use Rattle.spec_text.specs.Trees.{Tree, Trees, list, none, more}
 use Rattle.spec_sorts.specs.Written.{built, trees_in}
-use Rattle.spec_sorts.specs.Fractions.{gcd, plus, opposite, times, inverse, compare}
+use Rattle.spec_numbers.specs.Fractions.{gcd, plus, opposite, times, inverse, compare}
 use Rattle.spec_sorts.specs.Literals.{literal_value}
 use Rattle.spec_sorts.specs.Terms.{Number, Literal, of}
 use Rattle.spec_sorts.specs.Values.{Value, truth, number, element, Table, Interpretation}

@@ -1,6 +1,5 @@
 -- What sorts, terms and signatures of the whole language are, and what they mean.
 pub mod Lists
-pub mod Fractions
 pub mod Literals
 pub mod Terms
 pub mod Values
@@ -8,6 +7,7 @@ pub mod Theory
 pub mod Signatures
 pub mod Forms
 pub mod TermValues
+pub mod BoundedValues
 pub mod Meaning
 pub mod Written
 pub mod Examples

@@ -1,7 +1,7 @@
 -- The numbers that numerals and decimals write. Source: SMT-LIB 2.6, section 3.1 and theory Reals; the limit is own.
 use Rattle.std.specs.Prelude.{ℕ, suc, ◌*◌, ◌+◌, ◌-◌, ◌^◌, pos, Bool, ◌||◌, List, [], ◌∷◌, ◌++◌, length, drop, nat_le, ◌==◌, if◌then◌else◌}
 use Rattle.spec_text.specs.Bytes.{is_digit, front}
-use Rattle.spec_sorts.specs.Fractions.{Fraction, lowest}
+use Rattle.spec_numbers.specs.Fractions.{Fraction, lowest}
 
 -- the digits before the point of a literal, or all of them
 abbrev pub whole_digits : List ℕ → List ℕ

@@ -3,7 +3,7 @@ use Rattle.std.specs.Prelude.{ℕ, zero, suc, Bool, true, false, ◌&&◌, List,
 use Rattle.std.specs.Ordering.{int_eq}
 use Rattle.std.specs.Str.{bytes_eq}
 use Rattle.spec_text.specs.Bytes.{Name}
-use Rattle.spec_sorts.specs.Fractions.{Fraction}
+use Rattle.spec_numbers.specs.Fractions.{Fraction}
 
 -- Bool, Real, or a declared sort.
 pub data Sort : Type 0 where

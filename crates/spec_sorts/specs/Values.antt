@@ -2,7 +2,7 @@
 use Rattle.std.specs.Prelude.{◌≡◌, ℕ, Bool, true, false, not, ◌&&◌, ◌||◌, List, [], ◌∷◌, nat_eq, if◌then◌else◌, All, ⊤}
 use Rattle.std.specs.Str.{bytes_eq}
 use Rattle.spec_text.specs.Bytes.{Name}
-use Rattle.spec_sorts.specs.Fractions.{Fraction, IsReduced, zero_fraction}
+use Rattle.spec_numbers.specs.Fractions.{Fraction, IsReduced, zero_fraction}
 use Rattle.spec_sorts.specs.Terms.{Sort, Truth, Number, Declared, Symbol, same_fraction}
 
 -- A truth value, a fraction, or an element of a declared sort by its number, from 0.

@@ -5,11 +5,12 @@
 //! `specs/`.
 #![tactic(auto)]
 
-ghost use Rattle.std.specs.Prelude.{◌≡◌, List, map, Some};
+ghost use Rattle.std.specs.Prelude.{◌≡◌, List, map, Some, Ok};
 ghost use Rattle.spec_text.specs.Bytes.{Name};
 ghost use Rattle.spec_sorts.specs.Terms.{Term, filled};
 ghost use Rattle.spec_sorts.specs.Values.{Value, Interpretation};
 ghost use Rattle.spec_sorts.specs.TermValues.{value_at};
+ghost use Rattle.spec_sorts.specs.BoundedValues.{bounded_value};
 ghost use Rattle.spec_sorts.specs.Theory.{look_up, Rule, theory};
 ghost use Rattle.spec_sorts.specs.Meaning.{theory_values};
 
@@ -26,4 +27,9 @@ pub fn heads_mean_what_they_are_read_as()
 pub fn filled_terms_have_their_value()
     ensures { (i : Interpretation) (ps : List Value) (ts : List Term) (t : Term)
         → value_at i ps (filled ts t) ≡ value_at i (map (value_at i ps) ts) t }
+{}
+
+/// States that a term has the value that is reached where no operation on numbers leaves 128 bits.
+pub fn bounded_values_are_values()
+    ensures { (i : Interpretation) (ps : List Value) (t : Term) (v : Value) → bounded_value i ps t ≡ Ok v → value_at i ps t ≡ v }
 {}
