@@ -9,11 +9,11 @@ use Rattle.spec_replies.specs.Lines.{conflicts}
 use Rattle.spec_runs.specs.Evidence.{Limits, model, unknown, terms_of, Justifies}
 use Rattle.term_core.specs.declared.values.Interp.{Interp}
 use Rattle.term_core.specs.Tables.{TableView, literal_at}
-use Rattle.proof_log.specs.Logs.{Logged, derivation_in}
-use Rattle.sat_budget.specs.Budgets.{BudgetView}
+use Rattle.proof_log.specs.Logs.{derivation_in}
 use Rattle.solve_core.specs.declared.cdcl.Answer.TheVariants.{Sat, Unknown}
 use Rattle.sat_budget.specs.declared.limits.Reason.{Reason}
 use Rattle.sat_budget.specs.declared.limits.Reason.TheVariants as reasons
+use Rattle.solve_core.specs.declared.outcome.Outcome.{Outcome}
 use Rattle.solve_core.specs.Rounds.{HasEvidence}
 use Rattle.smt_session.specs.declared.evidence.Evidence.TheVariants as found
 use Rattle.smt_session.specs.Sessions.{IsShown}
@@ -27,22 +27,24 @@ texts_true : (i : Interpretation) (xs : List Assertion) → All (λ (a : Asserti
 texts_true i xs same each = λ k d lt.
     same k d lt ∙ ap (value_at i) (sym (get_or-map (λ (a : Assertion). a.term) xs k d (d.term) lt)) ∙ each k d.term (omega (arith, length-map xs (λ (a : Assertion). a.term), lt))
 
-module _ (limits : Limits) (t : TableView) (s : Stack) (symbols : s.symbols ≡ t.symbols) (log : List Logged) (budget after : BudgetView) where
-  pub model_shown : HaveValues s → (interp : Interp) → HasEvidence t (terms_of s) log budget (Sat interp) → IsShown limits t s (found.Model interp) after
-  model_shown values interp h =
+module _ (limits : Limits) (t : TableView) (s : Stack) (symbols : s.symbols ≡ t.symbols) (o : Outcome) where
+  pub model_shown : HaveValues s → (interp : Interp) → o.answer ≡ Sat interp → HasEvidence t (terms_of s) o.log o.budget (Sat interp) → IsShown limits t s (found.Model interp) o
+  model_shown values interp is h =
       let i = h.1.0 in
       let both = h.2 i h.1.1 in (
         model i,
         record { interprets = subst (Interprets i) (sym symbols) both.0; each = texts_true i s.assertions (values i) both.1 },
         (i, omega (arith, h.0), h.1.1, both.0, refl),
+        (interp, is, h.1.1),
       )
 
-  pub reason_shown : (n : ℕ) → budget.limit ≡ limits.conflicts → HasEvidence t (terms_of s) log budget (Unknown (reasons.Conflicts n)) → IsShown limits t s (found.Spent (reasons.Conflicts n)) budget
-  reason_shown n limit h = (
-    unknown (conflicts n) (derivation_in t log) (map (map (literal_at t)) budget.learned),
-    subst (λ m. Justifies (record { conflicts = m; terms = limits.terms }) s (unknown (conflicts n) (derivation_in t log) (map (map (literal_at t)) budget.learned))) limit (record { spent = h.0; conflict = h.1 }),
-    (derivation_in t log, refl),
+  pub reason_shown : (n : ℕ) → o.answer ≡ Unknown (reasons.Conflicts n) → o.budget.limit ≡ limits.conflicts → HasEvidence t (terms_of s) o.log o.budget (Unknown (reasons.Conflicts n)) → IsShown limits t s (found.Spent (reasons.Conflicts n)) o
+  reason_shown n is limit h = (
+    unknown (conflicts n) (derivation_in t o.log) (map (map (literal_at t)) o.budget.learned),
+    subst (λ m. Justifies (record { conflicts = m; terms = limits.terms }) s (unknown (conflicts n) (derivation_in t o.log) (map (map (literal_at t)) o.budget.learned))) limit (record { spent = h.0; conflict = h.1 }),
+    (derivation_in t o.log, refl),
+    (reasons.Conflicts n, is, refl, refl),
   )
 
-  pub any_reason_shown : (r : Reason) → budget.limit ≡ limits.conflicts → HasEvidence t (terms_of s) log budget (Unknown r) → IsShown limits t s (found.Spent r) budget
-  any_reason_shown (reasons.Conflicts n) limit h = reason_shown n limit h
+  pub any_reason_shown : (r : Reason) → o.answer ≡ Unknown r → o.budget.limit ≡ limits.conflicts → HasEvidence t (terms_of s) o.log o.budget (Unknown r) → IsShown limits t s (found.Spent r) o
+  any_reason_shown (reasons.Conflicts n) is limit h = reason_shown n is limit h

@@ -1,7 +1,6 @@
 -- What a command is answered, from what taking it came to.
-use Rattle.std.proofs.Common.{◌≡◌, ℕ, Bool, true, false, cond, List, [], length, take, refl, sym, ap, ◌∙◌, subst, append-nil}
+use Rattle.std.proofs.Common.{◌≡◌, ℕ, Bool, true, false, cond, List, refl, sym, ap, ◌∙◌, subst}
 use Rattle.std.specs.Prelude.{Result, Ok, Err}
-use Rattle.std.proofs.Math.Seq.{take-append_seam}
 use Rattle.spec_text.specs.Trees.{Tree, offset_of}
 use Rattle.spec_text.proofs.AnswerLaws.{answer, went}
 use Rattle.spec_scripts.specs.Commands.{Command, SetOption, DeclareConst, Assert, CheckSat, Exit, command_of}
@@ -12,7 +11,6 @@ use Rattle.spec_runs.specs.Responses.{Response, answered, rejected, Answered, Re
 use Rattle.spec_runs.specs.Meaning.{MeansAt}
 use Rattle.spec_printing.specs.ReadBack.{AreWritable}
 use Rattle.spec_text.specs.Answers.{Answer}
-use Rattle.term_core.specs.Tables.{TableView, Extends}
 use Rattle.assertion_stack.specs.declared.script.Script.{Script}
 use Rattle.world_io.specs.declared.bytes.NoMemory.{NoMemory}
 use Rattle.smt_lexer.specs.declared.Refused.{Refused}
@@ -22,21 +20,9 @@ use Rattle.smt_sexpr.specs.Items.{text_of, tree_of}
 use Rattle.sat_budget.specs.declared.limits.Limits.{Limits as CodeLimits}
 use Rattle.sat_budget.specs.Budgets.{BudgetView}
 use Rattle.assertion_stack.specs.Scripts.{Steps}
-use Rattle.sat_budget.specs.declared.limits.Reason.TheVariants as reasons
-use Rattle.smt_session.specs.declared.evidence.Evidence.{Evidence}
-use Rattle.smt_session.specs.declared.evidence.Evidence.TheVariants as found
 use Rattle.smt_session.specs.declared.responses.Response.{Response as CodeResponse}
 use Rattle.smt_session.specs.declared.responses.Response.TheVariants as responses
-use Rattle.smt_session.specs.Sessions.{limits_meant, IsEvidence, HasLearned, SessionView, IsResponse, LearnsBy, KeepsBudget, IsHeld, IsTaken, Rejects, Takes, HasLists, ResponseMeans, IsAnswered}
-
--- a table that grew and was cut back has what it had
-pub cut_back : (old grown cut : TableView) (n : ℕ) → Extends old grown → grown.symbols ≡ old.symbols → n ≡ length old.terms → cut.terms ≡ take n grown.terms → cut.symbols ≡ grown.symbols → Extends old cut
-cut_back old grown cut n more same len terms symbols = record {
-  more_symbols = [];
-  symbols = symbols ∙ same ∙ sym (append-nil old.symbols);
-  more_terms = [];
-  terms = terms ∙ ap (λ m. take m grown.terms) len ∙ ap (take (length old.terms)) more.terms ∙ take-append_seam old.terms more.more_terms ∙ sym (append-nil old.terms);
-}
+use Rattle.smt_session.specs.Sessions.{limits_meant, SessionView, IsResponse, LearnsBy, KeepsBudget, IsHeld, IsTaken, Rejects, Takes, HasLists, ResponseMeans, IsAnswered}
 
 -- the law on commands
 abbrev pub NextIsKept : Type 0
@@ -75,13 +61,7 @@ keeps_lists text responses.Unsupported a old new is learned keeps = subst (λ x.
 keeps_lists text responses.Ended a old new is learned keeps = subst (λ x. HasLists x a.stack old new) (sym is) keeps
 keeps_lists text (responses.Rejected x) a old new is learned keeps = subst (λ y. HasLists y a.stack old new) (sym is.0) keeps
 keeps_lists text (responses.Answered e) a old new (f, evidence, is) learned keeps =
-    let so : HasLearned (limits_meant old.limits) new.script.table a.stack new.budget = subst (λ y. LearnsBy (limits_meant old.limits) new.script.table y a.stack new.budget) is learned in
-    subst (λ y. HasLists y a.stack old new) (sym is) (by e f evidence so)
-  where
-    by : (e : Evidence) (f : Found) → IsEvidence new.script.table new.budget e f → HasLearned (limits_meant old.limits) new.script.table a.stack new.budget → HasLists (answered f) a.stack old new
-    by (found.Model interp) f e so = subst (λ y. HasLists (answered y) a.stack old new) (sym e.4) so
-    by (found.Proof log plan) f e so = subst (λ y. HasLists (answered y) a.stack old new) (sym e.2) so
-    by (found.Spent (reasons.Conflicts n)) f e so = subst (λ y. HasLists (answered y) a.stack old new) (sym e.1) (refl, so)
+    subst (λ y. HasLists y a.stack old new) (sym is) (subst (λ y. LearnsBy (limits_meant old.limits) new.script.table y a.stack new.budget) is learned)
 
 -- the law on what was found
 abbrev pub MeansSo : Type 0

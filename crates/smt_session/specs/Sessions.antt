@@ -10,7 +10,7 @@ use Rattle.spec_scripts.specs.Current.{IsKeptStack}
 use Rattle.spec_search.specs.Derivations.{Derivation}
 use Rattle.spec_replies.specs.Lines.{conflicts}
 use Rattle.spec_printing.specs.Lines.{proof_text}
-use Rattle.spec_printing.specs.Plans.{lines_of}
+use Rattle.spec_printing.specs.Plans.{Plan, IsPlan, lines_of}
 use Rattle.spec_printing.specs.ReadBack.{AreWritable}
 use Rattle.spec_runs.specs.Evidence.{Limits, Found, model, proof, unknown, terms_of, Justifies}
 use Rattle.spec_runs.specs.Responses.{Mode, solve, certify, Response, success, not_supported, answered, ended, rejected, Answered, Answers, response_text}
@@ -19,15 +19,19 @@ use Rattle.smt_lexer.specs.declared.Refused.{Refused}
 use Rattle.smt_lexer.specs.declared.Refused.TheVariants as refusals
 use Rattle.smt_sexpr.specs.declared.sexpr.Sexpr.{Sexpr}
 use Rattle.smt_sexpr.specs.Items.{text_of, tree_of}
+use Rattle.term_core.specs.declared.values.Interp.{Interp}
 use Rattle.term_core.specs.Tables.{TableView, literal_at}
 use Rattle.term_core.specs.Valuations.{Stands, HasTables}
+use Rattle.proof_log.specs.declared.premises.StepId.{StepId}
 use Rattle.proof_log.specs.Logs.{derivation_in, IsLogOf}
 use Rattle.alethe_writer.specs.Printing.{Fits}
 use Rattle.sat_budget.specs.Budgets.{BudgetView}
 use Rattle.sat_budget.specs.declared.limits.Limits.{Limits as CodeLimits}
+use Rattle.sat_budget.specs.declared.limits.Reason.{Reason}
 use Rattle.sat_budget.specs.declared.limits.Reason.TheVariants as reasons
 use Rattle.assertion_stack.specs.declared.script.Script.{Script}
 use Rattle.assertion_stack.specs.Scripts.{IsStack}
+use Rattle.solve_core.specs.declared.cdcl.Answer.TheVariants.{Sat, Unsat, Unknown}
 use Rattle.solve_core.specs.declared.outcome.Outcome.{Outcome}
 use Rattle.solve_core.specs.Decisions.{IsJustified}
 use Rattle.smt_session.specs.declared.mode.Mode.{Mode as CodeMode}
@@ -68,23 +72,36 @@ IsEvidence t budget (found.Proof log plan) f =
 IsEvidence t budget (found.Spent (reasons.Conflicts n)) f =
     (d : Derivation) × (f ≡ unknown (conflicts n) d (map (map (literal_at t)) budget.learned))
 
--- it shows what it should of a stack, within limits
-abbrev pub IsShown : Limits → TableView → Stack → Evidence → BudgetView → Type 0
-IsShown limits t s e budget = (f : Found) × Justifies limits s f × IsEvidence t budget e f
+-- what was found is that of an outcome: its model, the proof that is printed of its log, or the clauses that it learned
+abbrev pub IsFoundBy : TableView → Outcome → Found → Type 0
+IsFoundBy t o (model i) = (interp : Interp) × (o.answer ≡ Sat interp) × Stands t.symbols interp i
+IsFoundBy t o (proof text) =
+    (step : StepId) × (plan : Plan) × (o.answer ≡ Unsat step) × IsPlan t.terms (derivation_in t o.log) step.0 plan
+    × (text ≡ proof_text (lines_of t.terms (derivation_in t o.log) plan))
+IsFoundBy t o (unknown r d learned) =
+    (why : Reason) × (o.answer ≡ Unknown why) × (d ≡ derivation_in t o.log) × (learned ≡ map (map (literal_at t)) o.budget.learned)
 
--- the budget is that of a decision on the assertions of a stack: it has the limit on conflicts, and its clauses are those that the decision
--- learned and has in its log
-abbrev pub HasLearned : Limits → TableView → Stack → BudgetView → Type 0
-HasLearned limits t s budget = (o : Outcome) × IsJustified t (terms_of s) limits.conflicts o × (budget ≡ o.budget)
+-- it shows what it should of a stack, within limits, and is that of an outcome
+abbrev pub IsShown : Limits → TableView → Stack → Evidence → Outcome → Type 0
+IsShown limits t s e o = (f : Found) × Justifies limits s f × IsEvidence t o.budget e f × IsFoundBy t o f
+
+-- the budget is that of a decision on the assertions of a stack, which found this: it has the limit on conflicts, and its clauses are
+-- those that the decision learned and has in its log
+abbrev pub HasLearned : Limits → TableView → Stack → Found → BudgetView → Type 0
+HasLearned limits t s f budget = (o : Outcome) × IsJustified t (terms_of s) limits.conflicts o × IsFoundBy t o f × (budget ≡ o.budget)
 
 -- What a check of a stack found, and the script stands for the same stack.
 pub record HasChecked (limits : Limits) (s : Stack) (e : Evidence) (x : Script) (budget : BudgetView) : Type 0 where
-  -- it shows what it should
-  pub shown : IsShown limits x.table s e budget
+  -- the outcome of the decision
+  pub outcome : Outcome
+  -- it is right
+  pub justified : IsJustified x.table (terms_of s) limits.conflicts outcome
+  -- its budget is kept
+  pub budget_is : budget ≡ outcome.budget
+  -- what was found shows what it should
+  pub shown : IsShown limits x.table s e outcome
   -- the script stands for the stack
   pub held : IsHeld limits.terms x s
-  -- what was learned
-  pub learned : HasLearned limits x.table s budget
 
 -- a check of a stack found something; or memory ran out
 abbrev pub Checks : Limits → Stack → Result Evidence NoMemory → Script → BudgetView → Type 0
@@ -114,7 +131,7 @@ IsSomeResponse t response = (text : List ℕ) × (budget : BudgetView) × (r : R
 
 -- what was learned at a check, where the response is to one
 abbrev pub LearnsBy : Limits → TableView → Response → Stack → BudgetView → Type 0
-LearnsBy limits t (answered f) s budget = HasLearned limits t s budget
+LearnsBy limits t (answered f) s budget = HasLearned limits t s f budget
 LearnsBy limits t _ s budget = Unit {0}
 
 -- no other command than a check changes the budget
@@ -166,11 +183,9 @@ pub record SessionView : Type 0 where
 abbrev pub IsSession : SessionView → Stack → Type 0
 IsSession x s = IsHeld x.limits.terms x.script s
 
--- what was learned at a check stands in the budget, of an `unknown` the clauses that show it; no other command changes it
+-- what was learned at a check stands in the budget: it is that of the decision that found what is answered; no other command changes it
 abbrev pub HasLists : Response → Stack → SessionView → SessionView → Type 0
-HasLists (answered (unknown r d learned)) s old new =
-    (learned ≡ map (map (literal_at new.script.table)) new.budget.learned) × HasLearned (limits_meant old.limits) new.script.table s new.budget
-HasLists (answered f) s old new = HasLearned (limits_meant old.limits) new.script.table s new.budget
+HasLists (answered f) s old new = HasLearned (limits_meant old.limits) new.script.table s f new.budget
 HasLists _ s old new = new.budget ≡ old.budget
 
 -- what the answer of a check means, where the response is one
@@ -198,12 +213,11 @@ abbrev pub Delivers : List ℕ → Result (Unit {0}) Failed → SinkView → Sin
 Delivers text (Ok _) old new = Sent text old new × (new.pending ≡ [])
 Delivers text (Err _) old new = NotSent text old new
 
--- what a step comes to, by its result: the response is written, and nothing waits; or memory ran out, the sink is as it was, and the
--- session stands for the stack that it stood for; or the sink failed, and the session is as after the command
+-- what a step comes to, by its result: the response is written, and nothing waits; or memory ran out, and neither the session nor the
+-- sink is changed; or the sink failed, and the session is as after the command
 abbrev pub Stepped : SessionView → SessionView → Sexpr → Result After Halt → SinkView → SinkView → Type 0
 Stepped old new x (Ok after) out next = (s : Stack) → IsSession old s
     → (a : Answered) × IsAnswered s x old new a × (after ≡ after_meant a.response) × Delivers (written_for old x a) (Ok tt) out next
-Stepped old new x (Err halts.Memory) out next =
-    (next ≡ out) × (new.budget ≡ old.budget) × ((s : Stack) → IsSession old s → IsSession new s)
+Stepped old new x (Err halts.Memory) out next = (next ≡ out) × (new ≡ old)
 Stepped old new x (Err halts.Sink) out next = (s : Stack) → IsSession old s
     → (a : Answered) × IsAnswered s x old new a × NotSent (written_for old x a) out next

@@ -41,7 +41,7 @@ fn evidence_of(
     requires { (terms : List Term) × (conflicts : ℕ) × IsJustified table.now terms conflicts outcome }
     ensures shown { IfOk result (λ x. (limits : SpokenLimits) (s : Stack) → IsKeptStack limits.terms s
         → s.symbols ≡ table.now.symbols → IsJustified table.now (terms_of s) limits.conflicts outcome
-        → IsShown limits table.now s x.0 x.1) }
+        → IsShown limits table.now s x.0 outcome) }
     ensures budget { IfOk result (λ x. x.1 ≡ outcome.budget) }
 {
     commands_keep_stacks();
@@ -76,7 +76,8 @@ pub(crate) fn check(
     ensures checks { (s : Stack) → IsHeld limits.now.terms script.old s
         → Checks (limits_meant limits.now) s result script.new budget.new }
     ensures limit { IfOk result (λ _. budget.new.limit ≡ limits.now.conflicts) }
-    ensures same { OnErr result (budget.new ≡ budget.old) }
+    ensures script { OnErr result (script.new ≡ script.old) }
+    ensures budget { OnErr result (budget.new ≡ budget.old) }
 {
     stacks_stand_in_grown_tables();
     let len = script.table.len();

@@ -1,6 +1,6 @@
 //! A session: it takes commands one after the other, and writes what each is answered.
 
-ghost use Rattle.std.specs.Prelude.{◌≡◌, ◌≤◌, [], IfOk, IsErrOf};
+ghost use Rattle.std.specs.Prelude.{◌≡◌, ◌≤◌, [], IfOk, OnErr, IsErrOf};
 ghost use Rattle.world_io.specs.Outside.{Rose};
 ghost use Rattle.spec_scripts.specs.Stack.{Stack, empty_stack};
 ghost use Rattle.smt_session.specs.Sessions.{limits_meant, IsHeld, IsSession, Takes, KeepsBudget, Rejects, Stepped};
@@ -98,8 +98,9 @@ impl Session {
         })
     }
 
-    /// Gives the budget of the last check that was answered, with its limit on conflicts and the clauses that it learned, whatever
-    /// the answer was; before the first one there are none. It takes no memory.
+    /// Gives the budget of the last check that was answered, with its limit on conflicts and the clauses that it learned; before the
+    /// first one there are none. At `unsat` these clauses are in the log whose steps are printed, and at `unknown` they show it. At
+    /// `sat` some search with that model has them: no clause says that it is the one that was run. It takes no memory.
     pub fn budget(&self) -> &Budget
         ensures budget { result.now ≡ self.now.budget }
         ensures limit { result.now.limit ≡ self.now.limits.conflicts }
@@ -110,7 +111,7 @@ impl Session {
     /// Takes the command that an s-expression is, and writes what it is answered.
     ///
     /// It takes its memory first, then changes the session, then writes, and passes on what was written: then nothing waits
-    /// in a buffer. `Memory` comes where memory ran out: the session is as before the command, and nothing was written.
+    /// in a buffer. `Memory` comes where memory ran out: the session is the same as before the command, and nothing was written.
     /// `Sink` comes only where the sink's count of faults rose in this call, and there was no room for the response: the
     /// session is as after the command, and a prefix of its response was written.
     /// Source: SMT-LIB 2.6, sections 3.9 and 4.2.
@@ -147,6 +148,7 @@ fn take(
     requires { (s : Stack) × IsHeld limits.now.terms script.old s }
     ensures takes { (s : Stack) → IsHeld limits.now.terms script.old s
         → Takes (limits_meant limits.now) s command.now result script.new budget.new }
+    ensures script { OnErr result (script.new ≡ script.old) }
     ensures budget { KeepsBudget result budget.old budget.new }
     ensures limit { budget.old.limit ≡ limits.now.conflicts → budget.new.limit ≡ limits.now.conflicts }
 {

@@ -13,7 +13,7 @@ pub returns-in-Sat-clause-shown : goal.returns-in-Sat-clause-shown
 returns-in-Sat-clause-shown c = λ limits s kept symbols h.
     let t = c.args.table.now in
     let o = c.args.outcome in
-    model_shown limits t s symbols o.log o.budget o.budget (λ i. c.commands_keep_stacks.ensures.value limits.terms s i kept) c.in-Sat.interp
+    model_shown limits t s symbols o (λ i. c.commands_keep_stacks.ensures.value limits.terms s i kept) c.in-Sat.interp c.in-Sat.is
     (subst (HasEvidence t (terms_of s) o.log o.budget) c.in-Sat.is h.evidence)
 
 pub returns-in_ok-plan-in-Unsat-clause-shown : goal.returns-in_ok-plan-in-Unsat-clause-shown
@@ -37,10 +37,11 @@ returns-in_ok-plan-in-Unsat-clause-shown c = λ limits s kept symbols h.
       planned = c.in_ok-plan-in-Unsat.ensures.plan;
       written = refl;
     } in
-    (proof (proof_text (lines_of t.terms d p)), is_proof, (h.log_right, c.in_ok-plan-in-Unsat.ensures.fits, refl))
+    let planned = c.in_ok-plan-in-Unsat.ensures.plan in
+    (proof (proof_text (lines_of t.terms d p)), is_proof, (h.log_right, c.in_ok-plan-in-Unsat.ensures.fits, refl), (c.in-Unsat.step, p, c.in-Unsat.is, planned, refl))
 
 pub returns-in-Unknown-clause-shown : goal.returns-in-Unknown-clause-shown
 returns-in-Unknown-clause-shown c = λ limits s kept symbols h.
     let t = c.args.table.now in
     let o = c.args.outcome in
-    any_reason_shown limits t s symbols o.log o.budget o.budget c.in-Unknown.reason h.limit_is (subst (HasEvidence t (terms_of s) o.log o.budget) c.in-Unknown.is h.evidence)
+    any_reason_shown limits t s symbols o c.in-Unknown.reason c.in-Unknown.is h.limit_is (subst (HasEvidence t (terms_of s) o.log o.budget) c.in-Unknown.is h.evidence)

@@ -1,9 +1,9 @@
 -- By what the command came to.
-use Rattle.std.proofs.Common.{refl, subst}
+use Rattle.std.proofs.Common.{refl, sym, subst}
 use Rattle.spec_scripts.specs.Stack.{done, unsupported, check, leave}
 use Rattle.spec_runs.specs.Responses.{success, not_supported, answered, ended}
 use Rattle.smt_sexpr.specs.Items.{text_of, start_of, tree_of}
-use Rattle.smt_session.specs.Sessions.{limits_meant, IsHeld}
+use Rattle.smt_session.specs.Sessions.{limits_meant, IsHeld, IsEvidence}
 use Rattle.smt_session.proofs.Taking.{taken_as, check_keeps, refused_as, refused_keeps}
 use Rattle.smt_session.proofs.session.take.Goals as goal
 
@@ -44,7 +44,8 @@ returns-in-Ok-clause-takes c = λ s h.
     let k = c.in-Ok.ensures.checks d.0.stack (record { script = d.3; kept = kept; names = names }) in
     let f = k.shown.0 in
     let a = taken_as c.commands_keep_stacks.ensures.next l s (tree_of x) (answered f) check d.0 d.1 d.2 h.kept (f, k.shown.1, refl {a = answered f}) in
-    record { a = record { response = answered f; stack = d.0.stack }; answers = a.0; is = (f, k.shown.2, refl); held = k.held; learned = k.learned }
+    let evidence = subst (λ b. IsEvidence c.check.new.script.table b c.in-Ok.evidence f) (sym k.budget_is) k.shown.2 in
+    record { a = record { response = answered f; stack = d.0.stack }; answers = a.0; is = (f, evidence, refl); held = k.held; learned = (k.outcome, k.justified, k.shown.3, k.budget_is) }
 
 pub returns-in-Err-check-clause-takes : goal.returns-in-Err-check-clause-takes
 returns-in-Err-check-clause-takes c = λ s h.
