@@ -1,12 +1,10 @@
 -- Commands leave sound names, and assertions that were read.
 use Rattle.std.proofs.Common.{◌≡◌, ℕ, zero, suc, Bool, true, false, List, [], ◌∷◌, ◌++◌, length, map, All, Option, Some, None, refl, sym, ap, ◌∙◌, subst}
-use Rattle.std.specs.Prelude.{Ok, Err, not, ◌&&◌, nat_le}
+use Rattle.std.specs.Prelude.{Ok, Err, ◌&&◌, nat_le}
 use Rattle.std.proofs.lemmas.List.{map-append, append_assoc, append-nil}
 use Rattle.std.proofs.lemmas.List.Elements.{All-push, All-weaker, All-nil}
 use Rattle.std.proofs.lemmas.Bool.{false≢true}
-use Rattle.spec_text.specs.declared.Fault.TheVariants.{BadShape, Reserved, UnknownLogic, WrongMode, WrongSort, Full}
-use Rattle.spec_text.specs.Bytes.{among}
-use Rattle.spec_text.specs.Shapes.{is_reserved}
+use Rattle.spec_text.specs.declared.Fault.TheVariants.{BadShape, WrongSort, Full}
 use Rattle.spec_text.specs.Answers.{Answer, refused, require}
 use Rattle.spec_text.specs.Trees.{Tree, Trees, none, more, offset_of}
 use Rattle.spec_text.proofs.AnswerLaws.{answer, went, require_true}
@@ -20,12 +18,12 @@ use Rattle.spec_reading.specs.Names.{script, new_name, is_sort, is_function}
 use Rattle.spec_reading.specs.Sorts.{sort_in, sorts_in}
 use Rattle.spec_reading.specs.Reading.{Reading, reading, reading_of_sort}
 use Rattle.spec_reading.specs.Definitions.{definitions_in}
-use Rattle.spec_reading.specs.Subterms.{subterms_of, has_room}
+use Rattle.spec_sorts.specs.Subterms.{subterms_of, has_room}
 use Rattle.spec_reading.specs.Agreement.{Agrees, IsSoundAfter, AreSound}
 use Rattle.spec_reading.proofs.Values.{agrees_before, sound}
 use Rattle.spec_reading.proofs.Sound.{agrees, sound_last, not_taken, unknown, fine, defined_sound}
 use Rattle.spec_commands.specs.Commands.{Command, SetLogic, SetOption, SetInfo, DeclareSort, DefineSort, DeclareFun, DefineFun, Assert, CheckSat, Echo, Exit, command_of}
-use Rattle.spec_commands.specs.Stack.{Assertion, Entry, Stack, Key, Effect, done, unsupported, check, say, leave, Taken, did, empty_stack, signature_of, joined, assertions_of, with_last, begun, with_declaration, with_definitions, with_assertion, logics, key_named, truth_in, option_set, all_in_reach, roomy, terms_defined, performed, step}
+use Rattle.spec_commands.specs.Stack.{Assertion, Entry, Stack, Key, Effect, done, unsupported, check, say, leave, Taken, did, empty_stack, signature_of, joined, assertions_of, with_last, begun, with_declaration, with_definitions, with_assertion, key_named, truth_in, option_set, roomy, terms_defined, performed, step}
 use Rattle.spec_commands.specs.Checks.{Check, this_or, after_effect, after_command, current_at}
 use Rattle.spec_commands.specs.Kept.{WasRead, IsAsserted, IsKept}
 
@@ -111,9 +109,9 @@ module _ (limit : ℕ) where
 
   performed_kept : (at : ℕ) (s : Stack) (c : Command) (d : Taken) → performed limit at s c ≡ Ok d → IsKept limit s → IsKept limit d.stack
   performed_kept at s (SetLogic x) d e h =
-      let a = went (require (not (is_reserved x.kind)) x.at Reserved) _ d e in
-      let b = went (require (among logics x.bytes) x.at UnknownLogic) _ d a.then in
-      let c = went (require (not s.started) at WrongMode) _ d b.then in
+      let a = went _ _ d e in
+      let b = went _ _ d a.then in
+      let c = went _ _ d b.then in
       subst (λ (x : Taken). IsKept limit x.stack) (answer (Ok (did (begun s))) d c.then) (record { names = h.names; assertions = h.assertions })
   performed_kept at s (SetOption k v) d e h = option_kept at s (key_named k) (truth_in v) d e h
   performed_kept at s SetInfo d e h = subst (λ (x : Taken). IsKept limit x.stack) (answer (Ok (did s)) d e) h
@@ -155,7 +153,7 @@ module _ (limit : ℕ) where
       subst (λ (x : Taken). IsKept limit x.stack) b.1
       (kept_asserted named t r.term (record { read = was; sort = sorted; room = room }) (kept_with s r.made (fine script sig [] t r read (h.names, tt)).0 h))
   performed_kept at s (CheckSat place) d e h =
-      let a = went (require (all_in_reach (assertions_of s)) place UnknownLogic) _ d e in
+      let a = went _ _ d e in
       subst (λ (x : Taken). IsKept limit x.stack) (answer (Ok _) d a.then) (record { names = h.names; assertions = h.assertions })
   performed_kept at s (Echo text) d e h = subst (λ (x : Taken). IsKept limit x.stack) (answer (Ok _) d e) h
   performed_kept at s Exit d e h = subst (λ (x : Taken). IsKept limit x.stack) (answer (Ok _) d e) h

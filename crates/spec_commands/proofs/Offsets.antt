@@ -15,7 +15,7 @@ use Rattle.spec_reading.specs.Names.{script, new_name, is_sort, is_function}
 use Rattle.spec_reading.specs.Sorts.{sort_in, sorts_in}
 use Rattle.spec_reading.specs.Reading.{reading_of_sort}
 use Rattle.spec_reading.specs.Definitions.{definitions_in}
-use Rattle.spec_reading.specs.Subterms.{has_room}
+use Rattle.spec_sorts.specs.Subterms.{has_room}
 use Rattle.spec_reading.proofs.Offsets.{name_stands, sort_stands, sorts_stand, of_sort_stands, definitions_stand}
 use Rattle.spec_commands.specs.Commands.{Command, SetLogic, SetOption, SetInfo, DeclareSort, DefineSort, DeclareFun, DefineFun, Assert, CheckSat, Echo, Exit, Verb, shaped, verb_of, command_by, command_as, command_of}
 use Rattle.spec_commands.specs.Stack.{Stack, Key, key_named, signature_of, assertions_of, logics, truth_in, option_set, all_in_reach, roomy, performed, step}

@@ -4,7 +4,7 @@ use Rattle.spec_sorts.specs.Terms.{Truth, same_sort, sort_of}
 use Rattle.spec_sorts.specs.Signatures.{Signature, with_definitions}
 use Rattle.spec_reading.specs.Names.{script}
 use Rattle.spec_reading.specs.Reading.{Reading, reading}
-use Rattle.spec_reading.specs.Subterms.{subterms_of}
+use Rattle.spec_sorts.specs.Subterms.{subterms_of}
 use Rattle.spec_reading.specs.Agreement.{AreSound}
 use Rattle.spec_commands.specs.Stack.{Assertion, Stack, signature_of, assertions_of}
 

@@ -12,7 +12,7 @@ use Rattle.spec_reading.specs.Names.{script, new_name, is_function, is_sort}
 use Rattle.spec_reading.specs.Sorts.{sort_in, sorts_in}
 use Rattle.spec_reading.specs.Reading.{reading_of_sort}
 use Rattle.spec_reading.specs.Definitions.{definitions_in}
-use Rattle.spec_reading.specs.Subterms.{has_room}
+use Rattle.spec_sorts.specs.Subterms.{has_room}
 use Rattle.spec_commands.specs.Commands.{Command, SetLogic, SetOption, SetInfo, DeclareSort, DefineSort, DeclareFun, DefineFun, Assert, CheckSat, Echo, Exit, command_of}
 
 -- An asserted expression: its text, and the term that it is read as.

@@ -1,6 +1,6 @@
 -- The first fault of a text stands at an offset of it.
 use Rattle.std.proofs.Common.{◌≡◌, ℕ, Bool, true, false, List, [], ◌∷◌, ◌++◌, length, map, Option, Some, None, cond, subst}
-use Rattle.std.specs.Prelude.{Ok, Err, not, ◌&&◌, ◌||◌, codes, ◌==◌}
+use Rattle.std.specs.Prelude.{Ok, Err, not, ◌||◌, codes, ◌==◌}
 use Rattle.std.specs.Str.{bytes_eq}
 use Rattle.spec_text.specs.declared.Kind.{Kind}
 use Rattle.spec_text.specs.declared.Kind.TheVariants.{Numeral, Decimal, Text, Simple, Quoted, Reserved as word_kind, Keyword}
@@ -13,14 +13,14 @@ use Rattle.spec_text.specs.Answers.{require}
 use Rattle.spec_text.specs.Trees.{Tree, Trees, atom, list, none, more, offset_of}
 use Rattle.spec_text.specs.Offsets.{AllOffsets, AllOffsetsOf, HasOffset, own_offsets}
 use Rattle.spec_text.proofs.AnswerLaws.{Stands, stands_in_turn, require_stands, own_offset}
-use Rattle.spec_sorts.specs.Literals.{is_wide}
+use Rattle.spec_sorts.specs.Numerals.{is_wide}
 use Rattle.spec_sorts.specs.Terms.{Sort, Truth, Number, same_sort, same_sorts, Term, sort_of}
 use Rattle.spec_sorts.specs.Theory.{look_up, Rule, takes_count, sorts_fit, theory}
 use Rattle.spec_sorts.specs.Signatures.{Known, declared, defined, Signature, known_as, sort_as, with_definitions}
 use Rattle.spec_sorts.specs.Forms.{Form, malformed, reserved, applies, binds, annotates, word_form, form, is_let, is_annotated, Next, a_keyword, a_name, after_keyword, named_words}
-use Rattle.spec_reading.specs.Names.{Setting, is_barred, new_name, is_in_list, is_function, is_own, mentions}
+use Rattle.spec_reading.specs.Names.{Setting, is_barred, new_name, is_in_list, is_function, is_own}
 use Rattle.spec_reading.specs.Sorts.{sort_found, sort_named, sort_in, sorts_in}
-use Rattle.spec_reading.specs.Reading.{Bound, unless, by_rule, with_sorts, sorts_taken, by_known, applied, applied_as, literal, atom_term, Annotated, naming, made_by, bound_names, reading, readings, let_reading, bindings_reading, annotated_reading, reading_of_sort}
+use Rattle.spec_reading.specs.Reading.{Bound, unless, by_rule, with_sorts, sorts_taken, by_known, applied, applied_as, literal, atom_term, Annotated, naming, made_by, annotated_as, reading, readings, let_reading, bindings_reading, annotated_reading, reading_of_sort}
 use Rattle.spec_reading.specs.Definitions.{Parts, parameters_in, bound_parameters, definitions_in}
 use Rattle.spec_reading.proofs.Values.{by_form}
 
@@ -192,7 +192,7 @@ module _ (P : ℕ → Type 0) where
     annotated_stands w s b at none here h = here
     annotated_stands w s b at (more t attributes) here h =
         stands_in_turn P (reading w s b t) _ (text_stands w s b t h.0) λ r.
-        stands_in_turn P (made_by w (with_definitions s r.made) (record { at = at; text = t; term = r.term; may_name = w.may_name && not (mentions (bound_names b) t) }) (named_words a_keyword attributes)) _ (made_stands w (with_definitions s r.made) (record { at = at; text = t; term = r.term; may_name = w.may_name && not (mentions (bound_names b) t) }) (named_words a_keyword attributes) here (words_stand a_keyword attributes h.1)) λ ds. tt
+        stands_in_turn P (made_by w (with_definitions s r.made) (annotated_as w b at t r.term) (named_words a_keyword attributes)) _ (made_stands w (with_definitions s r.made) (annotated_as w b at t r.term) (named_words a_keyword attributes) here (words_stand a_keyword attributes h.1)) λ ds. tt
 
   -- a text of a sort
   pub of_sort_stands : (w : Setting) (s : Signature) (b : Bound) (sort : Sort) (t : Tree) → AllOffsets P t → Stands P (reading_of_sort w s b sort t)

@@ -20,7 +20,7 @@ use Rattle.spec_sorts.specs.Signatures.{Definition, Known, declared, defined, De
 use Rattle.spec_sorts.specs.Forms.{Form, malformed, reserved, applies, binds, annotates, form, a_keyword, named_words}
 use Rattle.spec_sorts.specs.Meaning.{Meaning, value_of, bind, with_meaning, meaning_after, meaning_of}
 use Rattle.spec_reading.specs.Names.{Setting, new_name, is_function, is_own, mentions}
-use Rattle.spec_reading.specs.Reading.{Bound, Reading, Readings, Bindings, plain, Annotated, naming, made_by, bound_names, reading, readings, let_reading, bindings_reading, annotated_reading}
+use Rattle.spec_reading.specs.Reading.{Bound, Reading, Readings, Bindings, plain, Annotated, naming, made_by, annotated_as, bound_names, reading, readings, let_reading, bindings_reading, annotated_reading}
 use Rattle.spec_reading.specs.Definitions.{Parts, bound_parameters, definitions_in}
 use Rattle.spec_reading.specs.Agreement.{AgreesAt, Agrees, values_bound, IsSoundAfter, AreSoundAfter, AreSound}
 use Rattle.spec_reading.proofs.Values.{with_both, agrees_before, by_form, sound}
@@ -239,7 +239,7 @@ mutual
       let p = went _ _ _ e in
       let q = went _ _ _ p.then in
       subst (λ (x : Reading). IsFine w (with_definitions s x.made)) (answer (Ok _) r q.then)
-      (fine_both w s p.first.made q.first (made_fine w (with_definitions s p.first.made) (record { at = at; text = t; term = p.first.term; may_name = w.may_name && not (mentions (bound_names b) t) }) (named_words a_keyword attributes) q.first q.was (has_value w s b t p.first p.was) (fine w s b t p.first p.was a)))
+      (fine_both w s p.first.made q.first (made_fine w (with_definitions s p.first.made) (annotated_as w b at t p.first.term) (named_words a_keyword attributes) q.first q.was (has_value w s b t p.first p.was) (fine w s b t p.first p.was a)))
     where
       and_right : (x y : Bool) → (x && y) ≡ true → y ≡ true
       and_right true y h = h

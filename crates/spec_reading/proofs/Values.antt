@@ -14,7 +14,7 @@ use Rattle.spec_text.specs.Shapes.{Word}
 use Rattle.spec_text.specs.Answers.{Answer, ◌>>=◌, refused}
 use Rattle.spec_text.specs.Trees.{Tree, Trees, atom, list, none, more}
 use Rattle.spec_text.proofs.AnswerLaws.{answer, went, require_true}
-use Rattle.spec_sorts.specs.Literals.{literal_value}
+use Rattle.spec_sorts.specs.Numerals.{literal_value}
 use Rattle.spec_sorts.specs.Terms.{Sort, Term}
 use Rattle.spec_sorts.specs.Values.{Value, truth, number, Interpretation, table_value}
 use Rattle.spec_sorts.specs.TermValues.{value_at}

@@ -3,7 +3,6 @@ pub mod Names
 pub mod Sorts
 pub mod Reading
 pub mod Definitions
-pub mod Subterms
 pub mod Agreement
 pub mod OnLiterals
 pub mod Examples

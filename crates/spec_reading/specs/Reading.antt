@@ -8,7 +8,7 @@ use Rattle.spec_text.specs.Bytes.{Name}
 use Rattle.spec_text.specs.Shapes.{Word}
 use Rattle.spec_text.specs.Answers.{Answer, ◌>>=◌, refused, require}
 use Rattle.spec_text.specs.Trees.{Tree, Trees, atom, list, none, more, offset_of}
-use Rattle.spec_sorts.specs.Literals.{literal_value, is_wide}
+use Rattle.spec_sorts.specs.Numerals.{literal_value, is_wide}
 use Rattle.spec_sorts.specs.Terms.{Sort, same_sort, same_sorts, Literal, Apply, Term, of, sort_of, filled}
 use Rattle.spec_sorts.specs.Theory.{look_up, Rule, takes_count, sorts_fit, theory}
 use Rattle.spec_sorts.specs.Signatures.{Definition, Known, declared, defined, Signature, known_as, with_definitions}
@@ -124,6 +124,10 @@ made_by w s t (x ∷ xs) =
 abbrev pub bound_names : Bound → List Name
 bound_names b = map (λ (p : Name × Term). p.0) b
 
+-- a term with attributes, by the offset of the whole, the text and the term: it may get a name where no bound name is free in it
+abbrev pub annotated_as : Setting → Bound → ℕ → Tree → Term → Annotated
+annotated_as w b at t u = record { at = at; text = t; term = u; may_name = w.may_name && not (mentions (bound_names b) t) }
+
 unfoldable mutual
   -- what a text is read as, with a signature and bound names
   pub reading : Setting → Signature → Bound → Tree → Answer Reading
@@ -170,7 +174,7 @@ unfoldable mutual
   annotated_reading w s b at none = refused at BadShape
   annotated_reading w s b at (more t attributes) =
       reading w s b t >>= λ r.
-      made_by w (with_definitions s r.made) (record { at = at; text = t; term = r.term; may_name = w.may_name && not (mentions (bound_names b) t) }) (named_words a_keyword attributes) >>= λ ds.
+      made_by w (with_definitions s r.made) (annotated_as w b at t r.term) (named_words a_keyword attributes) >>= λ ds.
       Ok (record { made = r.made ++ ds; term = r.term })
 
 -- a text whose term has a sort, or the fault at its first byte

@@ -1,14 +1,15 @@
 -- Texts with their values under an interpretation.
 use Rattle.std.specs.Prelude.{◌≡◌, refl, ℕ, pos, negsuc, true, List, [], ◌∷◌, codes, if◌then◌else◌, ⊤}
+use Rattle.std.proofs.Common.{arith}
 use Rattle.std.specs.Str.{bytes_eq}
 use Rattle.spec_text.specs.Lexemes.{lexemes, first_piece}
 use Rattle.spec_text.specs.Bytes.{Name}
 use Rattle.spec_text.specs.Trees.{Tree, Trees, list, none, more}
 use Rattle.spec_sorts.specs.Written.{built, trees_in}
-use Rattle.spec_numbers.specs.Fractions.{gcd, plus, opposite, times, inverse, compare}
-use Rattle.spec_sorts.specs.Literals.{literal_value}
+use Rattle.spec_numbers.specs.Fractions.{IsReduced, gcd, plus, opposite, times, inverse, compare}
+use Rattle.spec_sorts.specs.Numerals.{literal_value}
 use Rattle.spec_sorts.specs.Terms.{Number, Literal, of}
-use Rattle.spec_sorts.specs.Values.{Value, truth, number, element, Table, Interpretation}
+use Rattle.spec_sorts.specs.Values.{HasSort, Value, truth, number, element, Table, Interpretation}
 use Rattle.spec_sorts.specs.Signatures.{Signature, definition}
 use Rattle.spec_sorts.specs.Meaning.{value_of, values_of, meaning_of}
 
@@ -46,6 +47,19 @@ definitions =
 -- the values of the trees of a text
 abbrev pub values : List ℕ → List Value
 values text = values_of (meaning_of world definitions) [] (trees_in text)
+
+-- 2/4 is no value of sort Real, since it is not in lowest terms
+pub not_reduced : HasSort Number (number (record { num = pos 2; den = 4 })) → ⊥
+unfolding gcd
+not_reduced h = omega (arith, coprime h)
+  where
+    coprime : IsReduced (record { num = pos 2; den = 4 }) → gcd 2 4 ≡ 1
+    coprime r = r.coprime
+
+-- the values of a number and of a truth value, as they are
+pub plain_values : values (codes "0.50 true") ≡ half ∷ truth true ∷ []
+unfolding lexemes first_piece built gcd literal_value value_of
+plain_values = refl
 
 -- what a proof unfolds to compute the values of texts that are written out
 unfoldable pub values_on_literals : ⊤

@@ -1,10 +1,11 @@
 -- What sorts, terms and signatures of the whole language are, and what they mean.
 pub mod Lists
-pub mod Literals
+pub mod Numerals
 pub mod Terms
 pub mod Values
 pub mod Theory
 pub mod Signatures
+pub mod Subterms
 pub mod Forms
 pub mod TermValues
 pub mod BoundedValues

@@ -7,7 +7,7 @@ use Rattle.spec_text.specs.Bytes.{Name}
 use Rattle.spec_text.specs.Trees.{Tree, Trees, atom, list, none, more}
 use Rattle.spec_sorts.specs.Lists.{left, right, neighbours, all_pairs, all_pass}
 use Rattle.spec_numbers.specs.Fractions.{Fraction, opposite, minus, divide}
-use Rattle.spec_sorts.specs.Literals.{literal_value}
+use Rattle.spec_sorts.specs.Numerals.{literal_value}
 use Rattle.spec_sorts.specs.Terms.{Sort}
 use Rattle.spec_sorts.specs.Values.{Value, truth, number, same_value, is_true, number_in, all_true, any_true, different, chosen, Interpretation, table_value}
 use Rattle.spec_sorts.specs.TermValues.{less, at_most, by_numbers, sum, product}
