@@ -6,8 +6,6 @@ mod commands;
 pub mod laws;
 mod names;
 mod script;
-#[cfg(test)]
-mod script_tests;
 
 pub use assertions::Assertions;
 pub use commands::is_name;

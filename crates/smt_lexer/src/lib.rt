@@ -15,8 +15,6 @@ use thiserror::Error;
 mod bytes;
 mod pieces;
 mod places;
-#[cfg(test)]
-mod tests;
 mod words;
 
 use pieces::{What, piece_at};

@@ -9,8 +9,6 @@ mod limited;
 mod reader;
 mod sexpr;
 mod shapes;
-#[cfg(test)]
-mod tests;
 mod write;
 
 pub use items::{Item, Trees, View, look, split};

@@ -5,8 +5,6 @@
 #![tactic(auto)]
 
 mod buffered_sink;
-#[cfg(test)]
-mod buffered_sink_tests;
 mod bytes;
 mod fault;
 mod host;
@@ -14,8 +12,6 @@ mod memory;
 mod read;
 mod shelf;
 mod sink;
-#[cfg(test)]
-mod tests;
 
 pub use buffered_sink::BufferedSink;
 pub use bytes::{Bytes, NoMemory};
