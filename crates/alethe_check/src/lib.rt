@@ -6,8 +6,6 @@ ghost use Rattle.spec_scripts.specs.Stack.{HasNoModel, term_limit};
 ghost use Rattle.spec_proofs.specs.Accepted.{IsAccepted};
 ghost use Rattle.alethe_check.specs.Verdicts.{Answers, Refuses};
 
-#[cfg(test)]
-mod check_tests;
 mod define;
 mod errors;
 mod judge;
@@ -15,10 +13,6 @@ mod load;
 mod premises;
 mod proof;
 mod proof_state;
-#[cfg(test)]
-mod proof_tests;
-#[cfg(test)]
-mod rule_tests;
 mod rules;
 mod shapes;
 

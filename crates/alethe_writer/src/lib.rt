@@ -8,8 +8,6 @@ mod marks;
 mod plans;
 pub mod printable;
 mod proof;
-#[cfg(test)]
-mod tests;
 
 pub use plans::{Plan, prepare};
 pub use proof::send;

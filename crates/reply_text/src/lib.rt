@@ -2,8 +2,6 @@
 #![tactic(auto)]
 
 mod lines;
-#[cfg(test)]
-mod tests;
 mod values;
 
 pub use lines::{error, reason, reason_info, reason_line, success, word};

@@ -1,12 +1,79 @@
-//! What `check` answers on proofs, right and damaged.
+//! Scripts and proofs, with what `check` answers.
 
-use crate::check_tests::{SCRIPT, answer};
-use std::alloc::Global;
-use std::process::Abort;
-use std::test::Fail;
+/// Scripts, each after a line with what is answered to a refutation of `p` and `(not p)` at the check of that number. Rows
+/// are set apart by `--`.
+pub(crate) const CHECKS: &str = "valid|1
+(declare-const p Bool)(assert p)(assert (not p))(check-sat)
+-- NoSuchCheck 1:1|2
+(declare-const p Bool)(assert p)(assert (not p))(check-sat)
+-- NoSuchCheck 1:1|0
+(declare-const p Bool)(assert p)(assert (not p))(check-sat)
+-- NotAsserted 2:12|1
+(declare-const p Bool)(assert p)(check-sat)(assert (not p))(check-sat)
+-- valid|2
+(declare-const p Bool)(assert p)(check-sat)(assert (not p))(check-sat)
+-- NoSuchCheck 1:1|1
+(declare-const p Bool)(assert p)(assert (not p))(exit)(check-sat)
+-- valid|1
+(declare-const p Bool)(assert p)(assert (not p))(check-sat)(exit) )
+-- valid|1
+(declare-const p Bool)(assert p)(assert (not p))(check-sat) )
+-- NoSuchCheck 1:1|1
+(declare-const p Bool)(assert p)(assert (not p)) ) (check-sat)
+-- valid|1
+(declare-const p Bool)(assert p)(assert (not p))(assert q)(foo)(check-sat)
+-- NoSuchCheck 1:1|2
+(declare-const p Bool)(assert p)(assert (not p))(check-sat p)(check-sat)
+-- valid|1
+(declare-const p Real)(declare-const p Bool)(assert p)(assert (not p))(check-sat)
+-- valid|1
+(declare-const |p| |Bool|)(assert |p|)(assert (|not| p))(check-sat)
+-- NoSuchCheck 1:1|1
+";
 
-/// Proofs, each after a line with what is answered to it. Rows are set apart by `--`.
-const PROOFS: &str = r#"valid
+/// Proofs by several rules, each after a line with what is answered and one with the script.
+pub(crate) const RULES: &str = "valid
+(declare-const p Bool)(declare-const q Bool)(assert (or p q))(assert (not p))(assert (not q))(check-sat)
+(assume h1 (or p q))
+(assume h2 (not p))
+(assume h3 (not q))
+(step t1 (cl p q) :rule or :premises (h1))
+(step t2 (cl) :rule th_resolution :premises (t1 h2 h3))
+-- RuleFails 5:1
+(declare-const p Bool)(declare-const q Bool)(assert (or p q))(assert (not p))(assert (not q))(check-sat)
+(assume h1 (or p q))
+(assume h2 (not p))
+(assume h3 (not q))
+(step t1 (cl p q) :rule or :premises (h1))
+(step t2 (cl) :rule th_resolution :premises (t1 h2))
+-- valid
+(declare-const p Bool)(declare-const q Bool)(assert (or p q))(assert (not p))(assert (not q))(check-sat)
+(assume h1 (or p q))
+(assume h2 (not p))
+(assume h3 (not q))
+(step t1 (cl p q) :rule or :premises (h1))
+(step t3 (cl q p) :rule reordering :premises (t1))
+(step t2 (cl) :rule th_resolution :premises (t3 h2 h3))
+-- valid
+(declare-const p Bool)(assert (or p p))(assert (not p))(check-sat)
+(assume a (or p p))(assume b (not p))(step c (cl p p) :rule or :premises (a))(step d (cl p) :rule contraction :premises (c))(step e (cl) :rule resolution :premises (d b))
+-- valid
+(declare-const p Bool)(assert (not (not (not p))))(assert p)(check-sat)
+(assume a (not (not (not p))))(assume b p)(step c (cl) :rule resolution :premises (a b))
+-- NoEmptyClause 1:25
+(declare-const p Bool)(declare-const q Bool)(assert (distinct p q))(check-sat)
+(assume a (not (= p q)))
+-- NotAsserted 2:11
+(declare-const p Bool)(declare-const q Bool)(assert (= p q p))(check-sat)
+(assume a (and (= p q) (= q p)))
+(assume b (= p q))
+-- RuleFails 2:1
+(declare-const p Bool)(declare-const q Bool)(assert (or p q))(check-sat)
+(assume a (or p q))
+(step b (cl p) :rule or :premises (a))";
+
+/// Proofs, right and damaged, each after a line with what is answered to it.
+pub(crate) const PROOFS: &str = r#"valid
 (assume h1 p)
 (assume h2 (not p))
 (step t1 (cl) :rule resolution :premises (h1 h2))
@@ -251,11 +318,10 @@ unsat
 -- NotAsserted 1:12
 (assume h1 (and p p)) )
 -- RuleFails 1:2
-((step t1 (cl) :rule resolution) (
--- "#;
+((step t1 (cl) :rule resolution) ("#;
 
 /// The same of proofs with definitions.
-const DEFINITIONS: &str = r#"valid
+pub(crate) const DEFINITIONS: &str = r#"valid
 (define-fun @p1 () Bool (not p))
 (define-fun @p2 () Bool (not @p1))
 (assume h1 p)
@@ -322,33 +388,4 @@ const DEFINITIONS: &str = r#"valid
 (assume h1 (f p))
 -- UnknownRule 2:31
 (define-fun f () Bool p)
-(step t1 (cl (not f) p) :rule f)
--- "#;
-
-/// Judges each proof of a table.
-fn judge_proofs(rt: &impl Abort, alloc: Global, rows: &str) -> Result<(), Fail> {
-    let mut rest = rows;
-    for _ in 0..rows.len() {
-        let Some((row, others)) = rest.split_once("\n-- ") else {
-            break;
-        };
-        let Some((wanted, proof)) = row.split_once("\n") else {
-            break;
-        };
-        let got = answer(alloc, SCRIPT, 1, proof.as_bytes())?;
-        assert!(rt; got.as_str() == wanted, "{} {}", proof, got);
-        rest = others;
-    }
-    assert!(rt; rest.is_empty(), "not read: {}", rest);
-    Ok(())
-}
-
-#[test]
-fn definitions_are_read_as_their_terms(rt: HostRuntime) -> Result<(), Fail> {
-    judge_proofs(&rt, rt.alloc(), DEFINITIONS)
-}
-
-#[test]
-fn proofs_have_their_first_faults(rt: HostRuntime) -> Result<(), Fail> {
-    judge_proofs(&rt, rt.alloc(), PROOFS)
-}
+(step t1 (cl (not f) p) :rule f)"#;

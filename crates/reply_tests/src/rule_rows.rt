@@ -1,20 +1,14 @@
-//! What `check` answers on a step by each rule.
-
-use crate::check_tests::answer;
-use std::alloc::{AllocError, Global};
-use std::process::Abort;
-use std::test::Fail;
+//! A step by each rule, right and wrong.
 
 /// The script of the rows: `p`, `(not p)` and each premise of a row is asserted.
-const SCRIPT: &str =
+pub(crate) const SCRIPT: &str =
     "(declare-const p Bool)(declare-const q Bool)(declare-const r Bool)(assert p)(assert (not p))\
     (assert (or p q))(assert (and p q))(assert (not (and p q)))(assert (not (or p q)))\
     (assert (=> p q))(assert (not (=> p q)))(assert (= p q))(assert (not (= p q)))\
     (assert (xor p q))(assert (not (xor p q)))(assert (ite r p q))(assert (not (ite r p q)))(check-sat)";
 
 /// Steps, each in a line: the rule, what is assumed as `h`, the names of the premises, the clause, and what is answered.
-const STEPS: &str = "\
-or|(or p q)|(h)|(cl p q)|valid
+pub(crate) const STEPS: &str = "or|(or p q)|(h)|(cl p q)|valid
 or|(or p q)|(h)|(cl p)|RuleFails 2:1
 contraction|(or p q)|(h)|(cl (or p q))|valid
 contraction|(or p q)|(h)|(cl p q)|RuleFails 2:1
@@ -111,66 +105,4 @@ and|(and p q)||(cl q)|RuleFails 2:1
 true|(and p q)|(h)|(cl true)|RuleFails 2:1
 equiv_pos1|(= p q)|(h)|(cl p (not q))|RuleFails 2:1
 or|(or p q)|(h h)|(cl p q)|RuleFails 2:1
-not_equiv2|(not (= p q))|(h h)|(cl (not p) (not q))|RuleFails 2:1
-";
-
-/// Writes a proof with that step on its second line, and after it a refutation of `p` and `(not p)`.
-fn proof_of(
-    alloc: Global,
-    rule: &str,
-    premise: &str,
-    names: &str,
-    clause: &str,
-) -> Result<Vec<u8>, AllocError> {
-    let mut text = Vec::new(alloc);
-    if !premise.is_empty() {
-        text.extend_from_slice(b"(assume h ")?;
-        text.extend_from_slice(premise.as_bytes())?;
-        text.extend_from_slice(b")")?;
-    }
-    text.extend_from_slice(b"\n(step t ")?;
-    text.extend_from_slice(clause.as_bytes())?;
-    text.extend_from_slice(b" :rule ")?;
-    text.extend_from_slice(rule.as_bytes())?;
-    if !names.is_empty() {
-        text.extend_from_slice(b" :premises ")?;
-        text.extend_from_slice(names.as_bytes())?;
-    }
-    text.extend_from_slice(
-        b")\n(assume a p)(assume b (not p))(step c (cl) :rule resolution :premises (a b))",
-    )?;
-    Ok(text)
-}
-
-/// Splits the columns of a row.
-fn columns(row: &str) -> Option<(&str, &str, &str, &str, &str)> {
-    let (rule, rest) = row.split_once("|")?;
-    let (premise, rest) = rest.split_once("|")?;
-    let (names, rest) = rest.split_once("|")?;
-    let (clause, wanted) = rest.split_once("|")?;
-    Some((rule, premise, names, clause, wanted))
-}
-
-/// Judges each step of a table.
-fn judge_steps(rt: &impl Abort, alloc: Global, rows: &str) -> Result<(), Fail> {
-    let mut rest = rows;
-    for _ in 0..rows.len() {
-        let Some((row, others)) = rest.split_once("\n") else {
-            break;
-        };
-        let Some((rule, premise, names, clause, wanted)) = columns(row) else {
-            break;
-        };
-        let proof = proof_of(alloc, rule, premise, names, clause)?;
-        let got = answer(alloc, SCRIPT, 1, &proof)?;
-        assert!(rt; got.as_str() == wanted, "{} {}", row, got);
-        rest = others;
-    }
-    assert!(rt; rest.is_empty(), "not read: {}", rest);
-    Ok(())
-}
-
-#[test]
-fn steps_are_judged_by_their_rules(rt: HostRuntime) -> Result<(), Fail> {
-    judge_steps(&rt, rt.alloc(), STEPS)
-}
+not_equiv2|(not (= p q))|(h h)|(cl (not p) (not q))|RuleFails 2:1";

@@ -3,7 +3,7 @@
 ghost use Rattle.std.specs.Prelude.{◌≡◌, IfOk};
 ghost use Rattle.proof_log.specs.Logs.{IsLogOf};
 
-use crate::{prepare, send};
+use alethe_writer::{prepare, send};
 use proof_log::laws::empty_logs_are_right;
 use proof_log::{Clause, ProofLog, Rule, Step, StepId, StepIds, TermId};
 use std::alloc::{AllocError, Global};
@@ -151,34 +151,16 @@ fn log_of(alloc: Global, table: &TermTable) -> Result<ProofLog, NoMemory>
     Ok(log)
 }
 
-/// Tells whether the proof of a clause, written into a sink that takes so many bytes at once, is this text.
-fn is_printed(
-    alloc: Global,
-    log: &ProofLog,
-    table: &TermTable,
-    step: StepId,
-    most: u64,
-    wanted: &str,
-) -> Result<bool, NoMemory>
-    requires { IsLogOf table.now log.now }
-{
-    if step.0 >= log.len() {
-        return Ok(false);
-    }
-    let plan = prepare(alloc, log, table, step)?;
-    let mut out = MemSink::new(alloc, wanted.len() as u64, most, Vec::new(alloc))?;
-    let sent = send(&plan, log, table, &mut out);
-    Ok(sent.is_ok() && out.written() == wanted.as_bytes())
-}
-
-/// Tells whether a sink with room for so many bytes fails, and holds so many bytes of the text.
-fn is_cut(
+/// Tells whether the proof of a clause is this text as far as there is room, and a fault is answered where there is too little: by
+/// so many bytes in a write.
+fn prints_so(
     alloc: Global,
     log: &ProofLog,
     table: &TermTable,
     step: StepId,
     room: u64,
-    wanted: &str,
+    most: u64,
+    wanted: &[u8],
 ) -> Result<bool, NoMemory>
     requires { IsLogOf table.now log.now }
 {
@@ -186,30 +168,54 @@ fn is_cut(
         return Ok(false);
     }
     let plan = prepare(alloc, log, table, step)?;
-    let mut out = MemSink::new(alloc, room, 64, Vec::new(alloc))?;
+    let mut out = MemSink::new(alloc, room, most, Vec::new(alloc))?;
     let sent = send(&plan, log, table, &mut out);
-    Ok(sent.is_err() && wanted.as_bytes().starts_with(out.written()))
+    let is_whole = room as usize >= wanted.len();
+    Ok(sent.is_ok() == is_whole && out.written() == wanted.get(..room as usize).unwrap_or(wanted))
 }
 
-#[test]
-fn a_refutation_is_printed(rt: HostRuntime) -> Result<(), Fail> {
-    let alloc = rt.alloc();
-    let table = table_of(alloc)?;
-    let log = log_of(alloc, &table)?;
-    assert!(rt; log.len() == 8);
-    assert!(rt; is_printed(alloc, &log, &table, StepId(7), 64, PROOF)?);
-    assert!(rt; is_printed(alloc, &log, &table, StepId(7), 1, PROOF)?);
-    assert!(rt; is_printed(alloc, &log, &table, StepId(6), 64, TRUE)?);
-    Ok(())
+/// Tells whether the proofs of two steps are their texts, by so many bytes in a write.
+fn are_printed(
+    alloc: Global,
+    log: &ProofLog,
+    table: &TermTable,
+    most: u64,
+) -> Result<bool, NoMemory>
+    requires { IsLogOf table.now log.now }
+{
+    let proof = PROOF.as_bytes();
+    Ok(
+        prints_so(alloc, log, table, StepId(7), 4096, most, proof)?
+            && prints_so(alloc, log, table, StepId(6), 4096, most, TRUE.as_bytes())?,
+    )
 }
 
-#[test]
-fn a_sink_without_room_holds_a_front(rt: HostRuntime) -> Result<(), Fail> {
-    let alloc = rt.alloc();
-    let table = table_of(alloc)?;
-    let log = log_of(alloc, &table)?;
+/// Tells whether the proof of the last step is cut at each of its bytes, where there is no more room.
+fn is_cut(alloc: Global, log: &ProofLog, table: &TermTable) -> Result<bool, NoMemory>
+    requires { IsLogOf table.now log.now }
+{
     'rooms: for room in 0..PROOF.len() as u64 {
-        assert!(rt; is_cut(alloc, &log, &table, StepId(7), room, PROOF)?);
+        if !prints_so(alloc, log, table, StepId(7), room, 64, PROOF.as_bytes())? {
+            return Ok(false);
+        }
     }
+    Ok(true)
+}
+
+/// Tells whether the proofs of a log are printed, by one byte in a write and by many, as far as there is room.
+fn is_so(alloc: Global) -> Result<bool, NoMemory> {
+    let table = table_of(alloc)?;
+    let log = log_of(alloc, &table)?;
+    Ok(
+        log.len() == 8
+            && are_printed(alloc, &log, &table, 1)?
+            && are_printed(alloc, &log, &table, 64)?
+            && is_cut(alloc, &log, &table)?,
+    )
+}
+
+#[test]
+fn a_refutation_is_printed_as_far_as_there_is_room(rt: HostRuntime) -> Result<(), Fail> {
+    assert!(rt; is_so(rt.alloc())?);
     Ok(())
 }
