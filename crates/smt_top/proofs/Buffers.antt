@@ -1,5 +1,5 @@
 -- From the end of a run to what was passed on after it.
-use Rattle.std.proofs.Common.{◌≡◌, ◌⊎◌, inl, inr, sym, ap, ◌∙◌, ℕ, ◌-◌, ◌≤◌, Bool, true, false, List, length, Option, Some, None, arith}
+use Rattle.std.proofs.Common.{◌≡◌, ◌≢◌, ◌⊎◌, inl, inr, sym, ap, ◌∙◌, ℕ, ◌-◌, ◌≤◌, Bool, true, false, List, length, Option, Some, None, arith}
 use Rattle.std.specs.Prelude.{Ok}
 use Rattle.std.proofs.lemmas.Bool.{false≢true}
 use Rattle.world_io.specs.Writing.{SinkView, HasRoom, Sent, NotSent, Flushed, NotFlushed}
@@ -75,3 +75,7 @@ pub still_found : (A : Type 0) (status result : Status) (old mid new : SinkView)
 still_found A status result old mid new e (inl a) = inl a
 still_found A status result old mid new e (inr (inl is, same)) = absurd (false≢true (sym (ap is_answered is) ∙ e))
 still_found A status result old mid new e (inr (inr is, same)) = absurd (false≢true (sym (ap is_answered is) ∙ e))
+
+-- a status at which all was written is no other
+pub is_no_other : (status other : Status) → is_answered status ≡ true → is_answered other ≡ false → status ≢ other
+is_no_other status other answered unanswered same = false≢true (sym unanswered ∙ sym (ap is_answered same) ∙ answered)

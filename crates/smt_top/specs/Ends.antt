@@ -136,7 +136,7 @@ AreHeld (Some (runs mode name budgets)) holds = IsSome (holds name)
 abbrev pub IsUnread : Status → SinkView → SinkView → Type 0
 IsUnread status old new = ((status ≡ ReadFault) ⊎ (status ≡ Memory)) × (new ≡ old)
 
--- the text that was read last: what is left on the shelf is what is left of it, where that is known
+-- the text that was read last: what is left on the shelf is what is left of it, where that is known; none may be asked for
 abbrev pub LastIsRead : Option Asked → Holdings → Option (List ℕ) → Type 0
 LastIsRead None holds left = ⊤
 LastIsRead (Some (checks n)) holds left = ProofIsLast (Some n) holds left

@@ -1,6 +1,6 @@
 //! A run through a buffer before a sink.
 
-ghost use Rattle.std.specs.Prelude.{◌≡◌, ◌≢◌, ◌≤◌, ◌⊎◌, ℕ, List, [], IsSome};
+ghost use Rattle.std.specs.Prelude.{◌≡◌, ◌≢◌, ◌≤◌, ◌⊎◌, ℕ, List, [], None, IsSome};
 ghost use Rattle.world_io.specs.Outside.{Rose};
 ghost use Rattle.smt_top.specs.Arguments.{asked};
 ghost use Rattle.smt_top.specs.Ends.{Ends, AreHeld, LastIsRead, IsUnread, is_answered, through};
@@ -25,12 +25,14 @@ pub fn run_buffered<F: Shelf, K: Sink + Drop>(
         → (through K.state out.new).pending ≡ [] }
     ensures read_fault { result ≡ Status.ReadFault → Rose (F.faults shelf.old) (F.faults shelf.new) }
     ensures read { F.is_sound shelf.old → AreHeld (asked arguments.now) (F.holds shelf.old) → result ≢ Status.ReadFault }
-    ensures order { (result ≡ Status.Done) ⊎ (result ≡ Status.Refused)
+    ensures order { result ≢ Status.Memory → result ≢ Status.ReadFault
         → LastIsRead (asked arguments.now) (F.holds shelf.old) (F.left shelf.new) }
+    ensures unasked { asked arguments.now ≡ None → shelf.new ≡ shelf.old }
     ensures found { ((s : F) → IsSome (F.left s)) → AreHeld (asked arguments.now) (F.holds shelf.old)
         ⊎ IsUnread result (through K.state out.old) (through K.state out.new) }
     ensures same { (n : List ℕ) → F.holds shelf.new n ≡ F.holds shelf.old n }
     ensures reads { F.faults shelf.old ≤ F.faults shelf.new }
+    ensures sound { F.is_sound shelf.old → F.is_sound shelf.new }
 {
     let status = run(alloc, arguments, shelf, out);
     if !is_answered(status) {

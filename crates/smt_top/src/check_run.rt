@@ -30,12 +30,13 @@ fn run_check<F: Shelf, K: Sink>(
     ensures read_fault { result ≡ Status.ReadFault → Rose (F.faults shelf.old) (F.faults shelf.new) }
     ensures read { F.is_sound shelf.old → BothHold (Some (names_of request.entry)) (F.holds shelf.old)
         → result ≢ Status.ReadFault }
-    ensures order { (result ≡ Status.Done) ⊎ (result ≡ Status.Refused)
+    ensures order { result ≢ Status.Memory → result ≢ Status.ReadFault
         → ProofIsLast (Some (names_of request.entry)) (F.holds shelf.old) (F.left shelf.new) }
     ensures found { ((s : F) → IsSome (F.left s)) → BothHold (Some (names_of request.entry)) (F.holds shelf.old)
         ⊎ IsUnread result (K.state out.old) (K.state out.new) }
     ensures same { (n : List ℕ) → F.holds shelf.new n ≡ F.holds shelf.old n }
     ensures reads { F.faults shelf.old ≤ F.faults shelf.new }
+    ensures sound { F.is_sound shelf.old → F.is_sound shelf.new }
 {
     match read_both(alloc, shelf, request.names) {
         Ok(texts) => report(judge(alloc, &texts, request.at), out),
@@ -54,12 +55,13 @@ fn run_script<F: Shelf, K: Sink>(
     ensures ends { ScriptEnds result (run_of request.entry) (F.holds shelf.old) (K.state out.old) (K.state out.new) }
     ensures read_fault { result ≡ Status.ReadFault → Rose (F.faults shelf.old) (F.faults shelf.new) }
     ensures read { F.is_sound shelf.old → IsSome (F.holds shelf.old request.entry.name.now) → result ≢ Status.ReadFault }
-    ensures order { (result ≡ Status.Done) ⊎ (result ≡ Status.Refused)
+    ensures order { result ≢ Status.Memory → result ≢ Status.ReadFault
         → TakesText (F.holds shelf.old request.entry.name.now) (F.left shelf.new) }
     ensures found { ((s : F) → IsSome (F.left s)) → IsSome (F.holds shelf.old request.entry.name.now)
         ⊎ IsUnread result (K.state out.old) (K.state out.new) }
     ensures same { (n : List ℕ) → F.holds shelf.new n ≡ F.holds shelf.old n }
     ensures reads { F.faults shelf.old ≤ F.faults shelf.new }
+    ensures sound { F.is_sound shelf.old → F.is_sound shelf.new }
 {
     spec_runs::laws::transcripts_need_a_front_alone();
     spec_runs::laws::answers_say_what_is_so();
@@ -92,8 +94,8 @@ fn run_usage<K: Sink>(out: &mut K) -> Status
 ///
 /// - `solve [--conflicts N] [--pivots N] [NAME]` runs the script of that name and writes the standard's responses; an absent
 ///   name is the empty one. `certify` does the same, and writes after the answer of each check what shows it: a model, a
-///   proof or a reason. N is the most conflicts of a check (1,000,000 where it is not given) or pivots (without effect so
-///   far). Of the text the first 2^26 bytes are run.
+///   proof or a reason. N is the most conflicts of a check (1,000,000 where it is not given) or pivots (without effect yet).
+///   Of the text the first 2^26 bytes are run.
 /// - `check [--at K] SCRIPT PROOF` judges the proof against the script's K-th check, from 1, or the first where K is not
 ///   given: it writes `valid`, or the proof's first fault with its line and column.
 /// - All other arguments give the usage text, and `Words`.
@@ -104,7 +106,8 @@ fn run_usage<K: Sink>(out: &mut K) -> Status
 /// room for all of it.
 ///
 /// What is written is passed on: where nothing waited in a buffer before, nothing waits after `Done`, `Refused` and `Words`.
-/// Of a text at most 2^26 bytes and one read more are taken.
+/// Of the text that was read last at most 2^26 bytes and one read more are taken. After `Memory` and `ReadFault` no clause
+/// says how many. Where the arguments ask for no text, the shelf is as it was.
 pub fn run<F: Shelf, K: Sink>(
     alloc: Global,
     arguments: &[String],
@@ -114,12 +117,14 @@ pub fn run<F: Shelf, K: Sink>(
     ensures ends { Ends result (asked arguments.now) (F.holds shelf.old) (K.state out.old) (K.state out.new) }
     ensures read_fault { result ≡ Status.ReadFault → Rose (F.faults shelf.old) (F.faults shelf.new) }
     ensures read { F.is_sound shelf.old → AreHeld (asked arguments.now) (F.holds shelf.old) → result ≢ Status.ReadFault }
-    ensures order { (result ≡ Status.Done) ⊎ (result ≡ Status.Refused)
+    ensures order { result ≢ Status.Memory → result ≢ Status.ReadFault
         → LastIsRead (asked arguments.now) (F.holds shelf.old) (F.left shelf.new) }
+    ensures unasked { asked arguments.now ≡ None → shelf.new ≡ shelf.old }
     ensures found { ((s : F) → IsSome (F.left s)) → AreHeld (asked arguments.now) (F.holds shelf.old)
         ⊎ IsUnread result (K.state out.old) (K.state out.new) }
     ensures same { (n : List ℕ) → F.holds shelf.new n ≡ F.holds shelf.old n }
     ensures reads { F.faults shelf.old ≤ F.faults shelf.new }
+    ensures sound { F.is_sound shelf.old → F.is_sound shelf.new }
 {
     match request_from(alloc, arguments) {
         Ok(Request::Check(request)) => run_check(alloc, request, shelf, out),

@@ -62,8 +62,9 @@ pub(crate) fn read_both<F: Shelf>(
     ensures same { (n : List ℕ) → F.holds shelf.new n ≡ F.holds shelf.old n }
     ensures count { F.faults shelf.old ≤ F.faults shelf.new }
     ensures failed { IsErrOf result ReadStop.Failed → Rose (F.faults shelf.old) (F.faults shelf.new) }
-    ensures sound { F.is_sound shelf.old → IsSome (F.holds shelf.old names.entry.script.now)
-        → IsSome (F.holds shelf.old names.entry.proof.now) → result ≢ Err ReadStop.Failed }
+    ensures sound { F.is_sound shelf.old → F.is_sound shelf.new
+        × (IsSome (F.holds shelf.old names.entry.script.now) → IsSome (F.holds shelf.old names.entry.proof.now)
+        → result ≢ Err ReadStop.Failed) }
 {
     let script = read_text(alloc, shelf, names.script)?;
     let proof = read_text(alloc, shelf, names.proof)?;

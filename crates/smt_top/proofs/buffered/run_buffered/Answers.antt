@@ -1,7 +1,8 @@
 -- What was written waits no longer, or a prefix of it was passed on.
-use Rattle.std.proofs.Common.{◌∙◌, sym}
+use Rattle.std.proofs.Common.{◌∙◌, refl, sym}
+use Rattle.smt_session.specs.declared.status.Status.TheVariants.{Memory, ReadFault}
 use Rattle.smt_top.specs.Arguments.{asked}
-use Rattle.smt_top.proofs.Buffers.{ends_kept, ends_cut, still_found}
+use Rattle.smt_top.proofs.Buffers.{ends_kept, ends_cut, still_found, is_no_other}
 use Rattle.smt_top.proofs.buffered.run_buffered.Goals as goal
 
 pub returns-in-Ok-clause-ends : goal.returns-in-Ok-clause-ends
@@ -20,3 +21,8 @@ returns-in-Ok-clause-found g c = λ known. still_found _ c.run-status.result _ _
 
 pub returns-in-Err-clause-found : goal.returns-in-Err-clause-found
 returns-in-Err-clause-found g c = λ known. still_found _ c.run-status.result _ _ _ _ (sym c.is_answered.ensures ∙ c.if-not-is_answered.false) (c.run-status.ensures.found known)
+
+pub returns-in-Err-clause-order : goal.returns-in-Err-clause-order
+returns-in-Err-clause-order g c = λ _ _.
+    let e = sym c.is_answered.ensures ∙ c.if-not-is_answered.false in
+    c.run-status.ensures.order (is_no_other _ Memory e refl) (is_no_other _ ReadFault e refl)
