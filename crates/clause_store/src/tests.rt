@@ -1,6 +1,6 @@
 //! Tests of propagation, over one text of rows.
 
-ghost use Rattle.std.specs.Prelude.{◌≤◌, length};
+ghost use Rattle.std.specs.Prelude.{◌≡◌, ◌≤◌, length};
 ghost use Rattle.proof_log.specs.Logs.{IsLogOf};
 ghost use Rattle.clause_store.specs.Stores.{AreKnown, HasSeen};
 
@@ -278,32 +278,82 @@ fn ends(store: &ClauseStore, found: Propagation, wanted: &[u8]) -> bool {
     }
 }
 
-/// Tells whether a row is so.
-fn is_so(alloc: Global, row: &str) -> Result<bool, NoMemory> {
-    let mut parts = row.split('|');
-    let clauses = parts.next().unwrap_or("");
-    let signs = parts.next().unwrap_or("");
-    let literals = parts.next().unwrap_or("");
-    let end = parts.next().unwrap_or("");
-    let mut table = table_of(alloc)?;
+/// The parts of a row.
+#[derive(Clone, Copy, Debug)]
+struct Row<'a> {
+    clauses: &'a str,
+    signs: &'a str,
+    literals: &'a str,
+    end: &'a str,
+}
+
+/// Takes a row apart.
+fn row_of(text: &str) -> Row<'_> {
+    let mut parts = text.split('|');
+    Row {
+        clauses: parts.next().unwrap_or(""),
+        signs: parts.next().unwrap_or(""),
+        literals: parts.next().unwrap_or(""),
+        end: parts.next().unwrap_or(""),
+    }
+}
+
+/// Puts the terms that state clauses.
+fn roots_of(alloc: Global, table: &mut TermTable, clauses: &str) -> Result<Vec<TermId>, NoMemory> {
     let mut roots = Vec::new(alloc);
     for letters in clauses.split_terminator(';') {
-        roots.push(root_of(alloc, &mut table, letters.as_bytes())?)?;
+        roots.push(root_of(alloc, table, letters.as_bytes())?)?;
     }
+    Ok(roots)
+}
+
+/// Makes a trail with a variable for each of so many terms.
+fn trail_of(alloc: Global, len: u64) -> Result<SatTrail, NoMemory> {
     let mut trail = SatTrail::new(alloc);
-    for _ in 0..table.len() {
+    for _ in 0..len {
         trail.add_var()?;
     }
-    if trail.vars() != table.len() || trail.propagated() != 0 {
-        return Ok(false);
-    }
+    Ok(trail)
+}
+
+/// States that each store has seen what a new trail has marked.
+fn begins(store: &ClauseStore, trail: &SatTrail)
+    requires { trail.now.propagated ≡ 0 }
+    ensures { HasSeen store.now trail.now }
+{
     what_is_marked_was_seen();
+}
+
+/// Does what a row says on a new trail, and tells whether it comes to what the row says.
+fn runs_so(
+    alloc: Global,
+    table: &TermTable,
+    roots: &[TermId],
+    trail: &mut SatTrail,
+    row: &Row<'_>,
+) -> Result<bool, NoMemory>
+    requires vars { length table.now.terms ≤ trail.old.vars }
+    requires new { trail.old.propagated ≡ 0 }
+{
     let mut store = ClauseStore::new(alloc);
-    if !add_all(alloc, &table, &mut store, &trail, roots.as_slice(), clauses)? {
+    if !add_all(alloc, table, &mut store, trail, roots, row.clauses)? {
         return Ok(false);
     }
-    let found = run(&mut store, &mut trail, signs.as_bytes())?;
-    Ok(holds(&store, &trail, literals.as_bytes()) && ends(&store, found, end.as_bytes()))
+    begins(&store, trail);
+    let found = run(&mut store, trail, row.signs.as_bytes())?;
+    Ok(holds(&store, trail, row.literals.as_bytes()) && ends(&store, found, row.end.as_bytes()))
+}
+
+/// Tells whether a row is so.
+fn is_so(alloc: Global, text: &str) -> Result<bool, NoMemory> {
+    let row = row_of(text);
+    let mut table = table_of(alloc)?;
+    let roots = roots_of(alloc, &mut table, row.clauses)?;
+    let mut trail = trail_of(alloc, table.len())?;
+    if trail.vars() < table.len() || trail.propagated() != 0 {
+        return Ok(false);
+    }
+    runs_so(alloc, &table, roots.as_slice(), &mut trail, &row)
 }
 
 /// Gives the number of the first row that is not so.
