@@ -107,16 +107,6 @@ fn named(kind: TokenKind<'_>) -> (&'static str, &[u8]) {
     }
 }
 
-/// The letter of a fault.
-fn digit_of(fault: Fault) -> &'static str {
-    match fault {
-        Fault::BadChar => "1",
-        Fault::UnclosedString => "2",
-        Fault::UnclosedQuote => "3",
-        _ => "",
-    }
-}
-
 fn is_so(alloc: Global, row: &str) -> Result<bool, NoMemory> {
     let mut parts = row.split('\t');
     let text = bytes_of(alloc, parts.next().unwrap_or(""))?;
@@ -139,7 +129,10 @@ fn is_so(alloc: Global, row: &str) -> Result<bool, NoMemory> {
         }
         Err(r) => {
             let p = r.place;
-            Ok(digit_of(r.fault) == letter && are(&[p.offset, p.line, p.col, p.offset], numbers))
+            Ok(
+                u64::from(r.fault.number()) == number(letter)
+                    && are(&[p.offset, p.line, p.col, p.offset], numbers),
+            )
         }
     }
 }
