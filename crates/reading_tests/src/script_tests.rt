@@ -4,7 +4,7 @@ use crate::rows::{are, number};
 use crate::tables::put;
 use assertion_stack::{Effect, Script, TERM_LIMIT};
 use smt_lexer::place_at;
-use smt_sexpr::{LimitedText, Refused, Sexpr};
+use smt_sexpr::{LimitedText, Place, Refused, Sexpr};
 use std::alloc::Global;
 use std::test::Fail;
 use term_core::{Head, TermId, TermTable};
@@ -183,6 +183,23 @@ fn command(
     }
 }
 
+/// Runs a command that was read, and gives its answer and the offset after it; `None` where none was read.
+fn answered(
+    alloc: Global,
+    script: &mut Script,
+    read: &Result<Option<(Sexpr<'_>, Place)>, Refused>,
+    limit: u64,
+) -> Result<Option<(Answer, usize)>, NoMemory> {
+    match read {
+        Ok(Some((sexpr, after))) => {
+            let answer = command(alloc, script, sexpr, limit)?;
+            Ok(Some((answer, after.offset as usize)))
+        }
+        Err(Refused::Memory) => Err(NoMemory),
+        _ => Ok(None),
+    }
+}
+
 /// Runs the command that stands after an offset, and gives its answer and the offset after it; `None` where none stands there.
 fn step(
     alloc: Global,
@@ -196,14 +213,8 @@ fn step(
     if from > bytes.len() {
         return Ok(None);
     }
-    match limited.next_one(alloc, place_at(bytes, from)) {
-        Ok(Some((sexpr, after))) => {
-            let answer = command(alloc, script, &sexpr, limit)?;
-            Ok(Some((answer, after.offset as usize)))
-        }
-        Err(Refused::Memory) => Err(NoMemory),
-        _ => Ok(None),
-    }
+    let read = limited.next_one(alloc, place_at(bytes, from));
+    answered(alloc, script, &read, limit)
 }
 
 /// Runs the commands of a text on a script, and gives the answer to the last; `None` where there is none.
