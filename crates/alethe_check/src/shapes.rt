@@ -7,7 +7,7 @@ ghost use Rattle.smt_sexpr.specs.Items.{trees_meant, tree_meant, two};
 ghost use Rattle.smt_sexpr.specs.Views.{word_view};
 ghost use Rattle.alethe_check.specs.Shapes.{parts_view, shape_view, keyword_in, IsOneTree, IsAlone};
 
-use assertion_stack::is_name;
+use smt_command::is_name;
 use smt_sexpr::{
     Trees, View, Word, is_keyword, is_reserved, is_symbol, is_word, list_first, look, passes,
     same_bytes, split, tree_alone, want, want_end, word_first,

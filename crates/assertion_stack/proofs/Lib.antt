@@ -1,5 +1,4 @@
 -- The lemmas of this crate.
-pub mod CommandTrees
 pub mod Stacks
 pub mod Members
 pub mod TheoryNames

@@ -31,7 +31,10 @@ use Rattle.smt_sexpr.specs.Items.{split_first, text_of, start_of, tree_of}
 use Rattle.smt_sexpr.specs.Means.{first_of}
 use Rattle.assertion_stack.specs.Views.{located, Fails}
 use Rattle.assertion_stack.specs.declared.script.Script.{Script}
-use Rattle.assertion_stack.specs.Scripts.{IsStack, Becomes, limited_symbol}
+use Rattle.smt_lexer.specs.declared.Refused.{Refused}
+use Rattle.smt_lexer.specs.declared.Refused.TheVariants as refusals
+use Rattle.smt_command.specs.Commands.{Reads}
+use Rattle.assertion_stack.specs.Scripts.{IsStack, Becomes, Steps, limited_symbol}
 
 -- a name that no symbol has finds none
 pub not_named : (ss : List Symbol) (n : Name) → among (names_of ss) n ≡ false → symbol_named ss n ≡ None
@@ -222,10 +225,9 @@ nothing_asserted limit at s t e = ap (λ x. performed limit at s (Assert x)) e �
 
 -- a command, by its parts
 module _ (limit : ℕ) (s : Stack) (t : Tree) where
-  pub not_a_command : (stop : ReadError) → Fails stop (command_of t) → Fails stop (step limit s t)
+  pub not_a_command : (f : Located) → command_of t ≡ Err f → step limit s t ≡ Err f
   unfolding step ◌>>=◌
-  not_a_command (read_errors.Fault f) e = ap (λ a. a >>= λ c. performed limit (offset_of t) s c >>= λ next. Ok (let d : Taken = record { effect = effect_of c; stack = next } in d)) e
-  not_a_command read_errors.Memory e = tt
+  not_a_command f e = ap (λ a. a >>= λ c. performed limit (offset_of t) s c >>= λ next. Ok (let d : Taken = record { effect = effect_of c; stack = next } in d)) e
 
   pub command_done : (c : Command) (at : ℕ) (next : Stack) → command_of t ≡ Ok c → at ≡ offset_of t → performed limit at s c ≡ Ok next → step limit s t ≡ Ok (record { effect = effect_of c; stack = next })
   unfolding step ◌>>=◌
@@ -236,11 +238,15 @@ module _ (limit : ℕ) (s : Stack) (t : Tree) where
   command_refused c at (read_errors.Fault f) e here p = ap (λ a. a >>= λ c. performed limit (offset_of t) s c >>= λ next. Ok (let d : Taken = record { effect = effect_of c; stack = next } in d)) e ∙ ap (λ a. a >>= λ next. Ok (let d : Taken = record { effect = effect_of c; stack = next } in d)) (ap (λ n. performed limit n s c) (sym here) ∙ p)
   command_refused c at read_errors.Memory e here p = tt
 
+-- what is no command is refused with its fault, and changes nothing
+pub not_taken : (limit : ℕ) (s : Stack) (x : Sexpr) (stop : Refused) (old : Script) → Reads x (Err stop) → IsStack old s → Steps limit s x (Err stop) old
+not_taken limit s x (refusals.Fault r) old e h = (not_a_command limit s (tree_of x) (let f : Located = record { offset = r.place.offset; fault = r.fault } in f) e.0, e.1, h)
+not_taken limit s x refusals.Memory old e h = h
+
 -- a fault of a command stands in its s-expression, so the place that was made of its offset has that offset
-pub placed_fault : (limit : ℕ) (s : Stack) (x : Sexpr) (t : Tree) (n : ℕ) (f : Fault) (p : Place) → t ≡ tree_of x → step limit s t ≡ Err (record { offset = n; fault = f })
+pub placed_fault : (limit : ℕ) (s : Stack) (x : Sexpr) (n : ℕ) (f : Fault) (p : Place) → step limit s (tree_of x) ≡ Err (record { offset = n; fault = f })
     → ((l : ℕ) (u : Stack) (t : Tree) (g : Located) → step l u t ≡ Err g → HasOffset t g.offset)
     → AllOffsets (λ m. (start_of x ≤ m) × (m < length (text_of x))) (tree_of x) → (start_of x ≤ n → n < length (text_of x) → p.offset ≡ n) → step limit s (tree_of x) ≡ Err (record { offset = p.offset; fault = f })
-placed_fault limit s x t n f p same e stands all placed =
-    let here : step limit s (tree_of x) ≡ Err (record { offset = n; fault = f }) = ap (step limit s) (sym same) ∙ e in
-    let within = at_offset (λ m. (start_of x ≤ m) × (m < length (text_of x))) (tree_of x) n all (stands limit s (tree_of x) (record { offset = n; fault = f }) here) in
-    here ∙ (λ i. Err (record { offset = sym (placed within.0 within.1) i; fault = f }))
+placed_fault limit s x n f p e stands all placed =
+    let within = at_offset (λ m. (start_of x ≤ m) × (m < length (text_of x))) (tree_of x) n all (stands limit s (tree_of x) (record { offset = n; fault = f }) e) in
+    e ∙ (λ i. Err (record { offset = sym (placed within.0 within.1) i; fault = f }))

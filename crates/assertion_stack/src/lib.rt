@@ -2,12 +2,11 @@
 #![tactic(auto)]
 
 mod assertions;
-mod commands;
+mod faults;
 pub mod laws;
 mod names;
 mod script;
 
 pub use assertions::Assertions;
-pub use commands::is_name;
 pub use names::{is_taken, sort_in};
 pub use script::{Effect, Script, TERM_LIMIT};

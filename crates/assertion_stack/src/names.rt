@@ -8,7 +8,7 @@ ghost use Rattle.smt_sexpr.specs.Items.{tree_meant};
 ghost use Rattle.smt_sexpr.specs.Views.{word_view};
 ghost use Rattle.assertion_stack.specs.Views.{Gives};
 
-use crate::commands::refused;
+use crate::faults::refused;
 use smt_lexer::is_one_of;
 use smt_sexpr::{Kind, Trees, View, Word, is_reserved, look, same_bytes};
 use sort_check::ReadError;

@@ -2,22 +2,22 @@
 //!
 //! The commands are `set-option`, `declare-const` of sort Bool, `assert`, `check-sat` and `exit`.
 
-ghost use Rattle.std.specs.Prelude.{◌≡◌, ℕ, ◌≤◌, ◌<◌, [], true, false, List, length, IfOk, OnErr, MatchOption, ◌∷◌};
-ghost use Rattle.spec_text.specs.Places.{IsPlaceOf};
+ghost use Rattle.std.specs.Prelude.{◌≡◌, ℕ, ◌<◌, [], true, false, List, IfOk, OnErr, MatchOption, ◌∷◌};
 ghost use Rattle.spec_text.specs.Trees.{more, none};
 ghost use Rattle.spec_scripts.specs.Stack.{with_success, performed, Stack, empty_stack, is_taken, new_name, sort_in, truth_named, truth_in, is_known_option};
-ghost use Rattle.spec_scripts.specs.Commands.{SetOption, DeclareConst, Assert};
-ghost use Rattle.smt_sexpr.specs.Items.{text_of, start_of};
+ghost use Rattle.spec_scripts.specs.Commands.{SetOption, DeclareConst, Assert, CheckSat};
 ghost use Rattle.smt_sexpr.specs.Items.{trees_meant, tree_meant};
 ghost use Rattle.smt_sexpr.specs.Views.{word_view};
 ghost use Rattle.term_core.specs.declared.ids.TermId.{TermId};
 ghost use Rattle.spec_scripts.specs.Stack.{effect_of};
-ghost use Rattle.assertion_stack.specs.Scripts.{command_view, effect_meant, IsStack, Becomes, limited_symbol, Takes, Steps};
+ghost use Rattle.smt_command.specs.Commands.{command_view};
+ghost use Rattle.assertion_stack.specs.Scripts.{effect_meant, IsStack, Becomes, limited_symbol, Steps};
 
 use crate::assertions::Assertions;
-use crate::commands::{ScriptCommand, refused, script_command};
+use crate::faults::refused;
 use crate::names::{new_name, sort_in};
-use smt_lexer::{Place, Refusal, Refused};
+use smt_command::{Command, command, place_in};
+use smt_lexer::{Refusal, Refused};
 use smt_sexpr::{Sexpr, Trees, View, Word, is_symbol, look, offset, same_bytes, split};
 use sort_check::{ReadError, terms};
 use spec_text::Fault;
@@ -89,8 +89,12 @@ impl Script {
     {
         spec_scripts::laws::faults_stand_in_their_command();
         sexpr.offsets_have_places();
-        match take(self, alloc, sexpr.trees(), limit) {
-            Ok(effect) => Ok(effect),
+        let command = match command(sexpr) {
+            Ok(command) => command,
+            Err(refused) => return Err(refused),
+        };
+        match perform(self, alloc, offset(sexpr.trees()), command, limit) {
+            Ok(()) => Ok(answer(&command)),
             Err(ReadError::Fault(fault)) => Err(Refused::Fault(Refusal {
                 place: place_in(sexpr, fault.offset),
                 fault: fault.fault,
@@ -98,18 +102,6 @@ impl Script {
             Err(ReadError::Memory) => Err(Refused::Memory),
         }
     }
-}
-
-/// Gives the place of an offset that stands in an s-expression; of any other offset, where the s-expression begins.
-fn place_in(sexpr: &Sexpr<'_>, offset: u64) -> Place
-    ensures place { IsPlaceOf (text_of sexpr.now) result }
-    ensures offset { start_of sexpr.now ≤ offset → offset < length (text_of sexpr.now) → result.offset ≡ offset }
-{
-    let start = sexpr.start();
-    if start.offset <= offset && offset < sexpr.text().len() as u64 {
-        return sexpr.place(offset);
-    }
-    start
 }
 
 /// Finds the truth value of a name, where it is one.
@@ -275,58 +267,37 @@ fn perform(
     script: &mut Script,
     alloc: Global,
     at: u64,
-    command: ScriptCommand<'_>,
+    command: Command<'_>,
     limit: u64,
 ) -> Result<(), ReadError>
     ensures becomes { (s : Stack) → IsStack script.old s
         → Becomes (performed limit at s (command_view command.entry)) s result script.new }
     ensures same { OnErr result (script.new ≡ script.old) }
-    ensures check { command.entry ≡ ScriptCommand.CheckSat → script.new ≡ script.old }
+    ensures check { command_view command.entry ≡ CheckSat → script.new ≡ script.old }
 {
     match command {
-        ScriptCommand::SetOption(name, value) => set_option(script, at, name, value),
-        ScriptCommand::DeclareConst(word, sort) => declare(script, at, word, sort, limit),
-        ScriptCommand::Assert(term) => assert_term(script, alloc, at, term, limit),
-        ScriptCommand::CheckSat => Ok(()),
-        ScriptCommand::Exit => Ok(()),
+        Command::SetOption(name, value) => set_option(script, at, name, value),
+        Command::DeclareConst(word, sort) => declare(script, at, word, sort, limit),
+        Command::Assert(term) => assert_term(script, alloc, at, term, limit),
+        Command::CheckSat(_) => Ok(()),
+        Command::Exit => Ok(()),
     }
 }
 
 /// Says what a command is answered that was taken.
-fn answer(command: &ScriptCommand<'_>) -> Effect
+fn answer(command: &Command<'_>) -> Effect
     ensures effect { effect_meant result ≡ effect_of (command_view command.now) }
-    ensures check { result ≡ Effect.Check → command.now ≡ ScriptCommand.CheckSat }
+    ensures check { result ≡ Effect.Check → command_view command.now ≡ CheckSat }
 {
     match command {
-        ScriptCommand::SetOption(name, _) => {
+        Command::SetOption(name, _) => {
             if is_known_option(name) {
                 return Effect::Done;
             }
             Effect::Unsupported
         }
-        ScriptCommand::DeclareConst(_, _) | ScriptCommand::Assert(_) => Effect::Done,
-        ScriptCommand::CheckSat => Effect::Check,
-        ScriptCommand::Exit => Effect::Exit,
-    }
-}
-
-/// Takes the command that the first tree is.
-fn take(
-    script: &mut Script,
-    alloc: Global,
-    trees: Trees<'_>,
-    limit: u64,
-) -> Result<Effect, ReadError>
-    ensures takes { (s : Stack) → IsStack script.old s → Takes limit s (tree_meant trees.entry) result script.new }
-    ensures same { OnErr result (script.new ≡ script.old) }
-    ensures check { IfOk result (λ effect. effect ≡ Effect.Check → script.new ≡ script.old) }
-{
-    let command = match script_command(trees) {
-        Ok(command) => command,
-        Err(stop) => return Err(stop),
-    };
-    match perform(script, alloc, offset(trees), command, limit) {
-        Ok(()) => Ok(answer(&command)),
-        Err(stop) => Err(stop),
+        Command::DeclareConst(_, _) | Command::Assert(_) => Effect::Done,
+        Command::CheckSat(_) => Effect::Check,
+        Command::Exit => Effect::Exit,
     }
 }

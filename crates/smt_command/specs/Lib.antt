@@ -1,0 +1,2 @@
+-- What reading a command gives.
+pub mod Commands
