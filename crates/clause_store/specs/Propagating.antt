@@ -37,7 +37,8 @@ pub record Adds (s : StoreView) (old new : TrailView) : Type 0 where
   pub levels : new.levels ≡ old.levels ++ map (λ _. old.level) more
   pub level : new.level ≡ old.level
   -- each is implied by those before it
-  pub implied : (k : ℕ) → k < length more → IsImplied s (old.literals ++ take k more) (get_or more k no_lit) (get_or why k None)
+  pub implied : (k : ℕ) → k < length more
+      → IsImplied s (old.literals ++ take k more) (get_or more k no_lit) (get_or why k None)
   -- there are as many variables
   pub vars : new.vars ≡ old.vars
 
@@ -46,7 +47,8 @@ pub record AreImplied (s : StoreView) (t : TrailView) : Type 0 where
   -- each literal has a reason or none
   pub paired : length t.reasons ≡ length t.literals
   -- where it has one, it is implied by those before it
-  pub implied : (k r : ℕ) → k < length t.literals → get_or t.reasons k None ≡ Some r → IsImplied s (take k t.literals) (get_or t.literals k no_lit) (Some r)
+  pub implied : (k r : ℕ) → k < length t.literals → get_or t.reasons k None ≡ Some r
+      → IsImplied s (take k t.literals) (get_or t.literals k no_lit) (Some r)
 
 -- The clause of a step is false.
 pub record IsClash (s : StoreView) (held : List Lit) (step : StepId) : Type 0 where

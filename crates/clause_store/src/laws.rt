@@ -15,10 +15,11 @@ ghost use Rattle.clause_store.specs.Propagating.{Adds, AreImplied, IsQuiet};
 /// is decided or implied, after going back, with a variable or a clause more.
 pub fn what_is_marked_was_seen()
     ensures begun { (s : StoreView) (t : TrailView) → t.propagated ≡ 0 → HasSeen s t }
-    ensures pushed { (s : StoreView) (t u : TrailView) (l : Lit) (r : Option ℕ) (n : ℕ) → t.propagated ≤ length t.literals
-        → HasSeen s t → IsPushed t l r n u → HasSeen s u }
+    ensures pushed { (s : StoreView) (t u : TrailView) (l : Lit) (r : Option ℕ) (n : ℕ)
+        → t.propagated ≤ length t.literals → HasSeen s t → IsPushed t l r n u → HasSeen s u }
     ensures cut { (s : StoreView) (t u : TrailView) (n : ℕ) → HasSeen s t → IsCutTo t n u → HasSeen s u }
-    ensures grown { (s : StoreView) (t u : TrailView) → HasSeen s t → HasSame t u → u.propagated ≡ t.propagated → HasSeen s u }
+    ensures grown { (s : StoreView) (t u : TrailView) → HasSeen s t → HasSame t u → u.propagated ≡ t.propagated
+        → HasSeen s u }
     ensures added { (x : TableView) (log : List Logged) (id : StepId) (s n : StoreView) (t : TrailView) → HasSeen s t
         → IsAdded x log id s n → HasSeen n t }
 {}
@@ -27,7 +28,8 @@ pub fn what_is_marked_was_seen()
 /// with a decision, after propagation, after going back, with a variable or a clause more.
 pub fn reasons_stay_right()
     ensures begun { (s : StoreView) → AreImplied s no_trail }
-    ensures decided { (s : StoreView) (t u : TrailView) (l : Lit) (n : ℕ) → AreImplied s t → IsPushed t l None n u → AreImplied s u }
+    ensures decided { (s : StoreView) (t u : TrailView) (l : Lit) (n : ℕ) → AreImplied s t → IsPushed t l None n u
+        → AreImplied s u }
     ensures propagated { (s : StoreView) (t u : TrailView) → AreImplied s t → Adds s t u → AreImplied s u }
     ensures cut { (s : StoreView) (t u : TrailView) (n : ℕ) → AreImplied s t → IsCutTo t n u → AreImplied s u }
     ensures grown { (s : StoreView) (t u : TrailView) → AreImplied s t → HasSame t u → AreImplied s u }
@@ -43,8 +45,8 @@ pub fn clauses_stay_known()
 
 /// States that where clauses are quiet under literals none of which holds with its complement, none is false and none is unit.
 pub fn quiet_clauses_are_neither_false_nor_unit()
-    ensures no_false { (held : List Lit) (clauses : List (List Lit)) (c : List Lit) → IsConsistent held → IsQuiet clauses held
-        → Contains clauses c → IsFalsified held c → ⊥ }
-    ensures no_unit { (held : List Lit) (clauses : List (List Lit)) (c : List Lit) (l : Lit) → IsConsistent held → IsQuiet clauses held
-        → Contains clauses c → IsUnit held c l → ⊥ }
+    ensures no_false { (held : List Lit) (clauses : List (List Lit)) (c : List Lit) → IsConsistent held
+        → IsQuiet clauses held → Contains clauses c → IsFalsified held c → ⊥ }
+    ensures no_unit { (held : List Lit) (clauses : List (List Lit)) (c : List Lit) (l : Lit) → IsConsistent held
+        → IsQuiet clauses held → Contains clauses c → IsUnit held c l → ⊥ }
 {}

@@ -72,7 +72,8 @@ impl ClauseStore {
     pub fn add(&mut self, table: &TermTable, log: &ProofLog, step: StepId) -> Result<(), NoMemory>
         requires log { IsLogOf table.now log.now }
         requires step { step.0 < length log.now }
-        ensures { MatchResult result (λ _. IsAdded table.now log.now step self.old self.new) (λ _. self.new ≡ self.old) }
+        ensures { MatchResult result (λ _. IsAdded table.now log.now step self.old self.new)
+            (λ _. self.new ≡ self.old) }
     {
         let literals = literals_of(self.alloc, table, log.clause(step))?;
         self.entries.push(Entry { literals, step })?;
