@@ -8,8 +8,6 @@ mod roots;
 mod signs;
 mod statements;
 mod steps;
-#[cfg(test)]
-mod tests;
 
 pub use proof_log::StepIds;
 pub use roots::{clauses_of, clauses_of_all};

@@ -7,8 +7,6 @@ mod log;
 mod log_fault;
 mod premises;
 mod step;
-#[cfg(test)]
-mod tests;
 
 pub use log::ProofLog;
 pub use log_fault::LogFault;

@@ -23,20 +23,12 @@ mod propagation;
 mod resolvent;
 mod rests;
 mod rule_stop;
-#[cfg(test)]
-mod rule_tests;
 mod rules;
 mod scan;
 mod scheme_table;
 mod schemes;
-#[cfg(test)]
-mod stated_tests;
 mod status;
-#[cfg(test)]
-mod tests;
 mod truth_rules;
-#[cfg(test)]
-mod turned_tests;
 mod within;
 mod xor_rules;
 

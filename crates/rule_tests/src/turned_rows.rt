@@ -1,6 +1,6 @@
 //! Steps by the rules whose premise is the first term.
 
-/// Rows as those of `rule_tests.rt`.
+/// Rows as those of `step_tests.rt`.
 pub(crate) const TURNED: &str = "and &; a yes
 and &; b yes
 and @; a yes

@@ -1,6 +1,6 @@
 //! Steps by the rules without premises that state the clauses of a scheme.
 
-/// Rows as those of `rule_tests.rt`.
+/// Rows as those of `step_tests.rt`.
 pub(crate) const STATED: &str = "true  t yes
 true  0 no
 true  f no
