@@ -5,8 +5,7 @@
 //! no rule takes memory, and where a rule's comment says nothing of time, it takes the same time for all terms.
 //!
 //! Which clauses a rule states of a term says one table, `scheme_of`; by the same schemes go the rules that turn the first term
-//! into a premise. `resolution` makes literals of the terms, over which `resolves` propagates units in time in proportion to them; a
-//! plain slow body beside it is what tests compare it with.
+//! into a premise. `resolution` makes literals of the terms, over which `resolves` propagates units in time in proportion to them.
 #![tactic(auto)]
 
 mod and_or_rules;

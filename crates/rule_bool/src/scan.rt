@@ -1,14 +1,12 @@
-//! Unit propagation by passes over all premises: plain, and slow where many passes are needed.
+//! One pass of unit propagation over all premises.
 
 ghost use Rattle.std.specs.Prelude.{IfOk};
-ghost use Rattle.spec_proofs.specs.Resolution.{Resolves};
-ghost use Rattle.rule_bool.specs.Literals.{lit_complement, lists};
+ghost use Rattle.rule_bool.specs.Literals.{lists};
 ghost use Rattle.rule_bool.specs.Scanning.{Scans, Moves};
-ghost use Rattle.rule_bool.specs.Schemes.{Tests};
 
-use crate::assignment::{Assignment, start_of};
+use crate::assignment::Assignment;
 use crate::status::{ClauseStatus, clause_status};
-use std::alloc::{AllocError, Global};
+use std::alloc::AllocError;
 use term_core::Lit;
 
 /// What a pass over the premises comes to.
@@ -48,26 +46,4 @@ pub(crate) fn pass_over(premises: &[Vec<Lit>], held: &mut Assignment) -> Result<
         }
     }
     Ok(if added { Pass::Added } else { Pass::Same })
-}
-
-/// Tells the same as `resolves`, by passes over the premises until nothing changes.
-///
-/// A chain in a bad order takes as many passes as it has steps. Out of memory is the one error.
-pub(crate) fn resolves_by_scan(
-    alloc: Global,
-    premises: &[Vec<Lit>],
-    clause: &[Lit],
-) -> Result<bool, AllocError>
-    ensures { IfOk result (λ yes. Tests (Resolves lit_complement (lists premises.now) clause.now) yes) }
-{
-    let Some(mut held) = start_of(alloc, clause)? else {
-        return Ok(true);
-    };
-    loop {
-        match pass_over(premises, &mut held)? {
-            Pass::Conflict => return Ok(true),
-            Pass::Added => {}
-            Pass::Same => return Ok(false),
-        }
-    }
 }
