@@ -3,6 +3,7 @@ pub mod Lists
 pub mod Numerals
 pub mod Terms
 pub mod Values
+pub mod WellSorted
 pub mod Theory
 pub mod Signatures
 pub mod Subterms
