@@ -1,15 +1,14 @@
 -- What names give by their texts agrees with what their terms give, and reading keeps it so.
-use Rattle.std.proofs.Common.{◌≡◌, ℕ, suc, Bool, true, false, not, ◌&&◌, ◌||◌, List, [], ◌∷◌, ◌++◌, length, get_or, ◌+◌, arith, Option, Some, None, cond, refl, sym, ap, ◌∙◌, subst}
+use Rattle.std.proofs.Common.{◌≡◌, ℕ, suc, Bool, true, false, not, ◌||◌, List, [], ◌∷◌, ◌++◌, length, get_or, ◌+◌, arith, Option, Some, None, cond, refl, sym, ap, ◌∙◌, subst}
 use Rattle.std.specs.Prelude.{Ok}
 use Rattle.std.specs.Str.{bytes_eq}
-use Rattle.std.proofs.lemmas.Bool.{false≢true}
+use Rattle.std.proofs.lemmas.Bool.{false≢true, and_parts}
 use Rattle.std.proofs.lemmas.List.{append_assoc, append-nil}
 use Rattle.std.proofs.lemmas.Slice.Eq.{bytes_eq-Decides}
-use Rattle.spec_text.specs.declared.Fault.TheVariants.{BadShape, Twice, Reserved}
+use Rattle.spec_text.specs.declared.Fault.TheVariants.{BadShape, Twice}
 use Rattle.spec_text.specs.Bytes.{Name}
 use Rattle.spec_text.specs.Shapes.{Word}
-use Rattle.spec_text.specs.Answers.{refused}
-use Rattle.spec_text.specs.Trees.{Tree, Trees, atom, list, none, more}
+use Rattle.spec_text.specs.Trees.{Tree}
 use Rattle.spec_text.proofs.AnswerLaws.{answer, went, require_true}
 use Rattle.spec_text.proofs.General.{bytes_itself}
 use Rattle.spec_sorts.specs.Terms.{Sort}
@@ -17,19 +16,14 @@ use Rattle.spec_sorts.specs.Values.{Value, truth, Interpretation, table_value}
 use Rattle.spec_sorts.specs.TermValues.{value_at}
 use Rattle.spec_sorts.specs.Theory.{is_of_theory}
 use Rattle.spec_sorts.specs.Signatures.{Definition, Known, declared, defined, Declaration, of_sort, of_function, Signature, known_name, known_as, is_some, definition, with_definitions}
-use Rattle.spec_sorts.specs.Forms.{Form, malformed, reserved, applies, binds, annotates, form, a_keyword, named_words}
 use Rattle.spec_sorts.specs.Meaning.{Meaning, value_of, bind, with_meaning, meaning_after, meaning_of}
 use Rattle.spec_reading.specs.Names.{Setting, new_name, is_function, is_own, mentions}
-use Rattle.spec_reading.specs.Reading.{Bound, Reading, Readings, Bindings, plain, Annotated, naming, made_by, annotated_as, bound_names, reading, readings, let_reading, bindings_reading, annotated_reading}
+use Rattle.spec_reading.specs.Reading.{Bound, Reading, Annotated, naming, made_by, annotated_as, bound_names, reading}
 use Rattle.spec_reading.specs.Definitions.{Parts, bound_parameters, definitions_in}
 use Rattle.spec_reading.specs.Agreement.{AgreesAt, Agrees, values_bound, IsSoundAfter, AreSoundAfter, AreSound}
-use Rattle.spec_reading.proofs.Values.{with_both, agrees_before, by_form, sound}
-use Rattle.spec_reading.proofs.Closed.{neither_of, closed, unbound}
-
--- a test that is false where its negation holds
-not_true : (a : Bool) → not a ≡ true → a ≡ false
-not_true true h = absurd (false≢true h)
-not_true false h = refl
+use Rattle.spec_reading.proofs.Values.{with_both, agrees_before, sound}
+use Rattle.spec_reading.proofs.Closed.{neither_of, not_true, closed, unbound}
+use Rattle.spec_reading.proofs.Kept.{with_none, text_keeps}
 
 -- two names differ in either order
 flip : (a b : Name) → bytes_eq a b ≡ false → bytes_eq b a ≡ false
@@ -158,14 +152,10 @@ unknown s n h = not_some (known_as s n) (neither_of (is_of_theory n) (is_some (k
 abbrev HasValue : Signature → Annotated → Type 0
 HasValue s t = t.may_name ≡ true → (i : Interpretation) (m : Meaning) → Agrees i m s → (vs : List Value) → value_of m [] t.text ≡ value_at i vs t.term
 
--- no definitions more
-fine_none : (w : Setting) (s : Signature) → IsFine w s → IsFine w (with_definitions s [])
-fine_none w s a = subst (IsFine w) (sym (append-nil s)) a
-
 -- the names of a term's attributes keep a signature fine
 made_fine : (w : Setting) (s : Signature) (t : Annotated) (xs : List Word) (ds : List Definition) → made_by w s t xs ≡ Ok ds → HasValue s t → IsFine w s → IsFine w (with_definitions s ds)
 unfolding made_by
-made_fine w s t [] ds e h a = subst (λ x. IsFine w (with_definitions s x)) (answer (Ok []) ds e) (fine_none w s a)
+made_fine w s t [] ds e h a = subst (λ x. IsFine w (with_definitions s x)) (answer (Ok []) ds e) (with_none (IsFine w) s a)
 made_fine w s t (x ∷ xs) ds e h a =
     let p = went _ _ _ e in
     let q = went _ _ _ p.then in
@@ -177,78 +167,15 @@ made_fine w s t (x ∷ xs) ds e h a =
     let rest = made_fine w (with_definitions s (d ∷ [])) t xs r.first r.was (λ may i m g. h may i m (agrees_before i m s (definition d ∷ []) g)) one in
     subst (λ x. IsFine w (with_definitions s x)) (answer (Ok (d ∷ r.first)) ds r.then) (subst (IsFine w) (sym (with_both s (d ∷ []) r.first)) rest)
 
--- what is read in two parts keeps a signature fine
-fine_both : (w : Setting) (s : Signature) (a b : List Definition) → IsFine w (with_definitions (with_definitions s a) b) → IsFine w (with_definitions s (a ++ b))
-fine_both w s a b h = subst (IsFine w) (sym (with_both s a b)) h
+-- the text of a reading has its value, where it may get a name
+has_value : (w : Setting) (s : Signature) (b : Bound) (at : ℕ) (t : Tree) (r : Reading) → reading w s b t ≡ Ok r → HasValue (with_definitions s r.made) (annotated_as w b at t r.term)
+has_value w s b at t r e may i m g vs =
+    sym (closed m (bound_names b) (values_bound i vs b) [] t (not_true _ (and_parts w.may_name (not (mentions (bound_names b) t)) may).1) (unbound i vs b))
+    ∙ sound i vs m w s b t r e g
 
-mutual
-  unfolding reading readings let_reading bindings_reading annotated_reading
-
-  -- the definitions that a text makes keep a signature fine
-  pub fine : (w : Setting) (s : Signature) (b : Bound) (t : Tree) (r : Reading) → reading w s b t ≡ Ok r → IsFine w s → IsFine w (with_definitions s r.made)
-  fine w s b (atom at k n) r e a = let p = went _ _ _ e in subst (λ (x : Reading). IsFine w (with_definitions s x.made)) (answer (Ok (plain p.first)) r p.then) (fine_none w s a)
-  fine w s b (list at none end) r e a = absurd (answer (refused at BadShape) r e)
-  fine w s b (list at (more head us) end) r e a = go (form head us) (fine_all w s b us) (fine_let w s b at us) (fine_annotated w s b at us) e
-    where
-      go : (f : Form)
-          → ((rs : Readings) → readings w s b us ≡ Ok rs → IsFine w s → IsFine w (with_definitions s rs.made))
-          → ((r : Reading) → let_reading w s b at us ≡ Ok r → IsFine w s → IsFine w (with_definitions s r.made))
-          → ((r : Reading) → annotated_reading w s b at us ≡ Ok r → IsFine w s → IsFine w (with_definitions s r.made))
-          → by_form w s b at us f ≡ Ok r → IsFine w (with_definitions s r.made)
-      go malformed x y z e = absurd (answer (refused at BadShape) r e)
-      go (reserved p) x y z e = absurd (answer (refused p Reserved) r e)
-      go (applies p n) x y z e =
-          let p = went _ _ _ e in
-          let q = went _ _ _ p.then in
-          subst (λ (x : Reading). IsFine w (with_definitions s x.made)) (answer (Ok _) r q.then) (x p.first p.was a)
-      go binds x y z e = y r e a
-      go annotates x y z e = z r e a
-
-  -- and those that several make
-  pub fine_all : (w : Setting) (s : Signature) (b : Bound) (ts : Trees) (r : Readings) → readings w s b ts ≡ Ok r → IsFine w s → IsFine w (with_definitions s r.made)
-  fine_all w s b none r e a = subst (λ (x : Readings). IsFine w (with_definitions s x.made)) (answer (Ok _) r e) (fine_none w s a)
-  fine_all w s b (more t ts) r e a =
-      let p = went _ _ _ e in
-      let q = went _ _ _ p.then in
-      subst (λ (x : Readings). IsFine w (with_definitions s x.made)) (answer (Ok _) r q.then)
-      (fine_both w s p.first.made q.first.made (fine_all w (with_definitions s p.first.made) b ts q.first q.was (fine w s b t p.first p.was a)))
-
-  -- and those of a body under bindings
-  fine_let : (w : Setting) (s : Signature) (b : Bound) (at : ℕ) (ts : Trees) (r : Reading) → let_reading w s b at ts ≡ Ok r → IsFine w s → IsFine w (with_definitions s r.made)
-  fine_let w s b at (more (list place bindings end) (more body none)) r e a =
-      let p = went _ _ _ e in
-      let q = went _ _ _ p.then in
-      subst (λ (x : Reading). IsFine w (with_definitions s x.made)) (answer (Ok _) r q.then)
-      (fine_both w s p.first.made q.first.made (fine w (with_definitions s p.first.made) (p.first.bound ++ b) body q.first q.was (fine_bindings w s b [] bindings p.first p.was a)))
-  fine_let w s b at _ r e a = absurd (answer (refused at BadShape) r e)
-
-  -- and those of bindings
-  fine_bindings : (w : Setting) (s : Signature) (b : Bound) (names : List Name) (ts : Trees) (r : Bindings) → bindings_reading w s b names ts ≡ Ok r → IsFine w s → IsFine w (with_definitions s r.made)
-  fine_bindings w s b names (more (list at (more (atom x k n) (more t none)) end) rest) r e a =
-      let p = went _ _ _ e in
-      let q = went _ _ _ p.then in
-      let d = went _ _ _ q.then in
-      subst (λ (x : Bindings). IsFine w (with_definitions s x.made)) (answer (Ok _) r d.then)
-      (fine_both w s q.first.made d.first.made (fine_bindings w (with_definitions s q.first.made) b (names ++ p.first ∷ []) rest d.first d.was (fine w s b t q.first q.was a)))
-  fine_bindings w s b names _ r e a = subst (λ (x : Bindings). IsFine w (with_definitions s x.made)) (answer (Ok _) r e) (fine_none w s a)
-
-  -- and those of a term with attributes
-  fine_annotated : (w : Setting) (s : Signature) (b : Bound) (at : ℕ) (ts : Trees) (r : Reading) → annotated_reading w s b at ts ≡ Ok r → IsFine w s → IsFine w (with_definitions s r.made)
-  fine_annotated w s b at none r e a = absurd (answer (refused at BadShape) r e)
-  fine_annotated w s b at (more t attributes) r e a =
-      let p = went _ _ _ e in
-      let q = went _ _ _ p.then in
-      subst (λ (x : Reading). IsFine w (with_definitions s x.made)) (answer (Ok _) r q.then)
-      (fine_both w s p.first.made q.first (made_fine w (with_definitions s p.first.made) (annotated_as w b at t p.first.term) (named_words a_keyword attributes) q.first q.was (has_value w s b t p.first p.was) (fine w s b t p.first p.was a)))
-    where
-      and_right : (x y : Bool) → (x && y) ≡ true → y ≡ true
-      and_right true y h = h
-      and_right false y h = absurd (false≢true h)
-
-      has_value : (w : Setting) (s : Signature) (b : Bound) (t : Tree) (r : Reading) → reading w s b t ≡ Ok r → (w.may_name && not (mentions (bound_names b) t)) ≡ true → (i : Interpretation) (m : Meaning) → Agrees i m (with_definitions s r.made) → (vs : List Value) → value_of m [] t ≡ value_at i vs r.term
-      has_value w s b t r e may i m g vs =
-          sym (closed m (bound_names b) (values_bound i vs b) [] t (not_true _ (and_right w.may_name (not (mentions (bound_names b) t)) may)) (unbound i vs b))
-          ∙ sound i vs m w s b t r e g
+-- the definitions that a text makes keep a signature fine
+pub fine : (w : Setting) (s : Signature) (b : Bound) (t : Tree) (r : Reading) → reading w s b t ≡ Ok r → IsFine w s → IsFine w (with_definitions s r.made)
+fine w s b t r e a = text_keeps w (IsFine w) (λ s b at t r e xs ds made k. made_fine w (with_definitions s r.made) (annotated_as w b at t r.term) xs ds made (has_value w s b at t r e) k) s b t r e a
 
 -- parameters have the values that they are bound to
 parameters_bound : (i : Interpretation) (ws : List Value) (ps : List (Name × Sort)) (vs : List Value) (k : ℕ) → ((j : ℕ) → get_or ws (k + j) (truth false) ≡ get_or vs j (truth false)) → length vs ≡ length ps → values_bound i ws (bound_parameters k ps) ≡ bind ps vs
