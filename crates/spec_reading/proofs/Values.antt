@@ -74,14 +74,14 @@ known i m (of_function k ∷ ds) n h = go (bytes_eq (known_name k) n) (bytes_eq-
     go false same rest = rest
 
 -- what is read with sorts has as many arguments, and is the term
-with_sorts_ok : (ss : List Sort) (at : ℕ) (ts : List Term) (t u : Term) → with_sorts ss at ts t ≡ Ok u → (length ts ≡ length ss) × (t ≡ u)
+pub with_sorts_ok : (ss : List Sort) (at : ℕ) (ts : List Term) (t u : Term) → with_sorts ss at ts t ≡ Ok u → (length ts ≡ length ss) × (t ≡ u)
 with_sorts_ok ss at ts t u e =
     let a = went _ _ _ e in
     let b = went _ _ _ a.then in
     (eqb-true (length ts) (length ss) (require_true _ _ _ _ a.was), answer (Ok t) u b.then)
 
 -- what a rule reads is its term
-by_rule_ok : (r : Rule) (at : ℕ) (ts : List Term) (u : Term) → by_rule r at ts ≡ Ok u → r.reads ts ≡ u
+pub by_rule_ok : (r : Rule) (at : ℕ) (ts : List Term) (u : Term) → by_rule r at ts ≡ Ok u → r.reads ts ≡ u
 by_rule_ok r at ts u e =
     let a = went _ _ _ e in
     let b = went _ _ _ a.then in

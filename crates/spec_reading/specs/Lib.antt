@@ -3,6 +3,7 @@ pub mod Names
 pub mod Sorts
 pub mod Reading
 pub mod Definitions
+pub mod WellSorted
 pub mod Agreement
 pub mod OnLiterals
 pub mod Examples

@@ -5,18 +5,22 @@
 //! `specs/`.
 #![tactic(auto)]
 
-ghost use Rattle.std.specs.Prelude.{◌≡◌, List, [], Ok, Err};
+ghost use Rattle.std.specs.Prelude.{◌≡◌, List, [], All, Ok, Err};
 ghost use Rattle.spec_text.specs.Trees.{Tree};
 ghost use Rattle.spec_text.specs.Faults.{Located};
 ghost use Rattle.spec_text.specs.Offsets.{HasOffset};
+ghost use Rattle.spec_text.specs.Bytes.{Name};
+ghost use Rattle.spec_sorts.specs.Terms.{Sort, Term};
+ghost use Rattle.spec_sorts.specs.WellSorted.{IsWellSorted};
 ghost use Rattle.spec_sorts.specs.Values.{Value, Interpretation};
 ghost use Rattle.spec_sorts.specs.TermValues.{value_at};
-ghost use Rattle.spec_sorts.specs.Signatures.{Definition, Signature, with_definitions};
+ghost use Rattle.spec_sorts.specs.Signatures.{Definition, Signature, symbols_in, with_definitions};
 ghost use Rattle.spec_sorts.specs.Meaning.{Meaning, value_of, meaning_of, value_under};
 ghost use Rattle.spec_reading.specs.Names.{Setting, script};
 ghost use Rattle.spec_reading.specs.Sorts.{sort_in};
 ghost use Rattle.spec_reading.specs.Reading.{Bound, Reading, reading};
 ghost use Rattle.spec_reading.specs.Definitions.{Parts, definitions_in};
+ghost use Rattle.spec_reading.specs.WellSorted.{AreWellSorted};
 ghost use Rattle.spec_reading.specs.Agreement.{Agrees, values_bound, AreSound};
 
 /// States that the term which a text is read as has the text's value where bound names have their terms' values, and what
@@ -47,6 +51,20 @@ pub fn readings_keep_signatures_sound()
         → AreSound (with_definitions s r.made) }
     ensures defined { (w : Setting) (s : Signature) (d : Parts) (ds : List Definition) → AreSound s
         → definitions_in w s d ≡ Ok ds → AreSound (with_definitions s ds) }
+{}
+
+/// States that what a text is read as is well sorted, where the signature is. It is so of the definitions that the text
+/// makes. It is so of its term where the terms of bound names are well sorted; outside of bodies there are no parameters.
+/// And it is so of a definition and those that its body makes. Source: SMT-LIB 2.6, sections 4.2.3 and 5.2.
+pub fn readings_are_well_sorted()
+    ensures term { (w : Setting) (s : Signature) (b : Bound) (t : Tree) (r : Reading) (parameters : List Sort)
+        → AreWellSorted s → reading w s b t ≡ Ok r
+        → All (λ (p : Name × Term). IsWellSorted (symbols_in s) parameters p.1) b
+        → IsWellSorted (symbols_in s) parameters r.term }
+    ensures made { (w : Setting) (s : Signature) (b : Bound) (t : Tree) (r : Reading) → AreWellSorted s
+        → reading w s b t ≡ Ok r → AreWellSorted (with_definitions s r.made) }
+    ensures defined { (w : Setting) (s : Signature) (d : Parts) (ds : List Definition) → AreWellSorted s
+        → definitions_in w s d ≡ Ok ds → AreWellSorted (with_definitions s ds) }
 {}
 
 /// States that the first fault of a text that is read as a term, or as a sort, stands at the offset of one of its atoms or
