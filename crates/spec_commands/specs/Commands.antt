@@ -18,7 +18,7 @@ pub data Command : Type 0 where
   SetLogic : Word → Command
   -- an option's name, without its colon, and the value that it gets
   SetOption : Name → Tree → Command
-  -- what is told of the script changes nothing
+  -- information on the script, which changes nothing
   SetInfo : Command
   -- the name of a new sort, as written
   DeclareSort : Word → Command

@@ -282,7 +282,7 @@ pub long_decimals : faults (
 unfolding commands_on_literals faults_after
 long_decimals = refl
 
--- the logic is set once, before what it speaks of; one that is not known is told first; a check begins too
+-- the logic is set once, before what it speaks of; one that is not known is reported first; a check begins too
 pub logics : faults (
     codes "(set-option :print-success false)" ∷
     codes "(set-info :a b)(set-option :produce-models true)(echo \"a\")(set-logic QF_BV)" ∷
