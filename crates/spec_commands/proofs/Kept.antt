@@ -1,27 +1,32 @@
 -- Commands leave sound names, and assertions that were read.
-use Rattle.std.proofs.Common.{◌≡◌, ℕ, zero, suc, Bool, true, false, List, [], ◌∷◌, ◌++◌, length, map, All, Option, Some, None, refl, sym, ap, ◌∙◌, subst}
-use Rattle.std.specs.Prelude.{Ok, Err, ◌&&◌, nat_le}
+use Rattle.std.proofs.Common.{◌≡◌, ℕ, zero, suc, Bool, true, List, [], ◌∷◌, ◌++◌, length, map, All, Option, Some, None, refl, sym, ap, ◌∙◌, subst}
+use Rattle.std.specs.Prelude.{Ok, Err, nat_le}
 use Rattle.std.proofs.lemmas.List.{map-append, append_assoc, append-nil}
 use Rattle.std.proofs.lemmas.List.Elements.{All-push, All-weaker, All-nil}
-use Rattle.std.proofs.lemmas.Bool.{false≢true}
+use Rattle.std.proofs.lemmas.Bool.{and_parts}
 use Rattle.spec_text.specs.declared.Fault.TheVariants.{BadShape, WrongSort, Full}
 use Rattle.spec_text.specs.Answers.{Answer, refused, require}
 use Rattle.spec_text.specs.Trees.{Tree, Trees, none, more, offset_of}
 use Rattle.spec_text.proofs.AnswerLaws.{answer, went, require_true}
-use Rattle.spec_sorts.specs.Terms.{Truth, Declared, Term, same_sort, sort_of}
-use Rattle.spec_sorts.specs.Values.{Interpretation}
+use Rattle.spec_sorts.specs.Terms.{Truth, Declared, Symbol, Term, same_sort, sort_of}
+use Rattle.spec_sorts.specs.WellSorted.{IsWellSorted, IsFormulaOver}
+use Rattle.spec_sorts.specs.Values.{truth, Interpretation, Interprets}
 use Rattle.spec_sorts.specs.TermValues.{value_at}
-use Rattle.spec_sorts.specs.Signatures.{Definition, Declaration, of_sort, of_function, declared, Signature, definition}
+use Rattle.spec_sorts.specs.Signatures.{Definition, Declaration, of_sort, of_function, declared, Signature, symbols_in, definition}
 use Rattle.spec_sorts.specs.Signatures as signatures
 use Rattle.spec_sorts.specs.Meaning.{meaning_of, value_under}
+use Rattle.spec_sorts.proofs.WellSorted.{same_sort_is}
+use Rattle.spec_sorts.proofs.SortsOfValues.{formula_value}
 use Rattle.spec_reading.specs.Names.{script, new_name, is_sort, is_function}
 use Rattle.spec_reading.specs.Sorts.{sort_in, sorts_in}
 use Rattle.spec_reading.specs.Reading.{Reading, reading, reading_of_sort}
 use Rattle.spec_reading.specs.Definitions.{definitions_in}
 use Rattle.spec_sorts.specs.Subterms.{subterms_of, has_room}
+use Rattle.spec_reading.specs.WellSorted.{IsDeclaredOver, AreWellSorted}
 use Rattle.spec_reading.specs.Agreement.{Agrees, IsSoundAfter, AreSound}
 use Rattle.spec_reading.proofs.Values.{agrees_before, sound}
 use Rattle.spec_reading.proofs.Sound.{agrees, sound_last, not_taken, unknown, fine, defined_sound}
+use Rattle.spec_reading.proofs.WellSorted.{text_keeps_sorts, definition_keeps_sorts, sort_keeps_sorts, symbol_keeps_sorts, term_later}
 use Rattle.spec_commands.specs.Commands.{Command, SetLogic, SetOption, SetInfo, DeclareSort, DefineSort, DeclareFun, DefineFun, Assert, CheckSat, Echo, Exit, command_of}
 use Rattle.spec_commands.specs.Stack.{Assertion, Entry, Stack, Key, Effect, done, unsupported, check, say, leave, Taken, did, empty_stack, signature_of, joined, assertions_of, with_last, begun, with_declaration, with_definitions, with_assertion, key_named, truth_in, option_set, roomy, terms_defined, performed, step}
 use Rattle.spec_commands.specs.Checks.{Check, this_or, after_effect, after_command, current_at}
@@ -65,23 +70,20 @@ read_later s t a w = record {
 asserted_later : (limit : ℕ) (s t : Signature) (a : Assertion) → IsAsserted limit s a → IsAsserted limit (s ++ t) a
 asserted_later limit s t a w = record { read = read_later s t a w.read; sort = w.sort; room = w.room }
 
--- the second of two tests that both hold
-second_holds : (a b : Bool) → (a && b) ≡ true → b ≡ true
-second_holds true b h = h
-second_holds false b h = absurd (false≢true h)
-
 module _ (limit : ℕ) where
   -- a declaration more
-  kept_last : (s : Stack) (d : Declaration) → IsSoundAfter (signature_of s) d → IsKept limit s → IsKept limit (begun (with_declaration s d))
-  kept_last s d new h = record {
+  kept_last : (s : Stack) (d : Declaration) → IsSoundAfter (signature_of s) d → AreWellSorted (signature_of s ++ d ∷ []) → IsKept limit s → IsKept limit (begun (with_declaration s d))
+  kept_last s d new sorts h = record {
     names = subst AreSound (sym (signature_last s d)) (sound_last (signature_of s) d h.names new);
+    sorts = subst AreWellSorted (sym (signature_last s d)) sorts;
     assertions = subst (λ x. All (IsAsserted limit x) (assertions_of s)) (sym (signature_last s d)) (All-weaker (IsAsserted limit (signature_of s)) (IsAsserted limit (signature_of s ++ d ∷ [])) (asserted_later limit (signature_of s) (d ∷ [])) (assertions_of s) h.assertions);
   }
 
   -- definitions more
-  kept_with : (s : Stack) (ds : List Definition) → AreSound (signatures.with_definitions (signature_of s) ds) → IsKept limit s → IsKept limit (with_definitions s ds)
-  kept_with s ds new h = record {
+  kept_with : (s : Stack) (ds : List Definition) → AreSound (signatures.with_definitions (signature_of s) ds) → AreWellSorted (signatures.with_definitions (signature_of s) ds) → IsKept limit s → IsKept limit (with_definitions s ds)
+  kept_with s ds new sorts h = record {
     names = subst AreSound (sym (signature_with s ds)) new;
+    sorts = subst AreWellSorted (sym (signature_with s ds)) sorts;
     assertions =
         subst (λ x. All (IsAsserted limit x) (assertions_of (with_definitions s ds))) (sym (signature_with s ds))
         (subst (λ ls. All (IsAsserted limit (signatures.with_definitions (signature_of s) ds)) (joined ls)) (sym (levels_with s ds))
@@ -93,6 +95,7 @@ module _ (limit : ℕ) where
   kept_asserted s t u new h =
       let a : Assertion = record { text = t; term = u } in record {
         names = h.names;
+        sorts = h.sorts;
         assertions = subst (All (IsAsserted limit (signature_of s))) (sym (joined_last s.levels a)) (All-push (IsAsserted limit (signature_of s)) (assertions_of s) a h.assertions new);
       }
 
@@ -103,7 +106,7 @@ module _ (limit : ℕ) where
       (require_true (has_room limit (signature_of s) ts) at Full a.first a.was, answer (Ok (did s)) d a.then)
 
   option_kept : (at : ℕ) (s : Stack) (k : Option Key) (b : Option Bool) (d : Taken) → option_set at s k b ≡ Ok d → IsKept limit s → IsKept limit d.stack
-  option_kept at s (Some k) (Some b) d e h = subst (λ (x : Taken). IsKept limit x.stack) (answer (option_set at s (Some k) (Some b)) d e) (record { names = h.names; assertions = h.assertions })
+  option_kept at s (Some k) (Some b) d e h = subst (λ (x : Taken). IsKept limit x.stack) (answer (option_set at s (Some k) (Some b)) d e) (record { names = h.names; sorts = h.sorts; assertions = h.assertions })
   option_kept at s (Some k) None d e h = absurd (answer (refused at BadShape) d e)
   option_kept at s None b d e h = subst (λ (x : Taken). IsKept limit x.stack) (answer (option_set at s None b) d e) h
 
@@ -112,30 +115,31 @@ module _ (limit : ℕ) where
       let a = went _ _ d e in
       let b = went _ _ d a.then in
       let c = went _ _ d b.then in
-      subst (λ (x : Taken). IsKept limit x.stack) (answer (Ok (did (begun s))) d c.then) (record { names = h.names; assertions = h.assertions })
+      subst (λ (x : Taken). IsKept limit x.stack) (answer (Ok (did (begun s))) d c.then) (record { names = h.names; sorts = h.sorts; assertions = h.assertions })
   performed_kept at s (SetOption k v) d e h = option_kept at s (key_named k) (truth_in v) d e h
   performed_kept at s SetInfo d e h = subst (λ (x : Taken). IsKept limit x.stack) (answer (Ok (did s)) d e) h
   performed_kept at s (DeclareSort x) d e h =
       let a = went (new_name script (is_sort (signature_of s)) x) _ d e in
       let b = roomy_ok at [] (begun (with_declaration s (of_sort a.first (Declared a.first)))) d a.then in
-      subst (λ (x : Taken). IsKept limit x.stack) b.1 (kept_last s (of_sort a.first (Declared a.first)) tt h)
+      subst (λ (x : Taken). IsKept limit x.stack) b.1 (kept_last s (of_sort a.first (Declared a.first)) tt (sort_keeps_sorts (signature_of s) a.first (Declared a.first) h.sorts) h)
   performed_kept at s (DefineSort x t) d e h =
       let a = went (new_name script (is_sort (signature_of s)) x) _ d e in
       let b = went (sort_in (signature_of s) t) _ d a.then in
       let c = roomy_ok at [] (begun (with_declaration s (of_sort a.first b.first))) d b.then in
-      subst (λ (x : Taken). IsKept limit x.stack) c.1 (kept_last s (of_sort a.first b.first) tt h)
+      subst (λ (x : Taken). IsKept limit x.stack) c.1 (kept_last s (of_sort a.first b.first) tt (sort_keeps_sorts (signature_of s) a.first b.first h.sorts) h)
   performed_kept at s (DeclareFun x ts t) d e h =
       let a = went (new_name script (is_function (signature_of s)) x) _ d e in
       let b = went (sorts_in (signature_of s) ts) _ d a.then in
       let c = went (sort_in (signature_of s) t) _ d b.then in
-      let f : Declaration = of_function (declared (record { name = a.first; parameters = b.first; result = c.first })) in
+      let symbol : Symbol = record { name = a.first; parameters = b.first; result = c.first } in
+      let f : Declaration = of_function (declared symbol) in
       let r = roomy_ok at [] (begun (with_declaration s f)) d c.then in
-      subst (λ (x : Taken). IsKept limit x.stack) r.1 (kept_last s f (unknown (signature_of s) a.first (not_taken script (is_function (signature_of s)) x a.first a.was)) h)
+      subst (λ (x : Taken). IsKept limit x.stack) r.1 (kept_last s f (unknown (signature_of s) a.first (not_taken script (is_function (signature_of s)) x a.first a.was)) (symbol_keeps_sorts (signature_of s) symbol h.sorts) h)
   performed_kept at s (DefineFun p) d e h =
       let a = went (definitions_in script (signature_of s) p) _ d e in
       let b = roomy_ok at (terms_defined a.first) (begun (with_definitions s a.first)) d a.then in
-      let k = kept_with s a.first (defined_sound script (signature_of s) p a.first a.was h.names) h in
-      subst (λ (x : Taken). IsKept limit x.stack) b.1 (record { names = k.names; assertions = k.assertions })
+      let k = kept_with s a.first (defined_sound script (signature_of s) p a.first a.was h.names) (definition_keeps_sorts script (signature_of s) p a.first h.sorts a.was) h in
+      subst (λ (x : Taken). IsKept limit x.stack) b.1 (record { names = k.names; sorts = k.sorts; assertions = k.assertions })
   performed_kept at s (Assert t) d e h =
       let sig = signature_of s in
       let a = went (reading_of_sort script sig [] Truth t) _ d e in
@@ -149,12 +153,12 @@ module _ (limit : ℕ) where
       let b = roomy_ok at (r.term ∷ []) (begun (with_assertion named t r.term)) d a.then in
       let was : WasRead (signature_of named) (record { text = t; term = r.term }) =
       record { before = sig; after = []; found = r; read = read; same = refl; names = signature_with s r.made ∙ sym (append-nil (signatures.with_definitions sig r.made)) } in
-      let room = second_holds (nat_le (length (signature_of named)) limit) (nat_le (length (subterms_of (r.term ∷ []))) limit) b.0 in
+      let room = (and_parts (nat_le (length (signature_of named)) limit) (nat_le (length (subterms_of (r.term ∷ []))) limit) b.0).1 in
       subst (λ (x : Taken). IsKept limit x.stack) b.1
-      (kept_asserted named t r.term (record { read = was; sort = sorted; room = room }) (kept_with s r.made (fine script sig [] t r read (h.names, tt)).0 h))
+      (kept_asserted named t r.term (record { read = was; sort = sorted; room = room }) (kept_with s r.made (fine script sig [] t r read (h.names, tt)).0 (text_keeps_sorts script sig [] t r h.sorts read) h))
   performed_kept at s (CheckSat place) d e h =
       let a = went _ _ d e in
-      subst (λ (x : Taken). IsKept limit x.stack) (answer (Ok _) d a.then) (record { names = h.names; assertions = h.assertions })
+      subst (λ (x : Taken). IsKept limit x.stack) (answer (Ok _) d a.then) (record { names = h.names; sorts = h.sorts; assertions = h.assertions })
   performed_kept at s (Echo text) d e h = subst (λ (x : Taken). IsKept limit x.stack) (answer (Ok _) d e) h
   performed_kept at s Exit d e h = subst (λ (x : Taken). IsKept limit x.stack) (answer (Ok _) d e) h
 
@@ -189,7 +193,7 @@ module _ (limit : ℕ) where
 
   -- nothing is declared and asserted at first
   pub empty_kept : IsKept limit empty_stack
-  empty_kept = record { names = tt; assertions = All-nil (IsAsserted limit []) }
+  empty_kept = record { names = tt; sorts = All-nil (IsDeclaredOver []); assertions = All-nil (IsAsserted limit []) }
 
 -- what was read has its text's value, with all names
 read_value : (s : Signature) (a : Assertion) (i : Interpretation) → AreSound s → WasRead s a → value_under i s a.text ≡ value_at i [] a.term
@@ -200,3 +204,24 @@ read_value s a i names w =
 -- each assertion that is kept has its text's value
 pub kept_values : (limit : ℕ) (s : Stack) (i : Interpretation) → IsKept limit s → All (λ (a : Assertion). value_under i (signature_of s) a.text ≡ value_at i [] a.term) (assertions_of s)
 kept_values limit s i h = All-weaker (IsAsserted limit (signature_of s)) (λ (a : Assertion). value_under i (signature_of s) a.text ≡ value_at i [] a.term) (λ a w. read_value (signature_of s) a i h.names w.read) (assertions_of s) h.assertions
+
+-- what was read with well-sorted names is a formula
+asserted_formula : (limit : ℕ) (s : Signature) (a : Assertion) → AreWellSorted s → IsAsserted limit s a → IsFormulaOver (symbols_in s) a.term
+asserted_formula limit s a sorts w =
+    let r = w.read in
+    let now = subst AreWellSorted r.names sorts in
+    let found = subst (λ x. IsWellSorted (symbols_in x) [] r.found.term) (sym r.names) (term_later r.before r.after script a.text r.found r.read now) in
+    record { term = subst (IsWellSorted (symbols_in s) []) r.same found; sort = sym (same_sort_is Truth (sort_of a.term) w.sort) }
+
+-- each assertion that is kept is a formula
+pub kept_formulas : (limit : ℕ) (s : Stack) → IsKept limit s → All (λ (a : Assertion). IsFormulaOver (symbols_in (signature_of s)) a.term) (assertions_of s)
+kept_formulas limit s h = All-weaker (IsAsserted limit (signature_of s)) (λ (a : Assertion). IsFormulaOver (symbols_in (signature_of s)) a.term) (λ a w. asserted_formula limit (signature_of s) a h.sorts w) (assertions_of s) h.assertions
+
+-- and its text has a truth value
+pub kept_truths : (limit : ℕ) (s : Stack) (i : Interpretation) → IsKept limit s → Interprets i (symbols_in (signature_of s)) → All (λ (a : Assertion). (b : Bool) × (value_under i (signature_of s) a.text ≡ truth b)) (assertions_of s)
+kept_truths limit s i h interprets = All-weaker (IsAsserted limit (signature_of s)) (λ (a : Assertion). (b : Bool) × (value_under i (signature_of s) a.text ≡ truth b)) has_truth (assertions_of s) h.assertions
+  where
+    has_truth : (a : Assertion) → IsAsserted limit (signature_of s) a → (b : Bool) × (value_under i (signature_of s) a.text ≡ truth b)
+    has_truth a w =
+        let v = formula_value i (symbols_in (signature_of s)) a.term interprets (asserted_formula limit (signature_of s) a h.sorts w) in
+        (v.0, read_value (signature_of s) a i h.names w.read ∙ v.1)

@@ -5,6 +5,7 @@ use Rattle.spec_sorts.specs.Signatures.{Signature, with_definitions}
 use Rattle.spec_reading.specs.Names.{script}
 use Rattle.spec_reading.specs.Reading.{Reading, reading}
 use Rattle.spec_sorts.specs.Subterms.{subterms_of}
+use Rattle.spec_reading.specs.WellSorted.{AreWellSorted}
 use Rattle.spec_reading.specs.Agreement.{AreSound}
 use Rattle.spec_commands.specs.Stack.{Assertion, Stack, signature_of, assertions_of}
 
@@ -36,5 +37,7 @@ pub record IsAsserted (limit : ℕ) (s : Signature) (a : Assertion) : Type 0 whe
 pub record IsKept (limit : ℕ) (s : Stack) : Type 0 where
   -- each name gives by its text what its term gives
   pub names : AreSound (signature_of s)
+  -- each definition stands for a well-sorted term
+  pub sorts : AreWellSorted (signature_of s)
   -- the assertions were read, and fit in
   pub assertions : All (IsAsserted limit (signature_of s)) (assertions_of s)

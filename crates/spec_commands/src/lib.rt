@@ -5,11 +5,13 @@
 //! `specs/`.
 #![tactic(auto)]
 
-ghost use Rattle.std.specs.Prelude.{◌≡◌, ℕ, List, [], All, Ok, Err};
+ghost use Rattle.std.specs.Prelude.{◌≡◌, ℕ, Bool, List, [], All, Ok, Err};
 ghost use Rattle.spec_text.specs.Trees.{Tree};
 ghost use Rattle.spec_text.specs.Faults.{Located};
 ghost use Rattle.spec_text.specs.Offsets.{HasOffset};
-ghost use Rattle.spec_sorts.specs.Values.{Interpretation};
+ghost use Rattle.spec_sorts.specs.WellSorted.{IsFormulaOver};
+ghost use Rattle.spec_sorts.specs.Values.{truth, Interpretation, Interprets};
+ghost use Rattle.spec_sorts.specs.Signatures.{symbols_in};
 ghost use Rattle.spec_sorts.specs.TermValues.{value_at};
 ghost use Rattle.spec_sorts.specs.Meaning.{value_under};
 ghost use Rattle.spec_commands.specs.Stack.{Assertion, Stack, Taken, empty_stack, signature_of, assertions_of, step};
@@ -21,9 +23,10 @@ pub fn faults_stand_in_their_command()
     ensures { (limit : ℕ) (s : Stack) (t : Tree) (f : Located) → step limit s t ≡ Err f → HasOffset t f.offset }
 {}
 
-/// States that commands leave what they should, under any limit: nothing is declared or asserted at first, and after a
-/// command that is taken names give by their texts what their terms give, and assertions have terms that were read of
-/// their texts, are of sort Bool and fit in. Later names change no value. Source: SMT-LIB 2.6, section 4.1.4.
+/// States that commands leave what they should, under any limit: nothing is declared or asserted at first. After a
+/// command that is taken names give by their texts what their terms give, and definitions stand for well-sorted terms.
+/// Assertions have terms that were read of their texts, are of sort Bool and fit in. Later names change no value.
+/// Source: SMT-LIB 2.6, section 4.1.4.
 pub fn commands_keep_stacks()
     ensures first { (limit : ℕ) → IsKept limit empty_stack }
     ensures next { (limit : ℕ) (s : Stack) (t : Tree) (d : Taken) → step limit s t ≡ Ok d → IsKept limit s
@@ -38,5 +41,19 @@ pub fn assertions_have_their_texts_value()
     ensures kept { (limit : ℕ) (text : List ℕ) (k : ℕ) (c : Check) → IsCurrent limit text k c → IsKept limit c.stack }
     ensures value { (limit : ℕ) (text : List ℕ) (k : ℕ) (c : Check) → IsCurrent limit text k c → (i : Interpretation)
         → All (λ (a : Assertion). value_under i (signature_of c.stack) a.text ≡ value_at i [] a.term)
+        (assertions_of c.stack) }
+{}
+
+/// States that each assertion is a formula over the declared symbols. Under an interpretation of these its text has a
+/// truth value. It is so after commands that were taken, and so at each check. Source: SMT-LIB 2.6, sections 5.2 and 5.3.
+pub fn assertions_are_formulas()
+    ensures formula { (limit : ℕ) (s : Stack) → IsKept limit s
+        → All (λ (a : Assertion). IsFormulaOver (symbols_in (signature_of s)) a.term) (assertions_of s) }
+    ensures value { (limit : ℕ) (s : Stack) (i : Interpretation) → IsKept limit s
+        → Interprets i (symbols_in (signature_of s))
+        → All (λ (a : Assertion). (b : Bool) × (value_under i (signature_of s) a.text ≡ truth b)) (assertions_of s) }
+    ensures at_check { (limit : ℕ) (text : List ℕ) (k : ℕ) (c : Check) → IsCurrent limit text k c
+        → (i : Interpretation) → Interprets i (symbols_in (signature_of c.stack))
+        → All (λ (a : Assertion). (b : Bool) × (value_under i (signature_of c.stack) a.text ≡ truth b))
         (assertions_of c.stack) }
 {}
