@@ -13,8 +13,6 @@ mod frames;
 mod functions;
 mod limit;
 mod read;
-#[cfg(test)]
-mod tests;
 mod values;
 
 pub use definitions::Definitions;

@@ -11,8 +11,6 @@ mod rule_fails;
 mod sorts;
 mod symbols;
 mod terms;
-#[cfg(test)]
-mod tests;
 mod valuation;
 mod values;
 

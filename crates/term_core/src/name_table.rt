@@ -86,32 +86,3 @@ impl NameTable {
         Ok(())
     }
 }
-
-#[cfg(test)]
-mod tests {
-    use super::*;
-    use std::test::Fail;
-
-    #[test]
-    fn finds_names_by_their_numbers(rt: HostRuntime) -> Result<(), Fail> {
-        let mut names = NameTable::new(rt.alloc());
-        assert!(rt; names.len() == 0);
-        assert!(rt; names.find(b"p") == None);
-        let all = [
-            b"p".as_slice(),
-            b"".as_slice(),
-            b"q p".as_slice(),
-            b"P".as_slice(),
-        ];
-        for (number, name) in all.iter().enumerate() {
-            if names.find(name) == None {
-                assert!(rt; names.add(name).is_ok());
-            }
-            assert!(rt; names.find(name) == Some(number as u64));
-        }
-        assert!(rt; names.len() == 4);
-        assert!(rt; names.find(b"p") == Some(0));
-        assert!(rt; names.find(b"q") == None);
-        Ok(())
-    }
-}
