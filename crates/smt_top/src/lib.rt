@@ -6,32 +6,12 @@ mod arguments;
 mod arguments_tests;
 mod buffered;
 mod check_run;
-#[cfg(test)]
-mod fault_tests;
-#[cfg(test)]
-mod handing_tests;
 mod in_memory;
-#[cfg(test)]
-mod model_rows;
 mod output;
-#[cfg(test)]
-mod proof_tests;
 mod read;
-#[cfg(test)]
-mod reading_tests;
-#[cfg(test)]
-mod refusal_rows;
-#[cfg(test)]
-mod run_tests;
-#[cfg(test)]
-mod script_rows;
-#[cfg(test)]
-mod test_support;
 #[cfg(test)]
 mod tests;
 mod verdict;
-#[cfg(test)]
-mod verdict_rows;
 
 pub use buffered::run_buffered;
 pub use check_run::run;

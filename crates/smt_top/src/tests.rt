@@ -1,13 +1,20 @@
-//! Parts of a run, where no text is needed.
+//! What no run shows: the status of memory that ran out, and a fault whose line has the most digits.
 
-use crate::arguments::Names;
-use crate::read::read_both;
-use crate::test_support::{AMPLE, LIMIT, PROOF, padded, shelf_of, sink_of};
 use crate::verdict::report;
 use alethe_check::{Place, ProofFault, ProofKind, ProofStop};
 use smt_session::Status;
 use spec_text::Fault;
+use std::alloc::Global;
 use std::test::Fail;
+use world_io::{MemSink, NoMemory};
+
+/// More bytes than any text has that is written here.
+const AMPLE: u64 = 4096;
+
+/// Makes a sink of so much room, which takes at most `most` bytes a write, and fails the writes in `failing`.
+fn sink_of(alloc: Global, room: u64, most: u64, failing: &[u64]) -> Result<MemSink, NoMemory> {
+    MemSink::new(alloc, room, most, Vec::from_slice(alloc, failing)?)
+}
 
 #[test]
 fn statuses_have_their_numbers(rt: HostRuntime) -> Result<(), Fail> {
@@ -17,23 +24,6 @@ fn statuses_have_their_numbers(rt: HostRuntime) -> Result<(), Fail> {
     assert_eq!(rt; Status::Memory.code(), 3);
     assert_eq!(rt; Status::ReadFault.code(), 4);
     assert_eq!(rt; Status::WriteFault.code(), 5);
-    Ok(())
-}
-
-#[test]
-fn texts_are_read_to_the_limit(rt: HostRuntime) -> Result<(), Fail> {
-    // Of what is read, one byte is more than a text may have.
-    for (len, want) in [(0, 0), (LIMIT + 2, LIMIT + 1)] {
-        let script = padded(rt.alloc(), "", len)?;
-        let mut shelf = shelf_of(rt.alloc(), script, PROOF.as_bytes(), &[])?;
-        let names = Names {
-            script: "script.smt2",
-            proof: "proof.alethe",
-        };
-        let texts = read_both(rt.alloc(), &mut shelf, names)?;
-        assert_eq!(rt; texts.script.len(), want, "{len}");
-        assert_eq!(rt; texts.proof.as_slice(), PROOF.as_bytes());
-    }
     Ok(())
 }
 

@@ -1,7 +1,9 @@
 //! Models that `certify` writes, of scripts that have one alone.
 
-/// Scripts with one model: of no constant, of one, in the order of the declarations, with names between bars, of each connective, of a shared term, of each check, and after refused commands.
+/// Scripts with one model: of no constant, of one, in the order of the declarations, with names between bars, of each connective, of a shared term, of each check, and after
+/// refused commands; and scripts by which some constants hold, where all others are false.
 pub(crate) const MODELS: &str = "0 smt_cli|certify
+----
 (set-option :print-success false)
 (check-sat)
 ----
@@ -10,6 +12,7 @@ sat
 )
 ====
 0 smt_cli|certify
+----
 (set-option :print-success false)
 (assert true)(assert (not false))(check-sat)
 ----
@@ -18,6 +21,7 @@ sat
 )
 ====
 0 smt_cli|certify
+----
 (set-option :print-success false)
 (declare-const p Bool)(assert p)(check-sat)
 ----
@@ -27,6 +31,7 @@ sat
 )
 ====
 0 smt_cli|certify
+----
 (set-option :print-success false)
 (declare-const p Bool)(assert (not p))(check-sat)
 ----
@@ -36,6 +41,7 @@ sat
 )
 ====
 0 smt_cli|certify
+----
 (set-option :print-success false)
 (declare-const b Bool)(assert b)(declare-const a Bool)(assert (not (or a false)))(check-sat)
 ----
@@ -46,6 +52,7 @@ sat
 )
 ====
 0 smt_cli|certify
+----
 (set-option :print-success false)
 (declare-const |two words| Bool)(declare-const |p| Bool)(assert (and |two words| (not p)))(check-sat)
 ----
@@ -56,6 +63,7 @@ sat
 )
 ====
 0 smt_cli|certify
+----
 (set-option :print-success false)
 (declare-const |let| Bool)(declare-const || Bool)(declare-const |5a| Bool)(declare-const |a;b| Bool)(assert (and |let| || |5a| |a;b|))(check-sat)
 ----
@@ -68,6 +76,7 @@ sat
 )
 ====
 0 smt_cli|certify
+----
 (set-option :print-success false)
 (declare-const Bool |Bool|)(declare-const unsat Bool)(declare-const ~!$%^&*_-+=.? Bool)(assert (and (not Bool) unsat ~!$%^&*_-+=.?))(check-sat)
 ----
@@ -79,6 +88,7 @@ sat
 )
 ====
 0 smt_cli|certify
+----
 (set-option :print-success false)
 (declare-const p Bool)(declare-const q Bool)(assert (and (or p) (and (not q))))(check-sat)
 ----
@@ -89,6 +99,7 @@ sat
 )
 ====
 0 smt_cli|certify
+----
 (set-option :print-success false)
 (declare-const p Bool)(declare-const q Bool)(declare-const r Bool)(assert (or p q r))(assert (not (or p r)))(check-sat)
 ----
@@ -100,6 +111,7 @@ sat
 )
 ====
 0 smt_cli|certify
+----
 (set-option :print-success false)
 (declare-const p Bool)(declare-const q Bool)(declare-const r Bool)(assert (not (=> p q r)))(check-sat)
 ----
@@ -111,6 +123,7 @@ sat
 )
 ====
 0 smt_cli|certify
+----
 (set-option :print-success false)
 (declare-const p Bool)(declare-const q Bool)(declare-const r Bool)(assert (= p q r))(assert q)(check-sat)
 ----
@@ -122,6 +135,7 @@ sat
 )
 ====
 0 smt_cli|certify
+----
 (set-option :print-success false)
 (declare-const p Bool)(declare-const q Bool)(declare-const r Bool)(assert (xor p q r))(assert (and p q))(check-sat)
 ----
@@ -133,6 +147,7 @@ sat
 )
 ====
 0 smt_cli|certify
+----
 (set-option :print-success false)
 (declare-const p Bool)(declare-const q Bool)(assert (distinct p q))(assert q)(check-sat)
 ----
@@ -143,6 +158,7 @@ sat
 )
 ====
 0 smt_cli|certify
+----
 (set-option :print-success false)
 (declare-const p Bool)(declare-const q Bool)(declare-const r Bool)(assert (ite p q r))(assert (not (ite p r (not q))))(assert p)(check-sat)
 ----
@@ -154,6 +170,7 @@ sat
 )
 ====
 0 smt_cli|certify
+----
 (set-option :print-success false)
 (declare-const p Bool)(declare-const q Bool)(declare-const r Bool)(assert (= r (and p q)))(assert (xor (and p q) (not r)))(assert (or (and p q) (not (or p q))))(assert (or p q))(check-sat)
 ----
@@ -165,6 +182,7 @@ sat
 )
 ====
 0 smt_cli|certify
+----
 (set-option :print-success false)
 (declare-const p Bool)(assert p)(check-sat)(declare-const q Bool)(assert (= q (not p)))(check-sat)
 ----
@@ -179,6 +197,7 @@ sat
 )
 ====
 1 smt_cli|certify
+----
 (set-option :print-success false)
 (declare-const p Bool)(declare-const @q Bool)
 (assert (and p r))(assert (not p))(check-sat)
@@ -188,5 +207,65 @@ sat
 sat
 (
   (define-fun p () Bool false)
+)
+====
+0 smt_cli|certify
+----
+(set-option :print-success false)
+(declare-const a Bool)(declare-const b Bool)(declare-const c Bool)(check-sat)
+----
+sat
+(
+  (define-fun a () Bool false)
+  (define-fun b () Bool false)
+  (define-fun c () Bool false)
+)
+====
+0 smt_cli|certify
+----
+(set-option :print-success false)
+(declare-const a Bool)(declare-const b Bool)(declare-const c Bool)(assert a)(check-sat)
+----
+sat
+(
+  (define-fun a () Bool true)
+  (define-fun b () Bool false)
+  (define-fun c () Bool false)
+)
+====
+0 smt_cli|certify
+----
+(set-option :print-success false)
+(declare-const a Bool)(declare-const b Bool)(declare-const c Bool)(assert c)(assert (not a))(assert b)(check-sat)
+----
+sat
+(
+  (define-fun a () Bool false)
+  (define-fun b () Bool true)
+  (define-fun c () Bool true)
+)
+====
+0 smt_cli|certify
+----
+(set-option :print-success false)
+(declare-const a Bool)(declare-const b Bool)(declare-const c Bool)(assert (not a))(assert (not a))(check-sat)
+----
+sat
+(
+  (define-fun a () Bool false)
+  (define-fun b () Bool false)
+  (define-fun c () Bool false)
+)
+====
+0 smt_cli|certify
+----
+(set-option :print-success false)
+(declare-const a Bool)(declare-const b Bool)(declare-const c Bool)(assert (and a b))(assert b)(assert (not (not a)))(assert a)(check-sat)
+----
+sat
+(
+  (define-fun a () Bool true)
+  (define-fun b () Bool true)
+  (define-fun c () Bool false)
 )
 ";

@@ -2,6 +2,7 @@
 
 /// The forms of a proof, faults of one command, faults at the end, a check that is not there, and a disjunction.
 pub(crate) const VERDICTS: &str = "0 smt_cli|check|script.smt2|proof.alethe
+----
 (declare-const p Bool)(assert p)(assert (not p))(check-sat)
 
 ----
@@ -13,6 +14,7 @@ pub(crate) const VERDICTS: &str = "0 smt_cli|check|script.smt2|proof.alethe
 valid
 ====
 0 smt_cli|check|script.smt2|proof.alethe
+----
 (declare-const p Bool)(assert p)(assert (not p))(check-sat)
 
 ----
@@ -24,6 +26,7 @@ valid
 valid
 ====
 0 smt_cli|check|script.smt2|proof.alethe
+----
 (declare-const p Bool)(assert p)(assert (not p))(check-sat)
 
 ----
@@ -36,6 +39,7 @@ unsat
 valid
 ====
 0 smt_cli|check|script.smt2|proof.alethe
+----
 (declare-const p Bool)(assert p)(assert (not p))(check-sat)
 
 ----
@@ -48,6 +52,7 @@ unsat
 valid
 ====
 1 smt_cli|check|script.smt2|proof.alethe
+----
 (declare-const p Bool)(assert p)(assert (not p))(check-sat)
 
 ----
@@ -59,6 +64,7 @@ valid
 (error \"3:46: UnknownPremise\")
 ====
 1 smt_cli|check|script.smt2|proof.alethe
+----
 (declare-const p Bool)(assert p)(assert (not p))(check-sat)
 
 ----
@@ -70,6 +76,7 @@ valid
 (error \"3:21: UnknownRule\")
 ====
 1 smt_cli|check|script.smt2|proof.alethe
+----
 (declare-const p Bool)(assert p)(assert (not p))(check-sat)
 
 ----
@@ -81,6 +88,7 @@ valid
 (error \"3:1: RuleFails\")
 ====
 1 smt_cli|check|script.smt2|proof.alethe
+----
 (declare-const p Bool)(assert p)(assert (not p))(check-sat)
 
 ----
@@ -92,6 +100,7 @@ valid
 (error \"2:17: UnknownSymbol\")
 ====
 1 smt_cli|check|script.smt2|proof.alethe
+----
 (declare-const p Bool)(assert p)(assert (not p))(check-sat)
 
 ----
@@ -103,6 +112,7 @@ valid
 (error \"2:12: NotAsserted\")
 ====
 1 smt_cli|check|script.smt2|proof.alethe
+----
 (declare-const p Bool)(assert p)(assert (not p))(check-sat)
 
 ----
@@ -114,6 +124,7 @@ valid
 (error \"2:9: TwiceName\")
 ====
 1 smt_cli|check|script.smt2|proof.alethe
+----
 (declare-const p Bool)(assert p)(assert (not p))(check-sat)
 
 ----
@@ -123,6 +134,7 @@ valid
 (error \"2:13: UnclosedList\")
 ====
 1 smt_cli|check|script.smt2|proof.alethe
+----
 (declare-const p Bool)(assert p)(assert (not p))(check-sat)
 
 ----
@@ -132,6 +144,7 @@ valid
 (error \"2:1: NoEmptyClause\")
 ====
 1 smt_cli|check|--at|2|script.smt2|proof.alethe
+----
 (declare-const p Bool)(assert p)(assert (not p))(check-sat)
 
 ----
@@ -143,6 +156,7 @@ valid
 (error \"1:1: NoSuchCheck\")
 ====
 1 smt_cli|check|--at|2|script.smt2|proof.alethe
+----
 (set-option :print-success false)
 (declare-const p Bool)(declare-const q Bool)(assert (or p q))(assert (not p))(assert (not q))(check-sat)
 
@@ -157,6 +171,7 @@ valid
 (error \"1:1: NoSuchCheck\")
 ====
 0 smt_cli|check|script.smt2|proof.alethe
+----
 (set-option :print-success false)
 (declare-const p Bool)(declare-const q Bool)(assert (or p q))(assert (not p))(assert (not q))(check-sat)
 
@@ -171,6 +186,7 @@ valid
 valid
 ====
 1 smt_cli|check|script.smt2|proof.alethe
+----
 (set-option :print-success false)
 (declare-const p Bool)(declare-const q Bool)(assert (or p q))(assert (not p))(assert (not q))(check-sat)
 
@@ -185,6 +201,7 @@ valid
 (error \"5:1: RuleFails\")
 ====
 0 smt_cli|check|script.smt2|proof.alethe
+----
 (set-option :print-success false)
 (declare-const p Bool)(declare-const q Bool)(assert (or p q))(assert (not p))(assert (not q))(check-sat)
 
@@ -202,6 +219,7 @@ valid
 
 /// Bytes that begin no token, or end none; what does not end; what closes nothing; a refused command before it.
 pub(crate) const BROKEN: &str = "1 smt_cli|solve
+----
 (set-option :print-success false)
 (check-sat)
 (assert #b1)
@@ -211,6 +229,7 @@ sat
 (error \"3:9: BadChar\")
 ====
 1 smt_cli|solve
+----
 (set-option :print-success false)
 (assert 1a)
 (check-sat)
@@ -218,6 +237,7 @@ sat
 (error \"2:10: BadChar\")
 ====
 1 smt_cli|solve
+----
 (set-option :print-success false)
 (assert 01)
 (check-sat)
@@ -225,6 +245,7 @@ sat
 (error \"2:10: BadChar\")
 ====
 1 smt_cli|solve
+----
 (set-option :print-success false)
 (assert 1.)
 (check-sat)
@@ -232,6 +253,7 @@ sat
 (error \"2:10: BadChar\")
 ====
 1 smt_cli|solve
+----
 (set-option :print-success false)
 (assert |a\\b|)
 (check-sat)
@@ -239,6 +261,7 @@ sat
 (error \"2:11: BadChar\")
 ====
 1 smt_cli|solve
+----
 (set-option :print-success false)
 (set-option : true)
 (check-sat)
@@ -246,6 +269,7 @@ sat
 (error \"2:13: BadChar\")
 ====
 1 smt_cli|solve
+----
 (set-option :print-success false)
 (check-sat)
 (echo \"open\"\")
@@ -255,6 +279,7 @@ sat
 (error \"3:7: UnclosedString\")
 ====
 1 smt_cli|solve
+----
 (set-option :print-success false)
 (check-sat)
 (assert |open)
@@ -264,6 +289,7 @@ sat
 (error \"3:9: UnclosedQuote\")
 ====
 1 smt_cli|solve
+----
 (set-option :print-success false)
 (check-sat)
 (assert true
@@ -272,6 +298,7 @@ sat
 (error \"3:13: UnclosedList\")
 ====
 1 smt_cli|solve
+----
 (set-option :print-success false)
 (check-sat)(assert
  (not
@@ -281,6 +308,7 @@ sat
 (error \"4:1: UnclosedList\")
 ====
 1 smt_cli|solve
+----
 (set-option :print-success false)
 (check-sat)(check-sat ; )
 ----
@@ -288,12 +316,14 @@ sat
 (error \"2:26: UnclosedList\")
 ====
 1 smt_cli|solve
+----
 (set-option :print-success false)
 )(check-sat)
 ----
 (error \"2:1: StrayClose\")
 ====
 1 smt_cli|solve
+----
 (set-option :print-success false)
 (check-sat)
  (assert true))(check-sat)
@@ -302,6 +332,7 @@ sat
 (error \"3:15: StrayClose\")
 ====
 1 smt_cli|solve
+----
 (set-option :print-success false)
 (foo)
 (check-sat))

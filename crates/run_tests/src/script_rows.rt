@@ -2,30 +2,36 @@
 
 /// Scripts with their transcripts: what has no command, each answer, ends of a run, options, several checks.
 pub(crate) const TRANSCRIPTS: &str = "0 smt_cli|solve
+----
 
 ----
 ====
 0 smt_cli|certify
+----
 
 ----
 ====
 0 smt_cli|solve
+----
  ; a note
 ----
 ====
 0 smt_cli|certify
+----
 
 \r\t ; (check-sat)
 
 ----
 ====
 0 smt_cli|solve
+----
 (set-option :print-success false)
 (check-sat)
 ----
 sat
 ====
 0 smt_cli|certify
+----
 (set-option :print-success false)
 (check-sat)
 ----
@@ -34,12 +40,14 @@ sat
 )
 ====
 0 smt_cli|solve
+----
 (assert false)(check-sat)
 ----
 success
 unsat
 ====
 0 smt_cli|certify
+----
 (assert false)(check-sat)
 ----
 success
@@ -52,6 +60,7 @@ unsat
 )
 ====
 1 smt_cli|solve
+----
 (set-option :print-success false)
 (check-sat)
 (echo \"open
@@ -60,6 +69,7 @@ sat
 (error \"3:7: UnclosedString\")
 ====
 1 smt_cli|certify
+----
 (set-option :print-success false)
 (check-sat)
 (echo \"open
@@ -70,16 +80,19 @@ sat
 (error \"3:7: UnclosedString\")
 ====
 0 smt_cli|solve
+----
 (exit)
 ----
 success
 ====
 0 smt_cli|solve
+----
 (exit)(check-sat)
 ----
 success
 ====
 0 smt_cli|certify
+----
 (check-sat)(exit)(check-sat)(
 ----
 sat
@@ -88,28 +101,33 @@ sat
 success
 ====
 0 smt_cli|solve
+----
 (set-option :print-success false)(exit))
 ----
 ====
 1 smt_cli|solve
+----
 (foo)(exit)(foo)
 ----
 (error \"1:2: UnknownCommand\")
 success
 ====
 1 smt_cli|solve
+----
 (exit 1)(check-sat)
 ----
 (error \"1:1: BadShape\")
 sat
 ====
 0 smt_cli|solve
+----
 (set-option :verbosity 1)(check-sat)
 ----
 unsupported
 sat
 ====
 0 smt_cli|solve
+----
 (set-option :print-success false)(set-option :produce-models true)(set-option :verbosity (a \"b\"))(check-sat)
 ----
 unsupported
@@ -117,6 +135,7 @@ unsupported
 sat
 ====
 0 smt_cli|solve
+----
 (set-option :print-success true)(declare-const p Bool)(assert p)(check-sat)
 ----
 success
@@ -125,6 +144,7 @@ success
 sat
 ====
 0 smt_cli|solve
+----
 (set-option :print-success false)(declare-const p Bool)(set-option :print-success true)(assert p)(set-option :print-success false)(check-sat)
 ----
 success
@@ -132,6 +152,7 @@ success
 sat
 ====
 1 smt_cli|solve
+----
 (set-option :print-success maybe)(assert true)(check-sat)
 ----
 (error \"1:1: BadShape\")
@@ -139,6 +160,7 @@ success
 sat
 ====
 0 smt_cli|solve
+----
 (set-option :print-success false)(declare-const p Bool)(check-sat)(assert p)(check-sat)(assert (not p))(check-sat)(check-sat)
 ----
 sat
@@ -147,6 +169,7 @@ unsat
 unsat
 ====
 1 smt_cli|solve
+----
 (declare-const p Bool)
 (assert (and p q))
 (assert (not p))(check-sat)
@@ -162,30 +185,35 @@ unsat
 
 /// The eight disjunctions of three constants or their negations, which one learned clause does not refute, under budgets.
 pub(crate) const BUDGETS: &str = "0 smt_cli|solve
+----
 (set-option :print-success false)
 (declare-const a Bool)(declare-const b Bool)(declare-const c Bool)(assert (or a b c))(assert (or a b (not c)))(assert (or a (not b) c))(assert (or a (not b) (not c)))(assert (or (not a) b c))(assert (or (not a) b (not c)))(assert (or (not a) (not b) c))(assert (or (not a) (not b) (not c)))(check-sat)
 ----
 unsat
 ====
 0 smt_cli|solve|--conflicts|8
+----
 (set-option :print-success false)
 (declare-const a Bool)(declare-const b Bool)(declare-const c Bool)(assert (or a b c))(assert (or a b (not c)))(assert (or a (not b) c))(assert (or a (not b) (not c)))(assert (or (not a) b c))(assert (or (not a) b (not c)))(assert (or (not a) (not b) c))(assert (or (not a) (not b) (not c)))(check-sat)
 ----
 unsat
 ====
 0 smt_cli|solve|--conflicts|1000000000|--pivots|1
+----
 (set-option :print-success false)
 (declare-const a Bool)(declare-const b Bool)(declare-const c Bool)(assert (or a b c))(assert (or a b (not c)))(assert (or a (not b) c))(assert (or a (not b) (not c)))(assert (or (not a) b c))(assert (or (not a) b (not c)))(assert (or (not a) (not b) c))(assert (or (not a) (not b) (not c)))(check-sat)
 ----
 unsat
 ====
 0 smt_cli|solve|--conflicts|1
+----
 (set-option :print-success false)
 (declare-const a Bool)(declare-const b Bool)(declare-const c Bool)(assert (or a b c))(assert (or a b (not c)))(assert (or a (not b) c))(assert (or a (not b) (not c)))(assert (or (not a) b c))(assert (or (not a) b (not c)))(assert (or (not a) (not b) c))(assert (or (not a) (not b) (not c)))(check-sat)
 ----
 unknown
 ====
 0 smt_cli|certify|--conflicts|1
+----
 (set-option :print-success false)
 (declare-const a Bool)(declare-const b Bool)(declare-const c Bool)(assert (or a b c))(assert (or a b (not c)))(assert (or a (not b) c))(assert (or a (not b) (not c)))(assert (or (not a) b c))(assert (or (not a) b (not c)))(assert (or (not a) (not b) c))(assert (or (not a) (not b) (not c)))(check-sat)
 ----
@@ -193,6 +221,7 @@ unknown
 (conflicts 1)
 ====
 0 smt_cli|certify|--pivots=2|--conflicts=1
+----
 (set-option :print-success false)
 (declare-const a Bool)(declare-const b Bool)(declare-const c Bool)(assert (or a b c))(assert (or a b (not c)))(assert (or a (not b) c))(assert (or a (not b) (not c)))(assert (or (not a) b c))(assert (or (not a) b (not c)))(assert (or (not a) (not b) c))(assert (or (not a) (not b) (not c)))(check-sat)
 ----
@@ -202,6 +231,7 @@ unknown
 
 /// Three checks of them.
 pub(crate) const AGAIN: &str = "0 smt_cli|solve|--conflicts|8
+----
 (declare-const a Bool)(declare-const b Bool)(declare-const c Bool)(assert (or a b c))(assert (or a b (not c)))(assert (or a (not b) c))(assert (or a (not b) (not c)))(assert (or (not a) b c))(assert (or (not a) b (not c)))(assert (or (not a) (not b) c))(assert (or (not a) (not b) (not c)))(check-sat)(check-sat)(check-sat)
 ----
 success
@@ -220,6 +250,7 @@ unsat
 unsat
 ====
 0 smt_cli|solve|--conflicts|1
+----
 (declare-const a Bool)(declare-const b Bool)(declare-const c Bool)(assert (or a b c))(assert (or a b (not c)))(assert (or a (not b) c))(assert (or a (not b) (not c)))(assert (or (not a) b c))(assert (or (not a) b (not c)))(assert (or (not a) (not b) c))(assert (or (not a) (not b) (not c)))(check-sat)(check-sat)(check-sat)
 ----
 success
@@ -240,12 +271,14 @@ unknown
 
 /// Runs of scripts: an answer, a proof, a model and a refused command, an option that is not known, and a text that cannot be read on.
 pub(crate) const WRITTEN: &str = "0 smt_cli|solve
+----
 (assert false)(check-sat)
 ----
 success
 unsat
 ====
 0 smt_cli|certify
+----
 (assert false)(check-sat)
 ----
 success
@@ -258,6 +291,7 @@ unsat
 )
 ====
 1 smt_cli|certify
+----
 (declare-const |a b| Bool)(assert |a b|)
 (check-sat)(foo)
 ----
@@ -270,6 +304,7 @@ sat
 (error \"2:13: UnknownCommand\")
 ====
 0 smt_cli|solve
+----
 (set-option :verbosity 1)(check-sat)(exit)(check-sat)
 ----
 unsupported
@@ -277,6 +312,7 @@ sat
 success
 ====
 1 smt_cli|solve
+----
 (check-sat)
 )
 ----

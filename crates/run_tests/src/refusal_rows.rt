@@ -2,6 +2,7 @@
 
 /// What is no command; commands and terms of another form; unknown symbols and sorts; names that are not new; reserved words and names; too many or too few arguments; what was refused is not there, and what comes after it counts.
 pub(crate) const REFUSED: &str = "1 smt_cli|solve
+----
 (set-option :print-success false)
 (foo)
 (check-sat)
@@ -10,6 +11,7 @@ pub(crate) const REFUSED: &str = "1 smt_cli|solve
 sat
 ====
 1 smt_cli|solve
+----
 (set-option :print-success false)
  (|assert| true)
 (check-sat)
@@ -18,6 +20,7 @@ sat
 sat
 ====
 1 smt_cli|solve
+----
 (set-option :print-success false)
 ((assert true))
 (check-sat)
@@ -26,6 +29,7 @@ sat
 sat
 ====
 1 smt_cli|solve
+----
 (set-option :print-success false)
 (5)
 (check-sat)
@@ -34,6 +38,7 @@ sat
 sat
 ====
 1 smt_cli|solve
+----
 (set-option :print-success false)
 
 (push 1)
@@ -47,6 +52,7 @@ sat
 sat
 ====
 1 smt_cli|solve
+----
 (set-option :print-success false)
 ()
 (check-sat)
@@ -55,6 +61,7 @@ sat
 sat
 ====
 1 smt_cli|solve
+----
 (set-option :print-success false)
 x (check-sat)
 ----
@@ -62,6 +69,7 @@ x (check-sat)
 sat
 ====
 1 smt_cli|solve
+----
 (set-option :print-success false)
 5 \"s\" :k assert
 (check-sat)
@@ -73,6 +81,7 @@ sat
 sat
 ====
 1 smt_cli|solve
+----
 (set-option :print-success false)
 (assert)
 (check-sat)
@@ -81,6 +90,7 @@ sat
 sat
 ====
 1 smt_cli|solve
+----
 (set-option :print-success false)
 (assert true false)
 (check-sat)
@@ -89,6 +99,7 @@ sat
 sat
 ====
 1 smt_cli|solve
+----
 (set-option :print-success false)
 (check-sat 1)
 (check-sat)
@@ -97,6 +108,7 @@ sat
 sat
 ====
 1 smt_cli|solve
+----
 (set-option :print-success false)
 (exit 1)
 (check-sat)
@@ -105,6 +117,7 @@ sat
 sat
 ====
 1 smt_cli|solve
+----
 (set-option :print-success false)
 (declare-const p)
 (check-sat)
@@ -113,6 +126,7 @@ sat
 sat
 ====
 1 smt_cli|solve
+----
 (set-option :print-success false)
 (declare-const 5 Bool)
 (check-sat)
@@ -121,6 +135,7 @@ sat
 sat
 ====
 1 smt_cli|solve
+----
 (set-option :print-success false)
 (set-option :print-success 1)
 (assert true)(check-sat)
@@ -129,6 +144,7 @@ sat
 sat
 ====
 1 smt_cli|solve
+----
 (set-option :print-success false)
 (set-option print-success true)
 (assert true)(check-sat)
@@ -137,6 +153,7 @@ sat
 sat
 ====
 1 smt_cli|solve
+----
 (set-option :print-success false)
 (assert ())
 (check-sat)
@@ -145,6 +162,7 @@ sat
 sat
 ====
 1 smt_cli|solve
+----
 (set-option :print-success false)
 (assert (and))
 (check-sat)
@@ -153,6 +171,7 @@ sat
 sat
 ====
 1 smt_cli|solve
+----
 (set-option :print-success false)
 (assert \"s\")
 (check-sat)
@@ -161,6 +180,7 @@ sat
 sat
 ====
 1 smt_cli|solve
+----
 (set-option :print-success false)
 (assert (not :k))
 (check-sat)
@@ -169,6 +189,7 @@ sat
 sat
 ====
 1 smt_cli|solve
+----
 (set-option :print-success false)
 (assert p)
 (check-sat)
@@ -177,6 +198,7 @@ sat
 sat
 ====
 1 smt_cli|solve
+----
 (set-option :print-success false)
 (assert (not 5))
 (check-sat)
@@ -185,6 +207,7 @@ sat
 sat
 ====
 1 smt_cli|solve
+----
 (set-option :print-success false)
 (assert (f true))
 (check-sat)
@@ -193,6 +216,7 @@ sat
 sat
 ====
 1 smt_cli|solve
+----
 (set-option :print-success false)
 (assert (f
   (or true g)))
@@ -202,6 +226,7 @@ sat
 sat
 ====
 1 smt_cli|solve
+----
 (set-option :print-success false)
 (declare-const p Int)
 (check-sat)
@@ -210,6 +235,7 @@ sat
 sat
 ====
 1 smt_cli|solve
+----
 (set-option :print-success false)
 (declare-const p (Array Bool Bool))
 (check-sat)
@@ -218,6 +244,7 @@ sat
 sat
 ====
 1 smt_cli|solve
+----
 (set-option :print-success false)
 (declare-const p Bool)
 (declare-const p Bool)
@@ -227,6 +254,7 @@ sat
 sat
 ====
 1 smt_cli|solve
+----
 (set-option :print-success false)
 (declare-const p Bool)
 (declare-const |p| Bool)
@@ -236,6 +264,7 @@ sat
 sat
 ====
 1 smt_cli|solve
+----
 (set-option :print-success false)
 (declare-const distinct Bool)
 (check-sat)
@@ -244,6 +273,7 @@ sat
 sat
 ====
 1 smt_cli|solve
+----
 (set-option :print-success false)
 (declare-const let Bool)
 (check-sat)
@@ -252,6 +282,7 @@ sat
 sat
 ====
 1 smt_cli|solve
+----
 (set-option :print-success false)
 (declare-const @p Bool)
 (check-sat)
@@ -260,6 +291,7 @@ sat
 sat
 ====
 1 smt_cli|solve
+----
 (set-option :print-success false)
 (declare-const |.p| Bool)
 (check-sat)
@@ -268,6 +300,7 @@ sat
 sat
 ====
 1 smt_cli|solve
+----
 (set-option :print-success false)
 (assert (let ((x true)) x))
 (check-sat)
@@ -276,6 +309,7 @@ sat
 sat
 ====
 1 smt_cli|solve
+----
 (set-option :print-success false)
 (assert (! true :named n))
 (check-sat)
@@ -284,6 +318,7 @@ sat
 sat
 ====
 1 smt_cli|solve
+----
 (set-option :print-success false)
 (assert (not check-sat))
 (check-sat)
@@ -292,6 +327,7 @@ sat
 sat
 ====
 1 smt_cli|solve
+----
 (set-option :print-success false)
 (assert (not true false))
 (check-sat)
@@ -300,6 +336,7 @@ sat
 sat
 ====
 1 smt_cli|solve
+----
 (set-option :print-success false)
 (assert (or false (xor true)))
 (check-sat)
@@ -308,6 +345,7 @@ sat
 sat
 ====
 1 smt_cli|solve
+----
 (set-option :print-success false)
 (assert (ite true false))
 (check-sat)
@@ -316,6 +354,7 @@ sat
 sat
 ====
 1 smt_cli|solve
+----
 (set-option :print-success false)
 (assert and)
 (check-sat)
@@ -324,6 +363,7 @@ sat
 sat
 ====
 1 smt_cli|solve
+----
 (set-option :print-success false)
 (declare-const p Bool)
 (assert (p true))
@@ -333,6 +373,7 @@ sat
 sat
 ====
 1 smt_cli|solve
+----
 (set-option :print-success false)
 (declare-const p Bool)
 (assert (and p q))
@@ -346,6 +387,7 @@ sat
 sat
 ====
 1 smt_cli|solve
+----
 (set-option :print-success false)
 (foo)
 (assert false)(check-sat)(foo)
