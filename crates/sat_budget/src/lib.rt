@@ -3,8 +3,6 @@
 
 mod budget;
 mod limits;
-#[cfg(test)]
-mod tests;
 
 pub use budget::Budget;
 pub use limits::{BudgetStop, Limits, Reason};

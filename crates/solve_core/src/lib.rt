@@ -6,19 +6,9 @@
 
 mod analysis;
 mod cdcl;
-#[cfg(test)]
-mod common_tests;
 mod decision;
-#[cfg(test)]
-mod derivation_tests;
-#[cfg(test)]
-mod formula_tests;
-#[cfg(test)]
-mod known_tests;
 mod log_learned;
 mod model;
-#[cfg(test)]
-mod model_tests;
 mod outcome;
 mod propagate;
 mod store;
