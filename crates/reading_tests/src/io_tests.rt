@@ -13,11 +13,11 @@ use world_io::{
     ReadStop, Shelf, Sink, read_all, write_all, write_pieces,
 };
 
-const FOLDER: &str = "reading_tests";
+const FOLDER: &str = "made-by-reading-tests";
 
-const ABSENT: &str = "reading_tests/absent.txt";
+const ABSENT: &str = "made-by-reading-tests/absent.txt";
 
-const FILE: &str = "reading_tests/abc.txt";
+const FILE: &str = "made-by-reading-tests/abc.txt";
 
 /// The name that is begun, `-` where none is; the limit; how many bytes a read gives at most; the calls that are to fail; whether the
 /// text is then read whole, cut or not at all; and what is read. Call 0 is `begin`.
@@ -93,7 +93,8 @@ fn read_named(
     name: &str,
     limit: u64,
 ) -> Result<ReadEnd, ReadStop>
-    ensures sound { shelf.old.failing ≡ [] → 0 < shelf.old.most → IsSome (text_named shelf.old.texts name.now) → result ≢ Err ReadStop.Failed }
+    ensures sound { shelf.old.failing ≡ [] → 0 < shelf.old.most → IsSome (text_named shelf.old.texts name.now)
+        → result ≢ Err ReadStop.Failed }
     ensures end { IfOk result (λ end. IfSome (text_named shelf.old.texts name.now) (IsReadTo limit end)) }
 {
     shelf.begin(name)?;
@@ -102,7 +103,8 @@ fn read_named(
 
 /// Writes to a sink in memory: no fault comes where none is asked for and there is room.
 fn write_within(out: &mut MemSink, bytes: &[u8]) -> Result<(), Failed>
-    ensures sound { out.old.failing ≡ [] → 0 < out.old.most → length bytes.now ≤ out.old.room → IsOk result × (out.new.written ≡ out.old.written ++ bytes.now) }
+    ensures sound { out.old.failing ≡ [] → 0 < out.old.most → length bytes.now ≤ out.old.room
+        → IsOk result × (out.new.written ≡ out.old.written ++ bytes.now) }
 {
     write_all(out, bytes)
 }
