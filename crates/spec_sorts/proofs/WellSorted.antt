@@ -25,7 +25,7 @@ same_sort_itself Number = refl
 same_sort_itself (Declared n) = (bytes_eq-Decides n n).1 refl
 
 -- the sorts of terms, from their list
-sorts_of_list : (ts : List Term) → sorts_of (terms_of ts) ≡ map sort_of ts
+pub sorts_of_list : (ts : List Term) → sorts_of (terms_of ts) ≡ map sort_of ts
 sorts_of_list [] = refl
 sorts_of_list (t ∷ ts) = ap (λ ss. sort_of t ∷ ss) (sorts_of_list ts)
 

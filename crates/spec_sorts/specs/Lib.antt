@@ -7,6 +7,10 @@ pub mod WellSorted
 pub mod Theory
 pub mod Signatures
 pub mod Subterms
+pub mod TermCodes
+pub mod HeadNames
+pub mod Subsets
+pub mod Literals
 pub mod Forms
 pub mod TermValues
 pub mod BoundedValues

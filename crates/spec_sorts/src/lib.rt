@@ -15,6 +15,8 @@ ghost use Rattle.spec_sorts.specs.BoundedValues.{bounded_value};
 ghost use Rattle.spec_sorts.specs.Theory.{look_up, sorts_fit, Rule, takes_count, theory};
 ghost use Rattle.spec_sorts.specs.Meaning.{theory_values};
 
+pub mod subterms;
+
 /// States that the term which a head of the theories is read as has the value that the head gives at its arguments'
 /// values. Source: SMT-LIB 2.6, theories Core and Reals.
 pub fn heads_mean_what_they_are_read_as()
