@@ -2,3 +2,4 @@
 pub mod Parts
 pub mod Offsets
 pub mod Kept
+pub mod Asked

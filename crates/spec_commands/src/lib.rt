@@ -15,7 +15,7 @@ ghost use Rattle.spec_sorts.specs.Signatures.{symbols_in};
 ghost use Rattle.spec_sorts.specs.TermValues.{value_at};
 ghost use Rattle.spec_sorts.specs.Meaning.{value_under};
 ghost use Rattle.spec_commands.specs.Stack.{Assertion, Stack, Taken, empty_stack, signature_of, assertions_of, step};
-ghost use Rattle.spec_commands.specs.Checks.{Check, IsCurrent};
+ghost use Rattle.spec_commands.specs.Checks.{Check, asked, IsCurrent, HasNoCheck};
 ghost use Rattle.spec_commands.specs.Kept.{IsKept};
 
 /// States that the fault of a command of a script stands at the offset of one of its atoms or lists.
@@ -56,4 +56,23 @@ pub fn assertions_are_formulas()
         → (i : Interpretation) → Interprets i (symbols_in (signature_of c.stack))
         → All (λ (a : Assertion). (b : Bool) × (value_under i (signature_of c.stack) a.text ≡ truth b))
         (assertions_of c.stack) }
+{}
+
+/// States that a text has at most one check of a number, or none.
+pub fn texts_have_one_check_of_a_number()
+    ensures one { (limit : ℕ) (text : List ℕ) (k : ℕ) (c d : Check) → IsCurrent limit text k c
+        → IsCurrent limit text k d → c ≡ d }
+    ensures other { (limit : ℕ) (text : List ℕ) (k : ℕ) (c : Check) → IsCurrent limit text k c
+        → HasNoCheck limit text k → ⊥ }
+{
+    spec_text::laws::a_text_is_read_up_to_one_end();
+}
+
+/// States that what a check asks about, its assumptions among it, is formulas over the declared symbols. Under every
+/// interpretation the text of each has its term's value. Source: SMT-LIB 2.6, sections 5.2 and 5.3.
+pub fn what_is_asked_has_its_texts_value()
+    ensures value { (limit : ℕ) (text : List ℕ) (k : ℕ) (c : Check) → IsCurrent limit text k c → (i : Interpretation)
+        → All (λ (a : Assertion). value_under i (signature_of c.stack) a.text ≡ value_at i [] a.term) (asked c) }
+    ensures formula { (limit : ℕ) (text : List ℕ) (k : ℕ) (c : Check) → IsCurrent limit text k c
+        → All (λ (a : Assertion). IsFormulaOver (symbols_in (signature_of c.stack)) a.term) (asked c) }
 {}
