@@ -6,3 +6,4 @@ pub mod Kept
 pub mod OnLiterals
 pub mod Examples
 pub mod CheckExamples
+pub mod OrderExamples
