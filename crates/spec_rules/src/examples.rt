@@ -71,7 +71,8 @@ pub fn other_heads_have_their_rules()
 /// Source: Alethe specification, rules.
 pub fn formulas_over_numbers_have_their_rules()
     ensures and_pos { IsOnlyBy (codes "and_pos") [] (negated (of And (below ∷ p ∷ [])) ∷ below ∷ []) }
-    ensures equiv_pos2 { IsOnlyBy (codes "equiv_pos2") [] (negated (of Equal (below ∷ p ∷ [])) ∷ negated below ∷ p ∷ []) }
+    ensures equiv_pos2 { IsOnlyBy (codes "equiv_pos2") []
+        (negated (of Equal (below ∷ p ∷ [])) ∷ negated below ∷ p ∷ []) }
     ensures ite1 { IsOnlyBy (codes "ite1") ((of Ite (p ∷ below ∷ of Equal (a ∷ b ∷ []) ∷ []) ∷ []) ∷ [])
         (p ∷ of Equal (a ∷ b ∷ []) ∷ []) }
     ensures not_or { IsOnlyBy (codes "not_or") ((negated (of Or (of Equal (x ∷ y ∷ []) ∷ below ∷ [])) ∷ []) ∷ [])

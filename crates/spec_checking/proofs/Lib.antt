@@ -1,0 +1,9 @@
+-- The lemmas of this crate.
+pub mod Good
+pub mod Sound
+pub mod Limits
+pub mod Fronts
+pub mod Parts
+pub mod Offsets
+pub mod Within
+pub mod Verdicts
