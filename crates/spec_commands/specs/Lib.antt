@@ -7,3 +7,4 @@ pub mod OnLiterals
 pub mod Examples
 pub mod CheckExamples
 pub mod OrderExamples
+pub mod AnswerExamples

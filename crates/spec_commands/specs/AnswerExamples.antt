@@ -1,0 +1,44 @@
+-- Scripts with what their commands answer.
+use Rattle.std.specs.Prelude.{◌≡◌, refl, ℕ, List, [], ◌∷◌, Ok, Err, codes}
+use Rattle.spec_text.specs.Answers.{Answer}
+use Rattle.spec_text.specs.Trees.{Trees, none, more}
+use Rattle.spec_sorts.specs.Written.{trees_in}
+use Rattle.spec_commands.specs.Stack.{Stack, Taken, Effect, done, unsupported, check, say, leave, empty_stack, step}
+use Rattle.spec_commands.specs.OnLiterals.{commands_on_literals}
+use Rattle.spec_commands.specs.Examples.{lines}
+
+-- an answer and those after it; a command that is refused has none
+abbrev pub with_answer : Stack → Answer Taken → (Stack → List Effect) → List Effect
+with_answer s (Ok d) rest = d.effect ∷ rest d.stack
+with_answer s (Err f) rest = rest s
+
+-- the answer of each command that is not refused, after what those before it left
+unfoldable pub answers_after : ℕ → Stack → Trees → List Effect
+answers_after limit s none = []
+answers_after limit s (more t ts) = with_answer s (step limit s t) (λ next. answers_after limit next ts)
+
+-- the answers to a script's commands
+abbrev pub answers : List (List ℕ) → List Effect
+answers ls = answers_after 100 empty_stack (trees_in (lines ls))
+
+-- an option that is not known is unsupported, whatever its value is
+pub options : answers (
+    codes "(set-option :print-success |false|)" ∷
+    codes "(set-option :produce-models false)" ∷
+    codes "(set-option :produce-models 0)" ∷
+    codes "(set-option :produce-unsat-cores true)" ∷
+    codes "(set-option :Produce-models true)" ∷
+    codes "(set-option :other let)" ∷
+    codes "(set-option :other (1 (2)))" ∷ []) ≡ done ∷ done ∷ unsupported ∷ unsupported ∷ unsupported ∷ unsupported ∷ []
+unfolding commands_on_literals answers_after
+options = refl
+
+-- a text is said as it is written, without the quotes at its ends; the others are done, but for checks and the end
+pub others : answers (
+    codes "(set-logic QF_UF)(set-info :status sat)" ∷
+    codes "(declare-sort U 0)(define-sort V () U)(declare-const c V)(declare-fun f (U) V)(define-fun g () U (f c))" ∷
+    codes "(assert true)(assert g)" ∷
+    codes "(echo \"a \"\"b\"\"\")(echo \"\")" ∷
+    codes "(check-sat)(exit)" ∷ []) ≡ done ∷ done ∷ done ∷ done ∷ done ∷ done ∷ done ∷ done ∷ say (codes "a \"\"b\"\"") ∷ say [] ∷ check [] ∷ leave ∷ []
+unfolding commands_on_literals answers_after
+others = refl
