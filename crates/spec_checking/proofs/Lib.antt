@@ -7,3 +7,4 @@ pub mod Parts
 pub mod Offsets
 pub mod Within
 pub mod Verdicts
+pub mod Models

@@ -1,10 +1,12 @@
 //! What the definitions imply. Each law is a function whose contract is the law; it computes nothing.
 
-ghost use Rattle.std.specs.Prelude.{◌≡◌, ◌↔◌, ◌≤◌, ℕ, true, List, length, All, Option, Some, None, Ok, Err};
+ghost use Rattle.std.specs.Prelude.{◌≡◌, ◌↔◌, ◌≤◌, ℕ, Bool, true, List, length, All, Contains, Option, Some, None, Ok, Err};
 ghost use Rattle.spec_text.specs.Trees.{Tree, Trees};
 ghost use Rattle.spec_text.specs.Offsets.{HasOffset};
 ghost use Rattle.spec_text.specs.Readings.{front};
-ghost use Rattle.spec_sorts.specs.Values.{Interpretation, Interprets};
+ghost use Rattle.spec_text.specs.Bytes.{Name};
+ghost use Rattle.spec_sorts.specs.Terms.{Symbol, Truth};
+ghost use Rattle.spec_sorts.specs.Values.{Value, truth, Interpretation, Interprets, table_value};
 ghost use Rattle.spec_sorts.specs.Signatures.{symbols_in};
 ghost use Rattle.spec_rules.specs.Clauses.{term_true};
 ghost use Rattle.spec_commands.specs.Stack.{Assertion, signature_of};
@@ -87,13 +89,19 @@ pub fn verdicts_need_a_front_alone()
         → IsVerdict script k proof found }
 {}
 
-/// States that the definition of models is met where it should be: an interpretation of the declared symbols under which
-/// the term of each assertion is true makes the texts true.
-pub fn terms_decide_models()
-    ensures { (limit : ℕ) (script : List ℕ) (k : ℕ) (c : Check) → IsCurrent limit script k c
+/// States that the definition of models is met where it should be. Whatever truths names have, some interpretation of the
+/// declared symbols gives them to those of sort Bool. And an interpretation under which the term of each assertion is true
+/// makes the texts true.
+pub fn satisfied_scripts_have_a_model()
+    ensures truths { (limit : ℕ) (script : List ℕ) (k : ℕ) (c : Check) (v : Name → Bool) → IsCurrent limit script k c
+        → (i : Interpretation) × Interprets i (symbols_in (signature_of c.stack))
+        × ((f : Symbol) (vs : List Value) → Contains (symbols_in (signature_of c.stack)) f → f.result ≡ Truth
+        → table_value i f.name vs ≡ truth (v f.name)) }
+    ensures model { (limit : ℕ) (script : List ℕ) (k : ℕ) (c : Check) → IsCurrent limit script k c
         → (i : Interpretation) → Interprets i (symbols_in (signature_of c.stack))
         → All (λ (a : Assertion). term_true i a.term ≡ true) (asked c) → MakesTrue limit i script k }
 {
+    spec_commands::assertions_have_their_texts_value();
     spec_commands::what_is_asked_has_its_texts_value();
     spec_sorts::values_have_their_terms_sort();
 }
