@@ -8,3 +8,6 @@ pub mod Offsets
 pub mod Within
 pub mod Verdicts
 pub mod Models
+pub mod Bare
+pub mod Refuting
+pub mod Few

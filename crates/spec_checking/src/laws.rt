@@ -9,6 +9,7 @@ ghost use Rattle.spec_sorts.specs.Terms.{Symbol, Truth};
 ghost use Rattle.spec_sorts.specs.Values.{Value, truth, Interpretation, Interprets, table_value};
 ghost use Rattle.spec_sorts.specs.Signatures.{symbols_in};
 ghost use Rattle.spec_rules.specs.Clauses.{term_true};
+ghost use Rattle.spec_rules.specs.Truths.{Truths, term_true_by};
 ghost use Rattle.spec_commands.specs.Stack.{Assertion, signature_of};
 ghost use Rattle.spec_commands.specs.Checks.{Check, asked, term_limit, IsCurrent, MakesTrue, HasNoModel};
 ghost use Rattle.spec_proofs.specs.Faults.{Fault};
@@ -122,4 +123,15 @@ pub fn faults_stand_in_their_proof()
 {
     spec_text::laws::trees_stand_in_their_text();
     spec_text::laws::lexical_faults_stand_in_their_text();
+}
+
+/// States that goodness is not asked in vain. Where no truths of the terms below negations make true what a check asks
+/// about, there is a good proof, within the limit of the script. It is given by its trees: its text may be longer than a
+/// text may be.
+pub fn unsatisfiable_scripts_have_a_proof()
+    ensures truths { (limit : ℕ) (script : List ℕ) (k : ℕ) (c : Check) → IsCurrent limit script k c
+        → ((v : Truths) → All (λ (a : Assertion). term_true_by v a.term ≡ true) (asked c) → ⊥)
+        → (ts : Trees) × AreGood (Some limit) (known_at c) ts }
+{
+    spec_commands::assertions_have_their_texts_value();
 }
