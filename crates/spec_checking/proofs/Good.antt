@@ -6,7 +6,7 @@ use Rattle.spec_text.proofs.AnswerLaws.{answer, went, joined}
 use Rattle.spec_proofs.specs.Faults.{Fault, Read}
 use Rattle.spec_checking.specs.Commands.{Known, Command}
 use Rattle.spec_checking.specs.Reading.{command_of}
-use Rattle.spec_checking.specs.Judging.{with_command, fault_of, open_fault, IsRightAfter, HasEmptyClause, FaultBy, FirstFault}
+use Rattle.spec_checking.specs.Judging.{with_command, fault_of, wide_fault, IsRightAfter, HasEmptyClause, FaultBy, FirstFault}
 use Rattle.spec_checking.specs.Good.{commands_in, known_after, AreRight, AreGood}
 
 -- the first of a list
@@ -51,7 +51,7 @@ good limit end k (more t ts) h = go (command_of limit k t) refl h (λ next. good
     go : (o : Read Command) → command_of limit k t ≡ o → FaultBy k o (λ next. FirstFault limit next end None ts None) None → ((next : Known) → FirstFault limit next end None ts None → AreGood limit next ts) → AreGood limit k (more t ts)
     go (Err f) e h rec = cc
     go (Ok c) e (inl x) rec = good_step limit k t ts c e x.0 (rec (with_command k c) x.1)
-    go (Ok c) e (inr (inl x)) rec = let none : None ≡ Some (open_fault c.statement) = x.1 in cc
+    go (Ok c) e (inr (inl x)) rec = let none : None ≡ Some (wide_fault c.statement) = x.1 in cc
     go (Ok c) e (inr (inr x)) rec = let none : None ≡ Some (fault_of c.statement) = x.2 in cc
 
 -- by the commands: those that are right, with an empty clause at the end, have no fault
@@ -79,5 +79,5 @@ wrong_end limit end k f (more t ts) h = go (command_of limit k t) h (λ next. wr
     go : (o : Read Command) → FaultBy k o (λ next. FirstFault limit next end (Some f) ts None) None → ((next : Known) → FirstFault limit next end (Some f) ts None → ⊥) → ⊥
     go (Err g) h rec = let none : None ≡ Some g = h in cc
     go (Ok c) (inl x) rec = rec (with_command k c) x.1
-    go (Ok c) (inr (inl x)) rec = let none : None ≡ Some (open_fault c.statement) = x.1 in cc
+    go (Ok c) (inr (inl x)) rec = let none : None ≡ Some (wide_fault c.statement) = x.1 in cc
     go (Ok c) (inr (inr x)) rec = let none : None ≡ Some (fault_of c.statement) = x.2 in cc

@@ -25,7 +25,7 @@ use Rattle.spec_proofs.specs.RuleNames.{rule_named}
 use Rattle.spec_proofs.specs.Faults.{Fault, Read, wrong}
 use Rattle.spec_checking.specs.Commands.{Known, Command, Shape, assumes, steps, defines, shape_of}
 use Rattle.spec_checking.specs.Reading.{clause_of, entry_names, fresh_name, named_in, named_in_all, in_proof, room, literals_in, roomy_literals, roomy_formula, roomy_definitions, rule_at, clause_at, premise_of, premises_of, read_shape, shaped, command_of}
-use Rattle.spec_checking.specs.Judging.{with_command, fault_of, open_fault, FaultBy, FirstFault}
+use Rattle.spec_checking.specs.Judging.{with_command, fault_of, wide_fault, FaultBy, FirstFault}
 use Rattle.spec_checking.proofs.Parts.{ShapeStands, shape_stands}
 
 module _ (P : ℕ → Type 0) where
@@ -147,7 +147,7 @@ module _ (P : ℕ → Type 0) where
       go : (o : Read Command) → Gives CommandStands o → FaultBy k o (λ next. FirstFault limit next end ending ts (Some f)) (Some f) → ((next : Known) → FirstFault limit next end ending ts (Some f) → P f.offset) → P f.offset
       go (Err e) s found rest = let is : e ≡ f = let same : Some f ≡ Some e = found in cc in subst (λ (x : Fault). P x.offset) is s
       go (Ok c) s (inl right) rest = rest (with_command k c) right.1
-      go (Ok c) s (inr (inl x)) rest = let is : open_fault c.statement ≡ f = let same : Some f ≡ Some (open_fault c.statement) = x.1 in cc in subst (λ (y : Fault). P y.offset) is s
+      go (Ok c) s (inr (inl x)) rest = let is : wide_fault c.statement ≡ f = let same : Some f ≡ Some (wide_fault c.statement) = x.1 in cc in subst (λ (y : Fault). P y.offset) is s
       go (Ok c) s (inr (inr x)) rest = let is : fault_of c.statement ≡ f = let same : Some f ≡ Some (fault_of c.statement) = x.2 in cc in subst (λ (y : Fault). P y.offset) is s
 
 -- the fault of reading a command, and that of one that is not right

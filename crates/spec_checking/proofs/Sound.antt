@@ -32,7 +32,7 @@ use Rattle.spec_proofs.specs.RuleNames.{rule_named}
 use Rattle.spec_proofs.specs.Faults.{Fault, Read, wrong}
 use Rattle.spec_checking.specs.Commands.{Known, Entry, Statement, assumed, stepped, nothing, Command, Shape, assumes, steps, defines, shape_of}
 use Rattle.spec_checking.specs.Reading.{clause_of, fresh_name, named_in, named_in_all, in_proof, room, literals_in, roomy_literals, roomy_formula, roomy_definitions, rule_at, clause_at, premise_of, premises_of, read_shape, shaped, command_of}
-use Rattle.spec_checking.specs.Judging.{with_command, IsRightAfter, IsOpen, fault_of, open_fault, HasEmptyClause, EndsBy, FaultBy, FirstFault}
+use Rattle.spec_checking.specs.Judging.{with_command, IsRightAfter, IsWideStep, fault_of, wide_fault, HasEmptyClause, EndsBy, FaultBy, FirstFault}
 
 -- what is read of a text in a proof is what the text is read as
 pub read_ok : {A : Type 0} (words : List Word) (a : Answer A) (x : A) → in_proof words a ≡ Ok x → a ≡ Ok x
@@ -216,7 +216,7 @@ module _ (i : Interpretation) where
         go : (o : Read Command) → ReadsAfter k o → FaultBy k o (λ next. FirstFault limit next end None ts None) None → ((next : Known) → IsTruly next → FirstFault limit next end None ts None → ⊥) → ⊥
         go (Err f) read h rec = let none : None ≡ Some f = h in cc
         go (Ok c) read (inl right) rec = rec (with_command k c) (truly_kept k c read right.0 all) right.1
-        go (Ok c) read (inr (inl x)) rec = let none : None ≡ Some (open_fault c.statement) = x.1 in cc
+        go (Ok c) read (inr (inl x)) rec = let none : None ≡ Some (wide_fault c.statement) = x.1 in cc
         go (Ok c) read (inr (inr x)) rec = let none : None ≡ Some (fault_of c.statement) = x.2 in cc
 
 ends_one : (k : Known) (end : ℕ) (ending a b : Option Fault) → EndsBy k end ending a → EndsBy k end ending b → a ≡ b
@@ -227,11 +227,11 @@ ends_one k end None (Some f) None x y = absurd (x.0 y)
 ends_one k end None (Some f) (Some g) x y = ap Some (x.1 ∙ sym y.1)
 
 module _ (law : (rule : Rule) (premises : List Clause) (arguments : Trees) (clause : Clause) → IsWide rule premises arguments clause → IsRight rule premises arguments clause → ⊥) where
-  -- no statement is right and open
-  right_or_open : (k : Known) (s : Statement) → IsRightAfter k s → IsOpen s → ⊥
-  right_or_open k (assumed at n t) right is_open = is_open
-  right_or_open k (stepped s) right is_open = law s.rule s.premises s.arguments s.clause is_open right
-  right_or_open k (nothing at) right is_open = is_open
+  -- no statement is right and wide
+  right_or_wide : (k : Known) (s : Statement) → IsRightAfter k s → IsWideStep s → ⊥
+  right_or_wide k (assumed at n t) right wide = wide
+  right_or_wide k (stepped s) right wide = law s.rule s.premises s.arguments s.clause wide right
+  right_or_wide k (nothing at) right wide = wide
 
   -- commands have at most one first fault
   pub fault_one : (limit : Option ℕ) (k : Known) (end : ℕ) (ending : Option Fault) (ts : Trees) (a b : Option Fault) → FirstFault limit k end ending ts a → FirstFault limit k end ending ts b → a ≡ b
@@ -242,9 +242,9 @@ module _ (law : (rule : Rule) (premises : List Clause) (arguments : Trees) (clau
       go : (o : Read Command) → FaultBy k o (λ next. FirstFault limit next end ending ts a) a → FaultBy k o (λ next. FirstFault limit next end ending ts b) b → ((next : Known) → FirstFault limit next end ending ts a → FirstFault limit next end ending ts b → a ≡ b) → a ≡ b
       go (Err f) x y rec = x ∙ sym y
       go (Ok c) (inl p) (inl q) rec = rec (with_command k c) p.1 q.1
-      go (Ok c) (inl p) (inr (inl q)) rec = absurd (right_or_open k c.statement p.0 q.0)
+      go (Ok c) (inl p) (inr (inl q)) rec = absurd (right_or_wide k c.statement p.0 q.0)
       go (Ok c) (inl p) (inr (inr q)) rec = absurd (q.0 p.0)
-      go (Ok c) (inr (inl p)) (inl q) rec = absurd (right_or_open k c.statement q.0 p.0)
+      go (Ok c) (inr (inl p)) (inl q) rec = absurd (right_or_wide k c.statement q.0 p.0)
       go (Ok c) (inr (inl p)) (inr (inl q)) rec = p.1 ∙ sym q.1
       go (Ok c) (inr (inl p)) (inr (inr q)) rec = absurd (q.1 p.0)
       go (Ok c) (inr (inr p)) (inl q) rec = absurd (p.0 q.0)

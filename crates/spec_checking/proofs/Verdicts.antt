@@ -137,13 +137,13 @@ pub not_linear_verdict : IsVerdict contradiction 1 not_linear (Some (fault_at 28
 not_linear_verdict = judged not_linear (trees_in not_linear) complete not_linear_is_read _ _ _ not_linear_commands (inl (p_asserted, refl))
 
 pub one_premise_verdict : IsVerdict contradiction 1 one_premise (Some (fault_at 34 RuleFails))
-one_premise_verdict = judged one_premise (trees_in one_premise) complete one_premise_is_read _ None _ one_premise_commands (inl (p_asserted, inl (not_p_asserted, inr (inr (nothing_follows, λ is_open. is_open, refl)))))
+one_premise_verdict = judged one_premise (trees_in one_premise) complete one_premise_is_read _ None _ one_premise_commands (inl (p_asserted, inl (not_p_asserted, inr (inr (nothing_follows, λ wide. wide, refl)))))
 
 pub dropped_literal_verdict : IsVerdict contradiction 1 dropped_literal (Some (fault_at 14 RuleFails))
-dropped_literal_verdict = judged dropped_literal (trees_in dropped_literal) complete dropped_literal_is_read _ None _ dropped_literal_commands (inl (p_asserted, inr (inr (nothing_is_kept, λ is_open. is_open, refl))))
+dropped_literal_verdict = judged dropped_literal (trees_in dropped_literal) complete dropped_literal_is_read _ None _ dropped_literal_commands (inl (p_asserted, inr (inr (nothing_is_kept, λ wide. wide, refl))))
 
 pub not_asserted_verdict : IsVerdict contradiction 1 not_asserted (Some (fault_at 25 NotAsserted))
-not_asserted_verdict = judged not_asserted (trees_in not_asserted) complete not_asserted_is_read _ None _ not_asserted_commands (inl (p_asserted, inr (inr (not_asserted_there, λ is_open. is_open, refl))))
+not_asserted_verdict = judged not_asserted (trees_in not_asserted) complete not_asserted_is_read _ None _ not_asserted_commands (inl (p_asserted, inr (inr (not_asserted_there, λ wide. wide, refl))))
 
 pub assumption_verdict : IsVerdict contradiction 1 assumption (Some (fault_at 14 NoEmptyClause))
 assumption_verdict = judged assumption (trees_in assumption) complete assumption_is_read _ None _ assumption_commands (inl (p_asserted, (no_empty_in_one (with_command known (first_assume 11)) (codes "h1") p [] refl, refl)))

@@ -25,19 +25,19 @@ IsRightAfter k (stepped s) = IsRight s.rule s.premises s.arguments s.clause
 IsRightAfter k (nothing at) = Unit {0}
 
 -- whether a step is right cannot be told within the bound on numbers
-abbrev pub IsOpen : Statement → Type 0
-IsOpen (stepped s) = IsWide s.rule s.premises s.arguments s.clause
-IsOpen _ = ⊥
+abbrev pub IsWideStep : Statement → Type 0
+IsWideStep (stepped s) = IsWide s.rule s.premises s.arguments s.clause
+IsWideStep _ = ⊥
 
--- the fault of a statement that is neither right nor open; a definition never has it
+-- the fault of a statement that is not right, nor wide; a definition never has it
 abbrev pub fault_of : Statement → Fault
 fault_of (assumed at n t) = fault_at at NotAsserted
 fault_of (stepped s) = fault_at s.at RuleFails
 fault_of (nothing at) = fault_at at BadShape
 
--- the fault of a step that is open; it gets a kind of its own with the first rule that has such steps
-abbrev pub open_fault : Statement → Fault
-open_fault c = fault_of c
+-- the fault of a step that is wide; it gets a kind of its own with the first rule that has such steps
+abbrev pub wide_fault : Statement → Fault
+wide_fault s = fault_of s
 
 -- some clause is empty
 abbrev pub HasEmptyClause : Known → Type 0
@@ -56,8 +56,8 @@ abbrev pub FaultBy : Known → Read Command → (Known → Type 0) → Option Fa
 FaultBy k (Err f) rest found = found ≡ Some f
 FaultBy k (Ok c) rest found =
     (IsRightAfter k c.statement × rest (with_command k c))
-    ⊎ ((IsOpen c.statement × (found ≡ Some (open_fault c.statement)))
-    ⊎ ((IsRightAfter k c.statement → ⊥) × (IsOpen c.statement → ⊥) × (found ≡ Some (fault_of c.statement))))
+    ⊎ ((IsWideStep c.statement × (found ≡ Some (wide_fault c.statement)))
+    ⊎ ((IsRightAfter k c.statement → ⊥) × (IsWideStep c.statement → ⊥) × (found ≡ Some (fault_of c.statement))))
 
 -- the first fault of a proof's commands and of what ends them, or none; each command within a limit
 unfoldable pub FirstFault : Option ℕ → Known → ℕ → Option Fault → Trees → Option Fault → Type 0
