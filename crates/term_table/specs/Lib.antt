@@ -1,0 +1,5 @@
+-- What a table of terms holds.
+pub mod NameLists
+pub mod Symbols
+pub mod Tables
+pub mod Facts
