@@ -3,3 +3,4 @@ pub mod NameLists
 pub mod Symbols
 pub mod Tables
 pub mod Facts
+pub mod TheoryHeads

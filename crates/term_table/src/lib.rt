@@ -12,6 +12,7 @@ mod sorts;
 mod symbols;
 mod taking;
 mod terms;
+mod theory_heads;
 
 pub use clauses::Clause;
 pub use ids::{Lit, SortId, SymbolId, TermId};
@@ -22,3 +23,4 @@ pub use rule_fails::RuleFails;
 pub use sorts::{Rank, Sort};
 pub use symbols::Symbols;
 pub use terms::TermTable;
+pub use theory_heads::{TheoryHead, head_name};
