@@ -1,0 +1,72 @@
+//! The attributes of a term.
+
+ghost use Rattle.std.specs.Prelude.{◌≡◌, option_map};
+ghost use Rattle.spec_sorts.specs.Forms.{are_attributes, after_keyword, a_keyword};
+ghost use Rattle.smt_sexpr.specs.Items.{trees_meant, tree_meant};
+ghost use Rattle.term_reader.specs.Forms.{next_meant, next_after};
+
+use crate::forms::is_name;
+use smt_sexpr::{Kind, Trees, View, look, same_bytes, split};
+
+/// Tells what may come next among attributes. Source: SMT-LIB 2.6, sections 3.4 and 3.6.
+#[derive(Clone, Copy, Debug, PartialEq, Eq)]
+pub enum Next {
+    /// A keyword alone.
+    Keyword,
+    /// A keyword, or the value of the one before.
+    Value,
+    /// A name alone.
+    Name,
+}
+
+fn after_keyword(keyword: &[u8]) -> Next
+    ensures { next_meant result ≡ after_keyword keyword.now }
+{
+    if same_bytes(keyword, b"named") {
+        Next::Name
+    } else {
+        Next::Value
+    }
+}
+
+/// Gives what may come after an item among attributes; `None` where the item may not stand there.
+///
+/// After a keyword comes one value at most, and after `:named` a name.
+/// Source: SMT-LIB 2.6, sections 3.4 and 3.6.
+pub fn next_after(next: Next, item: Trees<'_>) -> Option<Next>
+    ensures { option_map next_meant result ≡ next_after (next_meant next) (tree_meant item.entry) }
+{
+    match (next, look(item)) {
+        (Next::Name, View::Atom(_, kind, _)) => {
+            if is_name(kind) {
+                return Some(Next::Keyword);
+            }
+            None
+        }
+        (Next::Name, View::List(_, _, _)) => None,
+        (_, View::Atom(_, Kind::Keyword, name)) => Some(after_keyword(name)),
+        (Next::Value, _) => Some(Next::Keyword),
+        (Next::Keyword, _) => None,
+    }
+}
+
+/// Tells whether trees are attributes: keywords, each with one value at most, and a name after each `:named`.
+///
+/// Source: SMT-LIB 2.6, sections 3.4 and 3.6.
+pub fn are_attributes(attributes: Trees<'_>) -> bool
+    ensures { result ≡ are_attributes a_keyword (trees_meant attributes.entry) }
+{
+    let mut next = Next::Keyword;
+    let mut rest = attributes;
+    'attributes: while let Some((item, after)) = split(rest) {
+        let Some(then) = next_after(next, item) else {
+            return false;
+        };
+        next = then;
+        rest = after;
+    }
+    match next {
+        Next::Name => false,
+        _ => true,
+    }
+}

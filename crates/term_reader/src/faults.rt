@@ -1,0 +1,21 @@
+//! Why a text was not read.
+
+ghost use Rattle.std.specs.Prelude.{◌≡◌};
+
+use spec_text::Fault;
+
+/// Tells a fault of a text, and where it stands.
+#[derive(Clone, Copy, Debug, PartialEq, Eq)]
+pub struct TermFault {
+    /// The offset in the text, in bytes.
+    pub offset: u64,
+    /// Which fault it is.
+    pub fault: Fault,
+}
+
+/// Makes a fault at an offset.
+pub fn fault_at(offset: u64, fault: Fault) -> TermFault
+    ensures { result ≡ record { offset = offset; fault = fault } }
+{
+    TermFault { offset, fault }
+}
