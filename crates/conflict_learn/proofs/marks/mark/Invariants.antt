@@ -1,0 +1,9 @@
+-- The literals up to here are marked.
+use Rattle.std.proofs.Common.{take}
+use Rattle.spec_terms.specs.Literals.{literals_of}
+use Rattle.term_core.specs.Tables.{clause_at}
+use Rattle.conflict_learn.specs.Analyses.{Marks}
+use Rattle.conflict_learn.proofs.marks.mark.Given as goal
+
+abbrev pub invariant-loop-id : goal.invariant-loop-id
+invariant-loop-id l = Marks l.table (literals_of (clause_at l.table (take l.id-index l.clause))) l.fn.marks.items l.marks.items

@@ -1,0 +1,87 @@
+//! The step of a learned clause.
+
+ghost use Rattle.std.specs.Prelude.{◌≡◌, map, All, IfOk, MatchResult};
+ghost use Rattle.spec_terms.specs.Terms.{negated};
+ghost use Rattle.spec_proofs.specs.declared.Rule.TheVariants.{Resolution};
+ghost use Rattle.spec_search.specs.Derivations.{FollowsFrom};
+ghost use Rattle.term_core.specs.Tables.{IsIn, AreIn, term_at, literal_at, Extends};
+ghost use Rattle.proof_log.specs.Logs.{stepped, inference_of, derivation_in, IsLogOf};
+ghost use Rattle.proof_log.specs.Adding.{IsAdded};
+ghost use Rattle.conflict_learn.specs.Analyses.{IsBare, States, StateAll};
+
+use proof_log::{Clause, LogFault, ProofLog, Rule, Step, StepId, StepIds};
+use std::alloc::Global;
+use term_core::{Head, Lit, Node, TermId, TermTable};
+use world_io::NoMemory;
+
+/// Gives the negation of a term, which is put where it is not there.
+fn negation(alloc: Global, table: &mut TermTable, id: TermId) -> Result<TermId, NoMemory>
+    requires { IsIn table.old id }
+    ensures grown { Extends table.old table.new }
+    ensures symbols { table.new.symbols ≡ table.old.symbols }
+    ensures means { IfOk result (λ n. IsIn table.new n
+        × (term_at table.new n ≡ negated (term_at table.old id))) }
+{
+    table.all_terms_are_bool();
+    let node = Node::new(alloc, Head::Not, &[id])?;
+    table.put(node)
+}
+
+/// Gives the term of a literal: its own, or its negation, which is put where it is not there.
+fn term_of(alloc: Global, table: &mut TermTable, l: Lit) -> Result<TermId, NoMemory>
+    requires { IsBare table.old l }
+    ensures grown { Extends table.old table.new }
+    ensures symbols { table.new.symbols ≡ table.old.symbols }
+    ensures states { IfOk result (States table.new (literal_at table.old l)) }
+{
+    if l.positive {
+        return Ok(l.term);
+    }
+    negation(alloc, table, l.term)
+}
+
+/// Gives the terms of literals, in their order.
+pub(crate) fn terms_of(
+    alloc: Global,
+    table: &mut TermTable,
+    clause: &[Lit],
+) -> Result<Vec<TermId>, NoMemory>
+    requires { All (IsBare table.old) clause.now }
+    ensures grown { Extends table.old table.new }
+    ensures symbols { table.new.symbols ≡ table.old.symbols }
+    ensures states { IfOk result (λ terms. StateAll table.new (map (literal_at table.old) clause.now) terms.items) }
+{
+    let mut terms = Vec::new(alloc);
+    for l in clause {
+        let term = term_of(alloc, table, *l)?;
+        terms.push(term)?;
+    }
+    Ok(terms)
+}
+
+/// Logs a clause as a step by `resolution`.
+pub(crate) fn log_step(
+    table: &TermTable,
+    log: &mut ProofLog,
+    premises: Vec<StepId>,
+    clause: Vec<TermId>,
+) -> Result<StepId, NoMemory>
+    requires log { IsLogOf table.now log.old }
+    requires clause { AreIn table.now clause.items }
+    requires follows { FollowsFrom (derivation_in table.now log.old)
+        (inference_of table.now (stepped Resolution premises.items clause.items)) }
+    ensures { MatchResult result
+        (λ id. IsAdded table.now log.old (stepped Resolution premises.items clause.items) id log.new)
+        (λ _. log.new ≡ log.old) }
+{
+    let step = Step {
+        rule: Rule::Resolution,
+        premises: StepIds::from(premises),
+        clause: Clause::from(clause),
+    };
+    match log.add(table, step) {
+        Ok(number) => Ok(number),
+        Err(LogFault::RuleFails) => unreachable!(),
+        Err(LogFault::Memory) => Err(NoMemory),
+    }
+}
