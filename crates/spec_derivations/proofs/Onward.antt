@@ -1,0 +1,56 @@
+-- What is derived stays derived with further steps, and a clause may be learned after others.
+use Rattle.std.proofs.Common.{◌≡◌, ℕ, ◌<◌, List, [], ◌∷◌, ◌++◌, length, take, drop, map, Contains, sym, ap, ◌∙◌, subst, suc, arith}
+use Rattle.std.proofs.lemmas.List.{append_assoc, append-nil, length-append, length-take-le, get_or_append_left}
+use Rattle.std.proofs.lemmas.List.Elements.{All-append, All-cons, All-nil}
+use Rattle.spec_sorts.specs.Terms.{Term}
+use Rattle.spec_sorts.specs.Literals.{Literal, literals_of}
+use Rattle.spec_derivations.specs.Problems.{Problem, terms_of_problem}
+use Rattle.spec_derivations.specs.Base.{base_clauses}
+use Rattle.spec_derivations.specs.Derivations.{Inference, Derivation, conclusion, premises_of, no_inference, inference_at, IsDerivation, RestsOn, itself, by_premise, AssumesAmong, IsDerivedFrom}
+use Rattle.spec_derivations.specs.Learned.{IsNew, AreNew}
+use Rattle.spec_derivations.specs.Spent.{IsLearnedFrom, IsOverAtoms, AreLearned, IsConflict}
+use Rattle.spec_derivations.proofs.Derived.{split_at}
+use Rattle.spec_derivations.proofs.Spending.{premises_before, rests_there}
+
+module _ (d more : Derivation) where
+  -- an inference keeps its number
+  kept_at : (n : ℕ) → n < length d → inference_at (d ++ more) n ≡ inference_at d n
+  kept_at n lt = get_or_append_left d more no_inference n lt
+
+  -- and what it rests on
+  rests_before : IsDerivation d → (n m : ℕ) → n < length d → RestsOn (d ++ more) n m → RestsOn d n m
+  rests_before right n _ lt (itself _) = itself n
+  rests_before right n m lt (by_premise _ k _ k_in rests) =
+      let own : Contains (premises_of (inference_at d n)) k = subst (λ (x : Inference). Contains (premises_of x) k) (kept_at n lt) k_in in
+      let less = premises_before (take n d) (inference_at d n) k (right (take n d) (inference_at d n) (drop (suc n) d) (split_at d n lt)) own in
+      by_premise n k m own (rests_before right k m (omega (arith, less, length-take-le n d (omega (arith, lt)), lt)) rests)
+
+  -- so it stays derived
+  pub derived_onward : IsDerivation d → (terms : List Term) (n : ℕ) → IsDerivedFrom terms d n → IsDerivedFrom terms (d ++ more) n
+  derived_onward right terms n h = record {
+    there = omega (arith, h.there, length-append d more);
+    assumptions = λ m rests.
+        let own = rests_before right n m h.there rests in
+        subst (AssumesAmong terms) (sym (kept_at m (rests_there d right n m h.there own))) (h.assumptions m own);
+  }
+
+  pub learned_onward : IsDerivation d → (p : Problem) (clause : List Literal) → IsLearnedFrom p d clause → IsLearnedFrom p (d ++ more) clause
+  learned_onward right p clause h = record {
+    number = h.number;
+    derived = derived_onward right (terms_of_problem p) h.number h.derived;
+    same = ap (λ x. literals_of (conclusion x)) (kept_at h.number h.derived.there) ∙ h.same;
+  }
+
+-- a clause that is new after others
+new_pushed : (premises learned : List (List Literal)) (c : List Literal) → AreNew premises learned → IsNew (premises ++ learned) c → AreNew premises (learned ++ c ∷ [])
+new_pushed premises [] c news new = (subst (λ ps. IsNew ps c) (append-nil premises) new, tt)
+new_pushed premises (l ∷ learned) c news new = (news.0, new_pushed (premises ++ l ∷ []) learned c news.1 (subst (λ ps. IsNew ps c) (sym (append_assoc premises (l ∷ []) learned)) new))
+
+-- the clause of a conflict, after those that were learned
+pub one_more : (p : Problem) (d : Derivation) (learned : List (List Literal)) → AreLearned p d learned → (x : IsConflict p d learned) → AreLearned p (d ++ x.more) (learned ++ x.clause ∷ [])
+one_more p d learned h x = record {
+  right = x.right;
+  derived = All-append (IsLearnedFrom p (d ++ x.more)) learned (x.clause ∷ []) (λ k e lt. learned_onward d x.more h.right p _ (h.derived k e lt)) (All-cons (IsLearnedFrom p (d ++ x.more)) x.clause [] x.derived (All-nil (IsLearnedFrom p (d ++ x.more))));
+  atoms = All-append (IsOverAtoms p) learned (x.clause ∷ []) h.atoms (All-cons (IsOverAtoms p) x.clause [] x.atoms (All-nil (IsOverAtoms p)));
+  new = new_pushed (map literals_of (base_clauses p)) learned x.clause h.new x.new;
+}

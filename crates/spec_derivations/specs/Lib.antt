@@ -1,0 +1,8 @@
+-- What a search over the whole language may answer: derivations, the clauses that it begins with, learned clauses, the budget that they spend, and models.
+pub mod Problems
+pub mod Derivations
+pub mod Base
+pub mod Learned
+pub mod Spent
+pub mod Models
+pub mod Examples

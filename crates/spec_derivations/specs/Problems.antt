@@ -1,0 +1,31 @@
+-- What a search is asked: terms that are to be true, and those that its clauses may speak of.
+use Rattle.std.specs.Prelude.{List, ◌++◌}
+use Rattle.spec_sorts.specs.Terms.{Term}
+use Rattle.spec_sorts.specs.Subterms.{subterms_of}
+use Rattle.spec_commands.specs.Stack.{assertions_of, terms_asserted}
+use Rattle.spec_commands.specs.Checks.{Check}
+
+-- The terms of a check.
+pub record Problem : Type 0 where
+  -- those that are asserted
+  pub asserted : List Term
+  -- those that are assumed for this check alone
+  pub assumed : List Term
+  -- those of earlier checks, of which learned clauses may speak
+  pub earlier : List Term
+
+-- the terms that are to be true
+abbrev pub terms_of_problem : Problem → List Term
+terms_of_problem p = p.asserted ++ p.assumed
+
+-- their subterms
+abbrev pub subterms_in : Problem → List Term
+subterms_in p = subterms_of (terms_of_problem p)
+
+-- their subterms, and those of earlier checks
+abbrev pub known_subterms : Problem → List Term
+known_subterms p = subterms_of (terms_of_problem p ++ p.earlier)
+
+-- a check after others of these terms
+abbrev pub problem_of : Check → List Term → Problem
+problem_of c earlier = record { asserted = terms_asserted (assertions_of c.stack); assumed = terms_asserted c.assumptions; earlier = earlier }

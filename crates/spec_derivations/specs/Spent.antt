@@ -1,0 +1,65 @@
+-- When a budget of conflicts is spent: as many clauses were learned as it allows, and each of them was worth it.
+use Rattle.std.specs.Prelude.{◌≡◌, ◌≢◌, ◌++◌, ℕ, List, [], ◌∷◌, length, map, All, Contains}
+use Rattle.spec_sorts.specs.Terms.{True, False, Ite, Equal, Truth, Term, of, pair, sort_of}
+use Rattle.spec_sorts.specs.Literals.{Literal, literals_of}
+use Rattle.spec_derivations.specs.Problems.{Problem, terms_of_problem, known_subterms}
+use Rattle.spec_derivations.specs.Derivations.{Derivation, conclusion_at, IsDerivation, IsDerivedFrom}
+use Rattle.spec_derivations.specs.Base.{base_clauses}
+use Rattle.spec_derivations.specs.Learned.{IsNew, AreNew}
+
+-- The literals are those of a clause that is derived from the check's terms.
+pub record IsLearnedFrom (p : Problem) (d : Derivation) (clause : List Literal) : Type 0 where
+  -- the number of a clause
+  pub number : ℕ
+  -- it is derived from the terms
+  pub derived : IsDerivedFrom (terms_of_problem p) d number
+  -- its literals are these
+  pub same : literals_of (conclusion_at d number) ≡ clause
+
+-- What a literal of a learned clause may be over.
+pub data IsAtomOf (p : Problem) : Term → Type 0 where
+  -- a subterm of sort Bool, of this check or of an earlier one, other than the truth values
+  subterm : (t : Term) → Contains (known_subterms p) t → sort_of t ≡ Truth → t ≢ of True [] → t ≢ of False [] → IsAtomOf p t
+  -- the equality of a choice between terms of another sort with the first of them
+  with_first : (c s t : Term) → Contains (known_subterms p) (of Ite (c ∷ s ∷ t ∷ [])) → sort_of s ≢ Truth → IsAtomOf p (pair Equal (of Ite (c ∷ s ∷ t ∷ [])) s)
+  -- or with the second
+  with_second : (c s t : Term) → Contains (known_subterms p) (of Ite (c ∷ s ∷ t ∷ [])) → sort_of s ≢ Truth → IsAtomOf p (pair Equal (of Ite (c ∷ s ∷ t ∷ [])) t)
+
+-- each literal of the clause is over such a term
+abbrev pub IsOverAtoms : Problem → List Literal → Type 0
+IsOverAtoms p clause = All (λ (l : Literal). IsAtomOf p l.atom) clause
+
+-- Clauses that a check of these terms may learn, oldest first, in a derivation.
+pub record AreLearned (p : Problem) (d : Derivation) (learned : List (List Literal)) : Type 0 where
+  -- each step of the derivation is right
+  pub right : IsDerivation d
+  -- each clause is derived from the check's terms
+  pub derived : All (IsLearnedFrom p d) learned
+  -- its literals are over the check's atoms
+  pub atoms : All (IsOverAtoms p) learned
+  -- it has a literal that was not given by the base clauses and the clauses learned before it
+  pub new : AreNew (map literals_of (base_clauses p)) learned
+
+-- The budget is spent on a check of these terms: the list of learned clauses has its length, which the reason carries.
+pub record IsConflictBudgetSpent (p : Problem) (d : Derivation) (limit carried : ℕ) (learned : List (List Literal)) : Type 0 where
+  -- the list has so many clauses as the budget allows
+  pub full : length learned ≡ limit
+  -- the reason says so
+  pub carries : carried ≡ limit
+  -- they were learned
+  pub learns : AreLearned p d learned
+
+-- A conflict above level 0, after clauses that were learned in a derivation: one clause more could be.
+pub record IsConflict (p : Problem) (d : Derivation) (learned : List (List Literal)) : Type 0 where
+  -- what would be learned from it
+  pub clause : List Literal
+  -- the steps of its derivation that are not yet there
+  pub more : Derivation
+  -- they are right
+  pub right : IsDerivation (d ++ more)
+  -- it is derived from the check's terms
+  pub derived : IsLearnedFrom p (d ++ more) clause
+  -- its literals are over the check's atoms
+  pub atoms : IsOverAtoms p clause
+  -- it has a literal that was not given by the base clauses and those that were learned
+  pub new : IsNew (map literals_of (base_clauses p) ++ learned) clause

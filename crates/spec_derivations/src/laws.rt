@@ -1,0 +1,154 @@
+//! What the definitions imply. Each law is a function whose contract is the law; it computes nothing.
+
+ghost use Rattle.std.specs.Prelude.{◌≡◌, ◌≢◌, ◌<◌, ℕ, true, List, [], ◌∷◌, ◌++◌, length, map, All, Contains};
+ghost use Rattle.spec_sorts.specs.Terms.{True, False, Truth, Symbol, Term, of, constant_term};
+ghost use Rattle.spec_sorts.specs.Values.{Interpretation, Interprets, truth, table_value};
+ghost use Rattle.spec_sorts.specs.TermValues.{value_at};
+ghost use Rattle.spec_sorts.specs.WellSorted.{IsFormulaOver};
+ghost use Rattle.spec_sorts.specs.Subterms.{subterms_of};
+ghost use Rattle.spec_sorts.specs.Literals.{Clause, Literal, complement, literals_of};
+ghost use Rattle.spec_proofs.specs.Resolution.{IsWithin};
+ghost use Rattle.spec_search.specs.Learned.{IsSettled, IsQuiet, IsConsistent, OthersFail};
+ghost use Rattle.spec_rules.specs.Clauses.{term_true, clause_true};
+ghost use Rattle.spec_rules.specs.Truths.{Truths, term_true_by};
+ghost use Rattle.spec_derivations.specs.Problems.{Problem, terms_of_problem, subterms_in};
+ghost use Rattle.spec_derivations.specs.Derivations.{Derivation, «assumption», conclusion, inference_at, conclusion_at, IsDerivation, RestsOn};
+ghost use Rattle.spec_derivations.specs.Base.{base_clauses};
+ghost use Rattle.spec_derivations.specs.Models.{Meets, joins_formulas, AreInReach, value_by, Obeys, Realizes};
+ghost use Rattle.spec_derivations.specs.Learned.{IsOpenIn, IsNew};
+ghost use Rattle.spec_derivations.specs.Spent.{AreLearned, IsConflictBudgetSpent, IsConflict};
+ghost use Rattle.spec_derivations.specs.Examples.{asserting, eight, not_both, not_both_derived};
+
+/// States that where propagation is quiet and consistent, a clause whose literals but one are false, and whose one literal
+/// does not hold, is new.
+pub fn quiet_clause_is_new()
+    ensures { (premises : List (List Literal)) (held clause : List Literal) (l : Literal)
+        → IsQuiet complement premises held → IsConsistent complement held
+        → Contains clause l → (Contains held l → ⊥) → OthersFail complement held clause l
+        → IsOpenIn premises clause l }
+{}
+
+/// States that a clause which has all literals of a premise is not new, a premise itself among them.
+pub fn new_clauses_contain_none()
+    ensures { (premises : List (List Literal)) (clause premise : List Literal) → Contains premises premise
+        → ((m : Literal) → Contains premise m → Contains clause m) → IsNew premises clause → ⊥ }
+{}
+
+/// States that of the eight disjunctions of three constants or their negations a search may learn `(cl (not p) (not q))`:
+/// it is new over all their base clauses.
+pub fn first_of_eight_is_new()
+    ensures { IsNew (map literals_of (base_clauses (asserting eight))) (literals_of not_both) }
+{}
+
+/// States that a spent budget is no empty word, and not every claim of one: of the eight disjunctions of three constants or
+/// their negations a search learns `(cl (not p) (not q))`, which spends a budget of one. It spends none of two or of nothing,
+/// the reason carries no other number than one, and in its place no tautology spends the budget.
+pub fn eight_clauses_spend_a_budget_of_one()
+    ensures spent { IsConflictBudgetSpent (asserting eight) not_both_derived 1 1 (literals_of not_both ∷ []) }
+    ensures no_other_limit { (limit carried : ℕ) → limit ≢ 1
+        → IsConflictBudgetSpent (asserting eight) not_both_derived limit carried (literals_of not_both ∷ []) → ⊥ }
+    ensures no_other_number { (carried : ℕ) → carried ≢ 1
+        → IsConflictBudgetSpent (asserting eight) not_both_derived 1 carried (literals_of not_both ∷ []) → ⊥ }
+    ensures no_tautology { (l : Literal)
+        → IsConflictBudgetSpent (asserting eight) not_both_derived 1 1 ((l ∷ complement l ∷ []) ∷ []) → ⊥ }
+    ensures not_twice { IsConflictBudgetSpent (asserting eight) not_both_derived 2 2
+        (literals_of not_both ∷ literals_of not_both ∷ []) → ⊥ }
+{
+    learned_clauses_say_something();
+}
+
+/// States that learned clauses say something: none has a literal with its complement, none has a literal of `true` or `false`,
+/// none is empty, and none has all literals of a base clause, or of a clause that was learned before it.
+pub fn learned_clauses_say_something()
+    ensures no_tautology { (p : Problem) (d : Derivation) (learned : List (List Literal)) → AreLearned p d learned
+        → (c : List Literal) (l : Literal) → Contains learned c → Contains c l → Contains c (complement l) → ⊥ }
+    ensures no_truth_value { (p : Problem) (d : Derivation) (learned : List (List Literal)) → AreLearned p d learned
+        → (c : List Literal) (l : Literal) → Contains learned c → Contains c l → (l.atom ≢ of True []) × (l.atom ≢ of False []) }
+    ensures not_empty { (p : Problem) (d : Derivation) (learned : List (List Literal)) → AreLearned p d learned
+        → (c : List Literal) → Contains learned c → c ≢ [] }
+    ensures no_base_clause { (p : Problem) (d : Derivation) (learned : List (List Literal)) → AreLearned p d learned
+        → (c : List Literal) (b : Clause) → Contains learned c → Contains (base_clauses p) b
+        → IsWithin (literals_of b) c → ⊥ }
+    ensures no_earlier_clause { (p : Problem) (d : Derivation) (learned : List (List Literal)) → AreLearned p d learned
+        → (before after : List (List Literal)) (c e : List Literal) → learned ≡ before ++ c ∷ after → Contains before e
+        → IsWithin e c → ⊥ }
+{}
+
+/// States that a conflict is one clause more: with it the check has learned as many clauses as before, and one.
+pub fn conflicts_are_one_clause_more()
+    ensures { (p : Problem) (d : Derivation) (learned : List (List Literal)) → AreLearned p d learned
+        → (x : IsConflict p d learned) → AreLearned p (d ++ x.more) (learned ++ x.clause ∷ []) }
+{}
+
+/// States that in a derivation a clause is true under an interpretation of the symbols where the assumptions that it rests on
+/// are. The derivation's clauses have formulas over these symbols.
+pub fn derivations_are_sound()
+    ensures { (symbols : List Symbol) (d : Derivation) (i : Interpretation) → IsDerivation d → Interprets i symbols
+        → All (λ x. All (IsFormulaOver symbols) (conclusion x)) d → (n : ℕ) → n < length d
+        → ((m : ℕ) (t : Term) → RestsOn d n m → inference_at d m ≡ «assumption» t → term_true i t ≡ true)
+        → clause_true i (conclusion_at d n) ≡ true }
+{
+    spec_rules::laws::rules_are_sound();
+}
+
+/// States that learned clauses follow from the check's terms: each has the literals of a clause that is true under an
+/// interpretation of the symbols which makes the terms true. The derivation's clauses have formulas over these symbols.
+pub fn learned_clauses_are_true()
+    ensures { (symbols : List Symbol) (p : Problem) (d : Derivation) (learned : List (List Literal)) (i : Interpretation)
+        → AreLearned p d learned → Interprets i symbols → All (λ x. All (IsFormulaOver symbols) (conclusion x)) d
+        → All (λ t. term_true i t ≡ true) (terms_of_problem p) → (c : List Literal) → Contains learned c
+        → (clause : Clause) × (literals_of clause ≡ c) × (clause_true i clause ≡ true) }
+{
+    derivations_are_sound();
+}
+
+/// States that truths which meet the base clauses of a check give each subterm that joins formulas the value of its head at its
+/// arguments' values. Where the search reaches the terms, each subterm has its truth as its value under each
+/// interpretation that gives the declared symbols the truths that these have. So the asserted terms are true, and the
+/// assumed ones are where the truths make them true. Source: Tseitin 1968.
+pub fn base_clauses_define_their_terms()
+    ensures obey { (p : Problem) (v : Truths) → Meets v (base_clauses p)
+        → (t : Term) → Contains (subterms_in p) t → joins_formulas t ≡ true → Obeys v t }
+    ensures values { (symbols : List Symbol) (p : Problem) (v : Truths) (i : Interpretation)
+        → All (IsFormulaOver symbols) (terms_of_problem p) → AreInReach (terms_of_problem p)
+        → Realizes i v (terms_of_problem p) → Meets v (base_clauses p)
+        → (t : Term) → Contains (subterms_in p) t → value_at i [] t ≡ value_by v t }
+    ensures model { (symbols : List Symbol) (p : Problem) (v : Truths) (i : Interpretation)
+        → All (IsFormulaOver symbols) (terms_of_problem p) → AreInReach (terms_of_problem p)
+        → Realizes i v (terms_of_problem p) → Meets v (base_clauses p)
+        → All (λ t. term_true_by v t ≡ true) p.assumed → All (λ t. value_at i [] t ≡ truth true) (terms_of_problem p) }
+{
+    spec_sorts::subterms::subterms_are_least();
+}
+
+/// States what the search reaches: each subterm joins formulas, and an interpretation that gives the constants of sort Bool their
+/// truths gives them to all applications of symbols.
+pub fn terms_in_reach_join_formulas()
+    ensures joins { (symbols : List Symbol) (terms : List Term) → All (IsFormulaOver symbols) terms → AreInReach terms
+        → (t : Term) → Contains (subterms_of terms) t → joins_formulas t ≡ true }
+    ensures realized { (symbols : List Symbol) (terms : List Term) (v : Truths) (i : Interpretation)
+        → All (IsFormulaOver symbols) terms → AreInReach terms
+        → ((f : Symbol) → Contains symbols f → f.parameters ≡ [] → f.result ≡ Truth
+        → table_value i f.name [] ≡ truth (v (constant_term f))) → Realizes i v terms }
+{}
+
+/// States that base clauses are no stronger than the asserted terms: each is true under an interpretation of the symbols that
+/// makes these true. The check's terms are formulas over the symbols, and then so are those of the clauses.
+/// Source: Alethe specification, the rules without premises.
+pub fn base_clauses_hold_in_models()
+    ensures formulas { (symbols : List Symbol) (p : Problem) → All (IsFormulaOver symbols) (terms_of_problem p)
+        → All (All (IsFormulaOver symbols)) (base_clauses p) }
+    ensures hold { (symbols : List Symbol) (p : Problem) (i : Interpretation) → Interprets i symbols
+        → All (IsFormulaOver symbols) (terms_of_problem p) → All (λ t. value_at i [] t ≡ truth true) p.asserted
+        → All (λ c. clause_true i c ≡ true) (base_clauses p) }
+{
+    spec_rules::laws::rules_are_sound();
+}
+
+/// States that the literals of base clauses are over subterms of the check's terms.
+pub fn base_clauses_are_over_subterms()
+    ensures { (p : Problem) (c : Clause) (l : Literal) → Contains (base_clauses p) c → Contains (literals_of c) l
+        → Contains (subterms_in p) l.atom }
+{
+    spec_sorts::subterms::subterms_are_least();
+}
