@@ -1,7 +1,6 @@
 -- What is derived from true assumptions is true.
-use Rattle.std.proofs.Common.{◌≡◌, ℕ, zero, suc, ◌<◌, true, false, ◌||◌, List, ◌∷◌, ◌++◌, length, get_or, take, drop, map, All, Contains, refl, sym, ap, ◌∙◌, subst, arith}
-use Rattle.std.proofs.Math.Seq.{drop-cons}
-use Rattle.std.proofs.lemmas.List.{get_or-take, length-take-le, take-append-drop}
+use Rattle.std.proofs.Common.{◌≡◌, ℕ, zero, suc, ◌<◌, true, false, ◌||◌, List, length, get_or, take, map, All, Contains, refl, sym, ap, ◌∙◌, subst, arith}
+use Rattle.std.proofs.lemmas.List.{get_or-take, length-take-le}
 use Rattle.std.proofs.lemmas.List.Elements.{All-map, Contains-get_or}
 use Rattle.spec_text.specs.Trees.{Trees}
 use Rattle.spec_sorts.specs.Terms.{Symbol, Term}
@@ -12,10 +11,7 @@ use Rattle.spec_proofs.specs.declared.Rule.{Rule}
 use Rattle.spec_rules.specs.Rules.{IsRight}
 use Rattle.spec_rules.specs.Clauses.{term_true, clause_true}
 use Rattle.spec_derivations.specs.Derivations.{Inference, assumption, by_rule, Derivation, conclusion, premises_of, no_inference, inference_at, conclusion_at, FollowsFrom, IsDerivation, RestsOn, itself, by_premise}
-
--- a derivation at one of its numbers
-pub split_at : (d : Derivation) (n : ℕ) → n < length d → d ≡ take n d ++ inference_at d n ∷ drop (suc n) d
-split_at d n lt = sym (take-append-drop n d) ∙ ap (λ rest. take n d ++ rest) (drop-cons d n no_inference lt)
+use Rattle.spec_derivations.proofs.Derivations.{follows_at}
 
 -- what the numbers before it mean
 front_means : (d : Derivation) (n m : ℕ) → m < n → conclusion_at (take n d) m ≡ conclusion_at d m
@@ -28,7 +24,7 @@ module _ (d : Derivation) (symbols : List Symbol) (i : Interpretation) (rules : 
 
   -- a step is true where the clauses before it are, as far as what they rest on is
   one_true : (n : ℕ) → n < length d → ((m : ℕ) → m < n → AreTrue m → clause_true i (conclusion_at d m) ≡ true) → AreTrue n → clause_true i (conclusion_at d n) ≡ true
-  one_true n lt before assumed = go (inference_at d n) refl (right (take n d) (inference_at d n) (drop (suc n) d) (split_at d n lt))
+  one_true n lt before assumed = go (inference_at d n) refl (follows_at d right n lt)
     where
       go : (x : Inference) → inference_at d n ≡ x → FollowsFrom (take n d) (inference_at d n) → clause_true i (conclusion_at d n) ≡ true
       go (assumption t) e follows = ap (λ x. clause_true i (conclusion x)) e ∙ ap (λ b. b || false) (assumed n t (itself n) e)

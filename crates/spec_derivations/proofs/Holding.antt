@@ -30,7 +30,7 @@ abbrev stating : List Rule
 stating = rules.True ∷ rules.False ∷ rules.AndPos ∷ rules.AndNeg ∷ rules.OrPos ∷ rules.OrNeg ∷ rules.ImpliesPos ∷ rules.ImpliesNeg1 ∷ rules.ImpliesNeg2 ∷ rules.EquivPos1 ∷ rules.EquivPos2 ∷ rules.EquivNeg1 ∷ rules.EquivNeg2 ∷ rules.XorPos1 ∷ rules.XorPos2 ∷ rules.XorNeg1 ∷ rules.XorNeg2 ∷ rules.ItePos1 ∷ rules.ItePos2 ∷ rules.IteNeg1 ∷ rules.IteNeg2 ∷ rules.NotNot ∷ []
 
 -- each scheme of the table has its rule
-has_rule : (s : Scheme) → Contains schemes s → (r : Rule) × (kind_of r ≡ states s)
+pub has_rule : (s : Scheme) → Contains schemes s → (r : Rule) × (kind_of r ≡ states s)
 has_rule s h =
     let each : map kind_of stating ≡ map states schemes = refl in
     let x = from_image kind_of stating (states s) (subst (λ ks. Contains ks (states s)) (sym each) (to_image states schemes s h)) in

@@ -2,6 +2,7 @@
 pub mod Learned
 pub mod Saying
 pub mod Eight
+pub mod Derivations
 pub mod Derived
 pub mod Spending
 pub mod Onward
@@ -12,3 +13,4 @@ pub mod Obeying
 pub mod Modelling
 pub mod Holding
 pub mod Over
+pub mod Propagated

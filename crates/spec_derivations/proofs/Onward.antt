@@ -1,5 +1,5 @@
 -- What is derived stays derived with further steps, and a clause may be learned after others.
-use Rattle.std.proofs.Common.{◌≡◌, ℕ, ◌<◌, List, [], ◌∷◌, ◌++◌, length, take, drop, map, Contains, sym, ap, ◌∙◌, subst, suc, arith}
+use Rattle.std.proofs.Common.{◌≡◌, ℕ, ◌<◌, List, [], ◌∷◌, ◌++◌, length, take, map, Contains, sym, ap, ◌∙◌, subst, arith}
 use Rattle.std.proofs.lemmas.List.{append_assoc, append-nil, length-append, length-take-le, get_or_append_left}
 use Rattle.std.proofs.lemmas.List.Elements.{All-append, All-cons, All-nil}
 use Rattle.spec_sorts.specs.Terms.{Term}
@@ -9,12 +9,12 @@ use Rattle.spec_derivations.specs.Base.{base_clauses}
 use Rattle.spec_derivations.specs.Derivations.{Inference, Derivation, conclusion, premises_of, no_inference, inference_at, IsDerivation, RestsOn, itself, by_premise, AssumesAmong, IsDerivedFrom}
 use Rattle.spec_derivations.specs.Learned.{IsNew, AreNew}
 use Rattle.spec_derivations.specs.Spent.{IsLearnedFrom, IsOverAtoms, AreLearned, IsConflict}
-use Rattle.spec_derivations.proofs.Derived.{split_at}
+use Rattle.spec_derivations.proofs.Derivations.{follows_at}
 use Rattle.spec_derivations.proofs.Spending.{premises_before, rests_there}
 
 module _ (d more : Derivation) where
   -- an inference keeps its number
-  kept_at : (n : ℕ) → n < length d → inference_at (d ++ more) n ≡ inference_at d n
+  pub kept_at : (n : ℕ) → n < length d → inference_at (d ++ more) n ≡ inference_at d n
   kept_at n lt = get_or_append_left d more no_inference n lt
 
   -- and what it rests on
@@ -22,7 +22,7 @@ module _ (d more : Derivation) where
   rests_before right n _ lt (itself _) = itself n
   rests_before right n m lt (by_premise _ k _ k_in rests) =
       let own : Contains (premises_of (inference_at d n)) k = subst (λ (x : Inference). Contains (premises_of x) k) (kept_at n lt) k_in in
-      let less = premises_before (take n d) (inference_at d n) k (right (take n d) (inference_at d n) (drop (suc n) d) (split_at d n lt)) own in
+      let less = premises_before (take n d) (inference_at d n) k (follows_at d right n lt) own in
       by_premise n k m own (rests_before right k m (omega (arith, less, length-take-le n d (omega (arith, lt)), lt)) rests)
 
   -- so it stays derived

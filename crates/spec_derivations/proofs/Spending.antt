@@ -1,5 +1,5 @@
 -- That the eight disjunctions spend a budget of one.
-use Rattle.std.proofs.Common.{◌≡◌, ◌≢◌, ℕ, ◌<◌, true, List, [], ◌∷◌, ◌++◌, length, take, drop, All, Contains, refl, sym, subst, suc, arith}
+use Rattle.std.proofs.Common.{◌≡◌, ◌≢◌, ℕ, ◌<◌, true, List, [], ◌∷◌, ◌++◌, length, take, All, Contains, refl, sym, subst, arith}
 use Rattle.std.specs.List.{AllByRecursion}
 use Rattle.std.proofs.lemmas.List.{append-nil, append_assoc, length-take-le}
 use Rattle.std.proofs.lemmas.List.Elements.{All-contains, All-from_recursion}
@@ -14,7 +14,7 @@ use Rattle.spec_derivations.specs.Spent.{IsAtomOf, subterm, IsLearnedFrom, IsOve
 use Rattle.spec_rules.specs.Examples.{p, q, r}
 use Rattle.spec_derivations.specs.Problems.{known_subterms}
 use Rattle.spec_derivations.specs.Examples.{asserting, eight, not_both, not_both_derived}
-use Rattle.spec_derivations.proofs.Derived.{split_at}
+use Rattle.spec_derivations.proofs.Derivations.{follows_at}
 use Rattle.spec_derivations.proofs.Eight.{not_both_is_new}
 
 -- each follows from those before it, by recursion
@@ -48,7 +48,7 @@ rests_onward d n m k (by_premise _ j _ first rest) p = by_premise n j k first (r
 pub rests_there : (d : Derivation) → IsDerivation d → (n m : ℕ) → n < length d → RestsOn d n m → m < length d
 rests_there d right _ _ lt (itself n) = lt
 rests_there d right _ _ lt (by_premise n k m k_in rests) =
-    let less = premises_before (take n d) (inference_at d n) k (right (take n d) (inference_at d n) (drop (suc n) d) (split_at d n lt)) k_in in
+    let less = premises_before (take n d) (inference_at d n) k (follows_at d right n lt) k_in in
     rests_there d right k m (omega (arith, less, length-take-le n d (omega arith), lt)) rests
 
 -- the literals of the constants
@@ -119,7 +119,7 @@ q_there : has_term (known_subterms (asserting eight)) q ≡ true
 unfolding same_term with_subterms with_all_subterms
 q_there = refl
 
-p_sort : sort_of p ≡ Truth
+pub p_sort : sort_of p ≡ Truth
 unfolding sort_of
 p_sort = refl
 

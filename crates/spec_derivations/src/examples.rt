@@ -1,16 +1,19 @@
-//! Worked examples: the base clauses of the terms of `specs/Examples.antt`. Each is a function whose contract is the example;
-//! it computes nothing. The constants p, q and r have the sort Bool, a and b the sort Real, and x and y a declared one.
+//! Worked examples: the base clauses of the terms of `specs/Examples.antt`. Each is a function whose contract is
+//! the example; it computes nothing. The constants p, q and r have the sort Bool, a and b the sort Real, and x and
+//! y a declared one.
 
 ghost use Rattle.std.specs.Prelude.{◌≡◌, [], ◌∷◌};
-ghost use Rattle.spec_sorts.specs.Terms.{negated};
-ghost use Rattle.spec_rules.specs.Examples.{p, q, r, below};
+ghost use Rattle.spec_sorts.specs.Terms.{True, Equal, of, negated};
+ghost use Rattle.spec_rules.specs.Examples.{p, q, r, a, below};
+ghost use Rattle.spec_derivations.specs.Problems.{Problem};
 ghost use Rattle.spec_derivations.specs.Base.{base_clauses};
-ghost use Rattle.spec_derivations.specs.Examples.{asserting, p_or_not_q, p_then_q_else_r, not_not_not_p, same, below_or_same};
-ghost use Rattle.spec_derivations.specs.Examples.{equals_chosen, of_disjunction};
+ghost use Rattle.spec_derivations.specs.Spent.{IsAtomOf};
+ghost use Rattle.spec_derivations.specs.Examples.{asserting, p_or_not_q, p_then_q_else_r, not_not_not_p, same};
+ghost use Rattle.spec_derivations.specs.Examples.{below_or_same, chosen, equals_chosen, of_disjunction};
 
-/// States the base clauses of a disjunction, of a choice, and of three negations: the term alone, and what its rules without
-/// premises state. A constant has none of its own, and a single negation has none. What is assumed has no clause
-/// alone, and what earlier checks asked has none at all.
+/// States the base clauses of a disjunction, of a choice, and of three negations: the term alone, and what its
+/// rules without premises state. A constant has none of its own, and a single negation has none. What is assumed
+/// has no clause alone, and what earlier checks asked has none at all.
 pub fn base_clauses_are_stated()
     ensures disjunction { base_clauses (asserting (p_or_not_q ∷ []))
         ≡ (p_or_not_q ∷ [])
@@ -26,14 +29,18 @@ pub fn base_clauses_are_stated()
     ensures negations { base_clauses (asserting (not_not_not_p ∷ []))
         ≡ (not_not_not_p ∷ []) ∷ (negated not_not_not_p ∷ negated p ∷ [])
         ∷ (negated (negated (negated p)) ∷ p ∷ []) ∷ [] }
-    ensures assumed { base_clauses (record { asserted = []; assumed = p_or_not_q ∷ []; earlier = p_then_q_else_r ∷ [] })
+    ensures assumed { base_clauses (record {
+      asserted = [];
+      assumed = p_or_not_q ∷ [];
+      earlier = p_then_q_else_r ∷ [];
+    })
         ≡ (negated p_or_not_q ∷ p ∷ negated q ∷ [])
         ∷ (p_or_not_q ∷ negated p ∷ [])
         ∷ (p_or_not_q ∷ negated (negated q) ∷ []) ∷ [] }
 {}
 
-/// States the base clauses of terms with arguments of other sorts. A comparison, an equality and a choice of these have none of
-/// their own; a formula inside has its clauses, below a function too.
+/// States the base clauses of terms with arguments of other sorts. A comparison, an equality and a choice of these
+/// have none of their own. A formula inside has its clauses, below a function too.
 pub fn base_clauses_of_other_sorts_are_stated()
     ensures comparison { base_clauses (asserting (below_or_same ∷ []))
         ≡ (below_or_same ∷ [])
@@ -50,4 +57,13 @@ pub fn base_clauses_of_other_sorts_are_stated()
         ∷ (negated p_or_not_q ∷ p ∷ negated q ∷ [])
         ∷ (p_or_not_q ∷ negated p ∷ [])
         ∷ (p_or_not_q ∷ negated (negated q) ∷ []) ∷ [] }
+{}
+
+/// States what the clauses that a check learns may speak of: a constant of an earlier check, and the equality of a
+/// choice between numbers with its first branch. They speak of no truth value, and of no number as such.
+pub fn atoms_are_found()
+    ensures earlier { IsAtomOf (record { asserted = []; assumed = []; earlier = p_or_not_q ∷ [] }) p }
+    ensures choice { IsAtomOf (asserting (equals_chosen ∷ [])) (of Equal (chosen ∷ a ∷ [])) }
+    ensures no_truth_value { (k : Problem) → IsAtomOf k (of True []) → ⊥ }
+    ensures no_number { (k : Problem) → IsAtomOf k a → ⊥ }
 {}

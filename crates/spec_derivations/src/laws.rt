@@ -7,20 +7,21 @@ ghost use Rattle.spec_sorts.specs.TermValues.{value_at};
 ghost use Rattle.spec_sorts.specs.WellSorted.{IsFormulaOver};
 ghost use Rattle.spec_sorts.specs.Subterms.{subterms_of};
 ghost use Rattle.spec_sorts.specs.Literals.{Clause, Literal, complement, literals_of};
-ghost use Rattle.spec_proofs.specs.Resolution.{IsWithin};
+ghost use Rattle.spec_proofs.specs.Resolution.{IsWithin, Resolves};
 ghost use Rattle.spec_search.specs.Learned.{IsSettled, IsQuiet, IsConsistent, OthersFail};
 ghost use Rattle.spec_rules.specs.Clauses.{term_true, clause_true};
 ghost use Rattle.spec_rules.specs.Truths.{Truths, term_true_by};
 ghost use Rattle.spec_derivations.specs.Problems.{Problem, terms_of_problem, subterms_in};
-ghost use Rattle.spec_derivations.specs.Derivations.{Derivation, «assumption», conclusion, inference_at, conclusion_at, IsDerivation, RestsOn};
+ghost use Rattle.spec_derivations.specs.Derivations.{Derivation, «assumption», conclusion};
+ghost use Rattle.spec_derivations.specs.Derivations.{inference_at, conclusion_at, IsDerivation, RestsOn};
 ghost use Rattle.spec_derivations.specs.Base.{base_clauses};
 ghost use Rattle.spec_derivations.specs.Models.{Meets, joins_formulas, AreInReach, value_by, Obeys, Realizes};
 ghost use Rattle.spec_derivations.specs.Learned.{IsOpenIn, IsNew};
-ghost use Rattle.spec_derivations.specs.Spent.{AreLearned, IsConflictBudgetSpent, IsConflict};
+ghost use Rattle.spec_derivations.specs.Spent.{IsOverAtoms, AreLearned, IsConflictBudgetSpent, IsConflict};
 ghost use Rattle.spec_derivations.specs.Examples.{asserting, eight, not_both, not_both_derived};
 
-/// States that where propagation is quiet and consistent, a clause whose literals but one are false, and whose one literal
-/// does not hold, is new.
+/// States that where propagation is quiet and consistent, a clause whose literals but one are false, and whose one
+/// literal does not hold, is new.
 pub fn quiet_clause_is_new()
     ensures { (premises : List (List Literal)) (held clause : List Literal) (l : Literal)
         → IsQuiet complement premises held → IsConsistent complement held
@@ -34,15 +35,16 @@ pub fn new_clauses_contain_none()
         → ((m : Literal) → Contains premise m → Contains clause m) → IsNew premises clause → ⊥ }
 {}
 
-/// States that of the eight disjunctions of three constants or their negations a search may learn `(cl (not p) (not q))`:
-/// it is new over all their base clauses.
+/// States that of the eight disjunctions of three constants or their negations a search may learn `(cl (not p) (not
+/// q))`: it is new over all their base clauses.
 pub fn first_of_eight_is_new()
     ensures { IsNew (map literals_of (base_clauses (asserting eight))) (literals_of not_both) }
 {}
 
-/// States that a spent budget is no empty word, and not every claim of one: of the eight disjunctions of three constants or
-/// their negations a search learns `(cl (not p) (not q))`, which spends a budget of one. It spends none of two or of nothing,
-/// the reason carries no other number than one, and in its place no tautology spends the budget.
+/// States that a spent budget is no empty word, and not every claim of one. Of the eight disjunctions of three
+/// constants or their negations a search learns `(cl (not p) (not q))`, which spends a budget of one. It spends
+/// none of two or of nothing, and the reason carries no other number than one. In its place no tautology spends the
+/// budget.
 pub fn eight_clauses_spend_a_budget_of_one()
     ensures spent { IsConflictBudgetSpent (asserting eight) not_both_derived 1 1 (literals_of not_both ∷ []) }
     ensures no_other_limit { (limit carried : ℕ) → limit ≢ 1
@@ -57,13 +59,15 @@ pub fn eight_clauses_spend_a_budget_of_one()
     learned_clauses_say_something();
 }
 
-/// States that learned clauses say something: none has a literal with its complement, none has a literal of `true` or `false`,
-/// none is empty, and none has all literals of a base clause, or of a clause that was learned before it.
+/// States that learned clauses say something. None has a literal with its complement, none has a literal of `true`
+/// or `false`, and none is empty. None has all literals of a base clause, or of a clause that was learned before
+/// it.
 pub fn learned_clauses_say_something()
     ensures no_tautology { (p : Problem) (d : Derivation) (learned : List (List Literal)) → AreLearned p d learned
         → (c : List Literal) (l : Literal) → Contains learned c → Contains c l → Contains c (complement l) → ⊥ }
     ensures no_truth_value { (p : Problem) (d : Derivation) (learned : List (List Literal)) → AreLearned p d learned
-        → (c : List Literal) (l : Literal) → Contains learned c → Contains c l → (l.atom ≢ of True []) × (l.atom ≢ of False []) }
+        → (c : List Literal) (l : Literal) → Contains learned c → Contains c l
+        → (l.atom ≢ of True []) × (l.atom ≢ of False []) }
     ensures not_empty { (p : Problem) (d : Derivation) (learned : List (List Literal)) → AreLearned p d learned
         → (c : List Literal) → Contains learned c → c ≢ [] }
     ensures no_base_clause { (p : Problem) (d : Derivation) (learned : List (List Literal)) → AreLearned p d learned
@@ -74,14 +78,24 @@ pub fn learned_clauses_say_something()
         → IsWithin e c → ⊥ }
 {}
 
-/// States that a conflict is one clause more: with it the check has learned as many clauses as before, and one.
+/// States that a conflict is one clause more: with its clause and its steps the check has learned one more than
+/// before.
 pub fn conflicts_are_one_clause_more()
     ensures { (p : Problem) (d : Derivation) (learned : List (List Literal)) → AreLearned p d learned
         → (x : IsConflict p d learned) → AreLearned p (d ++ x.more) (learned ++ x.clause ∷ []) }
 {}
 
-/// States that in a derivation a clause is true under an interpretation of the symbols where the assumptions that it rests on
-/// are. The derivation's clauses have formulas over these symbols.
+/// States where a conflict is met: a clause follows by unit propagation from the base clauses and the learned ones.
+/// If it is over the check's atoms and new, it is the clause of a conflict: further steps derive it.
+pub fn propagated_clauses_are_conflicts()
+    ensures { (p : Problem) (d : Derivation) (learned : List (List Literal)) (clause : Clause) → AreLearned p d learned
+        → IsOverAtoms p (literals_of clause)
+        → Resolves complement (map literals_of (base_clauses p) ++ learned) (literals_of clause)
+        → IsNew (map literals_of (base_clauses p) ++ learned) (literals_of clause) → IsConflict p d learned }
+{}
+
+/// States that in a derivation a clause is true under an interpretation of the symbols where the assumptions are
+/// that it rests on. The derivation's clauses have formulas over these symbols.
 pub fn derivations_are_sound()
     ensures { (symbols : List Symbol) (d : Derivation) (i : Interpretation) → IsDerivation d → Interprets i symbols
         → All (λ x. All (IsFormulaOver symbols) (conclusion x)) d → (n : ℕ) → n < length d
@@ -91,21 +105,22 @@ pub fn derivations_are_sound()
     spec_rules::laws::rules_are_sound();
 }
 
-/// States that learned clauses follow from the check's terms: each has the literals of a clause that is true under an
-/// interpretation of the symbols which makes the terms true. The derivation's clauses have formulas over these symbols.
+/// States that learned clauses follow from the check's terms. Each has the literals of a clause that is true under
+/// an interpretation of the symbols which makes the terms true. The derivation's clauses have formulas over these
+/// symbols.
 pub fn learned_clauses_are_true()
-    ensures { (symbols : List Symbol) (p : Problem) (d : Derivation) (learned : List (List Literal)) (i : Interpretation)
-        → AreLearned p d learned → Interprets i symbols → All (λ x. All (IsFormulaOver symbols) (conclusion x)) d
-        → All (λ t. term_true i t ≡ true) (terms_of_problem p) → (c : List Literal) → Contains learned c
+    ensures { (symbols : List Symbol) (p : Problem) (d : Derivation) (learned : List (List Literal))
+        → (i : Interpretation) → AreLearned p d learned → Interprets i symbols
+        → All (λ x. All (IsFormulaOver symbols) (conclusion x)) d → All (λ t. term_true i t ≡ true) (terms_of_problem p) → (c : List Literal) → Contains learned c
         → (clause : Clause) × (literals_of clause ≡ c) × (clause_true i clause ≡ true) }
 {
     derivations_are_sound();
 }
 
-/// States that truths which meet the base clauses of a check give each subterm that joins formulas the value of its head at its
-/// arguments' values. Where the search reaches the terms, each subterm has its truth as its value under each
-/// interpretation that gives the declared symbols the truths that these have. So the asserted terms are true, and the
-/// assumed ones are where the truths make them true. Source: Tseitin 1968.
+/// States what truths that meet the base clauses of a check say of its terms. Each subterm that joins formulas has
+/// the value of its head at its arguments' values. Where the search reaches the terms, let an interpretation give
+/// the applications of declared symbols the truths that these have. Then it gives each subterm its truth. So the
+/// asserted terms are true, and the assumed ones where the truths make them true. Source: Tseitin 1968.
 pub fn base_clauses_define_their_terms()
     ensures obey { (p : Problem) (v : Truths) → Meets v (base_clauses p)
         → (t : Term) → Contains (subterms_in p) t → joins_formulas t ≡ true → Obeys v t }
@@ -121,8 +136,8 @@ pub fn base_clauses_define_their_terms()
     spec_sorts::subterms::subterms_are_least();
 }
 
-/// States what the search reaches: each subterm joins formulas, and an interpretation that gives the constants of sort Bool their
-/// truths gives them to all applications of symbols.
+/// States what is in reach: terms of which each subterm joins formulas. An interpretation that gives the constants
+/// of sort Bool their truths gives them to all applications of symbols there.
 pub fn terms_in_reach_join_formulas()
     ensures joins { (symbols : List Symbol) (terms : List Term) → All (IsFormulaOver symbols) terms → AreInReach terms
         → (t : Term) → Contains (subterms_of terms) t → joins_formulas t ≡ true }
@@ -132,9 +147,9 @@ pub fn terms_in_reach_join_formulas()
         → table_value i f.name [] ≡ truth (v (constant_term f))) → Realizes i v terms }
 {}
 
-/// States that base clauses are no stronger than the asserted terms: each is true under an interpretation of the symbols that
-/// makes these true. The check's terms are formulas over the symbols, and then so are those of the clauses.
-/// Source: Alethe specification, the rules without premises.
+/// States that base clauses are no stronger than the asserted terms. Each is true under an interpretation of the
+/// symbols that makes these true. The check's terms are formulas over the symbols, and then so are those of the
+/// clauses. Source: Alethe specification, the rules without premises.
 pub fn base_clauses_hold_in_models()
     ensures formulas { (symbols : List Symbol) (p : Problem) → All (IsFormulaOver symbols) (terms_of_problem p)
         → All (All (IsFormulaOver symbols)) (base_clauses p) }
