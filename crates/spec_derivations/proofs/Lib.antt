@@ -13,4 +13,5 @@ pub mod Obeying
 pub mod Modelling
 pub mod Holding
 pub mod Over
+pub mod Asked
 pub mod Propagated

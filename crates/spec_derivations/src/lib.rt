@@ -5,5 +5,6 @@
 //! definitions in `specs/`.
 #![tactic(auto)]
 
+pub mod checks;
 pub mod examples;
 pub mod laws;
