@@ -6,3 +6,5 @@ pub mod Values
 pub mod Parameters
 pub mod Tables
 pub mod Definitions
+pub mod Agreement
+pub mod Scripts

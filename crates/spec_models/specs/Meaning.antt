@@ -64,6 +64,23 @@ unfoldable mutual
   first_model_value m b (more t us) = model_value m b t
   first_model_value m b none = truth false
 
+-- a list with these items is the text of no element
+abbrev pub IsNoElement : Trees → Type 0
+IsNoElement none = Unit {0}
+IsNoElement (more head us) = element_in head us ≡ None
+
+-- the text of no element occurs
+abbrev mutual
+  -- in a tree
+  pub HasNoElement : Tree → Type 0
+  HasNoElement (atom at k n) = Unit {0}
+  HasNoElement (list at ts end) = IsNoElement ts × HaveNoElement ts
+
+  -- in trees, one after the other
+  pub HaveNoElement : Trees → Type 0
+  HaveNoElement none = Unit {0}
+  HaveNoElement (more t ts) = HasNoElement t × HaveNoElement ts
+
 -- the text of a model: its new names may be such as are kept for solvers
 abbrev pub model : Setting
 model = record { kept_names = true; may_name = false; own = None }
