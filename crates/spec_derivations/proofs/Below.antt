@@ -1,4 +1,4 @@
--- What terms hand on to their subterms.
+-- What terms pass to their subterms.
 use Rattle.std.proofs.Common.{◌≡◌, true, List, [], ◌∷◌, map, All, Contains, inl, inr, refl, sym, ap, ◌∙◌, subst}
 use Rattle.std.proofs.lemmas.Bool.{and_parts}
 use Rattle.std.proofs.lemmas.List.Elements.{All-head, All-tail}
