@@ -12,6 +12,8 @@ mod sorts;
 mod symbols;
 mod taking;
 mod terms;
+#[cfg(test)]
+mod tests;
 mod theory_heads;
 
 pub use clauses::Clause;
