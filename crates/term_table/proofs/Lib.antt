@@ -14,3 +14,4 @@ pub mod FactsOfNodes
 pub mod SortsTaken
 pub mod TermsDeclared
 pub mod TablePut
+pub mod TermsWellSorted

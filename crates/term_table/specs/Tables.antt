@@ -2,7 +2,7 @@
 use Rattle.std.specs.Prelude.{◌≡◌, ℕ, ◌<◌, Bool, true, ◌++◌, ◌∷◌, List, [], length, map, All, slice_index_or, refl}
 use Rattle.std.specs.Coded.{Coded, code_by, coded×, coded_list}
 use Rattle.spec_text.specs.Bytes.{Name}
-use Rattle.spec_sorts.specs.Terms.{Sort, Symbol, Head, True, False, Not, And, Or, Xor, Implies, Equal, Ite, Minus, Plus, Times, Divide, Less, AtMost, Literal, Apply, Parameter, Term, no_term, of, sort_of, head_takes}
+use Rattle.spec_sorts.specs.Terms.{Sort, Symbol, Head, True, False, Not, And, Or, Xor, Implies, Equal, Ite, Minus, Plus, Times, Divide, Less, AtMost, Literal, Apply, Parameter, Term, no_term, of, sort_of, has_parameter, head_takes}
 use Rattle.spec_sorts.specs.TermCodes.{name_code, symbol_code, term_code}
 use Rattle.spec_sorts.specs.Literals.{Clause, Literal as TermLiteral}
 use Rattle.ratio128.specs.Meant.{fraction}
@@ -90,6 +90,11 @@ HasHead t h = IsOver t.sorts t.symbols h
 abbrev pub takes : Head → List Sort → Bool
 takes (Parameter k s) [] = true
 takes h ss = head_takes [] h ss
+
+-- a parameter that is a head has the sort of its number among these
+abbrev pub IsParameterAmong : List Sort → Head → Type 0
+IsParameterAmong ps (Parameter k s) = has_parameter ps k s ≡ true
+IsParameterAmong ps h = Unit {0}
 
 -- What a node says: its head, and the numbers of its arguments.
 pub record Shape : Type 0 where

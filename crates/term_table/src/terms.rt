@@ -2,13 +2,13 @@
 
 ghost use Rattle.std.specs.Prelude.{◌⊎◌, ◌≡◌, List, map, MatchBool, true, false, Contains, ◌<◌, [], ◌∷◌, ◌++◌, length, take, None, Some, IfOk, OnErr, OnOk, MatchOption};
 ghost use Rattle.spec_text.specs.Bytes.{among};
-ghost use Rattle.spec_sorts.specs.Terms.{Head as TermHead, Term, Terms, app, list_of, sort_of, negated};
-ghost use Rattle.spec_sorts.specs.WellSorted.{IsHeadOver};
+ghost use Rattle.spec_sorts.specs.Terms.{Sort as TermSort, Head as TermHead, Term, Terms, app, list_of, sort_of, negated};
+ghost use Rattle.spec_sorts.specs.WellSorted.{AllHeads, IsHeadOver, IsWellSorted};
 ghost use Rattle.spec_sorts.specs.Theory.{is_constant, is_divisor, is_zero_divisor};
 ghost use Rattle.spec_sorts.specs.Subsets.{arguments_of, AreAmong, IsClosed};
 ghost use Rattle.spec_sorts.specs.Literals.{literal_of};
 ghost use Rattle.term_table.specs.Symbols.{HasSortIn, HaveSortsIn, sort_meant, symbol_named, symbol_of};
-ghost use Rattle.term_table.specs.Tables.{declared_in, term_at, IsIn, AreIn, literal_at, takes, IsPlaced, node_term, NamesBelow, AreDifferent, Extends, positive_literal};
+ghost use Rattle.term_table.specs.Tables.{declared_in, term_at, IsIn, AreIn, literal_at, takes, IsParameterAmong, IsPlaced, node_term, NamesBelow, AreDifferent, Extends, positive_literal};
 ghost use Rattle.term_table.specs.declared.ids.TermId.{TermId as Number};
 
 use crate::facts::{Facts, facts_of};
@@ -283,6 +283,16 @@ impl TermTable {
     /// Source: SMT-LIB 2.6, section 5.2.
     pub fn heads_are_declared(&self)
         ensures { (h : TermHead) (ts : Terms) → Contains self.now.terms (app h ts) → IsHeadOver self.now.symbols h }
+    {
+        let _ = &self.symbols;
+    }
+
+    /// States that each of the table's terms is well sorted, where its parameters have the sorts of their numbers.
+    ///
+    /// Source: SMT-LIB 2.6, section 5.2.
+    pub fn terms_are_well_sorted(&self)
+        ensures { (parameters : List TermSort) (t : Term) → Contains self.now.terms t
+            → AllHeads (IsParameterAmong parameters) t → IsWellSorted self.now.symbols parameters t }
     {
         let _ = &self.symbols;
     }
