@@ -1,3 +1,10 @@
 -- The lemmas of this crate.
 pub mod Shapes
 pub mod Digits
+pub mod Pairs
+pub mod Tables
+pub mod Putting
+pub mod Folding
+pub mod Taken
+pub mod Applied
+pub mod Standing

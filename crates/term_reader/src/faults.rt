@@ -3,6 +3,7 @@
 ghost use Rattle.std.specs.Prelude.{◌≡◌};
 
 use spec_text::Fault;
+use thiserror::Error;
 
 /// Tells a fault of a text, and where it stands.
 #[derive(Clone, Copy, Debug, PartialEq, Eq)]
@@ -11,6 +12,17 @@ pub struct TermFault {
     pub offset: u64,
     /// Which fault it is.
     pub fault: Fault,
+}
+
+/// Tells why a term was not read.
+#[derive(Clone, Copy, Debug, Error, PartialEq, Eq)]
+pub enum ReadError {
+    /// The first fault of the text.
+    #[error("{0:?}")]
+    Fault(TermFault),
+    /// No memory was left. It says nothing of the text.
+    #[error("out of memory")]
+    Memory,
 }
 
 /// Makes a fault at an offset.

@@ -41,14 +41,15 @@ pub fn is_barred(setting: Setting<'_>, word: Word<'_>) -> bool
 
 /// Gives a word as a new name, where `taken` tells whether its name is taken.
 ///
-/// `Reserved` at the word comes where it is reserved, or kept for solvers and not allowed; then `Twice` at the word where
-/// its name is taken. It takes no memory. Source: SMT-LIB 2.6, sections 3.1 and 4.2.3.
+/// `Reserved` at the word comes where it is reserved, or kept for solvers and not allowed; then `Twice` at the word
+/// where its name is taken. It takes no memory. Source: SMT-LIB 2.6, sections 3.1 and 4.2.3.
 pub fn new_name<'a>(
     setting: Setting<'_>,
     taken: bool,
     word: Word<'a>,
 ) -> Result<&'a [u8], TermFault>
-    ensures { answered (λ name. name.now) result ≡ new_name (setting_meant setting.entry) (λ _. taken) (word_view word.entry) }
+    ensures { answered (λ name. name.now) result
+        ≡ new_name (setting_meant setting.entry) (λ _. taken) (word_view word.entry) }
 {
     if is_barred(setting, word) {
         return Err(fault_at(word.at, Fault::Reserved));

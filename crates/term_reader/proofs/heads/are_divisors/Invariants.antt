@@ -1,0 +1,13 @@
+use Rattle.std.proofs.Common.{◌≡◌, length}
+use Rattle.spec_sorts.specs.Theory.{each_passes, is_divisor}
+use Rattle.term_table.specs.Tables.{AreIn, clause_at}
+use Rattle.term_reader.proofs.heads.are_divisors.Given as goal
+
+abbrev pub invariant-ids : goal.invariant-ids
+invariant-ids l = record {
+  there : AreIn l.table l.rest;
+  same : each_passes is_divisor (clause_at l.table l.rest) ≡ each_passes is_divisor (clause_at l.table l.ids);
+}
+
+abbrev pub decreases-ids : goal.decreases-ids
+decreases-ids l = length l.rest

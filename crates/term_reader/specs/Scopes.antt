@@ -1,0 +1,83 @@
+-- What a scope holds, and the signature that it stands for in a table.
+use Rattle.std.specs.Prelude.{◌≡◌, List, [], ◌∷◌, length, Option, Some, None}
+use Rattle.spec_text.specs.Bytes.{Name}
+use Rattle.spec_sorts.specs.Terms.{Sort}
+use Rattle.spec_sorts.specs.Theory.{look_up}
+use Rattle.spec_sorts.specs.Signatures.{Definition, Known, declared, defined, Signature, known_as, sort_as}
+use Rattle.spec_reading.specs.Reading.{sorts_taken}
+use Rattle.term_table.specs.declared.sorts.Sort.{Sort as TableSort}
+use Rattle.term_table.specs.Symbols.{HasSortIn, HaveSortsIn, sort_meant, sorts_meant, symbol_at, IsSymbol}
+use Rattle.term_table.specs.Tables.{TableView, term_at, IsIn}
+use Rattle.term_reader.specs.declared.scope.Macro.{Macro}
+use Rattle.term_reader.specs.declared.scope.Function.{Function}
+use Rattle.term_reader.specs.declared.scope.Function.TheVariants.{Declared, Defined}
+
+-- The names of sorts and of functions, oldest first, with what each stands for.
+pub record ScopeView : Type 0 where
+  -- the names of sorts
+  pub sort_names : List Name
+  -- the sort of each
+  pub sorts : List TableSort
+  -- the names of functions
+  pub names : List Name
+  -- the function of each
+  pub functions : List Function
+
+-- Each name once, and as many sorts and functions as names.
+pub record IsScope (sort_names : List Name) (sorts : List TableSort) (names : List Name) (functions : List Function) : Type 0 where
+  -- a sort for each name
+  pub each_sort : length sort_names ≡ length sorts
+  -- a function for each name
+  pub each_function : length names ≡ length functions
+
+-- no name stands for anything
+abbrev pub no_names : ScopeView
+no_names = record { sort_names = []; sorts = []; names = []; functions = [] }
+
+-- names with what they stand for, in order
+abbrev pub paired : {A : Type 0} → List Name → List A → List (Name × A)
+paired (n ∷ ns) (a ∷ xs) = (n, a) ∷ paired ns xs
+paired ns xs = []
+
+-- the sort that a name stands for
+abbrev pub sort_under : ScopeView → Name → Option TableSort
+sort_under v n = look_up (paired v.sort_names v.sorts) n
+
+-- the function that a name stands for
+abbrev pub function_under : ScopeView → Name → Option Function
+function_under v n = look_up (paired v.names v.functions) n
+
+-- the sort is there, and is that one
+abbrev pub SortStands : TableView → Option TableSort → Option Sort → Type 0
+SortStands t None None = Unit {0}
+SortStands t (Some s) (Some r) = HasSortIn t.sorts s × (sort_meant t.sorts s ≡ r)
+SortStands t _ _ = ⊥
+
+-- A definition by the numbers of a table.
+pub record IsMacro (t : TableView) (m : Macro) (d : Definition) : Type 0 where
+  -- the parameters' sorts are there
+  pub parameters_there : HaveSortsIn t.sorts m.parameters.items
+  -- they are those that it takes
+  pub parameters : sorts_meant t.sorts m.parameters.items ≡ sorts_taken d
+  -- the body's sort is there
+  pub result_there : HasSortIn t.sorts m.result
+  -- it is the one that it gives
+  pub result : sort_meant t.sorts m.result ≡ d.result
+  -- the body is there
+  pub body_there : IsIn t m.body
+  -- it is the term that it stands for
+  pub body : term_at t m.body ≡ d.term
+
+-- the function is that one, by the numbers of a table
+abbrev pub FunctionStands : TableView → Option Function → Option Known → Type 0
+FunctionStands t None None = Unit {0}
+FunctionStands t (Some (Declared id)) (Some (declared f)) = IsSymbol t.symbols id × (symbol_at t.symbols id ≡ f)
+FunctionStands t (Some (Defined m)) (Some (defined d)) = IsMacro t m d
+FunctionStands t _ _ = ⊥
+
+-- In a table the scope stands for a signature: each name is there in both or in none, and means the same.
+pub record Stands (t : TableView) (v : ScopeView) (s : Signature) : Type 0 where
+  -- the names of sorts
+  pub sorts : (n : Name) → SortStands t (sort_under v n) (sort_as s n)
+  -- the names of functions
+  pub functions : (n : Name) → FunctionStands t (function_under v n) (known_as s n)
