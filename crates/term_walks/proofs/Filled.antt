@@ -1,4 +1,4 @@
--- Filled terms, their sorts, and what is filled so far.
+-- Filled terms, their sorts, and what a walk has filled.
 use Rattle.std.proofs.Common.{◌≡◌, ℕ, ◌+◌, ◌<◌, ◌≤◌, List, [], ◌∷◌, ◌++◌, length, get_or, take, map, Contains, refl, sym, ap, ◌∙◌, subst, inl, inr, arith}
 use Rattle.std.proofs.lemmas.List.{take_more, take-append-drop, append-nil, length-map, get_or-map, map-append, length_push, get_or_push, get_or_append_left}
 use Rattle.std.proofs.lemmas.Bool.{cases_lt}

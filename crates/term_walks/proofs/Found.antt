@@ -1,4 +1,4 @@
--- What was found so far of a term's subterms.
+-- What a walk has found of a term's subterms.
 use Rattle.std.proofs.Common.{◌≡◌, ℕ, ◌<◌, ◌⊎◌, inl, inr, List, [], ◌∷◌, ◌++◌, length, All, Contains, refl, sym, subst, arith}
 use Rattle.std.specs.Ordering.{nat_cmp, MatchOrdering}
 use Rattle.std.specs.Cmp.{ranks}
@@ -61,12 +61,6 @@ pub k_below : (t : TableView) (root k : ℕ) (waiting rest found : List ℕ) (to
 k_below t root k waiting rest found top f popped = f.below k (waits k waiting rest popped)
 
 module _ (t : TableView) (root k : ℕ) (ids waiting rest new found : List ℕ) (top : ℕ) (f : IsFound t root waiting found top) (popped : waiting ≡ rest ++ k ∷ []) (low : All (λ q. IsLtBy nat_cmp q k) rest) (adds : Adds rest ids new) (names : Names t k ids) where
-  k_waits : In k waiting
-  k_waits = waits k waiting rest popped
-
-  k_fits : k < length t.terms
-  k_fits = f.there k (inl k_waits)
-
   new_below : (q : ℕ) → In q new → q < k
   new_below q i = elim (adds.no_others q i) [ inl r ↦ less_by q k (all_in (λ q. IsLtBy nat_cmp q k) q rest low r) | inr a ↦ all_in (λ a. a < k) q ids names.before a ]
 
@@ -86,18 +80,18 @@ module _ (t : TableView) (root k : ℕ) (ids waiting rest new found : List ℕ) 
 
   pub found_more : IsFound t root new (k ∷ found) k
   found_more = record {
-    ascends = (λ q j. f.apart k q k_waits j, f.ascends);
-    apart = λ q j i h. elim h [ inl e ↦ subst (λ n. q < n) (sym e) (new_below q i) | inr r ↦ (let lt = new_below q i in let up = f.apart k j k_waits r in omega (arith, lt, up)) ];
+    ascends = (λ q j. f.apart k q (waits k waiting rest popped) j, f.ascends);
+    apart = λ q j i h. elim h [ inl e ↦ subst (λ n. q < n) (sym e) (new_below q i) | inr r ↦ (let lt = new_below q i in let up = f.apart k j (waits k waiting rest popped) r in omega (arith, lt, up)) ];
     closed = λ j u i h. elim i [
       | inl e ↦ subst (λ n. (a : ℕ) × (In a new ⊎ In a (k ∷ found)) × (a < n) × (number_term t a ≡ u)) (sym e) (came t k ids rest new (k ∷ found) u adds names (subst (λ n. Contains (arguments_of (number_term t n)) u) e h))
       | inr r ↦ (let p = f.closed j u r h in (p.0, stays p.0 p.1, p.2, p.3))
     ];
-    there = λ q h. elim h [ inl i ↦ (let lt = new_below q i in omega (arith, lt, k_fits)) | inr i ↦ elim i [ inl e ↦ subst (λ n. n < length t.terms) (sym e) k_fits | inr r ↦ f.there q (inr r) ] ];
+    there = λ q h. let fits = k_there t root k waiting rest found top f popped in elim h [ inl i ↦ (let lt = new_below q i in omega (arith, lt, fits)) | inr i ↦ elim i [ inl e ↦ subst (λ n. n < length t.terms) (sym e) fits | inr r ↦ f.there q (inr r) ] ];
     root_there = stays root f.root_there;
     below = new_below;
     filled = λ ts h q i. elim i [
-      | inl n ↦ elim (waited q n) [ inl w ↦ f.filled ts h q (inl w) | inr a ↦ names.filled ts (f.filled ts h k (inl k_waits)) q a ]
-      | inr j ↦ elim j [ inl e ↦ subst (λ n. FillsAll ts (number_term t n)) (sym e) (f.filled ts h k (inl k_waits)) | inr r ↦ f.filled ts h q (inr r) ]
+      | inl n ↦ elim (waited q n) [ inl w ↦ f.filled ts h q (inl w) | inr a ↦ names.filled ts (f.filled ts h k (inl (waits k waiting rest popped))) q a ]
+      | inr j ↦ elim j [ inl e ↦ subst (λ n. FillsAll ts (number_term t n)) (sym e) (f.filled ts h k (inl (waits k waiting rest popped))) | inr r ↦ f.filled ts h q (inr r) ]
     ];
   }
 

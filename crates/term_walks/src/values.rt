@@ -157,7 +157,8 @@ impl Table {
         ensures exact { (sorts : List Name) → HaveNoTwice sorts → AreRowsNamed sorts self.now.rows.items
             → AreNamed sorts arguments.now
             → value_meant sorts result
-            ≡ first_fit (table_meant sorts self.now).rows (table_meant sorts self.now).default (values_meant sorts arguments.now) }
+            ≡ first_fit (table_meant sorts self.now).rows (table_meant sorts self.now).default
+            (values_meant sorts arguments.now) }
         ensures named { (sorts : List Name) → AreRowsNamed sorts self.now.rows.items → IsNamed sorts self.now.default
             → IsNamed sorts result }
     {

@@ -1,4 +1,4 @@
--- What is taken so far, with what is left, gives the whole.
+-- What was taken, with what is left, gives the whole.
 use Rattle.std.proofs.Common.{◌≡◌, List, drop}
 use Rattle.spec_text.specs.Bytes.{Name}
 use Rattle.spec_sorts.specs.BoundedValues.{folded}

@@ -1,4 +1,4 @@
--- The numbers so far came.
+-- The numbers that were added are in the order.
 use Rattle.std.proofs.Common.{take}
 use Rattle.term_walks.specs.Orders.{numbers_of, Adds}
 use Rattle.term_walks.proofs.order.add_all.Given as goal

@@ -1,4 +1,4 @@
--- The filled terms so far give the next, and in the end the term.
+-- The terms that are filled already give the next, and in the end the term.
 use Rattle.std.proofs.Common.{◌<◌, ℕ, length, get_or, sym, ap, refl, ◌∙◌, subst, rules, arith}
 use Rattle.spec_sorts.specs.Terms.{filled}
 use Rattle.term_table.specs.Tables.{clause_at}
