@@ -1,0 +1,22 @@
+-- The lemmas of this crate.
+pub mod Numbers
+mod Told
+mod Planned
+pub mod Names
+pub mod Lexed
+pub mod Lookups
+pub mod Room
+pub mod Known
+pub mod Arguments
+pub mod Heads
+pub mod CommandShapes
+pub mod Standing
+pub mod EachLine
+pub mod Sizes
+pub mod AllLines
+pub mod Weights
+pub mod Made
+pub mod ScriptNames
+pub mod Sorted
+pub mod Given
+pub mod Refutation

@@ -1,0 +1,111 @@
+//! What the definitions imply. Each law is a function whose contract is the law; it computes nothing.
+
+ghost use Rattle.std.specs.Prelude.{◌≡◌, ℕ, ◌+◌, ◌*◌, ◌≤◌, ◌^◌, true, false, List, [], ◌++◌, length, map, All, Some, None, Ok, codes};
+ghost use Rattle.spec_text.specs.Lexemes.{Lexeme, lexemes_from};
+ghost use Rattle.spec_text.specs.Trees.{Tree, Trees, spelled};
+ghost use Rattle.spec_text.specs.Printed.{SameTrees};
+ghost use Rattle.spec_text.specs.Readings.{text_limit, is_long};
+ghost use Rattle.spec_sorts.specs.Terms.{Term};
+ghost use Rattle.spec_numbers.specs.Fractions.{Fraction};
+ghost use Rattle.spec_sorts.specs.WellSorted.{IsWellSorted};
+ghost use Rattle.spec_sorts.specs.Signatures.{Signature, symbols_in};
+ghost use Rattle.spec_commands.specs.Stack.{Stack, Taken, empty_stack, signature_of, terms_asserted, head_in_reach, step};
+ghost use Rattle.spec_commands.specs.Checks.{Check, asked, term_limit, IsCurrent};
+ghost use Rattle.spec_checking.specs.Good.{AreGood, IsGood};
+ghost use Rattle.spec_checking.specs.Accepted.{IsAccepted};
+ghost use Rattle.spec_proofs.specs.Texts.{IsWholeText};
+ghost use Rattle.spec_derivations.specs.Derivations.{Derivation, conclusion_at, IsDerivation, IsDerivedFrom};
+ghost use Rattle.spec_models.specs.Values.{trees_of, fraction_tree};
+ghost use Rattle.spec_proof_texts.specs.Lines.{Line, line_tree, proof_text};
+ghost use Rattle.spec_proof_texts.specs.Meaning.{AreGiven, AreRightLines};
+ghost use Rattle.spec_proof_texts.specs.Plans.{Plan, lines_of, IsPlan};
+ghost use Rattle.spec_proof_texts.specs.Printable.{head_of, IsPrintable, ArePrintable, AreOver, IsReadable};
+ghost use Rattle.spec_proof_texts.specs.ReadBack.{IsWritableLine, AreScriptNames, definitions_in, numbers_in, known_before};
+
+/// States that the lines of an inference that is derived from terms and has the empty clause are a proof from these
+/// terms.
+pub fn planned_lines_are_right()
+    ensures { (g : Signature) (terms asserted : List Term) (d : Derivation) (n : ℕ) (plan : Plan)
+        → ArePrintable g terms d n → AreOver terms d → IsDerivation d
+        → IsDerivedFrom asserted d n → conclusion_at d n ≡ [] → IsPlan terms d n plan
+        → AreRightLines g asserted (lines_of terms d plan) }
+{}
+
+/// States which terms can be printed: well-sorted ones over the symbols of a script, whose heads can be read before their
+/// arguments. So it is with each head that a check reaches, for now.
+pub fn well_sorted_terms_are_printable()
+    ensures term { (g : Signature) (t : Term) → AreScriptNames g → IsWellSorted (symbols_in g) [] t → IsReadable t
+        → IsPrintable g t }
+    ensures reach { (t : Term) → head_in_reach (head_of t) ≡ true → IsReadable t }
+{}
+
+/// States that numbers can be arguments of steps: each as it is written as a value.
+pub fn numbers_are_given()
+    ensures { (qs : List Fraction) → AreGiven (trees_of (map fraction_tree qs)) }
+{}
+
+/// States that the text of lines is read back, the whole of it, as commands in one list and nothing else, which are the
+/// lines but for offsets and the bars of symbols.
+pub fn printed_proofs_are_read()
+    ensures { (lines : List Line) → All IsWritableLine lines
+        → (commands : Trees) × IsWholeText (proof_text lines) commands
+        × SameTrees (trees_of (map line_tree lines)) commands }
+{}
+
+/// States that lines which are right under the names of a script are read back, the whole of their text, as good
+/// commands. So it is within a limit where there is room for the names, the numbers and what is defined, all together.
+pub fn right_lines_are_good()
+    ensures commands { (g : Signature) (asserted : List Term) (lines : List Line) → AreScriptNames g
+        → AreRightLines g asserted lines
+        → (commands : Trees) × IsWholeText (proof_text lines) commands
+        × AreGood None (known_before g asserted) commands }
+    ensures within { (limit : ℕ) (g : Signature) (asserted : List Term) (lines : List Line) → AreScriptNames g
+        → AreRightLines g asserted lines → length g + numbers_in lines + definitions_in lines + 2 ≤ limit
+        → (commands : Trees) × IsWholeText (proof_text lines) commands
+        × AreGood (Some limit) (known_before g asserted) commands }
+{}
+
+/// States that the commands of a script leave names that can be printed. None is there at first, and a command that
+/// stands in a text leaves such names where those before it can be printed.
+pub fn commands_leave_script_names()
+    ensures first { AreScriptNames (signature_of empty_stack) }
+    ensures next { (limit : ℕ) (s : Stack) (text : List ℕ) (from : ℕ) (t : Tree) (rest : List (ℕ × Lexeme)) (d : Taken)
+        → lexemes_from text from ≡ spelled t ++ rest → step limit s t ≡ Ok d → AreScriptNames (signature_of s)
+        → AreScriptNames (signature_of d.stack) }
+{}
+
+/// States that the names at a check of a script can be printed, and that they are no more than a fifth of the bytes that
+/// may be read.
+pub fn checks_have_script_names()
+    ensures names { (limit : ℕ) (script : List ℕ) (k : ℕ) (c : Check) → IsCurrent limit script k c
+        → AreScriptNames (signature_of c.stack) }
+    ensures few { (limit : ℕ) (script : List ℕ) (k : ℕ) (c : Check) → IsCurrent limit script k c
+        → 5 * length (signature_of c.stack) ≤ text_limit }
+{}
+
+/// States that lines which are right under what is current at a check of a script, whatever the limit on terms is, are a
+/// good proof of that check, alone and after the answer `unsat`.
+pub fn printed_proofs_are_good()
+    ensures alone { (limit : ℕ) (script : List ℕ) (k : ℕ) (c : Check) (lines : List Line)
+        → IsCurrent limit script k c → AreRightLines (signature_of c.stack) (terms_asserted (asked c)) lines
+        → IsGood limit script k (proof_text lines) }
+    ensures answered { (limit : ℕ) (script : List ℕ) (k : ℕ) (c : Check) (lines : List Line)
+        → IsCurrent limit script k c → AreRightLines (signature_of c.stack) (terms_asserted (asked c)) lines
+        → IsGood limit script k (codes "unsat\n" ++ proof_text lines) }
+{
+    checks_have_script_names();
+}
+
+/// States that such lines are an accepted proof of the check, alone and after the answer `unsat`. The text is no longer
+/// than it may be, and no more than 2^18 numbers are printed in it. Then there is room for all names and terms.
+pub fn printed_proofs_are_accepted()
+    ensures alone { (script : List ℕ) (k : ℕ) (c : Check) (lines : List Line) → IsCurrent term_limit script k c
+        → AreRightLines (signature_of c.stack) (terms_asserted (asked c)) lines
+        → is_long (proof_text lines) ≡ false → numbers_in lines ≤ 2 ^ 18 → IsAccepted script k (proof_text lines) }
+    ensures answered { (script : List ℕ) (k : ℕ) (c : Check) (lines : List Line) → IsCurrent term_limit script k c
+        → AreRightLines (signature_of c.stack) (terms_asserted (asked c)) lines
+        → is_long (codes "unsat\n" ++ proof_text lines) ≡ false → numbers_in lines ≤ 2 ^ 18
+        → IsAccepted script k (codes "unsat\n" ++ proof_text lines) }
+{
+    checks_have_script_names();
+}

@@ -1,0 +1,9 @@
+//! Definitions about printed proofs over the whole language: the lines of a proof, their text, what they mean, and
+//! which lines a derivation has. The program does not use them yet.
+//!
+//! Nothing here runs. The functions with empty bodies are laws: what they ensure is proved of the definitions in
+//! `specs/`.
+#![tactic(auto)]
+
+pub mod examples;
+pub mod laws;
