@@ -1,0 +1,234 @@
+-- A script's text run command by command.
+use Rattle.std.proofs.Common.{◌≡◌, ◌≤◌, ℕ, Bool, true, false, ◌||◌, List, [], ◌∷◌, ◌++◌, length, Option, inl, inr, refl, sym, ap, ◌∙◌, subst, append_assoc, append-nil, arith}
+use Rattle.std.specs.List.{list_any}
+use Rattle.std.proofs.lemmas.Grind.{flat_map-append}
+use Rattle.std.proofs.lemmas.List.Folds.{list_any-append}
+use Rattle.std.proofs.Math.Bool.{or-false}
+use Rattle.spec_text.specs.Lexemes.{Lexeme, lexemes, lexemes_from}
+use Rattle.spec_text.specs.Trees.{Tree, Trees, none, more, spelled, spelled_all}
+use Rattle.spec_text.specs.Faults.{Located, nesting_limit}
+use Rattle.spec_text.specs.Readings.{depth, AreTrees, StopsAt, Stops, kept, is_long, limited, IsReadUpTo}
+use Rattle.spec_text.proofs.Stopping.{stop_of}
+use Rattle.spec_commands.specs.Stack.{Stack, empty_stack}
+use Rattle.spec_sessions.specs.Evidence.{Limits}
+use Rattle.spec_sessions.specs.Responses.{Mode, Response, success, not_supported, answered, said, ended, rejected, Answered, Answers, response_text, is_rejected, is_end}
+use Rattle.spec_sessions.specs.Transcripts.{Follows, Runs, Begins, answers_text, closing_by, closing, closing_text, is_fault, IsTranscript, IsBegun}
+
+-- no tree in front
+nothing_first : (xs : List (ℕ × Lexeme)) → AreTrees 0 xs none xs
+nothing_first xs = record { split = refl; within = omega arith }
+
+-- a first tree, and then others
+first_tree : (xs ys : List (ℕ × Lexeme)) (t : Tree) → xs ≡ spelled t ++ ys → depth t ≤ nesting_limit → (us : Trees) (rest : List (ℕ × Lexeme)) → AreTrees 0 ys us rest → AreTrees 0 xs (more t us) rest
+first_tree xs ys t e flat us rest h = record {
+  split = e ∙ ap (λ zs. spelled t ++ zs) h.split ∙ sym (append_assoc (spelled t) (spelled_all us) rest);
+  within = omega (arith, flat, h.within);
+}
+
+-- after a response that does not end the script all else follows
+follows_on : (r : Response) (P : List Answered → Type 0) (given : List Answered) → is_end r ≡ false → P given → Follows r P given
+follows_on success P given e h = h
+follows_on not_supported P given e h = h
+follows_on (answered f) P given e h = h
+follows_on (said s) P given e h = h
+follows_on ended P given e h = cc
+follows_on (rejected f) P given e h = h
+
+-- after one that does, nothing
+follows_none : (r : Response) (P : List Answered → Type 0) → is_end r ≡ true → Follows r P []
+follows_none success P e = cc
+follows_none not_supported P e = cc
+follows_none (answered f) P e = cc
+follows_none (said s) P e = cc
+follows_none ended P e = refl
+follows_none (rejected f) P e = cc
+
+-- after a response nothing need be answered yet
+follows_nothing : (r : Response) (limits : Limits) (s : Stack) (ts : Trees) → Follows r (Begins limits s ts) []
+unfolding Begins
+follows_nothing success limits s ts = tt
+follows_nothing not_supported limits s ts = tt
+follows_nothing (answered f) limits s ts = tt
+follows_nothing (said text) limits s ts = tt
+follows_nothing ended limits s ts = refl
+follows_nothing (rejected f) limits s ts = tt
+
+-- what follows in one way follows in another that is weaker
+follows_weaker : (r : Response) (P Q : List Answered → Type 0) (given : List Answered) → (P given → Q given) → Follows r P given → Follows r Q given
+follows_weaker success P Q given f h = f h
+follows_weaker not_supported P Q given f h = f h
+follows_weaker (answered x) P Q given f h = f h
+follows_weaker (said s) P Q given f h = f h
+follows_weaker ended P Q given f h = h
+follows_weaker (rejected x) P Q given f h = f h
+
+-- what all commands are answered, the first of them are
+pub begins_all : (limits : Limits) (s : Stack) (ts : Trees) (given : List Answered) → Runs limits s ts given → Begins limits s ts given
+unfolding Runs Begins
+begins_all limits s none [] h = tt
+begins_all limits s none (a ∷ given) h = cc
+begins_all limits s (more t ts) [] h = tt
+begins_all limits s (more t ts) (a ∷ given) h = (h.0, follows_weaker a.response (Runs limits a.stack ts) (Begins limits a.stack ts) given (begins_all limits a.stack ts given) h.1)
+
+module _ (limits : Limits) (bytes : List ℕ) where
+  -- The commands up to an offset were answered so: what is answered from there on is answered after them.
+  pub record Going (at : ℕ) (stack : Stack) (given : List Answered) : Type 0 where
+    pub onward : (us : Trees) (rest : List (ℕ × Lexeme)) → AreTrees 0 (lexemes_from bytes at) us rest
+        → (ts : Trees) × AreTrees 0 (lexemes 0 0 bytes) ts rest
+        × ((later : List Answered) → Runs limits stack us later → Runs limits empty_stack ts (given ++ later))
+        × ((later : List Answered) → Begins limits stack us later → Begins limits empty_stack ts (given ++ later))
+
+  pub going_begins : (at : ℕ) → at ≡ 0 → Going at empty_stack []
+  going_begins at e = record { onward = λ us rest a. (us, subst (λ n. AreTrees 0 (lexemes_from bytes n) us rest) e a, λ later h. h, λ later h. h) }
+
+  module _ (from after : ℕ) (t : Tree) (first : lexemes_from bytes from ≡ spelled t ++ lexemes_from bytes after) (flat : depth t ≤ nesting_limit) (stack : Stack) (given : List Answered) (g : Going from stack given) (a : Answered) (answers : Answers limits stack t a) where
+    -- the next command was answered, and the script goes on
+    pub answered_on : is_end a.response ≡ false → Going after a.stack (given ++ a ∷ [])
+    unfolding Runs Begins
+    answered_on e = record {
+      onward = λ us rest h.
+          let o = g.onward (more t us) rest (first_tree (lexemes_from bytes from) (lexemes_from bytes after) t first flat us rest h) in (
+            o.0,
+            o.1,
+            λ later x. subst (Runs limits empty_stack o.0) (sym (append_assoc given (a ∷ []) later)) (o.2 (a ∷ later) (answers, follows_on a.response (Runs limits a.stack us) later e x)),
+            λ later x. subst (Begins limits empty_stack o.0) (sym (append_assoc given (a ∷ []) later)) (o.3 (a ∷ later) (answers, follows_on a.response (Begins limits a.stack us) later e x)),
+          );
+    }
+
+    -- the next command was answered: so much was answered in all
+    pub answered_begins : (us : Trees) (rest : List (ℕ × Lexeme)) → AreTrees 0 (lexemes_from bytes after) us rest → (ts : Trees) × AreTrees 0 (lexemes 0 0 bytes) ts rest × Begins limits empty_stack ts (given ++ a ∷ [])
+    unfolding Begins
+    answered_begins us rest h =
+        let o = g.onward (more t us) rest (first_tree (lexemes_from bytes from) (lexemes_from bytes after) t first flat us rest h) in
+        (o.0, o.1, o.3 (a ∷ []) (answers, follows_nothing a.response limits a.stack us))
+
+    -- it ended the script
+    pub answered_last : is_end a.response ≡ true → (us : Trees) (rest : List (ℕ × Lexeme)) → AreTrees 0 (lexemes_from bytes after) us rest → (ts : Trees) × AreTrees 0 (lexemes 0 0 bytes) ts rest × Runs limits empty_stack ts (given ++ a ∷ [])
+    unfolding Runs
+    answered_last e us rest h =
+        let o = g.onward (more t us) rest (first_tree (lexemes_from bytes from) (lexemes_from bytes after) t first flat us rest h) in
+        (o.0, o.1, o.2 (a ∷ []) (answers, follows_none a.response (Runs limits a.stack us) e))
+
+or_last : (x y : Bool) → (x || (y || false)) ≡ (x || y)
+or_last true y = refl
+or_last false true = refl
+or_last false false = refl
+
+or_second : (x y b : Bool) → x ≡ false → y ≡ b → (x || y) ≡ b
+or_second true y b e h = cc
+or_second false y b e h = h
+
+told_is : (x z r f : Bool) → z ≡ (x || r) → r ≡ false → f ≡ false → x ≡ (z || f)
+told_is x z r f e h k = sym (ap (λ g. z || g) k ∙ or-false z ∙ e ∙ ap (λ q. x || q) h ∙ or-false x)
+
+-- each text is read
+abbrev pub EachIsRead : List ℕ → ℕ → Type 0
+EachIsRead bytes at = (ts : Trees) × (rest : List (ℕ × Lexeme)) × AreTrees 0 (lexemes_from bytes at) ts rest × StopsAt (length bytes) 0 rest
+
+-- what is written for one answer more
+pub answers_more : (mode : Mode) (text : List ℕ) (given : List Answered) (a : Answered) → answers_text mode text (given ++ a ∷ []) ≡ answers_text mode text given ++ response_text mode text a
+answers_more mode text given a = flat_map-append (response_text mode text) given (a ∷ []) ∙ ap (λ x. answers_text mode text given ++ x) (append-nil (response_text mode text a))
+
+-- whether one was refused, of one answer more
+pub told_more : (given : List Answered) (a : Answered) → list_any (λ (x : Answered). is_rejected x.response) (given ++ a ∷ []) ≡ (list_any (λ (x : Answered). is_rejected x.response) given || is_rejected a.response)
+told_more given a = list_any-append (λ (x : Answered). is_rejected x.response) given (a ∷ []) ∙ or_last (list_any (λ (x : Answered). is_rejected x.response) given) (is_rejected a.response)
+
+-- whether the script ended, of one answer more
+pub ends_more : (given : List Answered) (a : Answered) (b : Bool) → list_any (λ (x : Answered). is_end x.response) given ≡ false → is_end a.response ≡ b → list_any (λ (x : Answered). is_end x.response) (given ++ a ∷ []) ≡ b
+ends_more given a b e h = list_any-append (λ (x : Answered). is_end x.response) given (a ∷ []) ∙ or_last (list_any (λ (x : Answered). is_end x.response) given) (is_end a.response) ∙ or_second (list_any (λ (x : Answered). is_end x.response) given) (is_end a.response) b e h
+
+module _ (limits : Limits) (mode : Mode) (text bytes : List ℕ) (whole : bytes ≡ kept text) where
+  -- the trees of what is kept of the text are its commands, up to what stops them
+  read_whole : (ts : Trees) (rest : List (ℕ × Lexeme)) (stop : Option Located) → AreTrees 0 (lexemes 0 0 bytes) ts rest → Stops (length bytes) rest stop → IsReadUpTo text ts (limited (is_long text) stop)
+  read_whole ts rest stop a s = record {
+    rest = rest;
+    trees = subst (λ b. AreTrees 0 (lexemes 0 0 b) ts rest) whole a;
+    stop = stop;
+    stops = subst (λ b. Stops (length b) rest stop) whole s;
+    is = refl;
+  }
+
+  -- what is written, in bytes that are kept
+  abbrev pub Told : List Answered → List ℕ
+  Told given = answers_text mode bytes given
+
+  told_kept : (given : List Answered) → Told given ≡ answers_text mode (kept text) given
+  told_kept given = ap (λ b. answers_text mode b given) whole
+
+  module _ (at : ℕ) (stack : Stack) (given : List Answered) (g : Going limits bytes at stack given) where
+    -- so much was begun
+    pub begun_here : EachIsRead bytes at → IsBegun limits mode text (Told given)
+    unfolding Begins
+    begun_here r =
+        let o = g.onward r.0 r.1 r.2 in
+        let stop = stop_of (length bytes) r.1 r.3 in
+        record {
+          commands = o.0;
+          end = limited (is_long text) stop.0;
+          read = read_whole o.0 r.1 stop.0 o.1 stop.1;
+          answers = given;
+          begins = subst (Begins limits empty_stack o.0) (append-nil given) (o.3 [] tt);
+          written = inl (told_kept given);
+        }
+
+    module _ (going_on : list_any (λ (x : Answered). is_end x.response) given ≡ false) (stop : Option Located) (stops : Stops (length bytes) (lexemes_from bytes at) stop) where
+      -- all of the text was run
+      all_run : (ts : Trees) × IsReadUpTo text ts (limited (is_long text) stop) × Runs limits empty_stack ts given
+      unfolding Runs
+      all_run =
+          let o = g.onward none (lexemes_from bytes at) (nothing_first (lexemes_from bytes at)) in
+          (o.0, read_whole o.0 (lexemes_from bytes at) stop o.1 stops, subst (Runs limits empty_stack o.0) (append-nil given) (o.2 [] refl))
+
+      line_kept : Told given ++ closing_text bytes (limited (is_long text) stop) ≡ answers_text mode (kept text) given ++ closing_text (kept text) (closing given (limited (is_long text) stop))
+      line_kept = ap (λ b. answers_text mode b given ++ closing_text b (limited (is_long text) stop)) whole ∙ ap (λ b. answers_text mode (kept text) given ++ closing_text (kept text) (closing_by b (limited (is_long text) stop))) (sym going_on)
+
+      pub text_ends : IsTranscript limits mode text (Told given ++ closing_text bytes (limited (is_long text) stop)) (list_any (λ (x : Answered). is_rejected x.response) given || is_fault (limited (is_long text) stop))
+      text_ends =
+          let o = all_run in
+          record {
+            commands = o.0;
+            end = limited (is_long text) stop;
+            read = o.1;
+            answers = given;
+            runs = o.2;
+            written = line_kept;
+            told = ap (λ b. list_any (λ (x : Answered). is_rejected x.response) given || is_fault (closing_by b (limited (is_long text) stop))) (sym going_on);
+          }
+
+      -- the line of what ends it was begun
+      pub line_begun : IsBegun limits mode text (Told given ++ closing_text bytes (limited (is_long text) stop))
+      line_begun =
+          let o = all_run in
+          record { commands = o.0; end = limited (is_long text) stop; read = o.1; answers = given; begins = begins_all limits empty_stack o.0 given o.2; written = inr (o.2, line_kept) }
+
+  module _ (from after : ℕ) (t : Tree) (first : lexemes_from bytes from ≡ spelled t ++ lexemes_from bytes after) (flat : depth t ≤ nesting_limit) (stack : Stack) (given : List Answered) (g : Going limits bytes from stack given) (a : Answered) (answers : Answers limits stack t a) (r : EachIsRead bytes after) where
+    -- one response more was begun
+    pub begun_next : IsBegun limits mode text (Told given ++ response_text mode bytes a)
+    begun_next =
+        let o = answered_begins limits bytes from after t first flat stack given g a answers r.0 r.1 r.2 in
+        let stop = stop_of (length bytes) r.1 r.3 in
+        record {
+          commands = o.0;
+          end = limited (is_long text) stop.0;
+          read = read_whole o.0 r.1 stop.0 o.1 stop.1;
+          answers = given ++ a ∷ [];
+          begins = o.2;
+          written = inl (sym (answers_more mode bytes given a) ∙ told_kept (given ++ a ∷ []));
+        }
+
+    -- the script ended
+    pub script_ends : list_any (λ (x : Answered). is_end x.response) given ≡ false → is_end a.response ≡ true → is_rejected a.response ≡ false → IsTranscript limits mode text (Told given ++ response_text mode bytes a) (list_any (λ (x : Answered). is_rejected x.response) given)
+    script_ends going_on last taken =
+        let o = answered_last limits bytes from after t first flat stack given g a answers last r.0 r.1 r.2 in
+        let stop = stop_of (length bytes) r.1 r.3 in
+        let left = ends_more given a true going_on last in
+        let end = limited (is_long text) stop.0 in
+        record {
+          commands = o.0;
+          end = end;
+          read = read_whole o.0 r.1 stop.0 o.1 stop.1;
+          answers = given ++ a ∷ [];
+          runs = o.2;
+          written = sym (answers_more mode bytes given a) ∙ told_kept (given ++ a ∷ []) ∙ sym (append-nil (answers_text mode (kept text) (given ++ a ∷ []))) ∙ ap (λ b. answers_text mode (kept text) (given ++ a ∷ []) ++ closing_text (kept text) (closing_by b end)) (sym left);
+          told = told_is (list_any (λ (x : Answered). is_rejected x.response) given) (list_any (λ (x : Answered). is_rejected x.response) (given ++ a ∷ [])) (is_rejected a.response) (is_fault (closing (given ++ a ∷ []) end)) (told_more given a) taken (ap (λ b. is_fault (closing_by b end)) left);
+        }

@@ -1,0 +1,159 @@
+-- That what is shown is so.
+use Rattle.std.proofs.Common.{◌≡◌, ℕ, List, [], ◌∷◌, ◌++◌, All, None, get_or, refl, sym, ap, ◌∙◌, subst}
+use Rattle.std.proofs.lemmas.List.{append_assoc, append-nil}
+use Rattle.std.proofs.lemmas.List.Elements.{All-nil, All-map, All-append, Contains-get_or}
+use Rattle.spec_sorts.specs.Values.{is_true, Interpretation}
+use Rattle.spec_sorts.specs.WellSorted.{IsFormulaOver}
+use Rattle.spec_sorts.specs.TermValues.{value_at}
+use Rattle.spec_sorts.specs.Signatures.{Signature, symbols_in}
+use Rattle.spec_sorts.specs.Meaning.{value_under}
+use Rattle.spec_reading.specs.WellSorted.{AreWellSorted}
+use Rattle.spec_text.specs.Readings.{is_long}
+use Rattle.spec_commands.specs.Stack.{Assertion, Stack, terms_asserted, signature_of, joined, assertions_of}
+use Rattle.spec_commands.specs.Kept.{IsAsserted, IsKept}
+use Rattle.spec_commands.specs.Checks.{Check, asked, IsCurrent, MakesTrue}
+use Rattle.spec_checking.specs.Commands.{known_at}
+use Rattle.spec_checking.specs.Good.{IsGood}
+use Rattle.spec_checking.proofs.Good.{no_fault}
+use Rattle.spec_checking.proofs.Sound.{sound, EntryTrue, TermTrue, IsTruly}
+use Rattle.spec_checking.specs.Accepted.{IsAccepted}
+use Rattle.spec_replies.specs.declared.Word.TheVariants.{Unsat}
+use Rattle.spec_replies.specs.Lines.{word_line}
+use Rattle.spec_models.specs.Meaning.{IsSymbolIn}
+use Rattle.spec_proof_texts.specs.Lines.{proof_text}
+use Rattle.spec_proof_texts.specs.Meaning.{AreRightLines}
+use Rattle.spec_proof_texts.specs.ReadBack.{AreScriptNames}
+use Rattle.spec_sessions.specs.Evidence.{Limits, Found, model, proof, spent, IsModelOf, Justifies}
+use Rattle.spec_sessions.specs.Refutations.{IsProofOf, lines_in}
+use Rattle.spec_sessions.specs.Meaning.{IsKeptCheck, ModelMeans, MeansAt, ProofMeans, Means}
+use Rattle.spec_sessions.proofs.laws.what_is_shown_is_so.Goals as goal
+
+-- the assertions of one level more
+joined_more : (ls : List (List Assertion)) (l : List Assertion) → joined (ls ++ l ∷ []) ≡ joined ls ++ l
+joined_more [] l = append-nil l
+joined_more (m ∷ ls) l = ap (λ x. m ++ x) (joined_more ls l) ∙ sym (append_assoc m (joined ls) l)
+
+-- the text of each expression has its term's value
+abbrev HaveValues : Check → Type 0
+HaveValues c = (i : Interpretation) → All (λ (a : Assertion). value_under i (signature_of c.stack) a.text ≡ value_at i [] a.term) (asked c)
+
+-- each is a formula
+abbrev AreFormulas : Check → Type 0
+AreFormulas c = All (λ (a : Assertion). IsFormulaOver (symbols_in (signature_of c.stack)) a.term) (asked c)
+
+-- each symbol can be printed
+each_symbol : (s : Signature) → AreScriptNames s → All (IsSymbolIn s) (symbols_in s)
+each_symbol s names = λ n d lt. names.symbols (get_or (symbols_in s) n d) (Contains-get_or (symbols_in s) n d lt)
+
+module _ (c : goal.After-printed_proofs_are_accepted) where
+  -- the stack with what a check assumes as one level more
+  abbrev assuming : Check → Stack
+  assuming x = record x.stack { levels = x.stack.levels ++ x.assumptions ∷ [] }
+
+  kept_assuming : (limit : ℕ) (x : Check) → IsKeptCheck limit x → IsKept limit (assuming x)
+  kept_assuming limit x h = record {
+    names = h.stack.names;
+    sorts = h.stack.sorts;
+    assertions = subst (All (IsAsserted limit (signature_of x.stack))) (sym (joined_more x.stack.levels x.assumptions)) (All-append (IsAsserted limit (signature_of x.stack)) (assertions_of x.stack) x.assumptions h.stack.assertions h.assumptions);
+  }
+
+  module _ (x : Check) (values : HaveValues x) (formulas : AreFormulas x) (sorts : AreWellSorted (signature_of x.stack)) (names : AreScriptNames (signature_of x.stack)) where
+    abbrev g : Signature
+    g = signature_of x.stack
+
+    right : (p : List ℕ) (h : IsProofOf x p) → AreRightLines g (terms_asserted (asked x)) (lines_in x p h)
+    right p h =
+        c.planned_lines_are_right.ensures g h.terms (terms_asserted (asked x)) h.derivation h.number h.plan h.printable h.over h.right h.derived h.empty h.planned
+
+    proof_at : (p : List ℕ) → IsProofOf x p → (i : Interpretation) → IsModelOf x i → ⊥
+    proof_at p h i m =
+        let read = c.right_lines_are_good.ensures.commands g (terms_asserted (asked x)) (lines_in x p h) names (right p h) in
+        let all : IsTruly i (known_at x) = record {
+          names = sorts;
+          interprets = m.interprets;
+          entries = All-nil (EntryTrue i);
+          asserted = All-map (TermTrue i) (λ (a : Assertion). a.term) (asked x) (λ n d lt. ap is_true (sym (values i n d lt) ∙ m.each n d lt));
+        } in
+        sound i (λ symbols rule premises arguments clause. c.rules_are_sound.ensures symbols rule premises arguments clause i) None (known_at x) 0 read.0 all (no_fault None 0 (known_at x) read.0 read.2)
+
+    model_at : (i : Interpretation) → IsModelOf x i → ModelMeans (IsModelOf x) g i
+    model_at i m =
+        let printed = c.model_texts_say_their_interpretation.ensures i g (symbols_in g) (each_symbol g names) m.interprets in record {
+          is_model = m;
+          definitions = printed.0;
+          end = printed.1;
+          read = printed.2;
+          define = printed.3;
+          each = λ j tables defined. record {
+            interprets = tables;
+            each = λ n d lt.
+                let t = (get_or (asked x) n d).term in
+                values j n d lt
+                ∙ sym (c.interpretations_of_one_text_agree.ensures i j g (symbols_in g) printed.0 printed.3 defined [] t [] (formulas n d lt).term)
+                ∙ sym (values i n d lt)
+                ∙ m.each n d lt;
+          };
+        }
+
+    means_at : (limits : Limits) (f : Found) → Justifies limits x f → MeansAt x f
+    means_at limits (model i) h = model_at i h
+    means_at limits (proof p) h = proof_at p h
+    means_at limits (spent n d learned) h = tt
+
+    module _ (limit : ℕ) (text : List ℕ) (k : ℕ) (current : IsCurrent limit text k x) where
+      makes_true : (i : Interpretation) → IsModelOf x i → MakesTrue limit i text k
+      makes_true i m = record { here = x; current = current; interprets = m.interprets; each = m.each }
+
+      is_model : (i : Interpretation) → MakesTrue limit i text k → IsModelOf x i
+      is_model i m =
+          let same = c.texts_have_one_check_of_a_number.ensures.one limit text k m.here x m.current current in
+          subst (λ (y : Check). IsModelOf y i) same (record { interprets = m.interprets; each = m.each })
+
+      of_proof : (p : List ℕ) (h : IsProofOf x p) → ProofMeans limit text k p
+      of_proof p h = record {
+        no_model = λ i m. proof_at p h i (is_model i m);
+        good = subst (IsGood limit text k) (sym h.written) (c.printed_proofs_are_good.ensures.alone limit text k x (lines_in x p h) current (right p h));
+        accepted = λ e short.
+            let here = subst (λ n. IsCurrent n text k x) e current in
+            let accepted = c.printed_proofs_are_accepted.ensures.alone text k x (lines_in x p h) here (right p h) (sym (ap is_long h.written) ∙ short) h.few in
+            subst (IsAccepted text k) (sym h.written) accepted;
+        answered = λ e short.
+            let here = subst (λ n. IsCurrent n text k x) e current in
+            let whole : word_line Unsat ++ p ≡ word_line Unsat ++ proof_text (lines_in x p h) = ap (λ q. word_line Unsat ++ q) h.written in
+            let accepted = c.printed_proofs_are_accepted.ensures.answered text k x (lines_in x p h) here (right p h) (sym (ap is_long whole) ∙ short) h.few in
+            subst (IsAccepted text k) (sym whole) accepted;
+      }
+
+      of_model : (i : Interpretation) → ModelMeans (IsModelOf x) g i → ModelMeans (λ j. MakesTrue limit j text k) g i
+      of_model i m = record {
+        is_model = makes_true i m.is_model;
+        definitions = m.definitions;
+        end = m.end;
+        read = m.read;
+        define = m.define;
+        each = λ j tables defined. makes_true j (m.each j tables defined);
+      }
+
+      means_so : (limits : Limits) → limits.terms ≡ limit → (f : Found) → Justifies limits x f → Means limits text k x f
+      means_so limits e (model i) h = subst (λ n. ModelMeans (λ j. MakesTrue n j text k) g i) (sym e) (of_model i (model_at i h))
+      means_so limits e (proof p) h = subst (λ n. ProofMeans n text k p) (sym e) (of_proof p h)
+      means_so limits e (spent n d learned) h = tt
+
+pub returns-clause-at : goal.returns-clause-at
+returns-clause-at c = λ limits x f kept shown.
+    let big = kept_assuming c limits.terms x kept in
+    let asks : assertions_of (assuming c x) ≡ asked x = joined_more x.stack.levels x.assumptions in
+    let values : HaveValues x = λ i. subst (All (λ (a : Assertion). value_under i (signature_of x.stack) a.text ≡ value_at i [] a.term)) asks (c.commands_keep_stacks.ensures.value limits.terms (assuming c x) i big) in
+    let formulas : AreFormulas x = subst (All (λ (a : Assertion). IsFormulaOver (symbols_in (signature_of x.stack)) a.term)) asks (c.assertions_are_formulas.ensures.formula limits.terms (assuming c x) big) in
+    means_at c x values formulas kept.stack.sorts kept.names limits f shown
+
+pub returns-clause-text : goal.returns-clause-text
+returns-clause-text c = λ limits text k x current shown.
+    let asked_so = c.what_is_asked_has_its_texts_value.ensures in
+    let kept = c.assertions_have_their_texts_value.ensures.kept limits.terms text k x.check current in
+    let names = c.checks_have_script_names.ensures.names limits.terms text k x.check current in
+    record {
+      current = current;
+      shown = shown;
+      means = means_so c x.check (asked_so.value limits.terms text k x.check current) (asked_so.formula limits.terms text k x.check current) kept.sorts names limits.terms text k current limits refl x.found shown;
+    }

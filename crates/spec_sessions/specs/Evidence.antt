@@ -1,0 +1,59 @@
+-- What shows that the answer of a check is right. Source: SMT-LIB 2.6, section 4.2.5; what counts as shown is own.
+use Rattle.std.specs.Prelude.{ℕ, List, [], All}
+use Rattle.spec_sorts.specs.Values.{Interpretation, Interprets}
+use Rattle.spec_sorts.specs.Signatures.{symbols_in}
+use Rattle.spec_sorts.specs.Literals.{Literal}
+use Rattle.spec_commands.specs.Stack.{signature_of}
+use Rattle.spec_commands.specs.Checks.{Check, asked, IsTrueUnder}
+use Rattle.spec_derivations.specs.Problems.{Problem, problem_of}
+use Rattle.spec_derivations.specs.Derivations.{Derivation}
+use Rattle.spec_derivations.specs.Spent.{IsConflictBudgetSpent, IsConflict}
+use Rattle.spec_sessions.specs.Refutations.{IsProofOf}
+
+-- What a check may spend, and how much a script may name.
+pub record Limits : Type 0 where
+  -- how many clauses a check may learn
+  pub conflicts : ℕ
+  -- how many names a script may have, and how many different subterms the terms of a command
+  pub terms : ℕ
+
+-- What was found at a check.
+pub data Found : Type 0 where
+  -- an interpretation
+  model : Interpretation → Found
+  -- the text of a proof
+  proof : List ℕ → Found
+  -- that the budget of conflicts is spent: its size, how the clauses that were learned are derived, and these clauses
+  spent : ℕ → Derivation → List (List Literal) → Found
+
+-- A check, with what was found at it.
+pub record Checked : Type 0 where
+  -- what it asks about
+  pub check : Check
+  -- what was found
+  pub found : Found
+
+-- The interpretation has a table for each current symbol, and makes true all that the check asks about.
+pub record IsModelOf (c : Check) (i : Interpretation) : Type 0 where
+  -- each symbol has its table
+  pub interprets : Interprets i (symbols_in (signature_of c.stack))
+  -- each expression is true, as it is written
+  pub each : All (IsTrueUnder i (signature_of c.stack)) (asked c)
+
+-- the terms of a check, of which no earlier one counts: each search begins anew
+abbrev pub problem : Check → Problem
+problem c = problem_of c []
+
+-- The budget is spent at a conflict more.
+pub record IsSpentOn (c : Check) (limit carried : ℕ) (d : Derivation) (learned : List (List Literal)) : Type 0 where
+  -- as many clauses were learned as it allows
+  pub spent : IsConflictBudgetSpent (problem c) d limit carried learned
+  -- and one more would be
+  pub conflict : IsConflict (problem c) d learned
+
+-- what was found shows of a check: a model that makes true what it asks about, a proof that no interpretation does, or a
+-- budget that is spent on it
+abbrev pub Justifies : Limits → Check → Found → Type 0
+Justifies limits c (model i) = IsModelOf c i
+Justifies limits c (proof text) = IsProofOf c text
+Justifies limits c (spent n d learned) = IsSpentOn c limits.conflicts n d learned

@@ -1,0 +1,200 @@
+-- Small scripts with what is written for them, where so much was found at their checks.
+use Rattle.std.specs.Prelude.{ℕ, true, false, List, [], ◌∷◌, Ok, Err, codes, if◌then◌else◌}
+use Rattle.std.specs.Str.{bytes_eq}
+use Rattle.spec_text.specs.Bytes.{among}
+use Rattle.spec_text.specs.Answers.{Answer}
+use Rattle.spec_text.specs.Trees.{Trees, none, more}
+use Rattle.spec_numbers.specs.Fractions.{zero_fraction}
+use Rattle.spec_sorts.specs.Values.{Value, truth, number, element, Table, Interpretation}
+use Rattle.spec_commands.specs.Stack.{Stack, Effect, done, unsupported, check, say, leave, Taken, step}
+use Rattle.spec_commands.specs.Checks.{term_limit}
+use Rattle.spec_commands.specs.Examples.{lines}
+use Rattle.spec_sessions.specs.Evidence.{Limits, Found, proof}
+use Rattle.spec_sessions.specs.Responses.{success, not_supported, answered, said, ended, rejected, Answered}
+
+-- what is meant by default
+abbrev pub limits : Limits
+limits = record { conflicts = 1000000; terms = term_limit }
+
+-- what was found at the next check; the empty text where nothing is told of it
+abbrev pub next_found : List Found → Found
+next_found [] = proof []
+next_found (f ∷ fs) = f
+
+-- and at those after it
+abbrev pub later_found : List Found → List Found
+later_found [] = []
+later_found (f ∷ fs) = fs
+
+-- what a command that was taken is answered, and what those after it are, where this was found at the checks
+abbrev pub answers_after : Effect → Stack → List Found → (List Found → List Answered) → List Answered
+answers_after done s fs rest = record { response = success; stack = s } ∷ rest fs
+answers_after unsupported s fs rest = record { response = not_supported; stack = s } ∷ rest fs
+answers_after (check assumptions) s fs rest = record { response = answered (record { check = record { stack = s; assumptions = assumptions }; found = next_found fs }); stack = s } ∷ rest (later_found fs)
+answers_after (say text) s fs rest = record { response = said text; stack = s } ∷ rest fs
+answers_after leave s fs rest = record { response = ended; stack = s } ∷ []
+
+-- what a command is answered, and what those after it are
+abbrev pub answers_by : Stack → Answer Taken → List Found → (Stack → List Found → List Answered) → List Answered
+answers_by s (Ok d) fs rest = answers_after d.effect d.stack fs (rest d.stack)
+answers_by s (Err f) fs rest = record { response = rejected f; stack = s } ∷ rest s fs
+
+-- what commands are answered after a stack
+unfoldable pub answers_of : Limits → Stack → Trees → List Found → List Answered
+answers_of l s none fs = []
+answers_of l s (more t ts) fs = answers_by s (step l.terms s t) fs (λ next later. answers_of l next ts later)
+
+-- a value without rows
+abbrev pub always : Value → Table
+always v = record { rows = []; default = v }
+
+-- the symbol `p` is true, `f` is 0 at all arguments, as `x` is, `c` the first element of `U`, and all others are false
+abbrev pub tables : Interpretation
+tables = record { table = λ n. if bytes_eq n (codes "p") then always (truth true) else if among (codes "f" ∷ codes "x" ∷ []) n then always (number zero_fraction) else if bytes_eq n (codes "c") then always (element (codes "U") 0) else always (truth false) }
+
+-- checks where nothing is asserted, and one after the end of the script
+abbrev pub checks_alone : List ℕ
+checks_alone = codes "(set-logic QF_UF)(check-sat)(set-option :zz 1)(check-sat)(exit)(check-sat)"
+
+-- what is written for them, with the models of no lines
+abbrev pub checks_written : List ℕ
+checks_written = lines (
+    codes "success" ∷
+    codes "sat" ∷
+    codes "(" ∷
+    codes ")" ∷
+    codes "unsupported" ∷
+    codes "sat" ∷
+    codes "(" ∷
+    codes ")" ∷
+    codes "success" ∷ [])
+
+-- commands that are refused, and what is taken beside them
+abbrev pub refusals : List ℕ
+refusals = lines (
+    codes "(set-option :print-success false)" ∷
+    codes "(assert (! (+ 1 2) :named n))" ∷
+    codes "(assert n)" ∷
+    codes "(push 1)" ∷
+    codes "(set-logic QF_BV)" ∷
+    codes "(set-logic ALL)" ∷
+    codes "(set-logic ALL)" ∷
+    codes "(check-sat)" ∷ [])
+
+-- what is written for them
+abbrev pub refusals_written : List ℕ
+refusals_written = lines (
+    codes "(error \"2:9: WrongSort\")" ∷
+    codes "(error \"3:9: UnknownSymbol\")" ∷
+    codes "(error \"4:2: UnknownCommand\")" ∷
+    codes "(error \"5:12: UnknownLogic\")" ∷
+    codes "(error \"7:1: WrongMode\")" ∷
+    codes "sat" ∷ [])
+
+-- numbers that are too wide, products and quotients that are not linear, and a check that the search does not reach
+abbrev pub numbers : List ℕ
+numbers = lines (
+    codes "(set-option :print-success false)" ∷
+    codes "(declare-const x Real)(assert (= 170141183460469231731687303715884105728 0))" ∷
+    codes "(assert (< (* x x) 1))" ∷
+    codes "(assert (< (/ x 0.0) 1))" ∷
+    codes "(check-sat)" ∷
+    codes "(assert (< (/ x (- (/ 1 2))) 1))" ∷
+    codes "(assert (< (/ x (+ 1 1)) 1))" ∷
+    codes "(check-sat)" ∷ [])
+
+-- what is written for them
+abbrev pub numbers_written : List ℕ
+numbers_written = lines (
+    codes "(error \"2:34: NumberWide\")" ∷
+    codes "(error \"3:12: NotLinear\")" ∷
+    codes "(error \"4:12: ZeroDivisor\")" ∷
+    codes "sat" ∷
+    codes "(error \"7:12: NotLinear\")" ∷
+    codes "(error \"8:2: UnknownLogic\")" ∷ [])
+
+-- strings, and the option that is turned off between them
+abbrev pub strings : List ℕ
+strings = codes "(echo \"say \"\"p\"\"\")(set-info :status sat)(set-option :print-success false)(set-info :a)(echo \"\")"
+
+-- what is written for them
+abbrev pub strings_written : List ℕ
+strings_written = lines (
+    codes "\"say \"\"p\"\"\"" ∷
+    codes "success" ∷
+    codes "\"\"" ∷ [])
+
+-- declared sorts, functions with parameters, and definitions
+abbrev pub functions : List ℕ
+functions = lines (
+    codes "(declare-sort U 0)(define-sort V () U)(declare-fun f (V Bool) Real)" ∷
+    codes "(declare-const |a b| Bool)(declare-const c V)" ∷
+    codes "(define-fun g ((z Bool)) Bool (not z))" ∷
+    codes "(declare-const p Bool)" ∷
+    codes "(assert (! (g (let ((p |a b|)) p)) :named n))" ∷
+    codes "(assert (and n p))" ∷
+    codes "(check-sat)" ∷ [])
+
+-- what is written for them, with a model
+abbrev pub functions_written : List ℕ
+functions_written = lines (
+    codes "success" ∷
+    codes "success" ∷
+    codes "success" ∷
+    codes "success" ∷
+    codes "success" ∷
+    codes "success" ∷
+    codes "success" ∷
+    codes "success" ∷
+    codes "success" ∷
+    codes "sat" ∷
+    codes "(" ∷
+    codes "  (define-fun f ((@x0 U) (@x1 Bool)) Real 0)" ∷
+    codes "  (define-fun |a b| () Bool false)" ∷
+    codes "  (define-fun c () U (as @e0 U))" ∷
+    codes "  (define-fun p () Bool true)" ∷
+    codes ")" ∷ [])
+
+-- a command of more subterms than four
+abbrev pub large : List ℕ
+large = lines (
+    codes "(set-option :print-success false)" ∷
+    codes "(declare-const p Bool)(declare-const q Bool)" ∷
+    codes "(assert (or p q (not p)))" ∷
+    codes "(assert (and p (or p q (not p))))" ∷
+    codes "(check-sat)" ∷ [])
+
+-- what is written for it
+abbrev pub large_written : List ℕ
+large_written = lines (
+    codes "(error \"4:1: Full\")" ∷
+    codes "sat" ∷ [])
+
+-- the limit of four
+abbrev pub four : Limits
+four = record { conflicts = 1000000; terms = 4 }
+
+-- what is written for a contradiction, with its proof
+abbrev pub contradiction_written : List ℕ
+contradiction_written = lines (
+    codes "success" ∷
+    codes "success" ∷
+    codes "success" ∷
+    codes "success" ∷
+    codes "success" ∷
+    codes "success" ∷
+    codes "unsat" ∷
+    codes "(" ∷
+    codes "(define-fun @p1 () Bool (not p))" ∷
+    codes "(assume h1 p)" ∷
+    codes "(assume h2 @p1)" ∷
+    codes "(step t1 (cl) :rule resolution :premises (h1 h2))" ∷
+    codes ")" ∷ [])
+
+-- a check, and a parenthesis too many
+abbrev pub closed_too_often : List ℕ
+closed_too_often = codes "(check-sat)\n)"
+
+-- what cannot be, and a check
+abbrev pub false_asserted : List ℕ
+false_asserted = codes "(assert false)(check-sat)"

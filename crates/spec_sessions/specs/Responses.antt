@@ -1,0 +1,116 @@
+-- What commands are answered, and what is written for that. Source: SMT-LIB 2.6, sections 3.9 and 4.2; the evidence after an answer is own.
+use Rattle.std.specs.Prelude.{◌≡◌, ℕ, Bool, true, false, List, [], ◌∷◌, ◌++◌, Ok, Err, if◌then◌else◌}
+use Rattle.spec_text.specs.Places.{line_of, column_of, name_of}
+use Rattle.spec_text.specs.Faults.{Located}
+use Rattle.spec_text.specs.Answers.{Answer}
+use Rattle.spec_text.specs.Trees.{Tree}
+use Rattle.spec_sorts.specs.Signatures.{symbols_in}
+use Rattle.spec_commands.specs.Stack.{Stack, Effect, done, unsupported, check, say, leave, Taken, signature_of, step}
+use Rattle.spec_commands.specs.Checks.{Check}
+use Rattle.spec_replies.specs.declared.Word.TheVariants.{Success, Unsupported, Sat, Unsat, Unknown}
+use Rattle.spec_replies.specs.Lines.{conflicts, error_text, word_line, reason_line}
+use Rattle.spec_models.specs.Models.{model_text}
+use Rattle.spec_sessions.specs.Evidence.{Limits, Found, model, proof, spent, Checked, Justifies}
+
+-- How much is written.
+pub data Mode : Type 0 where
+  -- the standard's responses
+  solve : Mode
+  -- with these, after the answer of a check, what shows it
+  certify : Mode
+
+-- What a command is answered.
+pub data Response : Type 0 where
+  -- it was done
+  success : Response
+  -- its option is not known
+  not_supported : Response
+  -- this was found at its check
+  answered : Checked → Response
+  -- its text is written, which stands here without its quotes
+  said : List ℕ → Response
+  -- it was done, and the script ends
+  ended : Response
+  -- it was refused, for this fault
+  rejected : Located → Response
+
+-- What a command is answered, and what comes after it.
+pub record Answered : Type 0 where
+  -- the response
+  pub response : Response
+  -- the stack after the command
+  pub stack : Stack
+
+-- what a command that was taken is answered, where this stack comes after it
+abbrev pub Responds : Limits → Stack → Effect → Response → Type 0
+Responds limits s done r = r ≡ success
+Responds limits s unsupported r = r ≡ not_supported
+Responds limits s (check assumptions) r =
+    let c : Check = record { stack = s; assumptions = assumptions } in
+    (f : Found) × Justifies limits c f × (r ≡ answered (record { check = c; found = f }))
+Responds limits s (say text) r = r ≡ said text
+Responds limits s leave r = r ≡ ended
+
+-- what a command is answered after a stack: a command that is refused changes nothing
+abbrev pub AnswersBy : Limits → Stack → Answer Taken → Answered → Type 0
+AnswersBy limits s (Ok d) a = Responds limits d.stack d.effect a.response × (a.stack ≡ d.stack)
+AnswersBy limits s (Err f) a = (a.response ≡ rejected f) × (a.stack ≡ s)
+
+-- the same of the command that a tree is
+abbrev pub Answers : Limits → Stack → Tree → Answered → Type 0
+Answers limits s t a = AnswersBy limits s (step limits.terms s t) a
+
+-- the line of a fault of a text
+abbrev pub fault_text : List ℕ → Located → List ℕ
+fault_text text f = error_text (line_of text f.offset) (column_of text f.offset) (name_of f.fault)
+
+-- the line of an answer
+abbrev pub answer_text : Found → List ℕ
+answer_text (model i) = word_line Sat
+answer_text (proof text) = word_line Unsat
+answer_text (spent n d learned) = word_line Unknown
+
+-- what shows it, in print
+abbrev pub evidence_text : Checked → List ℕ
+evidence_text c = by c.found
+  where
+    by : Found → List ℕ
+    by (model i) = model_text i (symbols_in (signature_of c.check.stack))
+    by (proof text) = text
+    by (spent n d learned) = reason_line (conflicts n)
+
+-- what is written after the line of an answer
+abbrev pub shown_text : Mode → Checked → List ℕ
+shown_text solve c = []
+shown_text certify c = evidence_text c
+
+-- `success`, where it is printed
+abbrev pub success_by : Bool → List ℕ
+success_by print = if print then word_line Success else []
+
+-- a string as it stands in a script, on a line
+abbrev pub string_line : List ℕ → List ℕ
+string_line text = 34 ∷ text ++ 34 ∷ 10 ∷ []
+
+-- what is written for a response to a command of a text, where `success` is printed after it or not
+abbrev pub text_for : Mode → List ℕ → Bool → Response → List ℕ
+text_for mode text print success = success_by print
+text_for mode text print not_supported = word_line Unsupported
+text_for mode text print (answered c) = answer_text c.found ++ shown_text mode c
+text_for mode text print (said s) = string_line s
+text_for mode text print ended = success_by print
+text_for mode text print (rejected f) = fault_text text f
+
+-- what is written for what a command of a text is answered
+abbrev pub response_text : Mode → List ℕ → Answered → List ℕ
+response_text mode text a = text_for mode text a.stack.options.print_success a.response
+
+-- whether the command was refused
+abbrev pub is_rejected : Response → Bool
+is_rejected (rejected f) = true
+is_rejected _ = false
+
+-- whether the script ends after it
+abbrev pub is_end : Response → Bool
+is_end ended = true
+is_end _ = false

@@ -1,0 +1,55 @@
+//! What the definitions imply. Each law is a function whose contract is the law; it computes nothing.
+
+ghost use Rattle.std.specs.Prelude.{ℕ, Bool, List};
+ghost use Rattle.spec_text.specs.Readings.{front};
+ghost use Rattle.spec_commands.specs.Checks.{Check, IsCurrent};
+ghost use Rattle.spec_sessions.specs.Evidence.{Limits, Found, Checked, Justifies};
+ghost use Rattle.spec_sessions.specs.Responses.{Mode};
+ghost use Rattle.spec_sessions.specs.Transcripts.{IsTranscript, IsBegun};
+ghost use Rattle.spec_sessions.specs.Meaning.{IsKeptCheck, MeansAt, Says};
+ghost use Rattle.spec_sessions.specs.Statements.{AnswersSay};
+
+/// States that a transcript, or a prefix of one, of the prefix of a text, of 2^26 + 1 bytes at most, is one of the
+/// whole text.
+pub fn transcripts_need_a_front_alone()
+    ensures whole { (limits : Limits) (mode : Mode) (text out : List ℕ) (refused : Bool)
+        → IsTranscript limits mode (front text) out refused → IsTranscript limits mode text out refused }
+    ensures begun { (limits : Limits) (mode : Mode) (text out : List ℕ) → IsBegun limits mode (front text) out
+        → IsBegun limits mode text out }
+{}
+
+/// States what the answer of a check means. Take a check of what commands left, with names that can be printed. A model
+/// makes true what is asked, and so does each interpretation with the values that its printed text defines. Where there
+/// is a proof, no interpretation does, however long it is. Of a check of a text it means the same; and a proof is good
+/// of that check. It is accepted if its text is not too long, and the limit on terms is that of the checker.
+pub fn what_is_shown_is_so()
+    ensures at { (limits : Limits) (c : Check) (f : Found) → IsKeptCheck limits.terms c → Justifies limits c f
+        → MeansAt c f }
+    ensures text { (limits : Limits) (text : List ℕ) (k : ℕ) (c : Checked) → IsCurrent limits.terms text k c.check
+        → Justifies limits c.check c.found → Says limits text k c }
+{
+    spec_commands::texts_have_one_check_of_a_number();
+    spec_commands::commands_keep_stacks();
+    spec_commands::assertions_have_their_texts_value();
+    spec_commands::assertions_are_formulas();
+    spec_commands::what_is_asked_has_its_texts_value();
+    spec_rules::laws::rules_are_sound();
+    spec_models::laws::model_texts_say_their_interpretation();
+    spec_models::laws::interpretations_of_one_text_agree();
+    spec_proof_texts::laws::checks_have_script_names();
+    spec_proof_texts::laws::planned_lines_are_right();
+    spec_proof_texts::laws::right_lines_are_good();
+    spec_proof_texts::laws::printed_proofs_are_good();
+    spec_proof_texts::laws::printed_proofs_are_accepted();
+}
+
+/// States that the checks which a transcript answers are those of the text, the first of them the first, and that each
+/// answer says what is so of its check; and the same of what was begun.
+pub fn answers_say_what_is_so()
+    ensures whole { (limits : Limits) (mode : Mode) (text out : List ℕ) (refused : Bool)
+        → (t : IsTranscript limits mode text out refused) → AnswersSay limits text t.answers }
+    ensures begun { (limits : Limits) (mode : Mode) (text out : List ℕ) (t : IsBegun limits mode text out)
+        → AnswersSay limits text t.answers }
+{
+    what_is_shown_is_so();
+}
