@@ -1,6 +1,6 @@
 //! The budget of conflicts of one check.
 
-ghost use Rattle.std.specs.Prelude.{◌≡◌, ◌<◌, ◌≤◌, [], length, slice_index_or, IfOk, MatchResult};
+ghost use Rattle.std.specs.Prelude.{◌≡◌, ◌<◌, ◌≤◌, [], length, slice_index_or, IfOk, MatchOption, MatchResult};
 ghost use Rattle.sat_budget.specs.Budgets.{Learns};
 
 use crate::limits::{BudgetStop, Limits};
@@ -57,6 +57,18 @@ impl Budget {
         let copy = Vec::from_slice(self.alloc, clause)?;
         self.learned.push(copy)?;
         Ok(())
+    }
+
+    /// Gives the limit where as many clauses were learned as it allows; `None` exactly where there is room for another. It takes
+    /// no memory.
+    pub fn spent(&self) -> Option<u64>
+        ensures { MatchOption result (length self.now.learned < self.now.limit)
+            (λ n. (length self.now.learned ≡ self.now.limit) × (n ≡ self.now.limit)) }
+    {
+        if (self.learned.len() as u64) < self.limit {
+            return None;
+        }
+        Some(self.limit)
     }
 
     /// Counts the learned clauses. It takes no memory.
