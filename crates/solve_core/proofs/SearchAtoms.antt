@@ -13,7 +13,7 @@ use Rattle.term_core.specs.Tables.{TableView, IsIn, AreDifferent, term_at, liter
 use Rattle.rule_bool.specs.Literals.{lit_complement}
 use Rattle.rule_bool.specs.Statuses.{IsSettled}
 use Rattle.rule_bool.proofs.Resolvents.{literals_apart}
-use Rattle.solve_core.specs.Search.{IsQuiet}
+use Rattle.clause_store.specs.Propagating.{IsQuiet}
 
 -- a clause of a subterm is one of the base clauses
 pub in_base : (terms : List Term) (u : Term) (c : Clause) → Contains (subterms_of terms) u → Contains (clauses_of u) c → Contains (base_clauses terms) c

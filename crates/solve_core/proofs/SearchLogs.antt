@@ -1,24 +1,20 @@
--- What a log says with one step more.
+-- What a derivation says with one inference more.
 use Rattle.std.proofs.Common.{◌≡◌, ℕ, ◌<◌, List, [], ◌∷◌, ◌++◌, length, get_or, map, All, Contains, sym, ap, ◌∙◌, subst, arith, refl, append_assoc}
-use Rattle.std.proofs.lemmas.List.{append-nil, length-append, length-map, map-append}
-use Rattle.std.proofs.lemmas.List.Elements.{All-nil, All-push}
+use Rattle.std.proofs.lemmas.List.{append-nil, length-append, length-map, map-append, get_or-map, get_or_append_left}
+use Rattle.std.proofs.lemmas.List.Elements.{All-nil, All-push, All-contains, Contains-append_left, Contains-push_cases, Contains-push, Contains-append_cases, Contains-append_right}
+use Rattle.std.proofs.Math.Seq.{get_or-append_seam}
+use Rattle.std.proofs.Common.{inl, inr}
 use Rattle.spec_terms.specs.Terms.{Term}
 use Rattle.spec_terms.specs.Literals.{Clause, Literal, literals_of}
 use Rattle.spec_search.specs.Derivations.{Inference, by_rule, Derivation, no_inference, conclusion, conclusion_at, IsDerivation, AssumesAmong, IsDerivedFrom}
 use Rattle.spec_proofs.specs.Resolution.{IsWithin}
 use Rattle.spec_proofs.specs.declared.Rule.TheVariants.{Resolution}
 use Rattle.spec_search.specs.Base.{base_clauses}
-use Rattle.spec_search.specs.Spent.{IsLearnedFrom}
+use Rattle.spec_search.specs.Learned.{IsNew}
+use Rattle.spec_search.specs.Spent.{IsLearnedFrom, IsAtomOf}
 use Rattle.spec_search.proofs.Spending.{rests_there}
-use Rattle.term_core.specs.declared.ids.Lit.{Lit}
-use Rattle.term_core.specs.Tables.{TableView}
-use Rattle.rule_bool.specs.Resolvents.{Means}
-use Rattle.proof_log.specs.declared.premises.StepId.{StepId}
-use Rattle.proof_log.specs.Logs.{Logged, inference_of, derivation_in}
-use Rattle.clausify.specs.Clausified.{stated}
-use Rattle.solve_core.specs.Stores.{no_step, Derives}
-use Rattle.solve_core.specs.Rounds.{IsByResolution, HasSteps}
-use Rattle.solve_core.proofs.SearchTrails.{get_early}
+use Rattle.solve_core.specs.Rounds.{IsByResolution, HasSteps, HasDerived}
+use Rattle.solve_core.proofs.SearchNew.{new_more}
 
 -- a derivation whose assumptions are all among terms
 module _ (terms : List Term) (d : Derivation) (right : IsDerivation d) (among : All (AssumesAmong terms) d) where
@@ -31,7 +27,7 @@ module _ (terms : List Term) (d : Derivation) (right : IsDerivation d) (among : 
     pub learned_kept : (c : List Literal) → IsLearnedFrom terms earlier c → IsLearnedFrom terms d c
     learned_kept c h =
         let lt : h.number < length d = omega (arith, h.derived.there, ap length is, length-append earlier (x ∷ [])) in
-        let same : conclusion_at d h.number ≡ conclusion_at earlier h.number = ap (λ (e : Derivation). conclusion_at e h.number) is ∙ ap conclusion (get_early earlier x h.number no_inference h.derived.there) in
+        let same : conclusion_at d h.number ≡ conclusion_at earlier h.number = ap (λ (e : Derivation). conclusion_at e h.number) is ∙ ap conclusion (get_or_append_left earlier (x ∷ []) no_inference h.number h.derived.there) in
         record { number = h.number; derived = derived_from h.number lt; same = ap literals_of same ∙ h.same }
 
 -- one clause more comes by resolution
@@ -51,19 +47,51 @@ steps_more terms d clauses ps c h = record {
 pub steps_start : (terms : List Term) (d : Derivation) → length d ≡ length (base_clauses terms) → All (λ x. Contains (base_clauses terms) (conclusion x)) d → IsWithin (base_clauses terms) (map conclusion d) → HasSteps terms d []
 steps_start terms d count stated each = record { base = d; more = []; all = sym (append-nil d); count = count; stated = stated; each = each; resolved = All-nil IsByResolution; same = refl }
 
--- over a table
-module _ (t : TableView) (log : List Logged) (x : Logged) where
-  -- the derivation has one inference more
-  pub derivation_more : derivation_in t (log ++ x ∷ []) ≡ derivation_in t log ++ inference_of t x ∷ []
-  derivation_more = map-append (inference_of t) log (x ∷ [])
+-- what holds of all images holds of the images of all
+pub all_back : {A B : Type 0} (f : A → B) (P : B → Type 0) (xs : List A) → All P (map f xs) → All (λ x. P (f x)) xs
+all_back f P xs h k d lt = subst P (get_or-map f xs k d (f d) lt) (h k (f d) (rw length-map lt))
 
-  -- earlier steps state what they did
-  pub stated_kept : (s : StepId) → s.0 < length log → stated t (log ++ x ∷ []) s ≡ stated t log s
-  stated_kept s lt = ap (λ (e : Derivation). conclusion_at e s.0) derivation_more ∙ ap conclusion (get_early (derivation_in t log) (inference_of t x) s.0 no_inference (rw length-map lt))
+-- a clause more comes by resolution
+module _ (terms : List Term) (d : Derivation) (cs ls : List (List Literal)) (h : HasDerived terms d cs ls) (ps : List ℕ) (clause : Clause) (right : IsDerivation (d ++ by_rule Resolution ps clause ∷ [])) where
+  pub among_more : All (AssumesAmong terms) (d ++ by_rule Resolution ps clause ∷ [])
+  among_more = All-push (AssumesAmong terms) d (by_rule Resolution ps clause) h.assumes tt
 
-  pub derives_kept : (clauses : List (List Lit)) (steps : List StepId) → Derives t log clauses steps → Derives t (log ++ x ∷ []) clauses steps
-  derives_kept clauses steps d = record {
-    paired = d.paired;
-    there = λ k lt. let h = d.there k lt in omega (arith, h, length-append log (x ∷ []));
-    same = λ k lt. subst (λ (c : Clause). Means t (get_or clauses k []) c) (sym (stated_kept (get_or steps k no_step) (d.there k lt))) (d.same k lt);
-  }
+  pub last_derived : IsDerivedFrom terms (d ++ by_rule Resolution ps clause ∷ []) (length d)
+  last_derived = derived_from terms (d ++ by_rule Resolution ps clause ∷ []) right among_more (length d) (omega (arith, length-append d (by_rule Resolution ps clause ∷ [])))
+
+  pub last_concludes : conclusion_at (d ++ by_rule Resolution ps clause ∷ []) (length d) ≡ clause
+  last_concludes = ap conclusion (get_or-append_seam d (by_rule Resolution ps clause) [] no_inference)
+
+  pub derived_kept : All (IsLearnedFrom terms (d ++ by_rule Resolution ps clause ∷ [])) ls
+  derived_kept k e lt = learned_kept terms (d ++ by_rule Resolution ps clause ∷ []) right among_more d (by_rule Resolution ps clause) refl (get_or ls k e) (h.derived k e lt)
+
+  -- one that was new, over atoms
+  module _ (new : IsNew (map literals_of (base_clauses terms) ++ ls) (literals_of clause)) (atoms : All (λ (l : Literal). IsAtomOf terms l.atom) (literals_of clause)) where
+    within : IsWithin (cs ++ literals_of clause ∷ []) (map literals_of (base_clauses terms) ++ (ls ++ literals_of clause ∷ []))
+    within c i = elim (Contains-push_cases cs (literals_of clause) c i) [
+      | inl was ↦ elim (Contains-append_cases (map literals_of (base_clauses terms)) ls c (h.only c was)) [
+        | inl b ↦ Contains-append_left (map literals_of (base_clauses terms)) (ls ++ literals_of clause ∷ []) c b
+        | inr l ↦ Contains-append_right (map literals_of (base_clauses terms)) (ls ++ literals_of clause ∷ []) c (Contains-append_left ls (literals_of clause ∷ []) c l)
+      ]
+      | inr is ↦ subst (Contains (map literals_of (base_clauses terms) ++ (ls ++ literals_of clause ∷ []))) is
+          (Contains-append_right (map literals_of (base_clauses terms)) (ls ++ literals_of clause ∷ []) (literals_of clause) (Contains-push ls (literals_of clause)))
+    ]
+
+    pub derived_more : HasDerived terms (d ++ by_rule Resolution ps clause ∷ []) (cs ++ literals_of clause ∷ []) (ls ++ literals_of clause ∷ [])
+    derived_more = record {
+      assumes = among_more;
+      base = λ c i. Contains-append_left cs (literals_of clause ∷ []) (literals_of c) (h.base c i);
+      only = within;
+      subterms = λ c l i j. elim (Contains-push_cases cs (literals_of clause) c i) [
+        | inl was ↦ h.subterms c l was j
+        | inr is ↦ (All-contains (λ (z : Literal). IsAtomOf terms z.atom) (literals_of clause) l atoms (subst (λ (z : List Literal). Contains z l) (sym is) j)).subterm
+      ];
+      kept = λ c i. elim (Contains-push_cases ls (literals_of clause) c i) [
+        | inl was ↦ Contains-append_left cs (literals_of clause ∷ []) c (h.kept c was)
+        | inr is ↦ subst (Contains (cs ++ literals_of clause ∷ [])) is (Contains-push cs (literals_of clause))
+      ];
+      derived = All-push (IsLearnedFrom terms (d ++ by_rule Resolution ps clause ∷ [])) ls (literals_of clause) derived_kept (record { number = length d; derived = last_derived; same = ap literals_of last_concludes });
+      atoms = All-push (λ (c : List Literal). All (λ (l : Literal). IsAtomOf terms l.atom) c) ls (literals_of clause) h.atoms atoms;
+      new = new_more (map literals_of (base_clauses terms)) ls (literals_of clause) h.new new;
+      steps_made = steps_more terms d ls ps clause h.steps_made;
+    }

@@ -1,125 +1,43 @@
--- What a search keeps: clauses, and literals that hold with the reasons why.
-use Rattle.std.specs.Prelude.{◌≡◌, ◌≢◌, ◌⊎◌, ◌+◌, ◌<◌, ◌≤◌, ◌||◌, ℕ, Bool, true, false, List, [], ◌∷◌, ◌++◌, length, take, get_or, map, flat_map, Contains, Option, Some, None}
+-- What a search keeps: clauses by their steps, and literals that hold with the reasons why.
+use Rattle.std.specs.Prelude.{◌≡◌, ◌<◌, ℕ, List, [], length, take, get_or, map, All, Contains, None}
+use Rattle.spec_terms.specs.Literals.{Literal}
 use Rattle.term_core.specs.declared.ids.TermId.{TermId}
 use Rattle.term_core.specs.declared.ids.Lit.{Lit}
-use Rattle.rule_bool.specs.Literals.{lit_complement, has}
-use Rattle.rule_bool.specs.Statuses.{IsFalsified, IsUnit, IsSatisfied, IsSettled}
-use Rattle.rule_bool.specs.declared.status.ClauseStatus.{ClauseStatus}
-use Rattle.rule_bool.specs.declared.status.ClauseStatus.TheVariants as statuses
-use Rattle.rule_bool.specs.Propagation.{failing}
-use Rattle.solve_core.specs.declared.trail.Trail.{Trail}
-use Rattle.solve_core.specs.declared.propagate.Pass.{Pass}
-use Rattle.solve_core.specs.declared.propagate.Pass.TheVariants as passes
-use Rattle.solve_core.specs.declared.propagate.Propagation.{Propagation}
-use Rattle.solve_core.specs.declared.propagate.Propagation.TheVariants as ends
+use Rattle.term_core.specs.Tables.{TableView, clause_at, literal_at}
+use Rattle.rule_bool.specs.Statuses.{IsSatisfied}
+use Rattle.rule_bool.specs.Resolvents.{AreOf, Means}
+use Rattle.proof_log.specs.declared.premises.StepId.{StepId}
+use Rattle.proof_log.specs.Logs.{Logged, named, logged_at, IsLogOf}
+use Rattle.sat_trail.specs.Trails.{TrailView, no_lit, IsUnassigned, HasSame, empty as no_trail}
+use Rattle.clause_store.specs.Stores.{StoreView, no_step, AreKnown, HasSeen}
+use Rattle.clause_store.specs.Propagating.{AreImplied, IsQuiet}
+use Rattle.conflict_learn.specs.Conflicts.{Conflict}
+use Rattle.solve_core.specs.declared.search.Search.{Search}
 
--- each literal's term is one of these
-abbrev pub AreOver : List TermId → List (List Lit) → Type 0
-AreOver atoms clauses = (c : List Lit) (l : Lit) → Contains clauses c → Contains c l → Contains atoms l.term
+-- the literals of lists, as the table means them
+abbrev pub images : TableView → List (List Lit) → List (List Literal)
+images t cs = map (map (literal_at t)) cs
 
--- the terms of all literals, in order
-abbrev pub atoms_in : List (List Lit) → List TermId
-atoms_in clauses = flat_map (map (λ l. l.term)) clauses
-
--- nothing follows from any clause
-abbrev pub IsQuiet : List (List Lit) → List Lit → Type 0
-IsQuiet clauses held = (c : List Lit) → Contains clauses c → IsSettled held c
-
--- neither the literal holds nor its complement
-pub record IsUnassigned (held : List Lit) (l : Lit) : Type 0 where
-  -- it does not hold
-  pub not_held : Contains held l → ⊥
-  -- and is not false
-  pub not_false : Contains held (lit_complement l) → ⊥
-
--- the clause of a number has the literal, and its others are false
-pub record IsForced (clauses : List (List Lit)) (held : List Lit) (number : ℕ) (l : Lit) : Type 0 where
-  -- the number is a clause's
-  pub there : number < length clauses
-  -- the clause has the literal
-  pub has_it : Contains (get_or clauses number []) l
-  -- and its others are false
-  pub others : (m : Lit) → Contains (get_or clauses number []) m → m ≢ l → Contains held (lit_complement m)
+-- each literal's term is one of the table's
+abbrev pub AreAllOf : TableView → List (List Lit) → Type 0
+AreAllOf t cs = All (AreOf t) cs
 
 -- a literal of the clauses has the term
 abbrev pub IsMentioned : List (List Lit) → TermId → Type 0
 IsMentioned clauses t = (c : List Lit) × (l : Lit) × Contains clauses c × Contains c l × (l.term ≡ t)
 
--- What is decided: a negative literal of a term that the clauses mention, where nothing follows from them.
-pub record IsDecided (clauses : List (List Lit)) (held : List Lit) (l : Lit) : Type 0 where
-  -- the literal is negative
-  pub negative : l.positive ≡ false
-  -- the clauses mention its term
-  pub mentioned : IsMentioned clauses l.term
-  -- nothing follows from them
-  pub quiet : IsQuiet clauses held
+-- of each clause a literal holds
+abbrev pub AreSatisfied : List (List Lit) → List Lit → Type 0
+AreSatisfied clauses held = (c : List Lit) → Contains clauses c → IsSatisfied held c
 
--- the literal was forced by the clause of its reason, or decided
-abbrev pub IsAdded : List (List Lit) → List Lit → Lit → Option ℕ → Type 0
-IsAdded clauses held l None = IsDecided clauses held l
-IsAdded clauses held l (Some number) = IsForced clauses held number l
-
--- Each literal was open when it was added, and forced or decided.
-pub record IsTrail (clauses : List (List Lit)) (held : List Lit) (reasons : List (Option ℕ)) : Type 0 where
-  -- there are as many reasons as literals
-  pub paired : length reasons ≡ length held
-  -- each was open when it was added
-  pub was_open : (k : ℕ) (l : Lit) → k < length held → get_or held k l ≡ l → IsUnassigned (take k held) l
-  -- and it was forced or decided
-  pub added : (k : ℕ) (l : Lit) → k < length held → get_or held k l ≡ l → IsAdded clauses (take k held) l (get_or reasons k None)
-
--- whether a term's truth is known
-abbrev pub is_assigned : List Lit → TermId → Bool
-is_assigned held t = has held (record { term = t; positive = true }) || has held (record { term = t; positive = false })
-
--- how many terms' truths are not
-abbrev pub open_count : List TermId → List Lit → ℕ
-open_count atoms held = failing (is_assigned held) atoms
-
--- What holds grows by what clauses force.
-pub record Advances (clauses : List (List Lit)) (old new : List Lit) (before after : List (Option ℕ)) : Type 0 where
-  -- what was added
-  pub more : List Lit
-  -- it comes after what was there
-  pub is : new ≡ old ++ more
-  -- what was a trail is one
-  pub trail : IsTrail clauses old before → IsTrail clauses new after
-  -- each literal leaves a term less of unknown truth
-  pub fewer : (atoms : List TermId) → AreOver atoms clauses → length new + open_count atoms new ≤ length old + open_count atoms old
-
--- the status of the clause of a number, and what holds then
-abbrev pub TakesUp : List Lit → ℕ → Trail → Trail → ClauseStatus → Type 0
-TakesUp clause number old new statuses.Falsified = IsFalsified old.held clause × (new.held ≡ old.held) × (new.reasons.items ≡ old.reasons.items)
-TakesUp clause number old new (statuses.Unit l) = IsUnit old.held clause l × (new.held ≡ old.held ++ l ∷ []) × (new.reasons.items ≡ old.reasons.items ++ Some number ∷ [])
-TakesUp clause number old new statuses.Unresolved = IsSettled old.held clause × (new.held ≡ old.held) × (new.reasons.items ≡ old.reasons.items)
-TakesUp clause number old new statuses.Satisfied = IsSettled old.held clause × (new.held ≡ old.held) × (new.reasons.items ≡ old.reasons.items)
-
--- the clause of a number is false
-pub record IsClash (clauses : List (List Lit)) (held : List Lit) (number : ℕ) : Type 0 where
-  -- the number is a clause's
-  pub there : number < length clauses
-  -- all of its literals are false
-  pub fails : IsFalsified held (get_or clauses number [])
-
--- what a pass over the clauses seen comes to
-abbrev pub Passes : List (List Lit) → List (List Lit) → Trail → Trail → Pass → Type 0
-Passes clauses seen old new (passes.Clash n) = Advances clauses old.held new.held old.reasons.items new.reasons.items × IsClash clauses new.held n
-Passes clauses seen old new passes.Added = Advances clauses old.held new.held old.reasons.items new.reasons.items × (length old.held < length new.held)
-Passes clauses seen old new passes.Same = (new.held ≡ old.held) × (new.reasons.items ≡ old.reasons.items) × IsQuiet seen old.held
-
--- what propagation comes to
-abbrev pub Propagates : List (List Lit) → Trail → Trail → Propagation → Type 0
-Propagates clauses old new (ends.Clash n) = Advances clauses old.held new.held old.reasons.items new.reasons.items × IsClash clauses new.held n
-Propagates clauses old new ends.Quiet = Advances clauses old.held new.held old.reasons.items new.reasons.items × IsQuiet clauses new.held
-
--- Of a clause this literal is open.
+-- Of a clause this literal is unassigned.
 pub record IsUnassignedOf (held clause : List Lit) (l : Lit) : Type 0 where
   -- the clause has it
   pub there : Contains clause l
   -- neither it holds nor its complement
-  pub is_open : IsUnassigned held l
+  pub unassigned : IsUnassigned held l
 
--- Of one of the clauses this literal is open.
+-- Of one of the clauses this literal is unassigned.
 pub record IsUnassignedIn (clauses : List (List Lit)) (held : List Lit) (l : Lit) : Type 0 where
   -- the clause
   pub clause : List Lit
@@ -128,13 +46,57 @@ pub record IsUnassignedIn (clauses : List (List Lit)) (held : List Lit) (l : Lit
   -- it has the literal
   pub there : Contains clause l
   -- neither that holds nor its complement
-  pub is_open : IsUnassigned held l
+  pub unassigned : IsUnassigned held l
 
--- of each clause a literal holds, or all of its literals are false
-abbrev pub AreSettled : List (List Lit) → List Lit → Type 0
-AreSettled clauses held = (c : List Lit) → Contains clauses c → IsSatisfied held c ⊎ IsFalsified held c
+-- Each clause has the literals of its step's.
+pub record Derives (t : TableView) (log : List Logged) (s : StoreView) : Type 0 where
+  -- there are as many steps
+  pub paired : length s.steps ≡ length s.clauses
+  -- each is one of the log's
+  pub there : (k : ℕ) → k < length s.clauses → (get_or s.steps k no_step).0 < length log
+  -- its clause has these literals
+  pub same : (k : ℕ) → k < length s.clauses → Means t (get_or s.clauses k []) (clause_at t (named (logged_at log (get_or s.steps k no_step))))
 
--- none of the literals holds; and none is open, or this one is
-abbrev pub FindsUnassigned : List Lit → List Lit → Option Lit → Type 0
-FindsUnassigned held front None = IsFalsified held front
-FindsUnassigned held front (Some l) = IsUnassignedOf held front l
+-- The store has the clauses of these steps.
+pub record IsStoreOf (t : TableView) (log : List Logged) (steps : List StepId) (s : StoreView) : Type 0 where
+  -- the steps are these
+  pub by : s.steps ≡ steps
+  -- its clauses are theirs
+  pub derives : Derives t log s
+
+-- The trail has a variable for each term of the table, and no literal.
+pub record IsBegun (t : TableView) (v : TrailView) : Type 0 where
+  -- it has no literal
+  pub same : HasSame no_trail v
+  -- there are as many variables as terms
+  pub vars : v.vars ≡ length t.terms
+  -- nothing is marked as propagated
+  pub propagated : v.propagated ≡ 0
+
+-- Where a literal was decided, propagation was quiet.
+pub record AreDecided (clauses : List (List Lit)) (v : TrailView) : Type 0 where
+  -- nothing followed from the clauses before it
+  pub quiet : (p : ℕ) → p < length v.literals → get_or v.reasons p None ≡ None → IsQuiet clauses (take p v.literals)
+  -- they mention its term
+  pub mentioned : (p : ℕ) → p < length v.literals → get_or v.reasons p None ≡ None → IsMentioned clauses (get_or v.literals p no_lit).term
+
+-- What a search has fits together over a table, whatever its terms are.
+pub record IsReady (t : TableView) (x : Search) : Type 0 where
+  -- each step of the log is right
+  pub right : IsLogOf t x.log
+  -- each clause has the literals of its step's
+  pub derives : Derives t x.log x.store
+  -- the trail has a variable for each term of the clauses
+  pub known : AreKnown x.store x.trail.vars
+  -- what the trail has marked as propagated, the store has seen
+  pub seen : HasSeen x.store x.trail
+  -- each reason is that of a clause whose others were false
+  pub implied : AreImplied x.store x.trail
+  -- each decision was made at quiet
+  pub decided : AreDecided x.store.clauses x.trail
+  -- what was learned is over the table
+  pub learned : AreAllOf t x.budget.learned
+
+-- a clash of a search, with what it is to be understood by
+abbrev pub conflict_of : TableView → Search → StepId → Conflict
+conflict_of t x clash = record { table = t; log = x.log; trail = x.trail; clash = clash }

@@ -1,23 +1,18 @@
-//! The search loop: propagate, decide, learn, go back.
+//! The search loop: propagate, decide, learn, go back. Source: Marques Silva and Sakallah 1999.
 
-ghost use Rattle.std.specs.Prelude.{◌≡◌, IfOk, MatchOption};
-ghost use Rattle.rule_bool.specs.Literals.{lists};
+ghost use Rattle.std.specs.Prelude.{◌≡◌, IfOk};
+ghost use Rattle.term_core.specs.Tables.{Extends};
 ghost use Rattle.proof_log.specs.Logs.{IsLogOf};
-ghost use Rattle.solve_core.specs.Search.{IsClash};
-ghost use Rattle.solve_core.specs.Stores.{Derives};
-ghost use Rattle.solve_core.specs.Rounds.{LogsConflict, AreReady, state_of, GoesOn, Shows};
+ghost use Rattle.solve_core.specs.Search.{IsReady};
+ghost use Rattle.solve_core.specs.Rounds.{Shows};
 
-use crate::analysis::analyze;
 use crate::decision::next_decision;
-use crate::log_learned::log_learned;
-use crate::model::model_of;
-use crate::propagate::{Propagation, propagate};
-use crate::store::ClauseStore;
-use crate::trail::Trail;
-use proof_log::{ProofLog, StepId};
-use sat_budget::{Budget, BudgetStop, Reason};
-use spec_search::laws::base_clauses_define_their_terms;
-use std::alloc::Global;
+use crate::search::Search;
+use clause_store::Propagation;
+use clause_store::laws::{reasons_stay_right, what_is_marked_was_seen};
+use conflict_learn::conflict_level;
+use proof_log::StepId;
+use sat_budget::Reason;
 use term_core::{Interp, Lit, TermTable};
 use world_io::NoMemory;
 
@@ -32,101 +27,46 @@ pub enum Answer {
     Unknown(Reason),
 }
 
-/// Ends the search at a conflict, or learns from it and goes back.
-fn handle_conflict(
-    alloc: Global,
-    table: &TermTable,
-    log: &mut ProofLog,
-    store: &mut ClauseStore,
-    budget: &mut Budget,
-    trail: &mut Trail,
-    clash: usize,
-) -> Result<Option<Answer>, NoMemory>
-    requires ready { AreReady table.now log.old store.old trail.old }
-    requires clash { IsClash (lists store.old.clauses.items) trail.old.held clash }
-    ensures right { IfOk result (λ _. IsLogOf table.now log.new) }
-    ensures step { IfOk result (λ _. LogsConflict store.old trail.old clash log.old log.new) }
-    ensures comes { IfOk result (λ o. MatchOption o
-        (GoesOn table.now (state_of log.old store.old budget.old) (state_of log.new store.new budget.new) trail.new)
-        (λ a. (budget.new.limit ≡ budget.old.limit)
-        × Shows table.now (state_of log.old store.old budget.old) (state_of log.new store.new budget.new) a)) }
-{
-    table.ids_are_unique();
-    table.all_terms_are_bool();
-    let analysis = analyze(alloc, store, trail, clash)?;
-    if analysis.clause.is_empty() {
-        let step = log_learned(
-            alloc,
-            table,
-            log,
-            store,
-            &analysis.premises,
-            &analysis.clause,
-        )?;
-        return Ok(Some(Answer::Unsat(step)));
-    }
-    match budget.learnt(&analysis.clause) {
-        Ok(()) => {}
-        Err(BudgetStop::Spent(n)) => return Ok(Some(Answer::Unknown(Reason::Conflicts(n)))),
-        Err(BudgetStop::Memory) => return Err(NoMemory),
-    }
-    let step = log_learned(
-        alloc,
-        table,
-        log,
-        store,
-        &analysis.premises,
-        &analysis.clause,
-    )?;
-    trail.truncate(analysis.backjump);
-    store.add(analysis.clause, step)?;
-    Ok(None)
-}
-
-/// Searches until the terms of the store's clauses are known to be satisfied or not, or the budget is spent.
-pub(crate) fn search(
-    alloc: Global,
-    table: &TermTable,
-    log: &mut ProofLog,
-    store: &mut ClauseStore,
-    budget: &mut Budget,
-) -> Result<Answer, NoMemory>
-    requires log { IsLogOf table.now log.old }
-    requires store { Derives table.now log.old (lists store.old.clauses.items) store.old.steps.items }
-    ensures right { IfOk result (λ _. IsLogOf table.now log.new) }
-    ensures limit { IfOk result (λ _. budget.new.limit ≡ budget.old.limit) }
-    ensures evidence { IfOk result
-        (Shows table.now (state_of log.old store.old budget.old) (state_of log.new store.new budget.new)) }
-{
-    table.ids_are_unique();
-    table.terms_are_closed();
-    table.all_terms_are_bool();
-    table.heads_take_their_arguments();
-    table.heads_are_declared();
-    table.symbols().are_declared();
-    base_clauses_define_their_terms();
-    budget.is_within();
-    let mut trail = Trail::new(alloc);
-    'rounds: loop {
-        match propagate(store, &mut trail)? {
-            Propagation::Clash(number) => {
-                if let Some(answer) = handle_conflict(
-                    alloc, table, log, store, budget, &mut trail, number,
-                )? {
-                    return Ok(answer);
-                }
-            }
-            Propagation::Quiet => {
-                let Some(l) = next_decision(&store.clauses, &trail.held) else {
-                    return Ok(Answer::Sat(model_of(alloc, table, &trail.held)?));
-                };
-                trail.push(
-                    Lit {
+impl Search {
+    /// Searches until the terms of the store's clauses are known to be satisfied or not, or the budget is spent.
+    ///
+    /// Decisions are negative. Each round assigns a variable more, or learns a clause and takes one from the budget, which is asked
+    /// before the clause is logged.
+    pub(crate) fn run(&mut self, table: &mut TermTable) -> Result<Answer, NoMemory>
+        requires ready { IsReady table.old self.old }
+        ensures grown { Extends table.old table.new }
+        ensures symbols { table.new.symbols ≡ table.old.symbols }
+        ensures right { IfOk result (λ _. IsLogOf table.new self.new.log) }
+        ensures limit { IfOk result (λ _. self.new.budget.limit ≡ self.old.budget.limit) }
+        ensures evidence { IfOk result (Shows table.old table.new self.old self.new) }
+    {
+        what_is_marked_was_seen();
+        reasons_stay_right();
+        self.budget.is_within();
+        'rounds: loop {
+            match self.store.propagate(&mut self.trail)? {
+                Propagation::Quiet => {
+                    self.trail.is_sound();
+                    let Some(l) = next_decision(&self.store, &self.trail) else {
+                        return self.satisfied(table);
+                    };
+                    self.trail.decide(Lit {
                         term: l.term,
                         positive: false,
-                    },
-                    None,
-                )?;
+                    });
+                    self.trail.is_sound();
+                }
+                Propagation::Clash(clash) => {
+                    table.ids_are_unique();
+                    self.trail.is_sound();
+                    if conflict_level(table, &self.trail, &self.log, clash) == 0 {
+                        return self.refuted(table, clash);
+                    }
+                    if let Some(n) = self.budget.spent() {
+                        return Ok(Answer::Unknown(Reason::Conflicts(n)));
+                    }
+                    self.learn_and_go_back(table, clash)?;
+                }
             }
         }
     }

@@ -1,52 +1,73 @@
 //! What is decided next.
 
-ghost use Rattle.std.specs.Prelude.{◌⊎◌, ◌++◌, ◌∷◌, [], List, Contains, MatchOption};
-ghost use Rattle.rule_bool.specs.Literals.{lists};
-ghost use Rattle.rule_bool.specs.Statuses.{IsFalsified, IsSatisfied};
-ghost use Rattle.solve_core.specs.Search.{FindsUnassigned, IsUnassignedOf, AreSettled, IsUnassignedIn};
+ghost use Rattle.std.specs.Prelude.{◌<◌, ◌⊎◌, All, Contains, MatchBool, MatchOption};
+ghost use Rattle.rule_bool.specs.Literals.{lit_complement};
+ghost use Rattle.rule_bool.specs.Statuses.{IsSatisfied};
+ghost use Rattle.term_core.specs.declared.ids.Lit.{Lit as Literal};
+ghost use Rattle.clause_store.specs.Stores.{AreKnown};
+ghost use Rattle.clause_store.specs.Propagating.{IsQuiet};
+ghost use Rattle.solve_core.specs.Search.{AreSatisfied, IsUnassignedOf, IsUnassignedIn};
 
-use rule_bool::{Assignment, negated};
+use clause_store::ClauseStore;
+use sat_trail::SatTrail;
 use term_core::Lit;
 
-/// Gives the first unassigned literal where one more literal follows, which does not hold.
-fn first_unassigned(first: Option<Lit>, m: Lit, held: &Assignment) -> Option<Lit>
-    requires { Contains held.now m → ⊥ }
-    ensures { (before : List Lit) → FindsUnassigned held.now before first
-        → FindsUnassigned held.now (before ++ m ∷ []) result }
+/// Says whether a literal holds.
+fn holds(l: Lit, trail: &SatTrail) -> bool
+    requires known { l.term.0 < trail.now.vars }
+    ensures { MatchBool result (Contains trail.now.literals l) (Contains trail.now.literals l → ⊥) }
 {
-    if first.is_some() {
-        return first;
+    trail.is_sound();
+    match trail.value(l) {
+        Some(sign) => sign,
+        None => false,
     }
-    if held.contains(negated(m)) {
-        return None;
-    }
-    Some(m)
 }
 
-/// Gives the first unassigned literal of a clause none of whose literals holds, or nothing where one holds or all are false.
-fn unassigned_in(clause: &[Lit], held: &Assignment) -> Option<Lit>
-    ensures { MatchOption result
-        (IsSatisfied held.now clause.now ⊎ IsFalsified held.now clause.now)
-        (IsUnassignedOf held.now clause.now) }
+/// Says whether a literal of the clause holds.
+fn is_satisfied(clause: &[Lit], trail: &SatTrail) -> bool
+    requires known { All (λ l. l.term.0 < trail.now.vars) clause.now }
+    ensures { MatchBool result (IsSatisfied trail.now.literals clause.now)
+        ((l : Literal) → Contains clause.now l → Contains trail.now.literals l → ⊥) }
 {
-    let mut first = None;
-    for m in clause {
-        if held.contains(*m) {
-            return None;
+    for l in clause {
+        if holds(*l, trail) {
+            return true;
         }
-        first = first_unassigned(first, *m, held);
     }
-    first
+    false
 }
 
-/// Gives an unassigned literal of the oldest clause none of whose literals holds, or nothing where each clause has one or is false.
-pub(crate) fn next_decision(clauses: &[Vec<Lit>], held: &Assignment) -> Option<Lit>
+/// Gives the first literal of the clause that has no value.
+fn unassigned_in(clause: &[Lit], trail: &SatTrail) -> Option<Lit>
+    requires known { All (λ l. l.term.0 < trail.now.vars) clause.now }
     ensures { MatchOption result
-        (AreSettled (lists clauses.now) held.now)
-        (IsUnassignedIn (lists clauses.now) held.now) }
+        ((l : Literal) → Contains clause.now l → Contains trail.now.literals l ⊎ Contains trail.now.literals (lit_complement l))
+        (IsUnassignedOf trail.now.literals clause.now) }
 {
-    for clause in clauses {
-        if let Some(l) = unassigned_in(clause, held) {
+    for l in clause {
+        if trail.value(*l).is_none() {
+            return Some(*l);
+        }
+    }
+    None
+}
+
+/// Gives an unassigned literal of the oldest clause none of whose literals holds, or nothing where each clause has one that holds.
+///
+/// Propagation must be quiet.
+pub(crate) fn next_decision(store: &ClauseStore, trail: &SatTrail) -> Option<Lit>
+    requires known { AreKnown store.now trail.now.vars }
+    requires quiet { IsQuiet store.now.clauses trail.now.literals }
+    ensures { MatchOption result (AreSatisfied store.now.clauses trail.now.literals)
+        (IsUnassignedIn store.now.clauses trail.now.literals) }
+{
+    for n in 0..store.len() {
+        let clause = store.clause(n);
+        if is_satisfied(clause, trail) {
+            continue;
+        }
+        if let Some(l) = unassigned_in(clause, trail) {
             return Some(l);
         }
     }

@@ -1,18 +1,17 @@
-//! A search for truths that make terms true: it decides, propagates, learns and goes back, and shows evidence for its answer.
+//! A search for truths that make terms true: it propagates, decides, learns from conflicts and goes back, and shows evidence for its
+//! answer.
 //!
-//! It is plain and slow: propagation looks at all clauses until none is false or unit, and a learned clause is the negation of the
-//! decisions that a conflict rests on. What a faster search answers can be compared with it.
+//! The loop of conflict-driven clause learning is here, and what it answers. The literals that hold are a `SatTrail`, propagation is
+//! that of a `ClauseStore`, and `learn` draws a clause from a conflict.
 #![tactic(auto)]
 
-mod analysis;
+mod begin;
 mod cdcl;
+mod conflict;
 mod decision;
-mod log_learned;
 mod model;
 mod outcome;
-mod propagate;
-mod store;
-mod trail;
+mod search;
 
 pub use cdcl::Answer;
 pub use outcome::{Outcome, decide};

@@ -6,7 +6,7 @@ ghost use Rattle.term_core.specs.Tables.{IsIn};
 ghost use Rattle.term_core.specs.Valuations.{tables_meant};
 ghost use Rattle.solve_core.specs.SearchModels.{constant_table, IsModelOf, IsApplied, AffirmsSymbol, AreTruthsOf};
 
-use rule_bool::Assignment;
+use sat_trail::SatTrail;
 use std::alloc::{AllocError, Global};
 use term_core::{Head, Interp, Lit, SymbolId, Table, TermTable, Value};
 
@@ -49,14 +49,14 @@ fn note(table: &TermTable, l: Lit, truths: &mut Vec<bool>)
 fn truths_by_symbol(
     alloc: Global,
     table: &TermTable,
-    held: &Assignment,
+    trail: &SatTrail,
 ) -> Result<Vec<bool>, AllocError>
-    requires { All (λ l. IsIn table.now l.term) held.now }
-    ensures { IfOk result (λ truths. AreTruthsOf table.now held.now truths.items) }
+    requires { All (λ l. IsIn table.now l.term) trail.now.literals }
+    ensures { IfOk result (λ truths. AreTruthsOf table.now trail.now.literals truths.items) }
 {
     let mut truths = vec![in alloc; false; table.symbols().len() as usize]?;
-    'literals: for at in 0..held.len() {
-        note(table, held.at(at), &mut truths);
+    'literals: for at in 0..trail.len() {
+        note(table, trail.literal(at), &mut truths);
     }
     Ok(truths)
 }
@@ -81,11 +81,11 @@ fn interp_of(alloc: Global, truths: &[bool]) -> Result<Interp, AllocError>
 pub(crate) fn model_of(
     alloc: Global,
     table: &TermTable,
-    held: &Assignment,
+    trail: &SatTrail,
 ) -> Result<Interp, AllocError>
-    requires { All (λ l. IsIn table.now l.term) held.now }
-    ensures { IfOk result (IsModelOf table.now held.now) }
+    requires { All (λ l. IsIn table.now l.term) trail.now.literals }
+    ensures { IfOk result (IsModelOf table.now trail.now.literals) }
 {
-    let truths = truths_by_symbol(alloc, table, held)?;
+    let truths = truths_by_symbol(alloc, table, trail)?;
     interp_of(alloc, &truths)
 }

@@ -4,13 +4,11 @@ ghost use Rattle.std.specs.Prelude.{◌≡◌, IfOk, OnErr};
 ghost use Rattle.term_core.specs.Tables.{AreIn, Extends, clause_at};
 ghost use Rattle.solve_core.specs.Decisions.{IsJustified};
 
-use crate::cdcl::{Answer, search};
-use crate::store::ClauseStore;
-use clausify::clauses_of_all;
+use crate::begin::begin;
+use crate::cdcl::Answer;
+use crate::search::Search;
 use proof_log::ProofLog;
-use proof_log::laws::empty_logs_are_right;
 use sat_budget::{Budget, Limits};
-use spec_search::laws::base_clauses_are_over_subterms;
 use std::alloc::Global;
 use term_core::{TermId, TermTable};
 use world_io::NoMemory;
@@ -63,13 +61,9 @@ fn decided(
     ensures symbols { table.new.symbols ≡ table.old.symbols }
     ensures decided { IfOk result (IsJustified table.new (clause_at table.old roots.now) limits.now.conflicts) }
 {
-    base_clauses_are_over_subterms();
-    empty_logs_are_right();
-    let mut log = ProofLog::new(alloc);
-    let list = clauses_of_all(alloc, table, &mut log, roots)?;
-    let mut store = ClauseStore::of_log(alloc, table, &log, list.as_slice())?;
-    let mut budget = Budget::new(alloc, limits)?;
-    let answer = search(alloc, table, &mut log, &mut store, &mut budget)?;
+    let mut search = begin(alloc, table, roots, limits)?;
+    let answer = search.run(table)?;
+    let Search { log, budget, .. } = search;
     Ok(Outcome {
         answer,
         log,

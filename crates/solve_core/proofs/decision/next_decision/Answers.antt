@@ -1,27 +1,25 @@
--- That the literal is open in one of the clauses.
-use Rattle.std.proofs.lemmas.List.{take_all, length-map}
-use Rattle.rule_bool.specs.Literals.{lists}
-use Rattle.rule_bool.proofs.Stepping.{item_in}
-use Rattle.solve_core.proofs.SearchPasses.{taken_next}
-use Rattle.solve_core.proofs.SearchDecisions.{settled_next}
+-- Clause by clause.
+use Rattle.std.proofs.lemmas.List.{take_all}
+use Rattle.std.proofs.lemmas.List.Elements.{Contains-get_or}
+use Rattle.std.proofs.Common.{[], get_or, subst, sym, arith, length, ◌<◌}
+use Rattle.rule_bool.specs.Statuses.{IsSatisfied, IsSettled}
+use Rattle.solve_core.proofs.SearchValues.{more_items, none_open}
 use Rattle.solve_core.proofs.decision.next_decision.Goals as goal
 
-pub returns-in-Some : goal.returns-in-Some
-returns-in-Some c =
-    let vs = c.args.clauses.now in
-    let n = c.loop-clause.clause-index in
-    let v = c.clause-item.result in
-    let h = rw c.deref.ensures.value at c.in-Some.ensures in
-    record { clause = v.items; has_clause = item_in vs n v c.loop-clause-test.true c.clause-item.is; there = h.there; is_open = h.is_open }
+pub loop-n-preserved-then-is_satisfied : goal.loop-n-preserved-then-is_satisfied
+loop-n-preserved-then-is_satisfied c =
+    let held = c.args.trail.now.literals in
+    more_items (IsSatisfied held) c.args.store.now.clauses c.loop-n.n [] (omega (arith, c.loop-n-test.true, c.len-n-end.ensures)) c.loop-n.invariant (subst (IsSatisfied held) c.clause-clause.ensures c.if-is_satisfied.ensures)
 
-pub loop-clause-preserved : goal.loop-clause-preserved
-loop-clause-preserved c =
-    let vs = c.args.clauses.now in
-    let n = c.loop-clause.clause-index in
-    let v = c.clause-item.result in
-    settled_next (lists vs) c.args.held.now n v.items (taken_next vs n v c.loop-clause-test.true c.clause-item.is) (rw c.deref.ensures.value at c.in_default.ensures) c.loop-clause.invariant
+pub loop-n-preserved : goal.loop-n-preserved
+loop-n-preserved c =
+    let held = c.args.trail.now.literals in
+    let clauses = c.args.store.now.clauses in
+    let lt : c.loop-n.n < length clauses = omega (arith, c.loop-n-test.true, c.len-n-end.ensures) in
+    let settled = c.requires.quiet (get_or clauses c.loop-n.n []) (Contains-get_or clauses c.loop-n.n [] lt) in
+    absurd (none_open held c.clause-clause.result.now (subst (IsSettled held) (sym c.clause-clause.ensures) settled) c.if-is_satisfied.ensures c.in_default.ensures)
 
 pub returns : goal.returns
 returns c =
-    let all = c.loop-clause.invariant in
-    rw (take_all c.loop-clause.clause-index (lists c.args.clauses.now) (rw length-map c.loop-clause-test.false)) at all
+    let all = take_all c.loop-n.n c.args.store.now.clauses (omega (arith, c.loop-n-test.false, c.len-n-end.ensures)) in
+    rw all at c.loop-n.invariant

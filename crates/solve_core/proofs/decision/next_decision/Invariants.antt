@@ -1,8 +1,7 @@
--- The clauses up to here are settled.
+-- Of each clause up to here a literal holds.
 use Rattle.std.proofs.Common.{take}
-use Rattle.rule_bool.specs.Literals.{lists}
-use Rattle.solve_core.specs.Search.{AreSettled}
+use Rattle.solve_core.specs.Search.{AreSatisfied}
 use Rattle.solve_core.proofs.decision.next_decision.Given as goal
 
-abbrev pub invariant-loop-clause : goal.invariant-loop-clause
-invariant-loop-clause l = AreSettled (take l.clause-index (lists l.clauses)) l.held
+abbrev pub invariant-loop-n : goal.invariant-loop-n
+invariant-loop-n l = AreSatisfied (take l.n l.store.clauses) l.trail.literals

@@ -1,13 +1,17 @@
--- That the literal is the first open one.
-use Rattle.std.proofs.Common.{take}
-use Rattle.std.proofs.lemmas.List.{take_all, take_more}
-use Rattle.solve_core.proofs.SearchDecisions.{opened}
+-- Literal by literal.
+use Rattle.std.proofs.lemmas.List.{take_all}
+use Rattle.std.proofs.Common.{Contains, ◌⊎◌, get_or}
+use Rattle.term_core.specs.declared.ids.Lit.{Lit}
+use Rattle.rule_bool.specs.Literals.{lit_complement}
+use Rattle.sat_trail.specs.Trails.{no_lit}
+use Rattle.solve_core.proofs.SearchValues.{assigned_by, more_items}
 use Rattle.solve_core.proofs.decision.unassigned_in.Goals as goal
 
-pub loop-m-preserved : goal.loop-m-preserved
-loop-m-preserved c =
-    let next = take_more c.args.clause.now c.loop-m.m-index _ c.loop-m-test.true in
-    rw next (c.first_unassigned-first.ensures (take c.loop-m.m-index c.args.clause.now) c.loop-m.invariant)
+pub loop-l-preserved : goal.loop-l-preserved
+loop-l-preserved c =
+    let held = c.args.trail.now.literals in
+    more_items (λ (m : Lit). Contains held m ⊎ Contains held (lit_complement m)) c.args.clause.now c.loop-l.l-index no_lit c.loop-l-test.true c.loop-l.invariant
+    (assigned_by held (get_or c.args.clause.now c.loop-l.l-index no_lit) c.value.result c.if-is_none.ensures c.value.ensures)
 
 pub returns : goal.returns
-returns c = opened c.args.held.now c.args.clause.now c.loop-m.first (rw (take_all _ _ c.loop-m-test.false) at c.loop-m.invariant)
+returns c = rw (take_all _ _ c.loop-l-test.false) at c.loop-l.invariant

@@ -1,7 +1,8 @@
--- What the literals up to here come to.
-use Rattle.std.proofs.Common.{take}
-use Rattle.solve_core.specs.Search.{FindsUnassigned}
+-- Each of the literals up to here has a value.
+use Rattle.std.proofs.Common.{take, Contains, ◌⊎◌}
+use Rattle.term_core.specs.declared.ids.Lit.{Lit}
+use Rattle.rule_bool.specs.Literals.{lit_complement}
 use Rattle.solve_core.proofs.decision.unassigned_in.Given as goal
 
-abbrev pub invariant-loop-m : goal.invariant-loop-m
-invariant-loop-m l = FindsUnassigned l.held (take l.m-index l.clause) l.first
+abbrev pub invariant-loop-l : goal.invariant-loop-l
+invariant-loop-l l = (m : Lit) → Contains (take l.l-index l.clause) m → Contains l.trail.literals m ⊎ Contains l.trail.literals (lit_complement m)

@@ -4,4 +4,4 @@ use Rattle.solve_core.specs.SearchModels.{AreTruthsOf}
 use Rattle.solve_core.proofs.model.truths_by_symbol.Given as goal
 
 abbrev pub invariant-literals : goal.invariant-literals
-invariant-literals l = AreTruthsOf l.table (take l.at l.held) l.truths.items
+invariant-literals l = AreTruthsOf l.table (take l.at l.trail.literals) l.truths.items

@@ -1,5 +1,5 @@
 -- That the table is cut back.
-use Rattle.solve_core.proofs.SearchDecided.{extends_cut}
+use Rattle.solve_core.proofs.SearchBegins.{extends_cut}
 use Rattle.solve_core.proofs.outcome.decide.Goals as goal
 
 pub returns-in-Err-clause-grown : goal.returns-in-Err-clause-grown

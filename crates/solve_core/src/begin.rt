@@ -1,0 +1,81 @@
+//! What a search begins with.
+
+ghost use Rattle.std.specs.Prelude.{◌≡◌, IfOk};
+ghost use Rattle.term_core.specs.Tables.{AreIn, Extends, clause_at};
+ghost use Rattle.proof_log.specs.Logs.{IsLogOf, AreOf};
+ghost use Rattle.solve_core.specs.Search.{IsStoreOf, IsBegun};
+ghost use Rattle.solve_core.specs.Rounds.{Begins};
+
+use crate::search::Search;
+use clause_store::ClauseStore;
+use clause_store::laws::{reasons_stay_right, what_is_marked_was_seen};
+use clausify::clauses_of_all;
+use proof_log::laws::empty_logs_are_right;
+use proof_log::{ProofLog, StepId};
+use sat_budget::{Budget, Limits};
+use sat_trail::SatTrail;
+use spec_search::laws::base_clauses_are_over_subterms;
+use std::alloc::Global;
+use term_core::{TermId, TermTable};
+use world_io::NoMemory;
+
+/// Makes the store of clauses of a log, given by their numbers.
+fn store_of(
+    alloc: Global,
+    table: &TermTable,
+    log: &ProofLog,
+    steps: &[StepId],
+) -> Result<ClauseStore, NoMemory>
+    requires log { IsLogOf table.now log.now }
+    requires steps { AreOf log.now steps.now }
+    ensures { IfOk result (IsStoreOf table.now log.now steps.now) }
+{
+    let mut store = ClauseStore::new(alloc);
+    for step in steps {
+        store.add(table, log, *step)?;
+    }
+    Ok(store)
+}
+
+/// Makes the trail of a variable for each term of a table.
+fn trail_of(alloc: Global, table: &TermTable) -> Result<SatTrail, NoMemory>
+    ensures { IfOk result (IsBegun table.now) }
+{
+    let mut trail = SatTrail::new(alloc);
+    'variables: while trail.vars() < table.len() {
+        trail.add_var()?;
+    }
+    Ok(trail)
+}
+
+/// Begins a search: the clauses of all terms, in a new log and store, with a trail of no literals and a new budget.
+///
+/// Where memory runs out, the terms that it has put stay.
+pub(crate) fn begin(
+    alloc: Global,
+    table: &mut TermTable,
+    roots: &[TermId],
+    limits: &Limits,
+) -> Result<Search, NoMemory>
+    requires roots { AreIn table.old roots.now }
+    ensures grown { Extends table.old table.new }
+    ensures symbols { table.new.symbols ≡ table.old.symbols }
+    ensures begins { IfOk result (Begins table.new (clause_at table.old roots.now) limits.now.conflicts) }
+{
+    base_clauses_are_over_subterms();
+    empty_logs_are_right();
+    what_is_marked_was_seen();
+    reasons_stay_right();
+    let mut log = ProofLog::new(alloc);
+    let list = clauses_of_all(alloc, table, &mut log, roots)?;
+    let store = store_of(alloc, table, &log, list.as_slice())?;
+    let trail = trail_of(alloc, table)?;
+    let budget = Budget::new(alloc, limits)?;
+    Ok(Search {
+        alloc,
+        log,
+        store,
+        trail,
+        budget,
+    })
+}

@@ -1,0 +1,22 @@
+//! What a search has in hand.
+
+use clause_store::ClauseStore;
+use proof_log::ProofLog;
+use sat_budget::Budget;
+use sat_trail::SatTrail;
+use std::alloc::Global;
+
+/// What a search has in hand.
+#[derive(Drop)]
+pub(crate) struct Search {
+    /// Where its memory comes from.
+    pub(crate) alloc: Global,
+    /// The clauses of the terms, what was learned, and how they are derived.
+    pub(crate) log: ProofLog,
+    /// The clauses of the log by their literals.
+    pub(crate) store: ClauseStore,
+    /// The literals that hold.
+    pub(crate) trail: SatTrail,
+    /// The clauses that were learned, and how many may be.
+    pub(crate) budget: Budget,
+}
