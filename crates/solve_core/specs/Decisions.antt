@@ -2,7 +2,9 @@
 use Rattle.std.specs.Prelude.{◌≡◌, ℕ, List}
 use Rattle.spec_terms.specs.Terms.{Term}
 use Rattle.term_core.specs.Tables.{TableView}
-use Rattle.proof_log.specs.Logs.{IsLogOf}
+use Rattle.proof_log.specs.Logs.{Logged, IsLogOf}
+use Rattle.sat_budget.specs.Budgets.{BudgetView}
+use Rattle.solve_core.specs.declared.cdcl.Answer.{Answer}
 use Rattle.solve_core.specs.declared.outcome.Outcome.{Outcome}
 use Rattle.solve_core.specs.Rounds.{HasEvidence, IsLearning}
 
@@ -16,3 +18,14 @@ pub record IsJustified (t : TableView) (terms : List Term) (limit : ℕ) (d : Ou
   pub evidence : HasEvidence t terms d.log d.budget d.answer
   -- and so do the log and what was learned
   pub learning : IsLearning t terms d.log d.answer d.budget.learned
+
+-- What a solver keeps of its last decision.
+pub record SolverView : Type 0 where
+  -- the log of its steps
+  pub log : List Logged
+  -- its budget, with what was learned
+  pub budget : BudgetView
+
+-- the answer has its evidence in what the solver keeps
+abbrev pub IsShownBy : TableView → List Term → ℕ → SolverView → Answer → Type 0
+IsShownBy t terms limit s a = IsJustified t terms limit (record { answer = a; log = s.log; budget = s.budget })

@@ -12,6 +12,8 @@ mod decision;
 mod model;
 mod outcome;
 mod search;
+mod solver;
 
 pub use cdcl::Answer;
 pub use outcome::{Outcome, decide};
+pub use solver::Solver;
