@@ -1,0 +1,21 @@
+-- Literals of clauses of the table of terms, and what a stop says of a step.
+use Rattle.std.specs.Prelude.{◌≡◌, List, map, All}
+use Rattle.spec_sorts.specs.Literals.{Clause, literals_of}
+use Rattle.term_table.specs.declared.ids.Lit.{Lit}
+use Rattle.term_table.specs.Tables.{TableView, literal_at}
+use Rattle.rule_calls.specs.Literals.{AreOf}
+use Rattle.rule_calls.specs.declared.rule_stop.RuleStop.{RuleStop}
+use Rattle.rule_calls.specs.declared.rule_stop.RuleStop.TheVariants.{Fails, Wide, Memory}
+
+-- The lists of literals are those of the clauses, in their order.
+pub record MeansEach (table : TableView) (literals : List (List Lit)) (clauses : List Clause) : Type 0 where
+  -- they are the same in their order
+  pub same : map (map (literal_at table)) literals ≡ map literals_of clauses
+  -- their terms are of the table
+  pub there : All (AreOf table) literals
+
+-- a step fails where it is not right, and this can be told; it is wide where this cannot; out of memory tells nothing
+abbrev pub Stops : RuleStop → Type 0 → Type 0 → Type 0
+Stops Fails IsRight IsWide = (IsRight → ⊥) × (IsWide → ⊥)
+Stops Wide IsRight IsWide = IsWide
+Stops Memory IsRight IsWide = Unit {0}
