@@ -1,0 +1,14 @@
+-- What a log's entries mean.
+use Rattle.std.specs.Prelude.{List, map}
+use Rattle.step_log.specs.declared.entry.Entry.{Entry}
+use Rattle.step_log.specs.declared.entry.Entry.TheVariants.{Assumed, Stepped}
+use Rattle.step_log.specs.Logs.{Logged, assumed, stepped}
+
+-- the clause of an entry
+abbrev pub logged_of : Entry → Logged
+logged_of (Assumed id) = assumed id
+logged_of (Stepped s) = stepped s.rule s.premises s.arguments s.clause
+
+-- the clauses of entries, in order
+abbrev pub log_of : List Entry → List Logged
+log_of es = map logged_of es

@@ -1,0 +1,13 @@
+//! What a log keeps for each of its clauses.
+
+use crate::step::Step;
+use term_table::TermId;
+
+/// One clause of a log, and why it is there.
+#[derive(Drop)]
+pub(crate) enum Entry {
+    /// An assumed term, which is the clause's one literal.
+    Assumed(TermId),
+    /// A step, with its clause.
+    Stepped(Step),
+}

@@ -1,0 +1,169 @@
+//! The log: clauses in the order in which they came.
+
+ghost use Rattle.std.specs.Prelude.{◌≡◌, ◌<◌, [], length, take, MatchOption};
+ghost use Rattle.term_table.specs.Tables.{TableView};
+ghost use Rattle.step_log.specs.Logs.{AreFormulasIn, IsLogOf, named, stepped, logged_at, IsAssumed, AreEarlier};
+ghost use Rattle.step_log.specs.Adding.{Assumes, Adds, Judges, Collects};
+
+use crate::entry::Entry;
+use crate::log_fault::LogFault;
+use crate::premises::StepId;
+use crate::step::Step;
+use rule_calls::{ArgumentTexts, judge};
+use std::alloc::Global;
+use std::marker::Model;
+use std::slice;
+use term_table::{Clause, TermId, TermTable};
+use world_io::NoMemory;
+
+/// Holds clauses by their numbers, each assumed or stepped from earlier ones.
+///
+/// It knows no table; that each step is right over a table is what `add` asks and ensures. Source: Alethe specification, proofs as
+/// lists of commands; to number them is own.
+#[derive(Drop)]
+pub struct ProofLog {
+    alloc: Global,
+    entries: Vec<Entry>,
+}
+
+impl Model for ProofLog {
+    ghost use Rattle.std.specs.Prelude.{List};
+    ghost use Rattle.step_log.specs.Logs.{Logged, AreEarlier};
+    ghost use Rattle.step_log.specs.Entries.{log_of};
+
+    ghost Value = { List Logged };
+
+    ghost view = { λ l. log_of l.entries.items };
+
+    ghost invariant = { λ l. AreEarlier (log_of l.entries.items) };
+}
+
+impl ProofLog {
+    /// Makes an empty log, which takes no memory before the first clause.
+    pub fn new(alloc: Global) -> ProofLog
+        ensures { result ≡ [] }
+    {
+        ProofLog {
+            alloc,
+            entries: Vec::new(alloc),
+        }
+    }
+
+    /// Counts the clauses. It takes no memory.
+    pub fn len(&self) -> u64
+        ensures { result ≡ length self.now }
+    {
+        self.entries.len() as u64
+    }
+
+    /// Lends a clause by its number. It takes no memory.
+    pub fn clause(&self, step: StepId) -> &[TermId]
+        requires { step.0 < length self.now }
+        ensures { result.now ≡ named (logged_at self.now step) }
+    {
+        match &self.entries[step.0 as usize] {
+            Entry::Assumed(term) => slice::from_ref(term),
+            Entry::Stepped(step) => step.clause.as_slice(),
+        }
+    }
+
+    /// Lends the step of a clause by its number; `None` exactly where the clause is assumed, or none has that number. It takes no
+    /// memory.
+    pub fn step(&self, step: StepId) -> Option<&Step>
+        ensures { MatchOption result (IsAssumed (logged_at self.now step))
+            (λ s. logged_at self.now step ≡ stepped s.now.rule s.now.premises s.now.arguments s.now.clause) }
+    {
+        if step.0 >= self.len() {
+            return None;
+        }
+        match &self.entries[step.0 as usize] {
+            Entry::Assumed(_) => None,
+            Entry::Stepped(step) => Some(step),
+        }
+    }
+
+    /// Assumes a term: puts it last, as a clause of its own, and says its number, which is the next. The log stays one over a table where
+    /// the term is a formula.
+    ///
+    /// `NoMemory` comes where its place finds no memory; then the log is as it was.
+    /// Source: Alethe specification, the command `assume`.
+    pub fn assume(&mut self, t: TermId) -> Result<StepId, NoMemory>
+        ensures { Assumes self.old t result self.new }
+    {
+        let id = StepId(self.len());
+        self.entries.push(Entry::Assumed(t))?;
+        Ok(id)
+    }
+
+    /// Puts a step last, if it is right by its rule over a table, and says its number, which is the next. Its clause must be one of
+    /// formulas.
+    ///
+    /// The clauses of the premises are copied for the rule, which takes time and memory in proportion to them; where there are none,
+    /// nothing is copied.
+    ///
+    /// `RuleFails` comes exactly where the clause does not follow from the premises, or one of these is not there, and no operation
+    /// leaves the bound on numbers; `Wide` exactly where the premises are there and one does; `Memory` where memory runs out before
+    /// the step is there, which tells nothing of it. After each the log is as it was.
+    /// Source: Alethe specification, the command `step`; the bound on numbers is own.
+    pub fn add(&mut self, table: &TermTable, step: Step) -> Result<StepId, LogFault>
+        requires log { IsLogOf table.now self.old }
+        requires clause { AreFormulasIn table.now step.clause }
+        ensures { Adds table.now self.old (stepped step.rule step.premises step.arguments step.clause) result self.new }
+    {
+        self.follows(table, &step)?;
+        let id = StepId(self.len());
+        self.entries.push(Entry::Stepped(step))?;
+        Ok(id)
+    }
+
+    /// Judges whether a step follows from the clauses up to here.
+    fn follows(&self, table: &TermTable, step: &Step) -> Result<(), LogFault>
+        requires log { IsLogOf table.now self.now }
+        requires clause { AreFormulasIn table.now step.now.clause }
+        ensures { Judges table.now self.now
+            (stepped step.now.rule step.now.premises step.now.arguments step.now.clause) result }
+    {
+        let premises = self.clauses_of(step.premises.as_slice())?;
+        judge(
+            self.alloc,
+            table,
+            step.rule,
+            &premises,
+            ArgumentTexts::Numbers(step.arguments.as_slice()),
+            step.clause.as_slice(),
+        )?;
+        Ok(())
+    }
+
+    /// Copies the clauses of these numbers; `RuleFails` where one of them is not there.
+    fn clauses_of(&self, steps: &[StepId]) -> Result<Vec<Clause>, LogFault>
+        ensures { Collects self.now steps.now result }
+    {
+        let mut clauses = Vec::new(self.alloc);
+        for step in steps {
+            if step.0 >= self.len() {
+                return Err(LogFault::RuleFails);
+            }
+            let copy = Vec::from_slice(self.alloc, self.clause(*step))?;
+            clauses.push(Clause::from(copy))?;
+        }
+        Ok(clauses)
+    }
+
+    /// Takes away all clauses but the first `len`; where there are no more than so many, it changes nothing. It takes no memory.
+    ///
+    /// What is left is right over each table over which the whole was.
+    pub fn cut(&mut self, len: u64)
+        ensures clauses { self.new ≡ take len self.old }
+        ensures right { (t : TableView) → IsLogOf t self.old → IsLogOf t self.new }
+    {
+        self.entries.truncate(len as usize);
+    }
+
+    /// States that the premises of each step stand before it.
+    pub fn premises_are_earlier(&self)
+        ensures { AreEarlier self.now }
+    {
+        let _ = &self.alloc;
+    }
+}
