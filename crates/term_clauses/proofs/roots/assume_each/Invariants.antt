@@ -1,0 +1,12 @@
+-- The terms up to here are assumed.
+use Rattle.std.proofs.Common.{[], ◌∷◌, map, take}
+use Rattle.term_table.specs.Tables.{clause_at}
+use Rattle.term_clauses.specs.HavingClauses.{Grows}
+use Rattle.term_clauses.specs.Stating.{listed, Tells}
+use Rattle.term_clauses.proofs.roots.assume_each.Given as goal
+
+abbrev pub invariant-roots : goal.invariant-roots
+invariant-roots l = record {
+  grows : Grows l.roots l.table l.table l.fn.log l.log;
+  tells : Tells (listed l.table l.fn.log l.fn.steps.items) (listed l.table l.log l.steps.items) (map (λ t. t ∷ []) (clause_at l.table (take l.root-index l.roots)));
+}

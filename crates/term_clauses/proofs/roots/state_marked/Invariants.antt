@@ -1,0 +1,14 @@
+-- The clauses of the marked terms up to here are stated.
+use Rattle.std.proofs.Common.{[], take}
+use Rattle.std.specs.Prelude.{flat_map}
+use Rattle.spec_derivations.specs.Base.{clauses_of}
+use Rattle.term_clauses.specs.HavingClauses.{Grows}
+use Rattle.term_clauses.specs.Stating.{listed, Tells}
+use Rattle.term_clauses.specs.Marks.{marked}
+use Rattle.term_clauses.proofs.roots.state_marked.Given as goal
+
+abbrev pub invariant-marks : goal.invariant-marks
+invariant-marks l = record {
+  grows : Grows [] l.fn.table l.table l.fn.log l.log;
+  tells : Tells (listed l.fn.table l.fn.log l.fn.steps.items) (listed l.table l.log l.steps.items) (flat_map clauses_of (marked (take l.number l.marks) l.fn.table.terms));
+}
