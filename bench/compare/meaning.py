@@ -34,6 +34,11 @@ class Terms:
         """Returns the number of the negated term."""
         return self.make(b"not", (term,))
 
+    @staticmethod
+    def is_formula(_term):
+        """Tells that a term has the sort Bool, as all have."""
+        return True
+
     def constant(self, name):
         """Returns the number of the constant."""
         return self.make(("c", name))

@@ -26,11 +26,14 @@ class Fault(Exception):
         self.name = name
 
 
+def place_of(text, offset):
+    """Returns the line and the column of an offset, both from 1; columns are in bytes."""
+    return 1 + text.count(b"\n", 0, offset), offset - text.rfind(b"\n", 0, offset)
+
+
 def error_line(text, fault):
-    """Returns the printed line of a fault; lines and columns count from 1, columns in bytes."""
-    line = 1 + text.count(b"\n", 0, fault.offset)
-    column = fault.offset - text.rfind(b"\n", 0, fault.offset)
-    return b'(error "%d:%d: %s")\n' % (line, column, fault.name)
+    """Returns the printed line of a fault."""
+    return b'(error "%d:%d: %s")\n' % (*place_of(text, fault.offset), fault.name)
 
 
 def printed_name(name):

@@ -114,7 +114,7 @@ def states(terms, rule, clause):
             return False
         first = terms.nodes[first][1][0]
     head, arguments = terms.nodes[first]
-    if head != HEAD_OF[rule]:
+    if head != HEAD_OF[rule] or not all(map(terms.is_formula, arguments)):
         return False
     if rule == b"and_pos":
         return len(rest) == 1 and rest[0] in arguments

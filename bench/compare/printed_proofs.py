@@ -1,0 +1,116 @@
+"""Checks the form of proofs that `certify` prints, as docs/FORMATS.md says, beside what a judge says of them."""
+
+from reading import Fault, printed_name, read_one
+
+
+def printed(item):
+    """Returns an item as the program prints it, with one blank between two."""
+    kind, value, _ = item
+    if kind == "list":
+        return b"(" + b" ".join(printed(part) for part in value) + b")"
+    return printed_name(value) if kind == "sym" else value
+
+
+class Wrong(Exception):
+    """What is wrong with an output of `certify`."""
+
+
+def proof_end(judge, output, at):
+    """Returns the offset behind the proof that starts at `at`, which has to be right and printed as it should be."""
+    try:
+        found = read_one(output, at)
+    except Fault as fault:
+        raise Wrong(f"the proof is not readable: {fault.name!r}") from fault
+    if found is None or found[0][0] != "list":
+        raise Wrong("no proof starts here")
+    commands = found[0][1]
+    wanted = b"(\n" + b"".join(printed(command) + b"\n" for command in commands) + b")\n"
+    if not output.startswith(wanted, at):
+        raise Wrong("the proof is not printed a command a line")
+    PrintedProof(judge).take_all(commands)
+    return at + len(wanted)
+
+
+class PrintedProof:
+    """The further promises on a proof that `certify` prints: its names, their order, and that all of it is needed."""
+
+    def __init__(self, judge):
+        self.judge = judge
+        self.counts = {b"define-fun": 0, b"assume": 0, b"step": 0}
+        self.uses = {}
+        self.steps = []
+        self.named = set()
+        self.defined_terms = set()
+
+    def take_definition(self, parts):
+        """Checks the form of a definition: one head over names, which stand before it."""
+        body = parts[4]
+        if self.steps or body[0] != "list" or len(body[1]) < 2 or any(item[0] != "sym" for item in body[1]):
+            raise Wrong("a definition behind a step, or not of names")
+        head, *given = [item[1] for item in body[1]]
+        heads = {b"not", b"and", b"or", b"xor", b"=>", b"=", b"ite"}
+        if head not in heads or (head in (b"=", b"xor", b"=>") and len(given) != 2):
+            raise Wrong("a definition that is not of a term as read")
+        used = [name for name in given if name.startswith(b"@p")]
+        if any(name not in self.uses for name in used):
+            raise Wrong("a name is used before its definition")
+        self.uses[parts[1][1]] = used
+
+    def take_step(self, parts):
+        """Checks the form of a step: names alone as literals, and `:premises` behind `:rule` if there are any."""
+        literals = parts[2][1]
+        keywords = [item[1] for item in parts[3::2]]
+        if any(item[0] != "sym" for item in literals):
+            raise Wrong("a literal that is no name")
+        if keywords not in ([b":rule"], [b":rule", b":premises"]):
+            raise Wrong("a step with other attributes")
+        premises = [item[1] for item in parts[6][1]] if len(keywords) == 2 else []
+        if len(keywords) == 2 and not premises:
+            raise Wrong("an empty list of premises")
+        self.named.update(item[1] for item in literals[1:])
+        self.steps.append((parts[1][1], premises))
+
+    def take(self, command):
+        """Checks one command and judges it."""
+        verb = command[1][0][1] if command[0] == "list" and command[1] else None
+        if verb not in self.counts:
+            raise Wrong(f"a command {verb!r}")
+        parts = command[1]
+        self.counts[verb] += 1
+        name = {b"define-fun": b"@p%d", b"assume": b"h%d", b"step": b"t%d"}[verb] % self.counts[verb]
+        if len(parts) < 3 or parts[1][1] != name:
+            raise Wrong(f"not the name {name!r}")
+        try:
+            self.judge.take(command)
+        except Fault as fault:
+            raise Wrong(f"judged {fault.name!r} at {name!r}") from fault
+        if verb == b"define-fun":
+            self.take_definition(parts)
+            defined = self.judge.defined(name)
+            if defined in self.defined_terms:
+                raise Wrong("a term is defined twice")
+            self.defined_terms.add(defined)
+        elif verb == b"step":
+            self.take_step(parts)
+        else:
+            if parts[2][0] != "sym":
+                raise Wrong("an assumption that is no name")
+            self.named.add(parts[2][1])
+            self.steps.append((name, []))
+
+    def take_all(self, commands):
+        """Checks all commands, and that the last one, with the empty clause, needs each of the others."""
+        for command in commands:
+            self.take(command)
+        if not commands or commands[-1][1][0][1] != b"step" or len(commands[-1][1][2][1]) != 1:
+            raise Wrong("the last command has not the empty clause")
+        needed = {commands[-1][1][1][1]}
+        for name, premises in reversed(self.steps):
+            if name not in needed:
+                raise Wrong(f"step {name!r} is not needed")
+            needed.update(premises)
+        needed = set(self.named)
+        for name in reversed(list(self.uses)):
+            if name not in needed:
+                raise Wrong(f"definition {name!r} is not needed")
+            needed.update(self.uses[name])
