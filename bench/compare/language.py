@@ -7,6 +7,7 @@ read as conjunctions of pairs, the first fault in the order of reading counts, a
 from fractions import Fraction
 
 from reading import THEORY, Fault, error_line, read_one
+from truths import Tables
 
 LOGICS = (b"QF_UFLRA", b"QF_UF", b"QF_LRA", b"QF_RDL", b"ALL")
 OPTIONS = (b":print-success", b":produce-models", b":produce-proofs", b":produce-assertions")
@@ -42,6 +43,14 @@ class Terms:
             self.nodes.append(node)
             self.sorts.append(sort)
         return self.numbers[node]
+
+    def negation(self, term):
+        """Returns the number of the negated term."""
+        return self.make(b"not", (term,))
+
+    def is_formula(self, term):
+        """Tells whether the term has the sort Bool."""
+        return self.sorts[term] == BOOL
 
     def conjunction(self, terms):
         """Returns one term alone, or the conjunction of several."""
@@ -98,7 +107,11 @@ class Definition:
 
 
 class Reader:
-    """Reads the terms of one command; the names that `:named` makes are known from there on."""
+    """Reads the terms of one command of a script; the names that `:named` makes are known from there on."""
+
+    # What a new name may not begin with, and the fault of a name for a term that there is already.
+    KEPT_BYTES = (b"@", b".")
+    KNOWN = b"Twice"
 
     def __init__(self, state, own=None):
         self.state = state
@@ -110,14 +123,18 @@ class Reader:
         """Returns what a function's name is, or None."""
         return self.made.get(name) or self.state.functions.get(name)
 
-    def new_name(self, item, is_taken):
-        """Returns the name of an item that has to be new."""
+    def new_name(self, item, is_taken, fault=b"Twice"):
+        """Returns the name of an item that has to be new, or raises that it is there, as this fault."""
         kind, name, start = item
-        if kind == "res" or name[:1] in (b"@", b"."):
+        if kind == "res" or name[:1] in self.KEPT_BYTES:
             raise Fault(start, b"Reserved")
         if name in THEORY or is_taken(name):
-            raise Fault(start, b"Twice")
+            raise Fault(start, fault)
         return name
+
+    def name_for_term(self, item):
+        """Returns the name of an item that is declared, defined, or given to a term, and new."""
+        return self.new_name(item, lambda name: self.known(name) is not None or name == self.own, self.KNOWN)
 
     def literal(self, item):
         """Returns the term of a numeral or a decimal."""
@@ -179,7 +196,7 @@ class Reader:
         names = self.names_given(parts[2:], start)
         term = self.term(bound, parts[1])
         for name in names:
-            new = self.new_name(name, lambda n: self.known(n) is not None or n == self.own)
+            new = self.name_for_term(name)
             if not self.state.may_name or free_names(parts[1]) & set(bound):
                 raise Fault(start, b"BadShape")
             self.made[new] = Definition(new, (), term)
@@ -339,9 +356,17 @@ class State:
             raise Fault(start, b"UnknownSort")
         return self.sorts[name]
 
+    def reader(self, own=None):
+        """Returns a reader of terms for one command, which may define a name of its own."""
+        return Reader(self, own)
+
+    def at_check(self):
+        """Returns what is current now, apart from what later commands state."""
+        return Check(self)
+
     def new_function(self, item):
         """Returns a name that no function and no theory has."""
-        return Reader(self).new_name(item, lambda name: name in self.functions)
+        return self.reader().name_for_term(item)
 
     def new_sort(self, item):
         """Returns a name that no sort has."""
@@ -367,6 +392,26 @@ class State:
             if head[0] == "number" or head in REAL_HEADS:
                 return False
         return True
+
+
+class Check(State):
+    """What is current at a check in reach, with the names of its declared symbols in their order, and its answer."""
+
+    def __init__(self, state):
+        super().__init__(state.limit)
+        self.terms = state.terms
+        self.sorts, self.functions = dict(state.sorts), dict(state.functions)
+        self.assertions = list(state.assertions)
+        self.order = [name for name, known in self.functions.items() if not isinstance(known, Definition)]
+
+    @property
+    def is_satisfiable(self):
+        """Tells whether some truth values of the constants make all assertions true."""
+        tables = Tables(self.terms, self.assertions)
+        rows = tables.all_true
+        for assertion in self.assertions:
+            rows &= tables.known[assertion]
+        return rows != 0
 
 
 def set_logic(state, parts, start):
@@ -441,7 +486,7 @@ def define_fun(state, parts, start):
     if len(parts) != 5 or not is_name(parts[1]) or parts[2][0] != "list" or not Reader.are_pairs(parts[2][1]):
         raise Fault(start, b"BadShape")
     name = state.new_function(parts[1])
-    reader = Reader(state, name)
+    reader = state.reader(name)
     parameters = []
     for _, (parameter, sort), _ in parts[2][1]:
         new = reader.new_name(parameter, lambda n: n in [m for m, _ in parameters])
@@ -461,7 +506,7 @@ def assert_term(state, parts, start):
     """Performs `assert`."""
     if len(parts) != 2:
         raise Fault(start, b"BadShape")
-    reader = Reader(state)
+    reader = state.reader()
     term = reader.term({}, parts[1])
     if state.terms.sorts[term] != BOOL:
         raise Fault(parts[1][2], b"WrongSort")
@@ -523,7 +568,10 @@ def perform(state, item):
 
 
 def read_script(text, limit=2**24):
-    """Returns what each command of a script is answered, a line or `check`, up to its end or `exit`; and what it stated."""
+    """Returns what each command of a script is answered, up to its end or `exit`, and what it stated.
+
+    An answer is a line, or of a check what is current there.
+    """
     state, answers, at = State(limit), [], 0
     while True:
         try:
@@ -540,7 +588,9 @@ def read_script(text, limit=2**24):
             continue
         if answer == "unsupported":
             answers.append(b"unsupported\n")
-        elif answer == "check" or isinstance(answer, bytes):
+        elif answer == "check":
+            answers.append(state.at_check())
+        elif isinstance(answer, bytes):
             answers.append(answer)
         elif state.options[b":print-success"]:
             answers.append(b"success\n")

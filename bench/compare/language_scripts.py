@@ -2,18 +2,16 @@
 
 import random
 
+from faulty import NUMERALS, ODD_TERMS, command_of_a_script
+
 NAMES = [b"p", b"q", b"x", b"y", b"a", b"b", b"f", b"g", b"h", b"|a b|", b"n"]
 SORTS = [b"Bool", b"Bool", b"Real", b"Real", b"U", b"V"]
 ODD_SORTS = [b"W", b"let", b"5", b'"s"', b"(Bool)", b"()", b"|Real|", b":k"]
 ODD_NAMES = [b"let", b"@a", b".a", b"|@b|", b"and", b"=", b"true", b"_", b"|let|"]
-NUMERALS = [b"0", b"1", b"2", b"0.5", b"1.50", b"0.0", b"10", b"170141183460469231731687303715884105727"]
-WIDE = [
-    b"170141183460469231731687303715884105728",
-    b"0." + b"0" * 37 + b"1",
-    b"0." + b"0" * 38 + b"1",
-    b"17014118346046923173168730371588410572.7",
-    b"17014118346046923173168730371588410572.80",
-]
+# What stands before and after a term to make none of it.
+ODD_FRONTS = [b"(zz", b"(forall ((v Bool))", b"(let ()", b"(let ((v))", b"((not)", b"(5", b"(true"]
+ODD_FRONTS = [(front, b")") for front in ODD_FRONTS]
+ODD_FRONTS += [(b"(!", end) for end in (b")", b" :named)", b" a)")]
 
 
 def one_of(words, odd, share):
@@ -77,7 +75,7 @@ class Maker:
         if sort == b"Real":
             head = random.choice(b"- + * / ite".split())
             if head == b"*":
-                factors = [random.choice(NUMERALS), self.of_sort(b"Real", size // 2, bound)]
+                factors = [random.choice([*NUMERALS, b"(+ 1 1)", b"(- 2)"]), self.of_sort(b"Real", size // 2, bound)]
                 random.shuffle(factors)
                 return b"(* " + b" ".join(factors) + b")"
             if head == b"/":
@@ -89,7 +87,7 @@ class Maker:
     def divisor(self):
         """Makes a divisor, seldom one that is none or zero."""
         number = random.choice(NUMERALS)
-        return random.choice([number, b"2", b"(- " + number + b")", b"(/ 1 " + number + b")", b"(+ 1 1)", b"x"])
+        return random.choice([number, b"2", b"(- " + number + b")", b"(/ 1 " + number + b")", b"(+ 2)", b"x"])
 
     def list(self, head, sorts, size, bound):
         """Makes a list of a head and terms of these sorts."""
@@ -123,31 +121,13 @@ class Maker:
 
     def odd(self, size, bound):
         """Makes what is mostly no term, or one of another sort."""
-        inner = self.of_sort(random.choice([b"Bool", b"Real"]), size // 2, bound)
-        return random.choice(
-            [
-                b"()",
-                b"(p)",
-                b"zz",
-                b"(zz " + inner + b")",
-                b"(forall ((v Bool)) " + inner + b")",
-                b"(let () " + inner + b")",
-                b"(let ((v)) " + inner + b")",
-                b"(! " + inner + b")",
-                b"(! " + inner + b" :named)",
-                b"(! " + inner + b" a)",
-                b"let",
-                b'"s"',
-                b":k",
-                b"and",
-                b"f",
-                b"((not) " + inner + b")",
-                b"(5 " + inner + b")",
-                b"(true " + inner + b")",
-                random.choice(WIDE),
-                self.of_sort(random.choice([b"Bool", b"Real", b"U"]), size, bound),
-            ]
-        )
+        choice = random.random()
+        if choice < 0.5:
+            return random.choice(ODD_TERMS)
+        if choice < 0.6:
+            return self.of_sort(random.choice([b"Bool", b"Real", b"U"]), size, bound)
+        front, end = random.choice(ODD_FRONTS)
+        return front + b" " + self.of_sort(random.choice([b"Bool", b"Real"]), size // 2, bound) + end
 
     def declaration(self):
         """Makes a declaration or a definition."""
@@ -155,7 +135,7 @@ class Maker:
         if choice < 0.15:
             name = one_of([b"U", b"V"], [b"Bool", b"let", b"@S", b"|Real|"], self.share)
             self.sorts.append(name)
-            return b"(declare-sort " + name + b" " + one_of([b"0"], [b"1", b"00"[:1] + b".0", b"x"], self.share / 4) + b")"
+            return b"(declare-sort " + name + b" " + one_of([b"0"], [b"1", b"0.0", b"x"], self.share / 4) + b")"
         if choice < 0.22:
             name = one_of([b"V", b"W"], ODD_NAMES, self.share)
             self.sorts.append(name)
@@ -179,6 +159,8 @@ class Maker:
         choice = random.random()
         if choice < 0.45:
             return self.declaration()
+        if choice < 0.45 + self.share / 2:
+            return command_of_a_script()
         if choice < 0.85:
             return b"(assert " + self.of_sort(b"Bool", random.choice([1, 3, 6, 10]), {}) + b")"
         if choice < 0.93:
@@ -210,7 +192,8 @@ def an_arithmetic_script():
     maker.functions[b"g"] = ([b"Real"], b"Real")
     for _ in range(random.randint(1, 3)):
         sides = maker.of_sort(b"Real", random.choice([4, 8]), {}), maker.of_sort(b"Real", 4, {})
-        lines.append(b"(assert (" + random.choice([b"<", b"<=", b"=", b">", b"distinct"]) + b" " + b" ".join(sides) + b"))")
+        head = random.choice([b"<", b"<=", b"=", b">", b"distinct"])
+        lines.append(b"(assert (" + b" ".join([head, *sides]) + b"))")
     return b"\n".join(lines) + b"\n"
 
 
