@@ -1,0 +1,146 @@
+"""Foretells what `solve` writes for a script of the whole language, and judges what `certify` writes.
+
+It follows docs/FORMATS.md. A check is in reach where its assertions have constants of sort Bool and heads of theory
+Core alone; these are decided by truth tables. Every other check is refused, so what is left is foretold to the byte.
+"""
+
+from fractions import Fraction
+
+from language import BOOL, REAL, Check, read_script
+from language_proofs import Judge
+from printed_proofs import Wrong, printed, proof_end
+from reading import Fault, printed_name, read_one
+from values import Values
+
+
+def answer_word(check):
+    """Returns the line that answers a check."""
+    return b"sat\n" if check.is_satisfiable else b"unsat\n"
+
+
+def run_script(text, limit=2**24):
+    """Returns the answers of a script, each a line or what is current at a check, and the status of the run."""
+    answers, _ = read_script(text, limit)
+    refused = any(isinstance(answer, bytes) and answer.startswith(b"(error ") for answer in answers)
+    return answers, int(refused)
+
+
+def predict_solve(text, limit=2**24):
+    """Returns what `solve` is to print for a script, and its status."""
+    answers, status = run_script(text, limit)
+    return b"".join(answer_word(answer) if isinstance(answer, Check) else answer for answer in answers), status
+
+
+def require(holds, what):
+    """Raises what is wrong where something does not hold."""
+    if not holds:
+        raise Wrong(what)
+
+
+def is_positive(item):
+    """Tells whether an item is a numeral other than 0."""
+    return item[0] == "num" and item[1] != b"0"
+
+
+def number_of(item):
+    """Returns the number of a printed value, in lowest terms and with its sign in the numerator."""
+    kind, parts, _ = item
+    if kind == "num":
+        return Fraction(int(parts))
+    require(kind == "list" and len(parts) > 1 and parts[0][0] == "sym", "no number")
+    head = parts[0][1]
+    if head == b"-" and len(parts) == 2 and is_positive(parts[1]):
+        return Fraction(-int(parts[1][1]))
+    require(head == b"/" and len(parts) == 3 and is_positive(parts[2]) and parts[2][1] != b"1", "no number")
+    above = number_of(parts[1])
+    value = above / int(parts[2][1])
+    require(value.denominator == int(parts[2][1]) and value.numerator == above, "a number not in lowest terms")
+    return value
+
+
+def value_of(item, sort):
+    """Returns the value that an item of a model is, for a sort."""
+    kind, parts, _ = item
+    if sort == BOOL:
+        require(item[:2] in (("sym", b"true"), ("sym", b"false")), "no truth value")
+        return parts == b"true"
+    if sort == REAL:
+        return number_of(item)
+    require(kind == "list" and len(parts) == 3 and parts[0][:2] == ("res", b"as"), "no element")
+    require(parts[1][0] == "sym" and parts[1][1][:2] == b"@e" and parts[2][:2] == ("sym", sort[0]), "no element")
+    digits = parts[1][1][2:]
+    require(digits.isdigit() and str(int(digits)).encode() == digits, "no number of an element")
+    return (sort[0], int(digits))
+
+
+def row_of(item, sorts):
+    """Returns the values at which the condition of a row of a table holds."""
+    kind, parts, _ = item
+    if len(sorts) > 1:
+        require(kind == "list" and len(parts) == len(sorts) + 1 and parts[0][:2] == ("sym", b"and"), "no row")
+        equalities = parts[1:]
+    else:
+        equalities = [item]
+    values = []
+    for number, (equality, sort) in enumerate(zip(equalities, sorts)):
+        wanted = [("sym", b"="), ("sym", b"@x%d" % number)]
+        require(equality[0] == "list" and len(equality[1]) == 3, "no equality")
+        require([part[:2] for part in equality[1][:2]] == wanted, "no equality of a parameter")
+        values.append(value_of(equality[1][2], sort))
+    return tuple(values)
+
+
+def table_of(item, name, sorts, result):
+    """Returns the table that a definition of a model gives a symbol: its rows and its default."""
+    kind, parts, _ = item
+    require(kind == "list" and len(parts) == 5 and parts[0][:2] == ("res", b"define-fun"), "no definition")
+    require(parts[1][:2] == ("sym", name) and parts[3][:2] == ("sym", result[0]), f"no definition of {name!r}")
+    listed = b"(" + b" ".join(b"(@x%d %s)" % (n, printed_name(s[0])) for n, s in enumerate(sorts)) + b")"
+    require(printed(parts[2]) == listed, f"other parameters of {name!r}")
+    rows, body = {}, parts[4]
+    while sorts and body[0] == "list" and body[1] and body[1][0][:2] == ("sym", b"ite"):
+        require(len(body[1]) == 4, "no choice")
+        rows.setdefault(row_of(body[1][1], sorts), value_of(body[1][2], result))
+        body = body[1][3]
+    return rows, value_of(body, result)
+
+
+def model_end(check, output, at):
+    """Returns the offset behind the model that starts at `at`, which has to make all assertions true."""
+    try:
+        found = read_one(output, at)
+    except Fault as fault:
+        raise Wrong(f"the model is not readable: {fault.name!r}") from fault
+    require(found is not None and found[0][0] == "list", "no model starts here")
+    items = found[0][1]
+    wanted = b"(\n" + b"".join(b"  " + printed(item) + b"\n" for item in items) + b")\n"
+    require(output.startswith(wanted, at), "the model is not printed a definition a line")
+    require(len(items) == len(check.order), "not one definition for each symbol")
+    tables = {name: table_of(item, name, *check.functions[name]) for item, name in zip(items, check.order)}
+    values = Values(check.terms, tables)
+    require(all(values.of(assertion) for assertion in check.assertions), "the model makes an assertion false")
+    return at + len(wanted)
+
+
+def judge_certify(script, output, status, limit=2**24):
+    """Returns what is wrong with an output, or None, and its right proofs: pairs of a check's number and a text."""
+    answers, wanted_status = run_script(script, limit)
+    proofs, at, number = [], 0, 0
+    try:
+        for answer in answers:
+            is_check = isinstance(answer, Check)
+            line = answer_word(answer) if is_check else answer
+            require(output.startswith(line, at), f"expected {line!r} at {at}, got {output[at : at + 60]!r}")
+            at += len(line)
+            if not is_check:
+                continue
+            number += 1
+            start = at
+            at = model_end(answer, output, at) if answer.is_satisfiable else proof_end(Judge(answer), output, at)
+            if not answer.is_satisfiable:
+                proofs.append((number, output[start:at]))
+        require(at == len(output), f"more output: {output[at : at + 80]!r}")
+        require(status == wanted_status, f"status {status}, expected {wanted_status}")
+    except Wrong as wrong:
+        return str(wrong), proofs
+    return None, proofs
