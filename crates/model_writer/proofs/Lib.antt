@@ -1,0 +1,4 @@
+-- Lemmas on the texts of models.
+pub mod Numbers
+pub mod Texts
+pub mod Loops
