@@ -1,0 +1,14 @@
+//! Prints what a clause of a log over the whole language rests on as an Alethe proof. The program does not use it yet.
+#![tactic(auto)]
+
+mod arguments;
+mod counter;
+mod lines;
+mod marks;
+mod numbers;
+mod plans;
+pub mod printable;
+mod proof;
+
+pub use plans::{Plan, prepare};
+pub use proof::send;

@@ -1,0 +1,176 @@
+//! What is printed for a clause, by numbers.
+
+ghost use Rattle.std.specs.Prelude.{◌≡◌, ◌-◌, ◌<◌, ◌≤◌, ◌^◌, false, length, IfOk, None, get_or};
+ghost use Rattle.spec_proof_texts.specs.Plans.{IsPlan, counted, compounds, is_compound, counted_inferences, number_or_zero};
+ghost use Rattle.term_table.specs.Tables.{TableView, IsIn, term_at};
+ghost use Rattle.step_log.specs.Logs.{IsLogOf, logged_at, derivation_in};
+ghost use Rattle.proof_writer.specs.Counting.{IsNextOf};
+ghost use Rattle.proof_writer.specs.Printing.{Fits};
+
+use crate::counter::Counter;
+use crate::marks::{printed_of, rests_of};
+use std::alloc::Global;
+use std::marker::Model;
+use step_log::{ProofLog, StepId};
+use term_table::{TermId, TermTable};
+use world_io::NoMemory;
+
+/// Says what is printed for a clause of a log: which terms are defined, which clauses are assumes and steps, and their numbers.
+///
+/// It means something with the log and the table alone for which it was prepared.
+#[derive(Drop)]
+pub struct Plan {
+    terms: Vec<Option<u64>>,
+    steps: Vec<Option<u64>>,
+}
+
+impl Model for Plan {
+    ghost use Rattle.spec_proof_texts.specs.Plans.{Plan as PlanView};
+
+    ghost Value = { PlanView };
+
+    ghost view = { λ p. record { terms = p.terms.items; inferences = p.steps.items } };
+}
+
+impl Plan {
+    /// Counts the terms that have a number or none.
+    pub(crate) fn terms_len(&self) -> u64
+        ensures { result ≡ length self.now.terms }
+    {
+        self.terms.len() as u64
+    }
+
+    /// Counts the clauses that have a number or none.
+    pub(crate) fn steps_len(&self) -> u64
+        ensures { result ≡ length self.now.inferences }
+    {
+        self.steps.len() as u64
+    }
+
+    /// The number of a term's definition; `None` where it stands in place.
+    pub(crate) fn definition(&self, id: TermId) -> Option<u64>
+        ensures { result ≡ get_or self.now.terms id.0 None }
+    {
+        number_at(&self.terms, id.0)
+    }
+
+    /// The number of a clause's assume or step; `None` where it is not printed.
+    pub(crate) fn clause(&self, id: StepId) -> Option<u64>
+        ensures { result ≡ get_or self.now.inferences id.0 None }
+    {
+        number_at(&self.steps, id.0)
+    }
+
+    /// The number of a premise; 0 where it is not printed, which is no premise of what is.
+    pub(crate) fn number(&self, id: StepId) -> u64
+        ensures { result ≡ number_or_zero (get_or self.now.inferences id.0 None) }
+    {
+        self.clause(id).unwrap_or(0)
+    }
+}
+
+/// The number at a place; `None` beyond the end.
+fn number_at(numbers: &[Option<u64>], place: u64) -> Option<u64>
+    ensures { result ≡ get_or numbers.now place None }
+{
+    *numbers.get(place as usize)?
+}
+
+/// Prepares the printing of a clause of a log: of all that it rests on, and of the terms that this needs.
+///
+/// It takes time and memory in proportion to the clauses up to that one and to the table's terms.
+///
+/// `NoMemory` comes where memory runs out.
+pub fn prepare(
+    alloc: Global,
+    log: &ProofLog,
+    table: &TermTable,
+    step: StepId,
+) -> Result<Plan, NoMemory>
+    requires there { step.0 < length log.now }
+    requires log { IsLogOf table.now log.now }
+    ensures plan { IfOk result (λ plan. IsPlan table.now.terms (derivation_in table.now log.now) step.0 plan) }
+    ensures fits { IfOk result (λ plan. Fits table.now log.now plan) }
+{
+    let rests = rests_of(alloc, log, step)?;
+    let printed = printed_of(alloc, log, table, &rests)?;
+    Ok(Plan {
+        terms: number_terms(alloc, table, &printed)?,
+        steps: number_steps(alloc, log, &rests)?,
+    })
+}
+
+/// Numbers the terms that are defined: those with arguments among the marked ones.
+fn number_terms(
+    alloc: Global,
+    table: &TermTable,
+    printed: &[bool],
+) -> Result<Vec<Option<u64>>, NoMemory>
+    requires { length printed.now ≡ length table.now.terms }
+    ensures { IfOk result (λ numbers. numbers.items ≡ counted 1 (compounds table.now.terms printed.now)) }
+{
+    let mut numbers = Vec::new(alloc);
+    let mut counter = Counter::new();
+    'terms: for number in 0..printed.len() {
+        let wanted = is_defined(table, printed, number);
+        numbers.push(counter.number(wanted))?;
+    }
+    Ok(numbers)
+}
+
+/// Tells whether a term is marked and has arguments.
+fn is_defined(table: &TermTable, printed: &[bool], number: usize) -> bool
+    requires as_many { length printed.now ≡ length table.now.terms }
+    requires there { number < length printed.now }
+    ensures { result ≡ get_or (compounds table.now.terms printed.now) number false }
+{
+    if !printed[number] {
+        return false;
+    }
+    has_arguments(table, TermId(number as u64))
+}
+
+/// Tells whether a term has arguments.
+fn has_arguments(table: &TermTable, id: TermId) -> bool
+    requires { IsIn table.now id }
+    ensures { result ≡ is_compound (term_at table.now id) }
+{
+    !table.node(id).arguments.is_empty()
+}
+
+/// Numbers the marked clauses: assumes and steps each have their own numbers.
+fn number_steps(alloc: Global, log: &ProofLog, rests: &[bool]) -> Result<Vec<Option<u64>>, NoMemory>
+    requires { length rests.now ≤ length log.now }
+    ensures { IfOk result (λ numbers. (t : TableView)
+        → numbers.items ≡ counted_inferences 1 1 rests.now (derivation_in t log.now)) }
+{
+    let mut numbers = Vec::new(alloc);
+    let mut assumes = Counter::new();
+    let mut steps = Counter::new();
+    'steps: for number in 0..rests.len() {
+        let id = StepId(number as u64);
+        let given = number_step(log, id, &mut assumes, &mut steps, rests[number]);
+        numbers.push(given)?;
+    }
+    Ok(numbers)
+}
+
+/// Gives a clause its number, where one is wanted: the next assume's, or the next step's.
+fn number_step(
+    log: &ProofLog,
+    id: StepId,
+    assumes: &mut Counter,
+    steps: &mut Counter,
+    wanted: bool,
+) -> Option<u64>
+    requires there { id.0 < length log.now }
+    requires assumes { assumes.old.next < 2 ^ 64 - 1 }
+    requires steps { steps.old.next < 2 ^ 64 - 1 }
+    ensures { IsNextOf (logged_at log.now id) wanted assumes.old.next steps.old.next result
+        assumes.new.next steps.new.next }
+{
+    match log.step(id) {
+        None => assumes.number(wanted),
+        Some(_) => steps.number(wanted),
+    }
+}
