@@ -22,7 +22,7 @@ The last is the repository whose crates are compared, this one where none is giv
 --rows FILE   the same of the scripts and proofs in a file of rows that are written by hand, with what is written for
               them, as bench/compare/fault_rows.txt.
 
-The definitions have to come to the same by computing alone. Where they are relations, `bench/compare/Deciding.antt`
+The definitions have to come to the same by computing alone. Where they are relations, `bench/compare/Deciding.antt.txt`
 has a function that computes, with a proof that what it gives is what they say. The rows are written into a crate of a
 folder, beside copies of the crates that it needs, and `rt check` is run there, for one batch of rows after the other.
 The folder is a new one, or that of --folder, where what was built before is used again. The seeds are K, K + 1 and so

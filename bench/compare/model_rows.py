@@ -13,7 +13,7 @@ from values import some_tables, some_value
 
 NAMES = [b"p", b"f", b"a b", b"let", b"x", b"", b"define-fun", b"0", b"as", b"U", b"Bool", b"a.b", b"<=>"]
 SORTS = [BOOL, REAL, (b"U", "declared"), (b"U V", "declared"), (b"let", "declared")]
-HEAD = read("ModelRows.antt")
+HEAD = read("ModelRows.antt.txt")
 
 
 def number_text(number):

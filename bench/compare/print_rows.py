@@ -12,7 +12,7 @@ from language_proofs import Assumed, Defined, Stepped, checks_of, first_fault
 from language_proofs_by_chance import Invented, a_script, refutation
 from reading import Fault, printed_name, read_one
 
-HEAD = read("PrintRows.antt")
+HEAD = read("PrintRows.antt.txt")
 
 
 def shortest(number):

@@ -15,7 +15,7 @@ LONGEST_PROOF = 600
 USUAL = 2**24
 LEXICAL = {b"BadChar", b"UnclosedString", b"UnclosedQuote", b"UnclosedList", b"StrayClose", b"TooDeep"}
 OWN_KINDS = set(b"BadShape TwiceName UnknownPremise UnknownRule NotAsserted RuleFails NoEmptyClause".split())
-HEAD = read("ProofRows.antt")
+HEAD = read("ProofRows.antt.txt")
 
 
 class Cut:
@@ -219,7 +219,7 @@ def modules():
     given = read(os.path.join("..", "..", "crates", "spec_rules", "proofs", "Given.antt"))
     for name in ("is_by", "test_by"):
         given = given.replace(f"\n{name} :", f"\npub {name} :")
-    return {"Given": given, "Deciding": read("Deciding.antt"), "Breaking": read("Breaking.antt")}
+    return {"Given": given, "Deciding": read("Deciding.antt.txt"), "Breaking": read("Breaking.antt.txt")}
 
 
 def row_of(seed):

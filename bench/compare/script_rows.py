@@ -14,7 +14,7 @@ LONGEST = 800
 OF_VALUES = "bounded_value folded added subtracted multiplied divided is_small fits sum_fits"
 OF_VALUES += " gcd plus opposite times inverse compare ◌>>=◌"
 FAULT = re.compile(rb'\(error "(\d+):(\d+): (\w+)"\)')
-HEAD = read("ScriptRows.antt")
+HEAD = read("ScriptRows.antt.txt")
 
 
 def terms_row(seed, state, lines):

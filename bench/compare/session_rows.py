@@ -11,7 +11,7 @@ from values import some_tables
 from whole_language import a_script
 
 LONGEST = 700
-HEAD = read("SessionRows.antt")
+HEAD = read("SessionRows.antt.txt")
 PROOFS = [b"(\n)\n", b"(\n(assume h1 false)\n)\n", b""]
 
 
