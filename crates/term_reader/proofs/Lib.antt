@@ -1,7 +1,7 @@
 -- The lemmas of this crate.
 pub mod Shapes
 pub mod Digits
-pub mod Pairs
+pub mod NameStacks
 pub mod Tables
 pub mod Putting
 pub mod Folding

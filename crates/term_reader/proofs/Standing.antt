@@ -1,7 +1,10 @@
 -- What a scope stands for while the table grows, and when a name comes.
-use Rattle.std.proofs.Common.{◌≡◌, Option, Some, None, sym, ap, ◌∙◌, subst}
+use Rattle.std.proofs.Common.{◌≡◌, Bool, true, false, cond, List, [], ◌∷◌, ◌++◌, length, Option, Some, None, refl, sym, ap, ◌∙◌, subst}
+use Rattle.std.specs.Str.{bytes_eq}
+use Rattle.spec_text.specs.Bytes.{Name}
 use Rattle.spec_sorts.specs.Terms.{Sort}
-use Rattle.spec_sorts.specs.Signatures.{Known, declared, defined, Signature}
+use Rattle.spec_sorts.specs.Signatures.{Known, declared, defined, of_sort, of_function, Signature, known_name, known_as, sort_as}
+use Rattle.spec_sorts.specs.Theory.{look_up}
 use Rattle.term_table.specs.declared.sorts.Sort.{Sort as TableSort}
 use Rattle.term_table.specs.Symbols.{HasSortIn, sort_meant, symbol_at, IsSymbol, sorts_meant, HaveSortsIn}
 use Rattle.term_table.specs.Tables.{TableView}
@@ -9,7 +12,10 @@ use Rattle.term_table.proofs.TermsExtend.{IsIn-kept, term_at-kept}
 use Rattle.term_reader.specs.declared.scope.Function.{Function}
 use Rattle.term_reader.specs.declared.scope.Function.TheVariants.{Declared, Defined}
 use Rattle.term_reader.specs.Building.{Keeps}
-use Rattle.term_reader.specs.Scopes.{ScopeView, SortStands, FunctionStands, Stands}
+use Rattle.term_table.proofs.NamesApart.{same_bytes}
+use Rattle.term_reader.specs.NameStacks.{newest}
+use Rattle.term_reader.proofs.NameStacks.{newest_push}
+use Rattle.term_reader.specs.Scopes.{ScopeView, SortStands, FunctionStands, function_under, Stands}
 
 module _ (old new : TableView) (keeps : Keeps old new) where
   sorts_same : new.sorts ≡ old.sorts
@@ -43,4 +49,63 @@ module _ (old new : TableView) (keeps : Keeps old new) where
 
   -- the scope stands for the same signature
   pub stands_kept : (v : ScopeView) (s : Signature) → Stands old v s → Stands new v s
-  stands_kept v s h = record { sorts = λ n. sort_kept _ _ (h.sorts n); functions = λ n. function_kept _ _ (h.functions n) }
+  stands_kept v s h = record { sorts = λ n. sort_kept _ _ (h.sorts n); functions = λ n. function_kept _ _ (h.functions n); count = h.count; sorted = h.sorted }
+
+module _ (s : Signature) (k : Known) where
+  -- what is known stays known
+  pub known_before : (n : Name) (x : Known) → known_as s n ≡ Some x → known_as (s ++ of_function k ∷ []) n ≡ Some x
+  known_before n x e = go s e
+    where
+      go : (ds : Signature) → known_as ds n ≡ Some x → known_as (ds ++ of_function k ∷ []) n ≡ Some x
+      go [] e = cc
+      go (of_sort m u ∷ ds) e = go ds e
+      go (of_function j ∷ ds) e = one (bytes_eq (known_name j) n) e (go ds)
+        where
+          one : (b : Bool) → cond b (Some j) (known_as ds n) ≡ Some x → (known_as ds n ≡ Some x → known_as (ds ++ of_function k ∷ []) n ≡ Some x) → cond b (Some j) (known_as (ds ++ of_function k ∷ []) n) ≡ Some x
+          one true e rec = e
+          one false e rec = rec e
+
+  -- a name that was not known may be the new one
+  pub known_last : (n : Name) → known_as s n ≡ None → known_as (s ++ of_function k ∷ []) n ≡ cond (bytes_eq (known_name k) n) (Some k) None
+  known_last n e = go s e
+    where
+      go : (ds : Signature) → known_as ds n ≡ None → known_as (ds ++ of_function k ∷ []) n ≡ cond (bytes_eq (known_name k) n) (Some k) None
+      go [] e = refl
+      go (of_sort m u ∷ ds) e = go ds e
+      go (of_function j ∷ ds) e = one (bytes_eq (known_name j) n) e (go ds)
+        where
+          one : (b : Bool) → cond b (Some j) (known_as ds n) ≡ None → (known_as ds n ≡ None → known_as (ds ++ of_function k ∷ []) n ≡ cond (bytes_eq (known_name k) n) (Some k) None) → cond b (Some j) (known_as (ds ++ of_function k ∷ []) n) ≡ cond (bytes_eq (known_name k) n) (Some k) None
+          one true e rec = cc
+          one false e rec = rec e
+
+  -- the sorts are the same
+  pub sorts_with : (n : Name) → sort_as (s ++ of_function k ∷ []) n ≡ sort_as s n
+  sorts_with n = go s
+    where
+      go : (ds : Signature) → sort_as (ds ++ of_function k ∷ []) n ≡ sort_as ds n
+      go [] = refl
+      go (of_sort m u ∷ ds) = ap (cond (bytes_eq m n) (Some u)) (go ds)
+      go (of_function j ∷ ds) = go ds
+
+-- a new name of a function
+module _ (t : TableView) (v : ScopeView) (s : Signature) (n : Name) (f : Function) (k : Known) (long : length v.names ≡ length v.functions) (named : known_name k ≡ n) where
+  abbrev pub with_function : ScopeView
+  with_function = record v { names = v.names ++ n ∷ []; functions = v.functions ++ f ∷ [] }
+
+  pub function_added : ((m : Name) → FunctionStands t (function_under v m) (known_as s m)) → known_as s n ≡ None → FunctionStands t (Some f) (Some k)
+      → (m : Name) → FunctionStands t (function_under with_function m) (known_as (s ++ of_function k ∷ []) m)
+  function_added h new stands m =
+      subst (λ o. FunctionStands t o (known_as (s ++ of_function k ∷ []) m)) (ap (λ es. look_up es m) (sym (newest_push v.names v.functions n f long))) (go (bytes_eq n m) refl)
+    where
+      later : (o : Option Known) → known_as s m ≡ o → bytes_eq n m ≡ false → FunctionStands t (function_under v m) o → FunctionStands t (function_under v m) (known_as (s ++ of_function k ∷ []) m)
+      later (Some x) e other g = subst (FunctionStands t (function_under v m)) (sym (known_before s k m x e)) g
+      later None e other g =
+          let none : known_as (s ++ of_function k ∷ []) m ≡ None = known_last s k m e ∙ ap (λ b. cond b (Some k) None) (ap (λ x. bytes_eq x m) named ∙ other) in
+          subst (FunctionStands t (function_under v m)) (sym none) g
+
+      go : (b : Bool) → bytes_eq n m ≡ b → FunctionStands t (cond b (Some f) (function_under v m)) (known_as (s ++ of_function k ∷ []) m)
+      go true e =
+          let is : n ≡ m = same_bytes n m e in
+          let last : known_as (s ++ of_function k ∷ []) m ≡ Some k = known_last s k m (ap (known_as s) (sym is) ∙ new) ∙ ap (λ b. cond b (Some k) None) (ap (λ x. bytes_eq x m) named ∙ e) in
+          subst (FunctionStands t (Some f)) (sym last) stands
+      go false e = later (known_as s m) refl e (h m)

@@ -1,6 +1,7 @@
 pub mod Forms
 pub mod Names
 pub mod Numbers
+pub mod NameStacks
 pub mod Scopes
 pub mod Sorts
 pub mod Building

@@ -1,13 +1,15 @@
 -- What a scope holds, and the signature that it stands for in a table.
-use Rattle.std.specs.Prelude.{◌≡◌, List, [], ◌∷◌, length, Option, Some, None}
+use Rattle.std.specs.Prelude.{◌≡◌, ◌+◌, ◌++◌, List, [], ◌∷◌, length, Option, Some, None}
 use Rattle.spec_text.specs.Bytes.{Name}
 use Rattle.spec_sorts.specs.Terms.{Sort}
 use Rattle.spec_sorts.specs.Theory.{look_up}
 use Rattle.spec_sorts.specs.Signatures.{Definition, Known, declared, defined, Signature, known_as, sort_as}
 use Rattle.spec_reading.specs.Reading.{sorts_taken}
+use Rattle.spec_reading.specs.WellSorted.{AreWellSorted}
 use Rattle.term_table.specs.declared.sorts.Sort.{Sort as TableSort}
 use Rattle.term_table.specs.Symbols.{HasSortIn, HaveSortsIn, sort_meant, sorts_meant, symbol_at, IsSymbol}
 use Rattle.term_table.specs.Tables.{TableView, term_at, IsIn}
+use Rattle.term_reader.specs.NameStacks.{newest}
 use Rattle.term_reader.specs.declared.scope.Macro.{Macro}
 use Rattle.term_reader.specs.declared.scope.Function.{Function}
 use Rattle.term_reader.specs.declared.scope.Function.TheVariants.{Declared, Defined}
@@ -23,7 +25,7 @@ pub record ScopeView : Type 0 where
   -- the function of each
   pub functions : List Function
 
--- Each name once, and as many sorts and functions as names.
+-- As many sorts and functions as names.
 pub record IsScope (sort_names : List Name) (sorts : List TableSort) (names : List Name) (functions : List Function) : Type 0 where
   -- a sort for each name
   pub each_sort : length sort_names ≡ length sorts
@@ -34,18 +36,13 @@ pub record IsScope (sort_names : List Name) (sorts : List TableSort) (names : Li
 abbrev pub no_names : ScopeView
 no_names = record { sort_names = []; sorts = []; names = []; functions = [] }
 
--- names with what they stand for, in order
-abbrev pub paired : {A : Type 0} → List Name → List A → List (Name × A)
-paired (n ∷ ns) (a ∷ xs) = (n, a) ∷ paired ns xs
-paired ns xs = []
-
 -- the sort that a name stands for
 abbrev pub sort_under : ScopeView → Name → Option TableSort
-sort_under v n = look_up (paired v.sort_names v.sorts) n
+sort_under v n = look_up (newest v.sort_names v.sorts) n
 
 -- the function that a name stands for
 abbrev pub function_under : ScopeView → Name → Option Function
-function_under v n = look_up (paired v.names v.functions) n
+function_under v n = look_up (newest v.names v.functions) n
 
 -- the sort is there, and is that one
 abbrev pub SortStands : TableView → Option TableSort → Option Sort → Type 0
@@ -81,3 +78,26 @@ pub record Stands (t : TableView) (v : ScopeView) (s : Signature) : Type 0 where
   pub sorts : (n : Name) → SortStands t (sort_under v n) (sort_as s n)
   -- the names of functions
   pub functions : (n : Name) → FunctionStands t (function_under v n) (known_as s n)
+  -- as many names are declared and defined
+  pub count : length v.sort_names + length v.names ≡ length s
+  -- definitions stand for well-sorted terms
+  pub sorted : AreWellSorted s
+
+-- in a table the scope stands for some signature
+abbrev pub HasSignature : TableView → ScopeView → Type 0
+HasSignature t v = (s : Signature) × Stands t v s
+
+-- The scope has what it had, and functions more.
+pub record Widens (old new : ScopeView) : Type 0 where
+  -- the names of sorts are the same
+  pub sort_names : new.sort_names ≡ old.sort_names
+  -- they stand for the same
+  pub sorts : new.sorts ≡ old.sorts
+  -- the names that came
+  pub more_names : List Name
+  -- they come after those that were there
+  pub names : new.names ≡ old.names ++ more_names
+  -- the functions that came
+  pub more_functions : List Function
+  -- they come after those that were there
+  pub functions : new.functions ≡ old.functions ++ more_functions

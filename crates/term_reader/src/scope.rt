@@ -1,12 +1,12 @@
 //! What names stand for.
 
-ghost use Rattle.std.specs.Prelude.{◌≡◌, false, ◌++◌, [], ◌∷◌, take, option_map, OnOk, OnErr, MatchOption, None, Some, IfSome};
-ghost use Rattle.spec_text.specs.Bytes.{among};
+ghost use Rattle.std.specs.Prelude.{◌≡◌, ◌+◌, ◌++◌, [], ◌∷◌, length, take, nat_le, option_map, OnOk, OnErr};
 ghost use Rattle.term_reader.specs.Scopes.{no_names, sort_under, function_under};
 
+use crate::name_stack::NameStack;
 use std::alloc::Global;
 use std::marker::Model;
-use term_table::{NameTable, Sort, SymbolId, TermId};
+use term_table::{Sort, SymbolId, TermId};
 use world_io::NoMemory;
 
 /// Holds a definition of a function: what it takes and gives, and the term that it stands for.
@@ -31,15 +31,15 @@ pub enum Function {
     Defined(Macro),
 }
 
-/// Holds the names of sorts and of functions, in the order in which they came, no two of a kind the same, with what each
-/// stands for in a table of terms.
+/// Holds the names of sorts and of functions, in the order in which they came, with what each stands for in a table of
+/// terms. Of a name that came twice the newest counts.
 ///
 /// A look-up is by hash and takes no memory. Source: SMT-LIB 2.6, section 4.2.3.
 #[derive(Drop)]
 pub struct Scope {
-    sort_names: NameTable,
+    sort_names: NameStack,
     sorts: Vec<Sort>,
-    names: NameTable,
+    names: NameStack,
     functions: Vec<Function>,
 }
 
@@ -64,9 +64,9 @@ impl Scope {
         ensures { result ≡ no_names }
     {
         Scope {
-            sort_names: NameTable::new(alloc),
+            sort_names: NameStack::new(alloc),
             sorts: Vec::new(alloc),
-            names: NameTable::new(alloc),
+            names: NameStack::new(alloc),
             functions: Vec::new(alloc),
         }
     }
@@ -77,10 +77,9 @@ impl Scope {
     pub fn sort(&self, name: &[u8]) -> Option<Sort>
         ensures { result ≡ sort_under self.now name.now }
     {
-        self.sort_names.no_name_twice();
         match self.sort_names.find(name) {
             None => None,
-            Some(number) => Some(self.sorts[number as usize]),
+            Some(place) => Some(self.sorts[place]),
         }
     }
 
@@ -90,19 +89,17 @@ impl Scope {
     pub fn function(&self, name: &[u8]) -> Option<&Function>
         ensures { option_map (λ f. f.now) result ≡ function_under self.now name.now }
     {
-        self.names.no_name_twice();
         match self.names.find(name) {
             None => None,
-            Some(number) => Some(&self.functions[number as usize]),
+            Some(place) => Some(&self.functions[place]),
         }
     }
 
-    /// Puts a new name of a sort last, by a copy of its bytes.
+    /// Puts a name of a sort last, by a copy of its bytes.
     ///
     /// `NoMemory` comes where the copy or its place find no memory; then the scope is as it was.
     /// Source: SMT-LIB 2.6, section 4.2.3.
     pub fn name_sort(&mut self, name: &[u8], sort: Sort) -> Result<(), NoMemory>
-        requires { among self.old.sort_names name.now ≡ false }
         ensures added { OnOk result (self.new
             ≡ record self.old {
               sort_names = self.old.sort_names ++ name.now ∷ [];
@@ -111,17 +108,16 @@ impl Scope {
         ensures same { OnErr result (self.new ≡ self.old) }
     {
         self.sorts.reserve(1)?;
-        self.sort_names.add(name)?;
+        self.sort_names.push(name)?;
         self.sorts.push_reserved(sort);
         Ok(())
     }
 
-    /// Puts a new name of a function last, by a copy of its bytes.
+    /// Puts a name of a function last, by a copy of its bytes.
     ///
     /// `NoMemory` comes where the copy or its place find no memory; then the scope is as it was.
     /// Source: SMT-LIB 2.6, section 4.2.3.
     pub fn name_function(&mut self, name: &[u8], function: Function) -> Result<(), NoMemory>
-        requires { among self.old.names name.now ≡ false }
         ensures added { OnOk result (self.new
             ≡ record self.old {
               names = self.old.names ++ name.now ∷ [];
@@ -130,8 +126,55 @@ impl Scope {
         ensures same { OnErr result (self.new ≡ self.old) }
     {
         self.functions.reserve(1)?;
-        self.names.add(name)?;
+        self.names.push(name)?;
         self.functions.push_reserved(function);
         Ok(())
+    }
+
+    /// States that each name stands for something.
+    pub fn each_name_stands_for_something(&self)
+        ensures sorts { length self.now.sort_names ≡ length self.now.sorts }
+        ensures functions { length self.now.names ≡ length self.now.functions }
+    {
+        let _ = &self.names;
+    }
+
+    /// Counts the names of sorts.
+    pub fn sorts_len(&self) -> usize
+        ensures { result ≡ length self.now.sort_names }
+    {
+        self.sort_names.len()
+    }
+
+    /// Counts the names of functions.
+    pub fn len(&self) -> usize
+        ensures { result ≡ length self.now.names }
+    {
+        self.names.len()
+    }
+
+    /// Tells whether there are no more names, of sorts and of functions together, than a limit.
+    pub fn has_room(&self, limit: u64) -> bool
+        ensures { result ≡ nat_le (length self.now.sort_names + length self.now.names) limit }
+    {
+        let sorts = self.sort_names.len() as u64;
+        sorts <= limit && self.names.len() as u64 <= limit - sorts
+    }
+
+    /// Takes away all names of sorts after the first `sorts`, and of functions after the first `functions`, none where
+    /// there are no more. It takes no memory.
+    pub fn back(&mut self, sorts: usize, functions: usize)
+        ensures { self.new
+            ≡ record {
+              sort_names = take sorts self.old.sort_names;
+              sorts = take sorts self.old.sorts;
+              names = take functions self.old.names;
+              functions = take functions self.old.functions;
+            } }
+    {
+        self.sort_names.back(sorts);
+        self.sorts.truncate(sorts);
+        self.names.back(functions);
+        self.functions.truncate(functions);
     }
 }

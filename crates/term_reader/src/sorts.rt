@@ -1,6 +1,6 @@
 //! The sorts of texts.
 
-ghost use Rattle.spec_reading.specs.Sorts.{sort_in, sort_named};
+ghost use Rattle.spec_reading.specs.Sorts.{sort_in, atom_sort, sort_named};
 ghost use Rattle.spec_sorts.specs.Signatures.{Signature};
 ghost use Rattle.smt_sexpr.specs.Items.{tree_meant};
 ghost use Rattle.term_table.specs.Tables.{TableView};
@@ -28,6 +28,18 @@ fn sort_named(scope: &Scope, at: u64, name: &[u8]) -> Result<Sort, TermFault>
     }
 }
 
+fn atom_sort(scope: &Scope, at: u64, kind: Kind, name: &[u8]) -> Result<Sort, TermFault>
+    ensures { (t : TableView) (s : Signature) → Stands t scope.now s
+        → IsSortOf t (atom_sort s at kind name.now) result }
+{
+    match kind {
+        Kind::Simple => sort_named(scope, at, name),
+        Kind::Quoted => sort_named(scope, at, name),
+        Kind::Reserved => Err(fault_at(at, Fault::Reserved)),
+        _ => Err(fault_at(at, Fault::BadShape)),
+    }
+}
+
 /// Reads a tree as a sort under a scope: Bool, Real, or one that a name stands for.
 ///
 /// `UnknownSort` comes at a name that stands for none, and at a list, since sorts with parameters are not known;
@@ -38,9 +50,7 @@ pub fn sort_in(scope: &Scope, tree: Trees<'_>) -> Result<Sort, TermFault>
         → IsSortOf t (sort_in s (tree_meant tree.entry)) result }
 {
     match look(tree) {
-        View::Atom(at, Kind::Simple | Kind::Quoted, name) => sort_named(scope, u64::from(at), name),
-        View::Atom(at, Kind::Reserved, _) => Err(fault_at(u64::from(at), Fault::Reserved)),
-        View::Atom(at, _, _) => Err(fault_at(u64::from(at), Fault::BadShape)),
+        View::Atom(at, kind, name) => atom_sort(scope, u64::from(at), kind, name),
         View::List(at, _, _) => Err(fault_at(u64::from(at), Fault::UnknownSort)),
     }
 }

@@ -1,16 +1,16 @@
 -- The function of a name stands at the name's number.
 use Rattle.std.proofs.Common.{◌≡◌, None, Some, sym, ap, ◌∙◌, subst}
 use Rattle.term_reader.specs.Scopes.{ScopeView, function_under}
-use Rattle.term_reader.proofs.Pairs.{pairs_none, pairs_numbered}
+use Rattle.term_reader.proofs.NameStacks.{newest_none, newest_found}
 use Rattle.term_reader.proofs.scope.Scope.function.Goals as goal
 
 pub returns-in-None : goal.returns-in-None
 returns-in-None c =
-    subst (λ (v : ScopeView). None ≡ function_under v c.args.name.now) c.self.view_is (sym (pairs_none c.self.inside.names c.self.inside.functions.items c.args.name.now c.in-None.ensures))
+    subst (λ (v : ScopeView). None ≡ function_under v c.args.name.now) c.self.view_is (sym (newest_none c.self.inside.names c.self.inside.functions.items c.args.name.now c.in-None.ensures))
 
 pub returns-in-Some : goal.returns-in-Some
 returns-in-Some c =
     let s = c.index.result.now in
     let at = c.in-Some in
     subst (λ (v : ScopeView). Some s ≡ function_under v c.args.name.now) c.self.view_is
-    (ap (λ x. Some x) c.index.ensures ∙ sym (pairs_numbered s c.self.inside.names c.self.inside.functions.items c.args.name.now at.number c.no_name_twice.ensures c.self.invariant.each_function at.ensures.0 at.ensures.1))
+    (ap (λ x. Some x) c.index.ensures ∙ sym (newest_found s c.self.inside.names c.self.inside.functions.items c.args.name.now at.place c.self.invariant.each_function at.ensures))
