@@ -1,0 +1,20 @@
+-- The lemmas of this crate.
+pub mod Rows
+pub mod Kept
+pub mod Widening
+pub mod Binding
+pub mod Bound
+pub mod Walking
+pub mod Opening
+pub mod Closing
+pub mod Annotating
+pub mod Lets
+pub mod LetSteps
+pub mod Whole
+pub mod Rooms
+pub mod OneText
+pub mod AllRead
+pub mod Restored
+pub mod Filling
+pub mod Functions
+pub mod NamesGiven

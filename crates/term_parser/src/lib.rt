@@ -1,0 +1,18 @@
+//! Reads the texts of terms and definitions into a table of terms and a scope: what they are read as by the definitions,
+//! or their first fault.
+//!
+//! A text is read from left to right. Nothing recurses: open lists stand in a row. The program does not use it yet.
+#![tactic(auto)]
+
+mod applied;
+mod bindings;
+mod defining;
+mod frames;
+mod mentions;
+mod naming;
+mod reads;
+mod sorted;
+mod splitting;
+mod walk;
+
+pub use reads::{Parts, Room, define, term, terms};
