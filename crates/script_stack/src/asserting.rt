@@ -1,0 +1,114 @@
+//! Assertions and definitions of functions: the commands that read terms.
+
+ghost use Rattle.std.specs.Prelude.{◌≡◌, ℕ, ◌&&◌, ◌++◌, [], ◌∷◌, true, Some, OnErr, OnOk};
+ghost use Rattle.spec_commands.specs.Commands.{Assert, DefineFun};
+ghost use Rattle.spec_commands.specs.Stack.{Stack as ScriptStack, is_in_reach, performed};
+ghost use Rattle.smt_sexpr.specs.Items.{tree_meant};
+ghost use Rattle.term_table.specs.Tables.{term_at, IsIn};
+ghost use Rattle.term_reader.specs.Building.{Keeps};
+ghost use Rattle.script_commands.specs.Commands.{parts_view};
+ghost use Rattle.script_stack.specs.Stacks.{standing, HasStack, IsStack, Performs, with_term};
+
+use crate::names::in_script;
+use crate::reach::is_in_reach;
+use crate::stack::{Effect, Stack};
+use script_commands::Parts;
+use smt_sexpr::Trees;
+use std::alloc::Global;
+use term_parser::{Room, define, term};
+use term_reader::ReadError;
+use term_table::{Sort, TermId, TermTable};
+use world_io::NoMemory;
+
+/// Gives the room for the names and terms of a command at an offset.
+fn room(stack: &Stack, at: u64) -> Room
+    ensures { result ≡ record { limit = Some stack.now.limit; at = at } }
+{
+    Room {
+        limit: Some(stack.limit),
+        at,
+    }
+}
+
+/// Puts a term of the table among the assertions.
+fn add(stack: &mut Stack, alloc: Global, table: &TermTable, id: TermId) -> Result<(), NoMemory>
+    requires { IsIn table.now id }
+    ensures added { OnOk result (stack.new ≡ with_term stack.old id (is_in_reach (term_at table.now id))) }
+    ensures same { OnErr result (stack.new ≡ stack.old) }
+{
+    let in_reach = is_in_reach(alloc, table, id)?;
+    stack.assertions.add(id, in_reach)?;
+    stack.started = true;
+    Ok(())
+}
+
+/// Asserts the term that the first tree is, by a command at an offset.
+pub(crate) fn assert_term<'a>(
+    stack: &mut Stack,
+    alloc: Global,
+    table: &mut TermTable,
+    at: u64,
+    tree: Trees<'_>,
+) -> Result<Effect<'a>, ReadError>
+    requires { HasStack (standing table.old stack.old) }
+    ensures performs { (limit : ℕ) (s : ScriptStack) → IsStack limit (standing table.old stack.old) s
+        → Performs limit (performed limit at s (Assert (tree_meant tree.entry))) (standing table.new stack.new) result }
+    ensures kept { OnOk result (Keeps table.old table.new) }
+    ensures same { OnErr result ((stack.new ≡ stack.old) × (table.new ≡ table.old)) }
+{
+    stack.scope.each_name_stands_for_something();
+    let room = room(stack, at);
+    let terms = table.len();
+    let sorts = stack.scope.sorts_len();
+    let functions = stack.scope.len();
+    match term(
+        alloc,
+        table,
+        &mut stack.scope,
+        in_script(),
+        Sort::Bool,
+        tree,
+        room,
+    ) {
+        Ok(id) => match add(stack, alloc, table, id) {
+            Ok(()) => Ok(Effect::Done),
+            Err(_) => {
+                stack.scope.back(sorts, functions);
+                table.cut(terms);
+                Err(ReadError::Memory)
+            }
+        },
+        Err(stop) => Err(stop),
+    }
+}
+
+/// Defines a function, by a command at an offset.
+pub(crate) fn define_fun<'a>(
+    stack: &mut Stack,
+    alloc: Global,
+    table: &mut TermTable,
+    at: u64,
+    parts: Parts<'_>,
+) -> Result<Effect<'a>, ReadError>
+    requires { HasStack (standing table.old stack.old) }
+    ensures performs { (limit : ℕ) (s : ScriptStack) → IsStack limit (standing table.old stack.old) s
+        → Performs limit (performed limit at s (DefineFun (parts_view parts.entry))) (standing table.new stack.new)
+        result }
+    ensures kept { OnOk result (Keeps table.old table.new) }
+    ensures same { OnErr result ((stack.new ≡ stack.old) × (table.new ≡ table.old)) }
+{
+    let room = room(stack, at);
+    let parts = term_parser::Parts {
+        name: parts.name,
+        parameters: parts.parameters,
+        result: parts.result,
+        body: parts.body,
+    };
+    match define(alloc, table, &mut stack.scope, in_script(), parts, room) {
+        Ok(()) => {
+            stack.started = true;
+            Ok(Effect::Done)
+        }
+        Err(stop) => Err(stop),
+    }
+}

@@ -1,0 +1,75 @@
+//! The asserted terms, in their order, with the levels that they belong to.
+
+ghost use Rattle.std.specs.Prelude.{◌≡◌, ◌&&◌, ◌++◌, [], ◌∷◌, length, OnErr, OnOk};
+ghost use Rattle.script_stack.specs.Assertions.{no_assertions};
+
+use std::alloc::Global;
+use std::marker::Model;
+use term_table::TermId;
+use world_io::NoMemory;
+
+/// Holds the asserted terms by their numbers, oldest first, and whether the search reaches all of them.
+///
+/// The first level begins with the first assertion. Each level above it begins at a place of its own.
+/// Source: SMT-LIB 2.6, section 4.1.4.
+#[derive(Drop)]
+pub struct Assertions {
+    ids: Vec<TermId>,
+    starts: Vec<u64>,
+    in_reach: bool,
+}
+
+impl Model for Assertions {
+    ghost use Rattle.script_stack.specs.Assertions.{AssertionsView};
+
+    ghost Value = { AssertionsView };
+
+    ghost view = { λ a. record { ids = a.ids.items; starts = a.starts.items; in_reach = a.in_reach } };
+}
+
+impl Assertions {
+    /// Makes the one level without assertions. It takes no memory.
+    pub fn new(alloc: Global) -> Assertions
+        ensures { result ≡ no_assertions }
+    {
+        Assertions {
+            ids: Vec::new(alloc),
+            starts: Vec::new(alloc),
+            in_reach: true,
+        }
+    }
+
+    /// Lends the numbers of the asserted terms, oldest first.
+    pub fn as_slice(&self) -> &[TermId]
+        ensures { result.now ≡ self.now.ids }
+    {
+        self.ids.as_slice()
+    }
+
+    /// Counts the levels above the first.
+    pub fn levels(&self) -> u64
+        ensures { result ≡ length self.now.starts }
+    {
+        self.starts.len() as u64
+    }
+
+    /// Tells whether the search reaches all assertions.
+    pub fn are_in_reach(&self) -> bool
+        ensures { result ≡ self.now.in_reach }
+    {
+        self.in_reach
+    }
+
+    /// Puts a term last, at the last level. `in_reach` tells whether the search reaches it.
+    ///
+    /// `NoMemory` comes where its place finds no memory; then all is as it was.
+    pub fn add(&mut self, id: TermId, in_reach: bool) -> Result<(), NoMemory>
+        ensures added { OnOk result (self.new
+            ≡ record self.old { ids = self.old.ids ++ id ∷ []; in_reach = self.old.in_reach && in_reach }) }
+        ensures same { OnErr result (self.new ≡ self.old) }
+    {
+        self.ids.push(id)?;
+        self.in_reach = self.in_reach && in_reach;
+        Ok(())
+    }
+}

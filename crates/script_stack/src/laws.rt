@@ -1,0 +1,14 @@
+//! What the definitions imply. Each law is a function whose contract is the law; it computes nothing.
+
+ghost use Rattle.std.specs.Prelude.{ℕ};
+ghost use Rattle.spec_commands.specs.Stack.{Stack as ScriptStack};
+ghost use Rattle.term_table.specs.Tables.{TableView};
+ghost use Rattle.term_reader.specs.Building.{Keeps};
+ghost use Rattle.script_stack.specs.declared.stack.Stack.{Stack};
+ghost use Rattle.script_stack.specs.Stacks.{standing, IsStack};
+
+/// States that a stack stays the stack that it is while its table grows by terms alone.
+pub fn stacks_stand_in_grown_tables()
+    ensures { (limit : ℕ) (old new : TableView) (x : Stack) (s : ScriptStack) → IsStack limit (standing old x) s
+        → Keeps old new → IsStack limit (standing new x) s }
+{}
