@@ -1,0 +1,4 @@
+pub mod ValueLaws
+pub mod LevelLaws
+pub mod Fields
+pub mod Restoring

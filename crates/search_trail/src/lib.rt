@@ -1,0 +1,13 @@
+//! The trail of a search: the literals that hold, oldest first, with their levels and reasons.
+//!
+//! Values, levels and reasons stand in arrays by variable, so that no call walks over the trail but to take literals off. All
+//! memory is taken by `add_var`. The program does not use it yet.
+#![tactic(auto)]
+
+pub mod laws;
+#[cfg(test)]
+mod tests;
+mod trail;
+
+pub use term_table::{Lit, TermId};
+pub use trail::SatTrail;
