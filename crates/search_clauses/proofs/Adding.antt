@@ -1,0 +1,94 @@
+-- What propagation adds to a trail, literal by literal.
+use Rattle.std.proofs.Common.{◌≡◌, ℕ, ◌+◌, ◌-◌, ◌<◌, List, [], ◌∷◌, ◌++◌, length, get_or, take, map, Contains, Option, Some, None, inl, inr, refl, sym, ap, ◌∙◌, subst, arith, zero, suc}
+use Rattle.std.proofs.lemmas.Bool.{cases_lt}
+use Rattle.std.proofs.lemmas.List.{length-append, append-nil, append_assoc, map-append, get_or_append_left, get_or-append-add, take-append-le}
+use Rattle.std.proofs.Math.Seq.{take-append-add}
+use Rattle.term_table.specs.declared.ids.Lit.{Lit}
+use Rattle.rule_calls.specs.Literals.{lit_complement}
+use Rattle.rule_calls.specs.Statuses.{IsUnit}
+use Rattle.step_log.specs.declared.premises.StepId.{StepId}
+use Rattle.search_trail.specs.Trails.{TrailView, no_lit, IsPushed}
+use Rattle.search_clauses.specs.Stores.{StoreView, no_step}
+use Rattle.search_clauses.specs.Propagating.{IsImplied, Adds}
+
+-- nothing is added
+pub adds_none : (s : StoreView) (t : TrailView) → Adds s t t
+adds_none s t = record {
+  more = [];
+  why = [];
+  literals = sym (append-nil t.literals);
+  reasons = sym (append-nil t.reasons);
+  paired = refl;
+  levels = sym (append-nil t.levels);
+  level = refl;
+  implied = λ k lt. absurd (omega (arith, lt));
+  vars = refl;
+}
+
+module _ (s : StoreView) (a b c : TrailView) (one : Adds s a b) (two : Adds s b c) where
+  -- a later one's place among both
+  implied_late : (j : ℕ) → j < length two.more → IsImplied s (a.literals ++ take (length one.more + j) (one.more ++ two.more)) (get_or (one.more ++ two.more) (length one.more + j) no_lit) (get_or (one.why ++ two.why) (length one.more + j) None)
+  implied_late j lt =
+      let held : b.literals ++ take j two.more ≡ a.literals ++ take (length one.more + j) (one.more ++ two.more)
+      = ap (λ (xs : List Lit). xs ++ take j two.more) one.literals ∙ append_assoc a.literals one.more (take j two.more) ∙ ap (λ (xs : List Lit). a.literals ++ xs) (sym (take-append-add one.more two.more j)) in
+      let reason : get_or two.why j None ≡ get_or (one.why ++ two.why) (length one.more + j) None
+      = sym (get_or-append-add one.why two.why j None) ∙ ap (λ (n : ℕ). get_or (one.why ++ two.why) (n + j) None) one.paired in
+      subst (λ (xs : List Lit). IsImplied s xs (get_or (one.more ++ two.more) (length one.more + j) no_lit) (get_or (one.why ++ two.why) (length one.more + j) None)) held
+      (subst (λ (l : Lit). IsImplied s (b.literals ++ take j two.more) l (get_or (one.why ++ two.why) (length one.more + j) None)) (sym (get_or-append-add one.more two.more j no_lit))
+      (subst (IsImplied s (b.literals ++ take j two.more) (get_or two.more j no_lit)) reason (two.implied j lt)))
+
+  -- an earlier one's
+  implied_early : (k : ℕ) → k < length one.more → IsImplied s (a.literals ++ take k (one.more ++ two.more)) (get_or (one.more ++ two.more) k no_lit) (get_or (one.why ++ two.why) k None)
+  implied_early k lt =
+      subst (λ (xs : List Lit). IsImplied s (a.literals ++ xs) (get_or (one.more ++ two.more) k no_lit) (get_or (one.why ++ two.why) k None)) (sym (take-append-le k one.more two.more (omega (arith, lt))))
+      (subst (λ (l : Lit). IsImplied s (a.literals ++ take k one.more) l (get_or (one.why ++ two.why) k None)) (sym (get_or_append_left one.more two.more no_lit k lt))
+      (subst (IsImplied s (a.literals ++ take k one.more) (get_or one.more k no_lit)) (sym (get_or_append_left one.why two.why None k (omega (arith, lt, one.paired)))) (one.implied k lt)))
+
+  -- one after the other
+  pub adds_on : Adds s a c
+  adds_on = record {
+    more = one.more ++ two.more;
+    why = one.why ++ two.why;
+    literals = two.literals ∙ ap (λ (xs : List Lit). xs ++ two.more) one.literals ∙ append_assoc a.literals one.more two.more;
+    reasons = two.reasons ∙ ap (λ (xs : List (Option ℕ)). xs ++ two.why) one.reasons ∙ append_assoc a.reasons one.why two.why;
+    paired = omega (arith, one.paired, two.paired, length-append one.why two.why, length-append one.more two.more);
+    levels = two.levels ∙ ap (λ (xs : List ℕ). xs ++ map (λ (_ : Lit). b.level) two.more) one.levels ∙ append_assoc a.levels (map (λ (_ : Lit). a.level) one.more) (map (λ (_ : Lit). b.level) two.more)
+        ∙ ap (λ (n : ℕ). a.levels ++ (map (λ (_ : Lit). a.level) one.more ++ map (λ (_ : Lit). n) two.more)) one.level
+        ∙ ap (λ (xs : List ℕ). a.levels ++ xs) (sym (map-append (λ (_ : Lit). a.level) one.more two.more));
+    level = two.level ∙ one.level;
+    implied = λ k lt. elim (cases_lt k (length one.more)) [
+      | inl early ↦ implied_early k early
+      | inr le ↦
+          let is : length one.more + (k - length one.more) ≡ k = omega (arith, le) in
+          subst (λ (n : ℕ). IsImplied s (a.literals ++ take n (one.more ++ two.more)) (get_or (one.more ++ two.more) n no_lit) (get_or (one.why ++ two.why) n None)) is
+          (implied_late (k - length one.more) (omega (arith, lt, le, length-append one.more two.more)))
+    ];
+    vars = two.vars ∙ one.vars;
+  }
+
+-- a unit clause implies its literal
+pub adds_one : (s : StoreView) (a b : TrailView) (n : ℕ) (l : Lit) (step : StepId) → n < length s.clauses → IsUnit a.literals (get_or s.clauses n []) l → step ≡ get_or s.steps n no_step → IsPushed a l (Some step.0) a.level b → Adds s a b
+adds_one s a b n l step lt u e p = record {
+  more = l ∷ [];
+  why = Some step.0 ∷ [];
+  literals = p.literals;
+  reasons = p.reasons;
+  paired = refl;
+  levels = p.levels;
+  level = p.level;
+  implied = one;
+  vars = p.vars;
+}
+  where
+    first : IsImplied s (a.literals ++ []) l (Some step.0)
+    first = record {
+      number = n;
+      there = lt;
+      reason_is = ap (λ (x : StepId). Some x.0) e;
+      has_it = u.there;
+      others_false = λ m c d. subst (λ (xs : List Lit). Contains xs (lit_complement m)) (sym (append-nil a.literals)) (u.others_false m c d);
+    }
+
+    one : (k : ℕ) → k < 1 → IsImplied s (a.literals ++ take k (l ∷ [])) (get_or (l ∷ []) k no_lit) (get_or (Some step.0 ∷ []) k None)
+    one zero lt = first
+    one (suc k) lt = absurd (omega (arith, lt))

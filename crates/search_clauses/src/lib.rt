@@ -1,0 +1,16 @@
+//! The clauses of a search, each with the step that derives it, and unit propagation over them.
+//!
+//! Propagation looks at all clauses, pass by pass, until nothing more follows. The program does not use it yet.
+#![tactic(auto)]
+
+mod entry;
+pub mod laws;
+mod propagate;
+mod scan;
+mod status;
+mod store;
+
+pub use propagate::Propagation;
+pub use search_trail::{Lit, SatTrail, TermId};
+pub use step_log::StepId;
+pub use store::ClauseStore;
