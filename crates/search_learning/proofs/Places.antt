@@ -1,0 +1,60 @@
+-- Places of literals along a trail.
+use Rattle.std.proofs.Common.{◌≡◌, ◌≢◌, ℕ, ◌+◌, ◌<◌, ◌≤◌, ◌==◌, Bool, true, false, List, length, get_or, take, Contains, ◌⊎◌, inl, inr, refl, sym, ap, ◌∙◌, arith, true≢false}
+use Rattle.std.proofs.lemmas.Bool.{cases_lt, eqb-true, eq-eqb}
+use Rattle.std.proofs.lemmas.List.{get_or-take, length-take-le, get_or_default}
+use Rattle.term_table.specs.declared.ids.Lit.{Lit}
+use Rattle.search_trail.specs.Trails.{TrailView, no_lit, AreApart}
+use Rattle.search_learning.specs.Conflicts.{IsFalseAt}
+
+-- two numbers are one, or not
+pub equal_or : (a b : ℕ) → (a ≡ b) ⊎ (a ≢ b)
+equal_or a b = go (a == b) refl
+  where
+    go : (t : Bool) → (a == b) ≡ t → (a ≡ b) ⊎ (a ≢ b)
+    go true e = inl (eqb-true a b e)
+    go false e = inr (λ h. true≢false (sym (eq-eqb a b h) ∙ e))
+
+-- two literals are one, or not
+pub same_or : (l m : Lit) → (l ≡ m) ⊎ (l ≢ m)
+same_or l m = elim (equal_or l.term.0 m.term.0) [
+  | inl e ↦ signs l.positive m.positive refl refl e
+  | inr n ↦ inr (λ e. n (ap (λ (x : Lit). x.term.0) e))
+]
+  where
+    made : (e : l.term.0 ≡ m.term.0) → l.positive ≡ m.positive → l ≡ m
+    made e f = λ i. record { term = record { 0 = e i }; positive = f i }
+
+    signs : (a b : Bool) → l.positive ≡ a → m.positive ≡ b → l.term.0 ≡ m.term.0 → (l ≡ m) ⊎ (l ≢ m)
+    signs true true p q e = inl (made e (p ∙ sym q))
+    signs false false p q e = inl (made e (p ∙ sym q))
+    signs true false p q e = inr (λ h. true≢false (sym p ∙ ap (λ (x : Lit). x.positive) h ∙ q))
+    signs false true p q e = inr (λ h. true≢false (sym q ∙ sym (ap (λ (x : Lit). x.positive) h) ∙ p))
+
+-- the place of a literal that is in a list
+pub place_of : (xs : List Lit) (l : Lit) → Contains xs l → (k : ℕ) × (k < length xs) × (get_or xs k no_lit ≡ l)
+place_of xs l (k, lt, e) = (k, lt, get_or_default xs k no_lit l lt ∙ e)
+
+-- the place of one that is in a front
+pub early_place : (xs : List Lit) (p : ℕ) (l : Lit) → p ≤ length xs → Contains (take p xs) l → (k : ℕ) × (k < p) × (k < length xs) × (get_or xs k no_lit ≡ l)
+early_place xs p l le (k, lt, e) =
+    let small : k < p = omega (arith, lt, length-take-le p xs le) in
+    let within : k < length xs = omega (arith, small, le) in
+    (k, small, within, get_or_default xs k no_lit l within ∙ sym (get_or-take p xs k l small) ∙ e)
+
+-- a place from another on is that one or a later one
+pub later_or_here : (at p : ℕ) → at ≤ p → (at + 1 ≤ p) ⊎ (p ≡ at)
+later_or_here at p le = elim (cases_lt at p) [ inl lt ↦ inl (omega (arith, lt)) | inr ge ↦ inr (omega (arith, le, ge)) ]
+
+module _ (v : TrailView) (once : AreApart v.literals) where
+  -- one variable has one place
+  pub same_place : (p q : ℕ) → p < length v.literals → q < length v.literals → (get_or v.literals p no_lit).term.0 ≡ (get_or v.literals q no_lit).term.0 → p ≡ q
+  same_place p q pl ql e = elim (cases_lt p q) [
+    | inl lt ↦ absurd (once p q no_lit lt ql (λ i. record { 0 = e i }))
+    | inr le ↦ elim (cases_lt q p) [ inl gt ↦ absurd (once q p no_lit gt pl (λ i. record { 0 = sym e i })) | inr ge ↦ omega (arith, le, ge) ]
+  ]
+
+  -- so a literal is false since one level
+  pub one_level : (m : Lit) (a b : ℕ) → IsFalseAt v m a → IsFalseAt v m b → a ≡ b
+  one_level m a b f g =
+      let same : f.place ≡ g.place = same_place f.place g.place f.within g.within (ap (λ (x : Lit). x.term.0) (f.there ∙ sym g.there)) in
+      sym f.level ∙ ap (λ (k : ℕ). get_or v.levels k 0) same ∙ g.level
