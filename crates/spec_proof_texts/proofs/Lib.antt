@@ -3,6 +3,7 @@ pub mod Numbers
 mod Told
 mod Planned
 pub mod Names
+mod NoNumbers
 pub mod Lexed
 pub mod Lookups
 pub mod Room

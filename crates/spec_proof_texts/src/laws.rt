@@ -18,7 +18,7 @@ ghost use Rattle.spec_derivations.specs.Derivations.{Derivation, conclusion_at, 
 ghost use Rattle.spec_models.specs.Values.{trees_of, fraction_tree};
 ghost use Rattle.spec_proof_texts.specs.Lines.{Line, line_tree, proof_text};
 ghost use Rattle.spec_proof_texts.specs.Meaning.{AreGiven, AreRightLines};
-ghost use Rattle.spec_proof_texts.specs.Plans.{Plan, lines_of, IsPlan};
+ghost use Rattle.spec_proof_texts.specs.Plans.{Plan, lines_of, IsPrinted, IsPlan};
 ghost use Rattle.spec_proof_texts.specs.Printable.{head_of, IsPrintable, ArePrintable, AreOver, IsReadable};
 ghost use Rattle.spec_proof_texts.specs.ReadBack.{IsWritableLine, AreScriptNames, definitions_in, numbers_in, known_before};
 
@@ -37,6 +37,14 @@ pub fn well_sorted_terms_are_printable()
     ensures term { (g : Signature) (t : Term) → AreScriptNames g → IsWellSorted (symbols_in g) [] t → IsReadable t
         → IsPrintable g t }
     ensures reach { (t : Term) → head_in_reach (head_of t) ≡ true → IsReadable t }
+{}
+
+/// States that the lines of a plan print no number where each term that is printed has a head that a check reaches. So each
+/// proof has room for its terms, for now.
+pub fn lines_in_reach_have_no_numbers()
+    ensures { (terms : List Term) (d : Derivation) (n : ℕ) (plan : Plan) → IsPlan terms d n plan
+        → ((u : Term) → IsPrinted d n u → head_in_reach (head_of u) ≡ true)
+        → numbers_in (lines_of terms d plan) ≡ 0 }
 {}
 
 /// States that numbers can be arguments of steps: each as it is written as a value.
