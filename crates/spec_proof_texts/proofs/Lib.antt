@@ -4,6 +4,7 @@ mod Told
 mod Planned
 pub mod Names
 mod NoNumbers
+mod Written
 pub mod Lexed
 pub mod Lookups
 pub mod Room

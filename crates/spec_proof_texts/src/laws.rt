@@ -1,12 +1,15 @@
 //! What the definitions imply. Each law is a function whose contract is the law; it computes nothing.
 
-ghost use Rattle.std.specs.Prelude.{◌≡◌, ℕ, ◌+◌, ◌*◌, ◌≤◌, ◌^◌, true, false, List, [], ◌++◌, length, map, All, Some, None, Ok, codes};
+ghost use Rattle.std.specs.Prelude.{◌≡◌, ℕ, ◌+◌, ◌*◌, ◌≤◌, ◌^◌, true, false, List, [], ◌∷◌, ◌++◌, length, map, All, Some, None, Ok, codes};
+ghost use Rattle.spec_text.specs.Bytes.{is_digit};
+ghost use Rattle.spec_text.specs.Lexicon.{Consists, IsNumeral};
 ghost use Rattle.spec_text.specs.Lexemes.{Lexeme, lexemes_from};
 ghost use Rattle.spec_text.specs.Trees.{Tree, Trees, spelled};
 ghost use Rattle.spec_text.specs.Printed.{SameTrees};
 ghost use Rattle.spec_text.specs.Readings.{text_limit, is_long};
 ghost use Rattle.spec_sorts.specs.Terms.{Term};
 ghost use Rattle.spec_numbers.specs.Fractions.{Fraction};
+ghost use Rattle.spec_sorts.specs.Numerals.{literal_value, is_wide};
 ghost use Rattle.spec_sorts.specs.WellSorted.{IsWellSorted};
 ghost use Rattle.spec_sorts.specs.Signatures.{Signature, symbols_in};
 ghost use Rattle.spec_commands.specs.Stack.{Stack, Taken, empty_stack, signature_of, terms_asserted, head_in_reach, step};
@@ -16,6 +19,7 @@ ghost use Rattle.spec_checking.specs.Accepted.{IsAccepted};
 ghost use Rattle.spec_proofs.specs.Texts.{IsWholeText};
 ghost use Rattle.spec_derivations.specs.Derivations.{Derivation, conclusion_at, IsDerivation, IsDerivedFrom};
 ghost use Rattle.spec_models.specs.Values.{trees_of, fraction_tree};
+ghost use Rattle.spec_proof_texts.specs.Decimals.{is_decimal};
 ghost use Rattle.spec_proof_texts.specs.Lines.{Line, line_tree, proof_text};
 ghost use Rattle.spec_proof_texts.specs.Meaning.{AreGiven, AreRightLines};
 ghost use Rattle.spec_proof_texts.specs.Plans.{Plan, lines_of, IsPrinted, IsPlan};
@@ -37,6 +41,14 @@ pub fn well_sorted_terms_are_printable()
     ensures term { (g : Signature) (t : Term) → AreScriptNames g → IsWellSorted (symbols_in g) [] t → IsReadable t
         → IsPrintable g t }
     ensures reach { (t : Term) → head_in_reach (head_of t) ≡ true → IsReadable t }
+{}
+
+/// States that each numeral and each decimal of the lexicon that is not too wide to be read has a value that is printed as a
+/// decimal. So the numbers that a text has can be printed.
+pub fn literals_are_decimals()
+    ensures numeral { (ds : List ℕ) → IsNumeral ds → is_wide ds ≡ false → is_decimal (literal_value ds) ≡ true }
+    ensures decimal { (ds : List ℕ) (f : ℕ) (fs : List ℕ) → IsNumeral ds → Consists is_digit (f ∷ fs)
+        → is_wide (ds ++ 46 ∷ f ∷ fs) ≡ false → is_decimal (literal_value (ds ++ 46 ∷ f ∷ fs)) ≡ true }
 {}
 
 /// States that the lines of a plan print no number where each term that is printed has a head that a check reaches. So each
