@@ -1,0 +1,141 @@
+-- That what a search has fits together: after propagation, with a decision more, and where a clause was learned.
+use Rattle.std.proofs.Common.{◌≡◌, ℕ, ◌<◌, List, [], ◌∷◌, ◌++◌, length, get_or, All, Contains, inl, inr, refl, sym, ap, ◌∙◌, subst, arith}
+use Rattle.std.specs.Prelude.{Option, Some, None}
+use Rattle.std.proofs.lemmas.List.Elements.{All-push, All-contains, Contains-get_or}
+use Rattle.std.proofs.lemmas.List.{get_or_default}
+use Rattle.spec_text.proofs.Members.{to_image}
+use Rattle.spec_sorts.specs.Terms.{Truth, sort_of}
+use Rattle.spec_sorts.specs.Literals.{Literal, literal_of}
+use Rattle.spec_proofs.specs.declared.Rule.TheVariants.{Resolution}
+use Rattle.term_table.specs.declared.ids.TermId.{TermId}
+use Rattle.term_table.specs.declared.ids.Lit.{Lit}
+use Rattle.term_table.specs.Tables.{TableView, IsIn, AreDifferent, Extends, term_at, clause_at, literal_at, positive_literal}
+use Rattle.rule_calls.specs.Literals.{AreOf, Means}
+use Rattle.step_log.specs.declared.premises.StepId.{StepId}
+use Rattle.step_log.specs.Logs.{Logged, stepped, named, no_logged, logged_at, IsLogOf}
+use Rattle.search_budget.specs.Budgets.{BudgetView}
+use Rattle.search_trail.specs.Trails.{TrailView, no_lit, AreApart, IsLeveled, IsPushed, IsCutTo}
+use Rattle.search_clauses.specs.Stores.{no_step, HasSeen, HasSameClauses, IsAdded}
+use Rattle.search_clauses.specs.Propagating.{Adds, AreImplied, IsQuiet}
+use Rattle.search_learning.specs.Conflicts.{IsFalseAt}
+use Rattle.search_learning.specs.Learned.{IsLearned}
+use Rattle.search_learning.specs.declared.learned.Learned.{Learned}
+use Rattle.search_learning.proofs.Places.{same_or}
+use Rattle.search_learning.proofs.Meanings.{bare_in}
+use Rattle.search_loop.specs.declared.search.Search.{Search}
+use Rattle.search_loop.specs.Search.{IsMentioned, AreAllOf, Derives, AreDecided, IsReady, conflict_of}
+use Rattle.search_loop.specs.Rounds.{IsNoted}
+use Rattle.search_loop.proofs.SearchLists.{means_one, of_kept}
+use Rattle.search_loop.proofs.SearchLevels.{settled_before}
+use Rattle.search_loop.proofs.SearchStored.{derives_same, implied_same, derives_with, last_is, longer, derives_kept}
+use Rattle.search_loop.proofs.SearchDecisions.{decided_propagated, decided_more, decided_learned}
+
+-- propagation went on
+pub ready_propagated : (t : TableView) (x y : Search) → IsReady t x → y.log ≡ x.log → y.budget ≡ x.budget → HasSameClauses x.store y.store → HasSeen y.store y.trail
+    → AreImplied x.store y.trail → Adds x.store x.trail y.trail → IsReady t y
+ready_propagated t x y r log budget same seen implied adds = record {
+  right = subst (IsLogOf t) (sym log) r.right;
+  derives = subst (λ (l : List Logged). Derives t l y.store) (sym log) (derives_same x.store y.store same t x.log r.derives);
+  known = subst (λ (cs : List (List Lit)). All (All (λ (l : Lit). l.term.0 < y.trail.vars)) cs) (sym same.clauses)
+      (subst (λ (n : ℕ). All (All (λ (l : Lit). l.term.0 < n)) x.store.clauses) (sym adds.vars) r.known);
+  seen = seen;
+  implied = implied_same x.store y.store same y.trail implied;
+  decided = subst (λ (cs : List (List Lit)). AreDecided cs y.trail) (sym same.clauses) (decided_propagated x.store x.trail y.trail r.implied.paired adds r.decided);
+  learned = subst (λ (b : BudgetView). AreAllOf t b.learned) (sym budget) r.learned;
+}
+
+-- a literal was decided
+pub ready_decided : (t : TableView) (x : Search) (v : TrailView) (l : Lit) (n : ℕ) → IsReady t x → IsPushed x.trail l None n v → HasSeen x.store v → AreImplied x.store v
+    → IsQuiet x.store.clauses x.trail.literals → IsMentioned x.store.clauses l.term → IsReady t (record x { trail = v })
+ready_decided t x v l n r pushed seen implied quiet mentioned = record {
+  right = r.right;
+  derives = r.derives;
+  known = subst (λ (n : ℕ). All (All (λ (l : Lit). l.term.0 < n)) x.store.clauses) (sym pushed.vars) r.known;
+  seen = seen;
+  implied = implied;
+  decided = decided_more x.store.clauses x.trail v l n r.implied.paired pushed quiet mentioned r.decided;
+  learned = r.learned;
+}
+
+-- the literal of a place on the trail is of a variable of the clauses
+pub mentioned_at : (t : TableView) (x : Search) → IsReady t x → (p : ℕ) → p < length x.trail.literals → IsMentioned x.store.clauses (get_or x.trail.literals p no_lit).term
+mentioned_at t x r p lt = by (get_or x.trail.reasons p None) refl
+  where
+    by : (o : Option ℕ) → get_or x.trail.reasons p None ≡ o → IsMentioned x.store.clauses (get_or x.trail.literals p no_lit).term
+    by None e = r.decided.mentioned p lt e
+    by (Some n) e = let i = r.implied.implied p n lt e in (get_or x.store.clauses i.number [], get_or x.trail.literals p no_lit, Contains-get_or x.store.clauses i.number [] i.there, i.has_it, refl)
+
+-- what the clauses mention is of the table
+pub clauses_in : (t : TableView) (x : Search) → IsReady t x → (c : List Lit) (l : Lit) → Contains x.store.clauses c → Contains c l → IsIn t l.term
+clauses_in t x r c l i j =
+    let same : get_or x.store.clauses i.0 [] ≡ c = get_or_default x.store.clauses i.0 [] c i.1 ∙ i.2 in
+    All-contains (λ (k : Lit). IsIn t k.term) (get_or x.store.clauses i.0 []) l (r.derives.same i.0 i.1).there (subst (λ (d : List Lit). Contains d l) (sym same) j)
+
+pub mentioned_in : (t : TableView) (x : Search) → IsReady t x → (id : TermId) → IsMentioned x.store.clauses id → IsIn t id
+mentioned_in t x r id m = subst (IsIn t) m.4 (clauses_in t x r m.0 m.1 m.2 m.3)
+
+-- their terms are formulas and no negations
+pub bare_of : (t : TableView) (x : Search) → IsReady t x → (id : TermId) → IsMentioned x.store.clauses id → (sort_of (term_at t id) ≡ Truth) × (literal_of (term_at t id) ≡ positive_literal (term_at t id))
+bare_of t x r id m =
+    let k = m.2.0 in
+    let s = get_or x.store.steps k no_step in
+    let ids = named (logged_at x.log s) in
+    let same : get_or x.store.clauses k [] ≡ m.0 = get_or_default x.store.clauses k [] m.0 m.2.1 ∙ m.2.2 in
+    let image = to_image (literal_at t) (get_or x.store.clauses k []) m.1 (subst (λ (d : List Lit). Contains d m.1) (sym same) m.3) in
+    let formulas = r.right.formulas s.0 no_logged (r.derives.there k m.2.1) in
+    let bare = bare_in t ids formulas m.1 (clauses_in t x r m.0 m.1 m.2 m.3) (subst (λ (ls : List Literal). Contains ls (literal_at t m.1)) (r.derives.same k m.2.1).same image) in
+    subst (λ (i : TermId). (sort_of (term_at t i) ≡ Truth) × (literal_of (term_at t i) ≡ positive_literal (term_at t i))) m.4 (bare.formula.sort, bare.bare)
+
+-- and so is what holds
+pub held_in : (t : TableView) (x : Search) → IsReady t x → (l : Lit) → Contains x.trail.literals l → IsIn t l.term
+held_in t x r l i =
+    let same : get_or x.trail.literals i.0 no_lit ≡ l = get_or_default x.trail.literals i.0 no_lit l i.1 ∙ i.2 in
+    subst (λ (m : Lit). IsIn t m.term) same (mentioned_in t x r (get_or x.trail.literals i.0 no_lit).term (mentioned_at t x r i.0 i.1))
+
+-- a clause is learned
+module _ (t u : TableView) (g : Extends t u) (differ : AreDifferent u.terms) (x y : Search) (r : IsReady t x) (clash : StepId) (d : Learned) (l : IsLearned (conflict_of t x clash) u y.log d)
+    (noted : IsNoted d.clause x.budget y.budget) (a : IsAdded u y.log d.step x.store y.store) (cut : IsCutTo x.trail d.level y.trail) where
+  -- its literals are false, each since a level above 0
+  pub false_at : (m : Lit) → Contains d.clause m → (n : ℕ) × IsFalseAt x.trail m n × (0 < n)
+  false_at m i = elim (same_or m l.one.one) [
+    | inl e ↦ (l.level, subst (λ (k : Lit). IsFalseAt x.trail k l.level) (sym e) l.one.of_level, l.above)
+    | inr ne ↦ let b = l.one.below m i ne in (b.0, b.1, b.2)
+  ]
+
+  -- and of the variables of the clauses
+  pub mentioned_of : (m : Lit) → Contains d.clause m → IsMentioned x.store.clauses m.term
+  mentioned_of m i =
+      let f = (false_at m i).1 in
+      subst (λ (k : Lit). IsMentioned x.store.clauses k.term) f.there (mentioned_at t x r f.place f.within)
+
+  -- the store has it as it was learned
+  pub clause_is : a.clause ≡ d.clause
+  clause_is =
+      let x_is = last_is t u g x.log y.log (stepped Resolution l.logged.premises [] l.logged.terms) l.logged.last d.step l.logged.number in
+      means_one u differ a.clause d.clause (clause_at u l.logged.terms) (subst (λ (z : Logged). Means u a.clause (clause_at u (named z))) x_is a.means) l.logged.means
+
+  known_of : All (λ (m : Lit). m.term.0 < x.trail.vars) d.clause
+  known_of k e lt =
+      let m = mentioned_of (get_or d.clause k e) (Contains-get_or d.clause k e lt) in
+      subst (λ (id : TermId). id.0 < x.trail.vars) m.4 (All-contains (λ (z : Lit). z.term.0 < x.trail.vars) m.0 m.1 (All-contains (All (λ (z : Lit). z.term.0 < x.trail.vars)) x.store.clauses m.0 r.known m.2) m.3)
+
+  more_clauses : y.store.clauses ≡ x.store.clauses ++ d.clause ∷ []
+  more_clauses = a.clauses ∙ ap (λ (c : List Lit). x.store.clauses ++ c ∷ []) clause_is
+
+  pub ready_learned : AreApart x.trail.literals → IsLeveled x.trail → HasSeen y.store y.trail → AreImplied y.store y.trail → IsReady u y
+  ready_learned once leveled seen implied = record {
+    right = l.logged.right;
+    derives = derives_with u y.log d.step x.store y.store
+        (derives_kept t u g x.log y.log (stepped Resolution l.logged.premises [] l.logged.terms) l.logged.last x.store r.right r.derives) a
+        (omega (arith, l.logged.number, longer t u g x.log y.log (stepped Resolution l.logged.premises [] l.logged.terms) l.logged.last));
+    known = subst (λ (cs : List (List Lit)). All (All (λ (z : Lit). z.term.0 < y.trail.vars)) cs) (sym more_clauses)
+        (subst (λ (n : ℕ). All (All (λ (z : Lit). z.term.0 < n)) (x.store.clauses ++ d.clause ∷ [])) (sym cut.vars)
+        (All-push (All (λ (z : Lit). z.term.0 < x.trail.vars)) x.store.clauses d.clause r.known known_of));
+    seen = seen;
+    implied = implied;
+    decided = subst (λ (cs : List (List Lit)). AreDecided cs y.trail) (sym more_clauses)
+        (decided_learned x.store.clauses d.clause x.trail y.trail d.level leveled.levels_paired
+        (λ p within none le. settled_before x.trail once leveled p within none d.clause l.level d.level l.one le) cut r.decided);
+    learned = subst (λ (b : BudgetView). AreAllOf u b.learned) (sym noted)
+        (All-push (AreOf u) x.budget.learned d.clause (λ k e lt. of_kept t u g (get_or x.budget.learned k e) (r.learned k e lt)) l.logged.means.there);
+  }

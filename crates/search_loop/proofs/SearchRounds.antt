@@ -1,0 +1,69 @@
+-- One round of a search after another, and that the rounds end.
+use Rattle.std.proofs.Common.{◌≡◌, ℕ, ◌+◌, ◌-◌, ◌*◌, ◌<◌, ◌≤◌, List, refl, sym, ap, ◌∙◌, subst, arith}
+use Rattle.std.specs.Prelude.{Option}
+use Rattle.term_table.specs.declared.ids.Lit.{Lit}
+use Rattle.term_table.specs.Tables.{TableView}
+use Rattle.term_table.proofs.TermsExtend.{Extends-self, Extends-trans}
+use Rattle.step_log.specs.Logs.{Logged, derivation_in}
+use Rattle.search_budget.specs.Budgets.{BudgetView}
+use Rattle.search_trail.specs.Trails.{TrailView, IsPushed}
+use Rattle.search_clauses.specs.Stores.{StoreView, HasSameClauses}
+use Rattle.search_clauses.specs.Propagating.{Adds}
+use Rattle.search_loop.specs.declared.search.Search.{Search}
+use Rattle.search_loop.specs.declared.cdcl.Answer.{Answer}
+use Rattle.search_loop.specs.Search.{images}
+use Rattle.search_loop.specs.Rounds.{HasDerived, Continues, Shows}
+
+-- the log, the clauses and what was learned are the same
+pub continues_same : (t : TableView) (x y : Search) → y.log ≡ x.log → y.store.clauses ≡ x.store.clauses → y.budget ≡ x.budget → y.trail.vars ≡ x.trail.vars → Continues t t x y
+continues_same t x y log clauses budget vars = record {
+  table = Extends-self t;
+  declared = refl;
+  limit = ap (λ (b : BudgetView). b.limit) budget;
+  vars = vars;
+  search = λ problem s. record {
+    roots = s.roots;
+    roots_in = s.roots_in;
+    reached = s.reached;
+    meant = s.meant;
+    derived = subst (λ (l : List Logged). HasDerived problem (derivation_in t l) (images t y.store.clauses) (images t y.budget.learned)) (sym log)
+        (subst (λ (cs : List (List Lit)). HasDerived problem (derivation_in t x.log) (images t cs) (images t y.budget.learned)) (sym clauses)
+        (subst (λ (b : BudgetView). HasDerived problem (derivation_in t x.log) (images t x.store.clauses) (images t b.learned)) (sym budget) s.derived));
+  };
+}
+
+-- one after the other
+pub continues_on : (s t u : TableView) (a b c : Search) → Continues s t a b → Continues t u b c → Continues s u a c
+continues_on s t u a b c h k = record {
+  table = Extends-trans s t u h.table k.table;
+  declared = k.declared ∙ h.declared;
+  limit = k.limit ∙ h.limit;
+  vars = k.vars ∙ h.vars;
+  search = λ problem x. k.search problem (h.search problem x);
+}
+
+-- propagation went on
+abbrev pub propagated : Search → StoreView → TrailView → Search
+propagated x s v = record { alloc = x.alloc; log = x.log; store = s; trail = v; budget = x.budget }
+
+module _ (t u : TableView) (a x : Search) (s : StoreView) (v : TrailView) (h : Continues t u a x) (same : HasSameClauses x.store s) (adds : Adds x.store x.trail v) where
+  pub propagated_on : Continues t u a (propagated x s v)
+  propagated_on = continues_on t u u a x (propagated x s v) h (continues_same u x (propagated x s v) refl same.clauses refl adds.vars)
+
+  pub decided_on : (l : Lit) (r : Option ℕ) (n : ℕ) (w : TrailView) → IsPushed v l r n w → Continues t u a (propagated x s w)
+  decided_on l r n w p = continues_on t u u a (propagated x s v) (propagated x s w) propagated_on (continues_same u (propagated x s v) (propagated x s w) refl refl refl p.vars)
+
+-- what an answer shows later on, it shows of the beginning
+pub shows_on : (s t u : TableView) (a b c : Search) (x : Answer) → Continues s t a b → Shows t u b c x → Shows s u a c x
+shows_on s t u a b c x h shows problem z = shows problem (h.search problem z)
+
+-- a round that learns a clause leaves less
+pub less_learned : (limit later_limit n vars len later before after : ℕ) → later_limit ≡ limit → vars ≡ n → len < limit → later ≡ len + 1 → after ≤ n
+    → (later_limit - later) * (vars + 1) + after < (limit - len) * (n + 1) + before
+less_learned limit later_limit n vars len later before after same size lt e le =
+    let left : limit - len ≡ (limit - later) + 1 = omega (arith, lt, e) in
+    rw (same, size, left) (omega (arith, le))
+
+-- and so does one that assigns a variable more
+pub less_assigned : (left n vars before after : ℕ) → vars ≡ n → before < after → after ≤ vars → left * (vars + 1) + (vars - after) < left * (n + 1) + (n - before)
+less_assigned left n vars before after size lt le = rw size (omega (arith, lt, le, size))

@@ -1,0 +1,39 @@
+-- That all fits together at the beginning.
+use Rattle.std.proofs.Common.{◌≡◌, List, [], sym, ap, refl, subst}
+use Rattle.std.proofs.lemmas.List.Elements.{All-nil}
+use Rattle.rule_calls.specs.Literals.{AreOf}
+use Rattle.step_log.specs.declared.premises.StepId.{StepId}
+use Rattle.search_trail.specs.Trails.{empty}
+use Rattle.search_learning.proofs.Stating.{extends_back}
+use Rattle.search_loop.specs.Search.{IsStoreOf, AreAllOf}
+use Rattle.search_loop.proofs.SearchDecisions.{decided_first}
+use Rattle.search_loop.proofs.SearchBegins.{store_known, search_begins}
+use Rattle.search_loop.proofs.begin.begin.Goals as goal
+
+pub returns-in_err-list-clause-grown : goal.returns-in_err-list-clause-grown
+returns-in_err-list-clause-grown c = extends_back c.args.table.now c.clauses_of_all.new.table c.in_err-list.ensures.same.0
+
+pub returns-clause-begins : goal.returns-clause-begins
+returns-clause-begins c =
+    let u = c.clauses_of_all.new.table in
+    let log = c.clauses_of_all.new.log in
+    let store = c.in_ok-store.store in
+    let trail = c.in_ok-trail.trail in
+    let made = c.in_ok-list.ensures in
+    let stored : IsStoreOf u log c.in_ok-list.list store = subst (λ (xs : List StepId). IsStoreOf u log xs store) c.as_slice.ensures c.in_ok-store.ensures in
+    let begun = c.in_ok-trail.ensures in
+    let none : c.in_ok-budget.budget.learned ≡ [] = ap (λ b. b.learned) c.in_ok-budget.ensures in
+    record {
+      ready = record {
+        right = made.grown.right;
+        derives = stored.derives;
+        known = store_known u log store trail.vars stored.derives begun.vars;
+        seen = c.what_is_marked_was_seen.ensures.begun store trail begun.propagated;
+        implied = c.reasons_stay_right.ensures.grown store empty trail (c.reasons_stay_right.ensures.begun store) begun.same;
+        decided = decided_first store.clauses trail begun.same;
+        learned = subst (AreAllOf u) (sym none) (All-nil (AreOf u));
+      };
+      search = search_begins c.args.table.now u c.args.roots.now c.requires.roots c.requires.reach log c.new-log.result c.new-log.ensures c.in_ok-list.list made.grown made.clauses made.made store stored c.base_clauses_are_over_subterms.ensures
+          (record { alloc = c.args.alloc; log = log; store = store; trail = trail; budget = c.in_ok-budget.budget }) refl refl none;
+      limit_is = ap (λ b. b.limit) c.in_ok-budget.ensures;
+    }

@@ -1,0 +1,54 @@
+-- That what the search has fits together with the clause that was learned.
+use Rattle.std.proofs.Common.{◌∙◌, ap, subst, length, List, ◌∷◌, []}
+use Rattle.std.proofs.lemmas.List.{length-append}
+use Rattle.term_table.specs.declared.ids.Lit.{Lit}
+use Rattle.search_budget.specs.Budgets.{BudgetView}
+use Rattle.search_loop.specs.declared.search.Search.{Search}
+use Rattle.search_loop.specs.Rounds.{IsNoted}
+use Rattle.search_loop.proofs.SearchReasons.{clash_is, reasons_are}
+use Rattle.search_loop.proofs.SearchReady.{ready_learned}
+use Rattle.search_loop.proofs.SearchShows.{search_learned}
+use Rattle.search_loop.proofs.search.Search.learn_and_go_back.Goals as goal
+
+pub learn-requires-clause-clash : goal.learn-requires-clause-clash
+learn-requires-clause-clash c =
+    let x = c.args.self.now in
+    clash_is c.args.table.now c.ids_are_unique.ensures x.log x.store c.requires.ready.derives x.trail.literals c.args.clash c.requires.clash
+
+pub learn-requires-clause-reasons : goal.learn-requires-clause-reasons
+learn-requires-clause-reasons c =
+    let x = c.args.self.now in
+    reasons_are c.args.table.now c.ids_are_unique.ensures x.log x.store c.requires.ready.derives x.trail c.requires.ready.implied
+
+pub returns-clause-learned : goal.returns-clause-learned
+returns-clause-learned c =
+    let t = c.args.table.now in
+    let u = c.learn.new.table in
+    let x = c.args.self.now in
+    let d = c.in_ok-learned.learned in
+    let l = c.in_ok-learned.ensures.learned in
+    let store = c.add.new.self in
+    let trail = c.back_to.new.self in
+    let added = c.in_ok-add.ensures in
+    let cut = c.back_to.ensures in
+    let noted : IsNoted d.clause x.budget c.note.new.budget = subst (λ (ls : List Lit). IsNoted ls x.budget c.note.new.budget) c.as_slice.ensures c.in_ok-note.ensures in
+    let y : Search = record { alloc = x.alloc; log = c.learn.new.log; store = store; trail = trail; budget = c.note.new.budget } in
+    let r = c.requires.ready in
+    let once = c.is_sound.ensures.once in
+    let leveled = c.is_sound.ensures.leveled in
+    let seen = c.what_is_marked_was_seen.ensures in
+    let implied = c.reasons_stay_right.ensures in
+    record {
+      ready = ready_learned t u c.learn.ensures.grown c.ids_are_unique-2.ensures x y r c.args.clash d l noted added cut once leveled
+          (seen.cut store x.trail trail d.level (seen.added u c.learn.new.log d.step x.store store x.trail r.seen added) cut)
+          (implied.cut store x.trail trail d.level (implied.added u c.learn.new.log d.step x.store store x.trail c.steps_are_paired.ensures r.implied added) cut);
+      continues = record {
+        table = c.learn.ensures.grown;
+        declared = c.learn.ensures.declared;
+        limit = ap (λ (b : BudgetView). b.limit) noted;
+        vars = cut.vars;
+        search = search_learned t u c.learn.ensures.grown c.ids_are_unique.ensures c.ids_are_unique-2.ensures c.learn.ensures.declared x y r once leveled c.is_sound.ensures.consistent
+            (c.logs_stand_in_grown_tables.ensures.same t u x.log r.right c.learn.ensures.grown) c.args.clash d l noted added cut;
+      };
+      learned = ap (λ (b : BudgetView). length b.learned) noted ∙ length-append x.budget.learned (d.clause ∷ []);
+    }

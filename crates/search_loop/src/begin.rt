@@ -1,0 +1,84 @@
+//! What a search begins with.
+
+ghost use Rattle.std.specs.Prelude.{◌≡◌, IfOk};
+ghost use Rattle.spec_derivations.specs.Examples.{asserting};
+ghost use Rattle.spec_derivations.specs.Models.{AreInReach};
+ghost use Rattle.term_table.specs.Tables.{declared_in, Extends, clause_at};
+ghost use Rattle.step_log.specs.Logs.{IsLogOf, AreOf, AreFormulasIn};
+ghost use Rattle.search_loop.specs.Search.{IsStoreOf, IsBegun};
+ghost use Rattle.search_loop.specs.Rounds.{Begins};
+
+use crate::search::Search;
+use search_budget::{Budget, Limits};
+use search_clauses::ClauseStore;
+use search_clauses::laws::{reasons_stay_right, what_is_marked_was_seen};
+use search_trail::SatTrail;
+use spec_derivations::laws::base_clauses_are_over_subterms;
+use std::alloc::Global;
+use step_log::laws::empty_logs_are_right;
+use step_log::{ProofLog, StepId};
+use term_clauses::clauses_of_all;
+use term_table::{TermId, TermTable};
+use world_io::NoMemory;
+
+/// Makes the store of clauses of a log, given by their numbers.
+fn store_of(
+    alloc: Global,
+    table: &TermTable,
+    log: &ProofLog,
+    steps: &[StepId],
+) -> Result<ClauseStore, NoMemory>
+    requires log { IsLogOf table.now log.now }
+    requires steps { AreOf log.now steps.now }
+    ensures { IfOk result (IsStoreOf table.now log.now steps.now) }
+{
+    let mut store = ClauseStore::new(alloc);
+    for step in steps {
+        store.add(table, log, *step)?;
+    }
+    Ok(store)
+}
+
+/// Makes the trail of a variable for each term of a table.
+fn trail_of(alloc: Global, table: &TermTable) -> Result<SatTrail, NoMemory>
+    ensures { IfOk result (IsBegun table.now) }
+{
+    let mut trail = SatTrail::new(alloc);
+    'variables: while trail.vars() < table.len() {
+        trail.add_var()?;
+    }
+    Ok(trail)
+}
+
+/// Begins a search: the clauses of all terms, in a new log and store, with a trail of no literals and a new budget.
+///
+/// Where memory runs out, the terms that it has put stay.
+pub(crate) fn begin(
+    alloc: Global,
+    table: &mut TermTable,
+    roots: &[TermId],
+    limits: &Limits,
+) -> Result<Search, NoMemory>
+    requires roots { AreFormulasIn table.old roots.now }
+    requires reach { AreInReach (clause_at table.old roots.now) }
+    ensures grown { Extends table.old table.new }
+    ensures declared { declared_in table.new ≡ declared_in table.old }
+    ensures begins { IfOk result (Begins table.new (asserting (clause_at table.old roots.now)) limits.now.conflicts) }
+{
+    base_clauses_are_over_subterms();
+    empty_logs_are_right();
+    what_is_marked_was_seen();
+    reasons_stay_right();
+    let mut log = ProofLog::new(alloc);
+    let list = clauses_of_all(alloc, table, &mut log, roots)?;
+    let store = store_of(alloc, table, &log, list.as_slice())?;
+    let trail = trail_of(alloc, table)?;
+    let budget = Budget::new(alloc, limits)?;
+    Ok(Search {
+        alloc,
+        log,
+        store,
+        trail,
+        budget,
+    })
+}
