@@ -22,7 +22,7 @@ or_parts true b h = absurd (false≢true (sym h))
 or_parts false b h = (refl, h)
 
 -- a name that has a place is among them
-is_among : (ns : List Name) (n : Name) (k : ℕ) → k < length ns → get_or ns k [] ≡ n → among ns n ≡ true
+pub is_among : (ns : List Name) (n : Name) (k : ℕ) → k < length ns → get_or ns k [] ≡ n → among ns n ≡ true
 is_among ns n k lt e = go (among ns n) refl
   where
     go : (b : Bool) → among ns n ≡ b → b ≡ true

@@ -18,3 +18,5 @@ pub mod Restored
 pub mod Filling
 pub mod Functions
 pub mod NamesGiven
+pub mod Parameters
+pub mod Definitions

@@ -6,3 +6,4 @@ pub mod Walks
 pub mod Naming
 pub mod Steps
 pub mod Rows
+pub mod Defining

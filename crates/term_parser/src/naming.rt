@@ -60,6 +60,19 @@ pub fn may_name(
     }
 }
 
+/// Tells whether a name is a theory's, or a function's of the scope.
+pub fn is_function(scope: &Scope, name: &[u8]) -> bool
+    ensures { (t : TableView) (s : Signature) → NamesStand t scope.now s → result ≡ is_function s name.now }
+{
+    if let Some(_) = TheoryHead::named(name) {
+        return true;
+    }
+    match scope.function(name) {
+        Some(_) => true,
+        None => false,
+    }
+}
+
 // Whether a name is a theory's, a function's of the scope, or the one whose body is read.
 fn is_known(scope: &Scope, setting: Setting<'_>, name: &[u8]) -> bool
     ensures { (t : TableView) (s : Signature) → NamesStand t scope.now s

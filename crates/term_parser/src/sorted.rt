@@ -1,6 +1,6 @@
 //! Reads terms of a sort, where there is room.
 
-ghost use Rattle.std.specs.Prelude.{◌≡◌, ◌+◌, [], ◌∷◌, length};
+ghost use Rattle.std.specs.Prelude.{◌≡◌, ◌+◌, length};
 ghost use Rattle.spec_sorts.specs.Signatures.{Signature};
 ghost use Rattle.spec_reading.specs.Reading.{reading_of_sort};
 ghost use Rattle.smt_sexpr.specs.Items.{trees_meant, tree_meant};

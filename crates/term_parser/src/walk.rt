@@ -13,7 +13,7 @@ ghost use Rattle.spec_sorts.specs.Signatures.{Signature};
 ghost use Rattle.spec_reading.specs.Reading.{readings};
 ghost use Rattle.term_reader.specs.Scopes.{HasSignature, Stands};
 ghost use Rattle.term_parser.specs.Bindings.{bound_at};
-ghost use Rattle.term_parser.specs.Walks.{here, with_frame, OnWalk, Goes, GoesInLet, IsNext, Level, all_left, frames_left, let_left, sizes, let_of};
+ghost use Rattle.term_parser.specs.Walks.{here, with_frame, OnWalk, Goes, GoesInLet, IsNext, all_left, frames_left, let_left, sizes, let_of};
 ghost use Rattle.term_parser.specs.Steps.{IsMemory, HasBound, IsLetAt, IsAnnotatedAt, Steps};
 ghost use Rattle.term_parser.specs.Rows.{EndsRow};
 ghost use Rattle.term_parser.specs.Reads.{store, Grows};
