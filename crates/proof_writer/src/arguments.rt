@@ -1,6 +1,6 @@
 //! Terms in place, and names.
 
-ghost use Rattle.std.specs.Prelude.{◌≡◌, ◌++◌};
+ghost use Rattle.std.specs.Prelude.{◌++◌};
 ghost use Rattle.spec_text.specs.Printed.{printed, printed_symbol};
 ghost use Rattle.spec_models.specs.Values.{sort_tree};
 ghost use Rattle.spec_proof_texts.specs.Plans.{in_place};

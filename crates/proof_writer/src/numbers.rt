@@ -1,9 +1,9 @@
 //! Numbers in place, and as arguments of rules.
 
-ghost use Rattle.std.specs.Prelude.{◌≡◌, ◌++◌, ◌∷◌, ◌/◌, ◌%◌, ◌^◌, ◌<◌, ◌≤◌, Some, codes, drop};
+ghost use Rattle.std.specs.Prelude.{◌≡◌, ◌++◌, ◌∷◌, ◌/◌, ◌%◌, ◌^◌, ◌<◌, Some};
 ghost use Rattle.spec_text.specs.Printed.{printed};
 ghost use Rattle.spec_models.specs.Values.{numeral, fraction_tree};
-ghost use Rattle.spec_proof_texts.specs.Decimals.{last_digits, places_from, places, in_last_place, behind_point, has_decimal, literal_tree};
+ghost use Rattle.spec_proof_texts.specs.Decimals.{places_from, places, behind_point, literal_tree};
 ghost use Rattle.ratio128.specs.Meant.{fraction};
 ghost use Rattle.world_io.specs.Writing.{Sends};
 ghost use Rattle.proof_writer.specs.Digits.{IsPower, IsDecimalOf};

@@ -4,7 +4,6 @@
 ghost use Rattle.std.specs.Prelude.{◌≡◌};
 ghost use Rattle.world_io.specs.Writing.{Sends};
 ghost use Rattle.spec_replies.specs.Lines.{error_text, word_of, word_line, conflicts, reason_line};
-ghost use Rattle.spec_replies.specs.declared.Word.TheVariants as words;
 
 use itoa::Buffer;
 use smt_lexer::Place;

@@ -3,7 +3,7 @@ use Rattle.std.proofs.Common.{◌≡◌, ◌+◌, Bool, true, false, ◌&&◌, L
 use Rattle.std.proofs.lemmas.List.{map-append, append_assoc, append-nil}
 use Rattle.std.specs.Str.{bytes_eq}
 use Rattle.spec_text.specs.Bytes.{Name}
-use Rattle.spec_sorts.specs.Signatures.{Definition, Known, Declaration, of_sort, of_function, Signature, sort_as, definition}
+use Rattle.spec_sorts.specs.Signatures.{Definition, Declaration, of_sort, of_function, Signature, sort_as, definition}
 use Rattle.spec_sorts.specs.Signatures as signatures
 use Rattle.spec_commands.specs.Stack.{Assertion, Entry, Stack, signature_of, joined, terms_asserted, with_last, with_declaration, with_definitions, is_in_reach, all_in_reach}
 use Rattle.script_stack.specs.Assertions.{starts_of}

@@ -11,7 +11,7 @@ use Rattle.spec_text.specs.Shapes.{Word, is_reserved}
 use Rattle.spec_text.specs.Answers.{Answer, ◌>>=◌, refused, require}
 use Rattle.spec_text.specs.Trees.{Tree, Trees}
 use Rattle.spec_sorts.specs.Terms.{Sort, Truth, Declared, Term}
-use Rattle.spec_sorts.specs.Signatures.{Definition, Declaration, of_sort, of_function, declared, Signature, symbols_in, sort_as}
+use Rattle.spec_sorts.specs.Signatures.{Definition, Declaration, of_sort, of_function, declared, symbols_in, sort_as}
 use Rattle.spec_sorts.specs.Signatures as signatures
 use Rattle.spec_sorts.specs.Subterms.{has_room}
 use Rattle.spec_sorts.proofs.Signatures.{symbols_with}

@@ -1,6 +1,6 @@
 //! Assertions and definitions of functions: the commands that read terms.
 
-ghost use Rattle.std.specs.Prelude.{◌≡◌, ℕ, ◌&&◌, ◌++◌, [], ◌∷◌, true, Some, OnErr, OnOk};
+ghost use Rattle.std.specs.Prelude.{◌≡◌, ℕ, true, Some, OnErr, OnOk};
 ghost use Rattle.spec_commands.specs.Commands.{Assert, DefineFun};
 ghost use Rattle.spec_commands.specs.Stack.{Stack as ScriptStack, is_in_reach, performed};
 ghost use Rattle.smt_sexpr.specs.Items.{tree_meant};

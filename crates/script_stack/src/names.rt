@@ -1,6 +1,6 @@
 //! The names that a script may declare, and the sorts of texts.
 
-ghost use Rattle.std.specs.Prelude.{◌≡◌, IfOk, None, length};
+ghost use Rattle.std.specs.Prelude.{◌≡◌, None};
 ghost use Rattle.spec_sorts.specs.Signatures.{Signature, known_as, is_some};
 ghost use Rattle.spec_reading.specs.Names.{script, new_name, is_function, is_sort};
 ghost use Rattle.spec_reading.specs.Sorts.{sorts_in};

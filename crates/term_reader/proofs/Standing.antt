@@ -1,5 +1,5 @@
 -- What a scope stands for while the table grows, and when a name comes.
-use Rattle.std.proofs.Common.{◌≡◌, Bool, true, false, cond, List, [], ◌∷◌, ◌++◌, length, Option, Some, None, refl, sym, ap, ◌∙◌, subst}
+use Rattle.std.proofs.Common.{◌≡◌, Bool, true, false, cond, [], ◌∷◌, ◌++◌, length, Option, Some, None, refl, sym, ap, ◌∙◌, subst}
 use Rattle.std.specs.Str.{bytes_eq}
 use Rattle.spec_text.specs.Bytes.{Name}
 use Rattle.spec_sorts.specs.Terms.{Sort}
@@ -13,7 +13,6 @@ use Rattle.term_reader.specs.declared.scope.Function.{Function}
 use Rattle.term_reader.specs.declared.scope.Function.TheVariants.{Declared, Defined}
 use Rattle.term_reader.specs.Building.{Keeps}
 use Rattle.term_table.proofs.NamesApart.{same_bytes}
-use Rattle.term_reader.specs.NameStacks.{newest}
 use Rattle.term_reader.proofs.NameStacks.{newest_push}
 use Rattle.term_reader.specs.Scopes.{ScopeView, SortStands, FunctionStands, function_under, Stands}
 

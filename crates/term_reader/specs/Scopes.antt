@@ -1,5 +1,5 @@
 -- What a scope holds, and the signature that it stands for in a table.
-use Rattle.std.specs.Prelude.{◌≡◌, ◌+◌, ◌++◌, List, [], ◌∷◌, length, Option, Some, None}
+use Rattle.std.specs.Prelude.{◌≡◌, ◌+◌, ◌++◌, List, [], length, Option, Some, None}
 use Rattle.spec_text.specs.Bytes.{Name}
 use Rattle.spec_sorts.specs.Terms.{Sort}
 use Rattle.spec_sorts.specs.Theory.{look_up}

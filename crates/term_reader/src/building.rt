@@ -1,6 +1,6 @@
 //! Puts terms of one or two arguments into the table, and conjunctions.
 
-ghost use Rattle.std.specs.Prelude.{◌≡◌, ◌<◌, length};
+ghost use Rattle.std.specs.Prelude.{◌<◌, length};
 ghost use Rattle.spec_sorts.specs.Terms.{Truth, of, negated, pair};
 ghost use Rattle.spec_sorts.specs.Theory.{conjunction, unequal};
 ghost use Rattle.term_table.specs.Tables.{head_meant, term_at, clause_at, Fits};

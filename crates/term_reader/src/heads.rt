@@ -1,6 +1,6 @@
 //! Heads of the theories before terms: their faults, and the terms that they are read as.
 
-ghost use Rattle.std.specs.Prelude.{◌≡◌, ◌+◌, ◌^◌, ◌<◌, not, suc, length, map, nat_le, if◌then◌else◌};
+ghost use Rattle.std.specs.Prelude.{◌≡◌, ◌+◌, ◌^◌, ◌<◌, not, suc, length, map, if◌then◌else◌};
 ghost use Rattle.spec_sorts.specs.Terms.{sort_of};
 ghost use Rattle.spec_sorts.specs.Lists.{neighbours, all_pairs};
 ghost use Rattle.spec_sorts.specs.Theory.{alike, choice, sorts_fit, count_of, each_passes, is_constant, is_divisor, is_zero_divisor, product_fault, quotient_fault, conjunction, differences};

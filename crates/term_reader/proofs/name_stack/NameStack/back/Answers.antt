@@ -1,7 +1,6 @@
 -- Names less.
-use Rattle.std.proofs.Common.{◌≡◌, [], ◌∷◌, length, take, sym, ap, ◌∙◌, arith}
-use Rattle.std.proofs.lemmas.List.{take-append-le, take-map, take_all, length-append}
-use Rattle.term_reader.specs.declared.name_stack.Place.{Place}
+use Rattle.std.proofs.Common.{[], ◌∷◌, length, take, sym, ap, ◌∙◌, arith}
+use Rattle.std.proofs.lemmas.List.{take-append-le, take_all, length-append}
 use Rattle.term_reader.specs.NameStacks.{names_at}
 use Rattle.term_reader.proofs.NameStacks.{stack_popped, names_front}
 use Rattle.term_reader.proofs.name_stack.NameStack.back.Goals as goal

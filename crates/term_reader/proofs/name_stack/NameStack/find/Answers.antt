@@ -1,6 +1,6 @@
 -- The latest place of a name.
-use Rattle.std.proofs.Common.{◌≡◌, suc, ◌-◌, false, sym, ap, ◌∙◌, subst, arith}
-use Rattle.spec_text.specs.Bytes.{Name, among}
+use Rattle.std.proofs.Common.{◌≡◌, ◌-◌, false, sym, ◌∙◌, subst, arith}
+use Rattle.spec_text.specs.Bytes.{among}
 use Rattle.term_reader.specs.NameStacks.{IsLatest}
 use Rattle.term_reader.proofs.NameStacks.{in_range, not_met, not_placed, placed}
 use Rattle.term_reader.proofs.name_stack.NameStack.find.Goals as goal

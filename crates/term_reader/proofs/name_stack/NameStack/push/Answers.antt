@@ -1,6 +1,5 @@
 -- A name more.
-use Rattle.std.proofs.Common.{◌≡◌, suc, [], ◌∷◌, ◌++◌, length, refl, sym, ap, ◌∙◌, subst, arith}
-use Rattle.std.proofs.lemmas.List.{map-append}
+use Rattle.std.proofs.Common.{[], ◌∷◌, ◌++◌, length, refl, ap, ◌∙◌, arith}
 use Rattle.term_reader.specs.declared.name_stack.Place.{Place}
 use Rattle.term_reader.specs.NameStacks.{names_at}
 use Rattle.term_reader.proofs.NameStacks.{in_range, stack_kept, names_kept, names_push, stack_pushed}
