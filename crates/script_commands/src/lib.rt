@@ -14,5 +14,5 @@ mod tests;
 pub use commands::{Command, Parts};
 pub use reading::command;
 pub use settings::{Logic, OptionKey, truth_in};
-pub use shapes::is_name;
+pub use shapes::{define_fun, is_name};
 pub use smt_lexer::{Fault, Place, Refusal, Refused};

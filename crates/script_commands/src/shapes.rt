@@ -181,9 +181,9 @@ fn declare_fun(trees: Trees<'_>) -> Option<Command<'_>>
     Some(Command::DeclareFun(name, parameters, sort))
 }
 
-/// Reads `define-fun`, after its word.
+/// Reads `define-fun`, after its word; `None` where the trees have another shape than it. Source: SMT-LIB 2.6, section 3.9.
 #[tactic(auto, unfolding(spec_commands::specs::Commands::define_fun))]
-fn define_fun(trees: Trees<'_>) -> Option<Command<'_>>
+pub fn define_fun(trees: Trees<'_>) -> Option<Command<'_>>
     ensures { option_map command_view result ≡ define_fun (trees_meant trees.entry) }
 {
     let (name, rest) = name_first(trees)?;

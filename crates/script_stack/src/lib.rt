@@ -18,4 +18,4 @@ mod stack;
 
 pub use assertions::Assertions;
 pub use options::Options;
-pub use stack::{Effect, Stack};
+pub use stack::{Effect, Stack, TERM_LIMIT};

@@ -20,6 +20,9 @@ use std::alloc::Global;
 use term_reader::{ReadError, Scope};
 use term_table::TermTable;
 
+/// The most names that a script may have, and the most different subterms that the terms of one command may have. It is own.
+pub const TERM_LIMIT: u64 = 1 << 24;
+
 /// What a script has stated: its names, its assertions, and its options. The terms are in a table that stands beside it.
 ///
 /// Contracts see it as a `Stack` of the definitions, by the relation `IsStack`. While the table grows by terms alone, it
