@@ -1,7 +1,7 @@
 -- Arguments of the sorts of a definition's parameters fill them.
-use Rattle.std.proofs.Common.{◌≡◌, ℕ, zero, suc, ◌<◌, true, List, [], ◌∷◌, length, map, get_or, sym, ◌∙◌, arith}
+use Rattle.std.proofs.Common.{◌≡◌, ℕ, zero, suc, ◌<◌, true, List, [], ◌∷◌, length, map, get_or, refl, sym, ap, ◌∙◌, arith}
 use Rattle.std.proofs.lemmas.Bool.{false≢true, and_parts}
-use Rattle.spec_sorts.specs.Terms.{Sort, Head, True, False, Not, And, Or, Xor, Implies, Equal, Ite, Minus, Plus, Times, Divide, Less, AtMost, Literal, Apply, Parameter, Term, Terms, app, nil, cons, no_term, sort_of, sorts_of, same_sort, same_sorts, has_parameter, head_takes, is_sorted, are_sorted}
+use Rattle.spec_sorts.specs.Terms.{Sort, Head, True, False, Not, And, Or, Xor, Implies, Equal, Ite, Minus, Plus, Times, Divide, Less, AtMost, Literal, Apply, Parameter, Term, Terms, app, nil, cons, no_term, sort_of, sorts_of, same_sort, same_sorts, has_parameter, head_takes, is_sorted, are_sorted, filled, filled_all}
 use Rattle.spec_sorts.specs.WellSorted.{AllHeads, AllHeadsIn}
 use Rattle.spec_sorts.proofs.WellSorted.{same_sort_is}
 use Rattle.term_walks.specs.Filling.{Fills, FillsAll}
@@ -55,3 +55,19 @@ module _ (ps : List Sort) (ts : List Term) (same : same_sorts ps (map sort_of ts
     fills_each (cons u us) e =
         let both = and_parts (is_sorted ps u) (are_sorted ps us) e in
         (fills_all u both.0, fills_each us both.1)
+
+mutual
+  unfolding is_sorted are_sorted filled filled_all
+
+  -- a term without parameters stays as it is
+  pub filled_without : (ts : List Term) (u : Term) → is_sorted [] u ≡ true → filled ts u ≡ u
+  filled_without ts (app (Parameter k s) nil) e = absurd (false≢true e)
+  filled_without ts (app (Parameter k s) (cons u us)) e = absurd (false≢true e)
+  filled_without ts (app h us) e = ap (app h) (all_filled_without ts us (and_parts (head_takes [] h (sorts_of us)) (are_sorted [] us) e).1)
+
+  -- and so do terms
+  all_filled_without : (ts : List Term) (us : Terms) → are_sorted [] us ≡ true → filled_all ts us ≡ us
+  all_filled_without ts nil e = refl
+  all_filled_without ts (cons u us) e =
+      let both = and_parts (is_sorted [] u) (are_sorted [] us) e in
+      λ k. cons (filled_without ts u both.0 k) (all_filled_without ts us both.1 k)

@@ -50,6 +50,10 @@ fn by_macro(
     if !have_sorts(table, &definition.parameters, ids) {
         return Err(ReadError::Fault(fault_at(at, Fault::WrongSort)));
     }
+    // A definition without parameters is its term, which is not walked.
+    if ids.is_empty() {
+        return Ok(definition.body);
+    }
     match fill(alloc, table, definition.body, ids) {
         Ok(id) => Ok(id),
         Err(_) => Err(ReadError::Memory),

@@ -1,8 +1,9 @@
 -- A definition before terms, by its parameters.
-use Rattle.std.proofs.Common.{◌≡◌, Bool, true, false, arith, length, map, List, sym, ap, ◌∙◌, subst}
+use Rattle.std.proofs.Common.{◌≡◌, Bool, true, false, arith, length, map, List, [], ◌∷◌, refl, sym, ap, ◌∙◌, subst}
 use Rattle.std.specs.Prelude.{Ok}
+use Rattle.std.proofs.lemmas.Bool.Decides.{nat_tests}
 use Rattle.std.proofs.lemmas.List.{length-map}
-use Rattle.spec_sorts.specs.Terms.{sort_of, same_sorts, filled}
+use Rattle.spec_sorts.specs.Terms.{sort_of, same_sorts, is_sorted, filled}
 use Rattle.spec_sorts.specs.Signatures.{Definition}
 use Rattle.spec_reading.specs.Reading.{sorts_taken}
 use Rattle.term_table.specs.declared.ids.TermId.{TermId}
@@ -14,7 +15,7 @@ use Rattle.term_reader.specs.declared.scope.Macro.{Macro}
 use Rattle.term_reader.specs.Scopes.{IsMacro}
 use Rattle.term_reader.proofs.Tables.{keeps_same}
 use Rattle.term_reader.proofs.Applied.{other_count, other_sorts, those_sorts, other_length, same_length}
-use Rattle.term_parser.proofs.Filling.{fills_all}
+use Rattle.term_parser.proofs.Filling.{fills_all, filled_without}
 use Rattle.term_parser.proofs.applied.by_macro.Goals as goal
 
 -- as many sorts as parameters
@@ -49,6 +50,32 @@ returns-then-not-have_sorts c =
           (same_length (clause_at t ids) (sorts_taken d) (length ids) (length m.parameters.items) (length-map ids (term_at t)) (long t m d is) (omega (arith, c.if-ids-len.false, c.len.ensures, m.parameters.ok.0)))
           (taken t m d ids c.deref.result.now c.have_sorts.result false is c.deref.ensures.value c.have_sorts.ensures c.if-not-have_sorts.true));
     }
+
+-- no sorts where there are as many as of no parameters
+none_there : {X : Type 0} (xs : List X) → length xs ≡ 0 → xs ≡ []
+none_there [] e = refl
+none_there (x ∷ xs) e = absurd (omega (arith, e))
+
+pub returns-then-is_empty : goal.returns-then-is_empty
+returns-then-is_empty c =
+    let t = c.args.table.now in
+    let m = c.args.definition.now in
+    let ids = c.args.ids.now in
+    let u = c.requires.usable in
+    λ d is.
+        let count : length ids ≡ length m.parameters.items = omega (arith, c.if-ids-len.false, c.len.ensures, m.parameters.ok.0) in
+        let sorts : sorts_taken u.0 ≡ [] = none_there (sorts_taken u.0) (long t m u.0 u.1 ∙ sym count ∙ grind (arith, nat_tests, c.is_empty.ensures, c.if-is_empty.true)) in
+        record {
+          keeps = keeps_same t;
+          ends = (
+            is.body_there,
+            those_sorts (sorts_taken d) c.args.at (clause_at t ids) (filled (clause_at t ids) d.term)
+                (same_length (clause_at t ids) (sorts_taken d) (length ids) (length m.parameters.items) (length-map ids (term_at t)) (long t m d is) count)
+                (taken t m d ids c.deref.result.now c.have_sorts.result true is c.deref.ensures.value c.have_sorts.ensures c.if-not-have_sorts.false)
+                ∙ ap (λ v. Ok v) (ap (filled (clause_at t ids)) (sym is.body) ∙ ap (filled (clause_at t ids)) u.1.body
+                  ∙ filled_without (clause_at t ids) u.0.term (subst (λ ps. is_sorted ps u.0.term ≡ true) sorts u.2) ∙ sym u.1.body),
+          );
+        }
 
 pub fill-requires-clause-fills : goal.fill-requires-clause-fills
 fill-requires-clause-fills c =
