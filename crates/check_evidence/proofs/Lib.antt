@@ -1,0 +1,4 @@
+-- Lemmas on what a check finds.
+pub mod Reached
+pub mod Asking
+pub mod Showing

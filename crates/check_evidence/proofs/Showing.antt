@@ -1,0 +1,64 @@
+-- That what an outcome shows, what was found shows.
+use Rattle.std.proofs.Common.{◌≡◌, ℕ, true, List, [], map, All, refl, sym, ap, ◌∙◌, subst, arith}
+use Rattle.std.proofs.lemmas.List.{append-nil, length-map, get_or-map}
+use Rattle.spec_sorts.specs.Terms.{Term}
+use Rattle.spec_sorts.specs.Values.{Interpretation, Interprets, truth}
+use Rattle.spec_sorts.specs.TermValues.{value_at}
+use Rattle.spec_sorts.specs.Signatures.{Signature, symbols_in}
+use Rattle.spec_sorts.specs.Meaning.{value_under}
+use Rattle.spec_commands.specs.Stack.{Assertion, Stack, signature_of, assertions_of, terms_asserted}
+use Rattle.spec_commands.specs.Checks.{IsTrueUnder}
+use Rattle.spec_sessions.specs.Evidence.{Limits, model, spent, Justifies}
+use Rattle.term_table.specs.Tables.{TableView, literal_at}
+use Rattle.term_walks.specs.declared.values.Interp.{Interp}
+use Rattle.step_log.specs.Logs.{derivation_in}
+use Rattle.search_budget.specs.declared.limits.Reason.{Reason}
+use Rattle.search_budget.specs.declared.limits.Reason.TheVariants as reasons
+use Rattle.search_loop.specs.declared.cdcl.Answer.TheVariants.{Sat, Unknown}
+use Rattle.search_loop.specs.declared.outcome.Outcome.{Outcome}
+use Rattle.search_loop.specs.Rounds.{HasEvidence}
+use Rattle.spec_derivations.specs.Examples.{asserting}
+use Rattle.check_evidence.specs.declared.evidence.Evidence.TheVariants as found
+use Rattle.check_evidence.specs.Evidence.{check_on, IsShown}
+
+-- the text has its term's value under an interpretation
+abbrev pub HasValue : Signature → Interpretation → Assertion → Type 0
+HasValue g i a = value_under i g a.text ≡ value_at i [] a.term
+
+-- what is true of the terms is true of the texts
+texts_true : (g : Signature) (i : Interpretation) (xs : List Assertion) → All (HasValue g i) xs → All (λ u. value_at i [] u ≡ truth true) (terms_asserted xs) → All (IsTrueUnder i g) xs
+texts_true g i xs same each = λ k d lt.
+    same k d lt ∙ ap (value_at i []) (sym (get_or-map (λ (a : Assertion). a.term) xs k d (d.term) lt)) ∙ each k d.term (omega (arith, length-map xs (λ (a : Assertion). a.term), lt))
+
+module _ (limits : Limits) (t : TableView) (s : Stack) (symbols : symbols_in (signature_of s) ≡ t.symbols) (o : Outcome) where
+  abbrev asked : List Term
+  asked = terms_asserted (assertions_of s)
+
+  pub model_shown : ((i : Interpretation) → All (HasValue (signature_of s) i) (assertions_of s)) → (interp : Interp) → o.answer ≡ Sat interp → HasEvidence t (asserting asked) o.log o.budget (Sat interp) → IsShown limits t s (found.Model interp) o
+  model_shown values interp is h =
+      let i = h.interpretation.0 in
+      let stands = h.interpretation.1 in
+      let interprets = h.interprets i stands in
+      let terms : All (λ u. value_at i [] u ≡ truth true) asked = subst (All (λ u. value_at i [] u ≡ truth true)) (append-nil asked) (h.holds i stands) in
+      let each = texts_true (signature_of s) i (assertions_of s) (values i) terms in (
+        model i,
+        record {
+          interprets = subst (Interprets i) (sym symbols) interprets;
+          each = subst (All (IsTrueUnder i (signature_of s))) (sym (append-nil (assertions_of s))) each;
+        },
+        (i, record { count = omega (arith, h.tables); named = h.named }, stands, interprets, refl),
+        (interp, is, stands),
+      )
+
+  reason_shown : (n : ℕ) → o.answer ≡ Unknown (reasons.Conflicts n) → o.budget.limit ≡ limits.conflicts → HasEvidence t (asserting asked) o.log o.budget (Unknown (reasons.Conflicts n)) → IsShown limits t s (found.Spent (reasons.Conflicts n)) o
+  reason_shown n is limit h =
+      let d = derivation_in t o.log in
+      let learned = map (map (literal_at t)) o.budget.learned in (
+        spent n d learned,
+        subst (λ m. Justifies (record { conflicts = m; terms = limits.terms }) (check_on s) (spent n d learned)) limit (record { spent = h.0; conflict = h.1 }),
+        (d, refl),
+        (is, refl, refl),
+      )
+
+  pub any_reason_shown : (r : Reason) → o.answer ≡ Unknown r → o.budget.limit ≡ limits.conflicts → HasEvidence t (asserting asked) o.log o.budget (Unknown r) → IsShown limits t s (found.Spent r) o
+  any_reason_shown (reasons.Conflicts n) is limit h = reason_shown n is limit h

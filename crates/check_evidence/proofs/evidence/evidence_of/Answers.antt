@@ -1,0 +1,66 @@
+-- By the answer.
+use Rattle.std.proofs.Common.{map, Contains, refl, sym, ap, ◌∙◌, subst, arith}
+use Rattle.std.proofs.lemmas.List.{append-nil, length-map}
+use Rattle.spec_sorts.specs.Terms.{Term}
+use Rattle.spec_commands.specs.Stack.{signature_of, assertions_of, terms_asserted}
+use Rattle.spec_derivations.specs.Derivations.{IsDerivedFrom}
+use Rattle.spec_derivations.specs.Examples.{asserting}
+use Rattle.spec_proof_texts.specs.Lines.{proof_text}
+use Rattle.spec_proof_texts.specs.Plans.{lines_of, IsPrinted}
+use Rattle.spec_sessions.specs.Evidence.{proof}
+use Rattle.spec_sessions.specs.Refutations.{IsProofOf}
+use Rattle.term_table.specs.Tables.{literal_at}
+use Rattle.step_log.specs.Logs.{inference_of, derivation_in}
+use Rattle.search_loop.specs.Rounds.{added_by, HasSteps, HasEvidence}
+use Rattle.check_evidence.specs.Evidence.{check_on}
+use Rattle.check_evidence.proofs.Reached.{IsReached, asserted_reached, head_reached, printed_reached}
+use Rattle.check_evidence.proofs.Showing.{model_shown, any_reason_shown}
+use Rattle.check_evidence.proofs.evidence.evidence_of.Goals as goal
+
+pub returns-in-Sat-clause-shown : goal.returns-in-Sat-clause-shown
+returns-in-Sat-clause-shown c = λ limits s kept reach symbols h.
+    let t = c.args.table.now in
+    let o = c.args.outcome in
+    model_shown limits t s symbols o (λ i. c.commands_keep_stacks.ensures.value limits.terms s i kept.stack) c.in-Sat.interp c.in-Sat.is
+    (subst (HasEvidence t (asserting (terms_asserted (assertions_of s))) o.log o.budget) c.in-Sat.is h.evidence)
+
+pub returns-in_ok-plan-in-Unsat-clause-shown : goal.returns-in_ok-plan-in-Unsat-clause-shown
+returns-in_ok-plan-in-Unsat-clause-shown c = λ limits s kept reach symbols h.
+    let t = c.args.table.now in
+    let o = c.args.outcome in
+    let d = derivation_in t o.log in
+    let p = c.in_ok-plan-in-Unsat.plan in
+    let step = c.in-Unsat.step in
+    let n = step.0 in
+    let asked = terms_asserted (assertions_of s) in
+    let learned = map (map (literal_at t)) o.budget.learned in
+    let shown = subst (HasEvidence t (asserting asked) o.log o.budget) c.in-Unsat.is h.evidence in
+    let steps = subst (λ a. HasSteps (asserting asked) d (added_by a learned)) c.in-Unsat.is h.learning.logged in
+    let reached : (u : Term) → IsPrinted d n u → IsReached u =
+    printed_reached asked (asserted_reached (assertions_of s) reach) c.base_clauses_are_over_subterms.ensures d learned h.learning.learns.atoms steps n in
+    let planned = c.in_ok-plan-in-Unsat.ensures.plan in
+    let no_numbers = c.lines_in_reach_have_no_numbers.ensures t.terms d n p planned (λ u q. head_reached u (reached u q)) in
+    let is_proof : IsProofOf (check_on s) (proof_text (lines_of t.terms d p)) = record {
+      terms = t.terms;
+      derivation = d;
+      over = c.logs_are_over_their_terms.ensures t o.log h.log_right;
+      right = h.log_right.right;
+      number = n;
+      derived = subst (λ us. IsDerivedFrom us d n) (append-nil asked ∙ sym (ap terms_asserted (append-nil (assertions_of s)))) shown.1;
+      empty = shown.0;
+      printable = c.terms_are_printable.ensures (signature_of s) o.log n kept.names (λ f i. subst (λ fs. Contains fs f) (sym symbols) i) h.log_right
+          (omega (arith, shown.1.there, length-map o.log (inference_of t)))
+          (λ u q. c.well_sorted_terms_are_printable.ensures.reach u (head_reached u (reached u q)));
+      plan = p;
+      planned = planned;
+      few = omega (arith, no_numbers);
+      written = refl;
+    } in
+    (proof (proof_text (lines_of t.terms d p)), is_proof, (h.log_right, c.in_ok-plan-in-Unsat.ensures.fits, refl), (step, p, c.in-Unsat.is, planned, refl))
+
+pub returns-in-Unknown-clause-shown : goal.returns-in-Unknown-clause-shown
+returns-in-Unknown-clause-shown c = λ limits s kept reach symbols h.
+    let t = c.args.table.now in
+    let o = c.args.outcome in
+    any_reason_shown limits t s symbols o c.in-Unknown.reason c.in-Unknown.is h.limit_is
+    (subst (HasEvidence t (asserting (terms_asserted (assertions_of s))) o.log o.budget) c.in-Unknown.is h.evidence)

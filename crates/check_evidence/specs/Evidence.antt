@@ -1,0 +1,106 @@
+-- What a check finds, and what shows it. Source: SMT-LIB 2.6, section 4.2.5; what counts as shown is own.
+use Rattle.std.specs.Prelude.{◌≡◌, ℕ, [], map, Result, Ok, Err}
+use Rattle.world_io.specs.declared.bytes.NoMemory.{NoMemory}
+use Rattle.spec_sorts.specs.Values.{Interpretation, Interprets}
+use Rattle.spec_commands.specs.Stack.{Stack, terms_asserted, assertions_of}
+use Rattle.spec_commands.specs.Checks.{Check}
+use Rattle.spec_derivations.specs.Derivations.{Derivation}
+use Rattle.spec_derivations.specs.Examples.{asserting}
+use Rattle.spec_proof_texts.specs.Lines.{proof_text}
+use Rattle.spec_proof_texts.specs.Plans.{Plan, IsPlan, lines_of}
+use Rattle.spec_sessions.specs.Evidence.{Limits, Found, model, proof, spent, Checked, Justifies}
+use Rattle.spec_sessions.specs.Meaning.{IsKeptCheck}
+use Rattle.term_table.specs.Tables.{TableView, literal_at}
+use Rattle.term_walks.specs.declared.values.Interp.{Interp}
+use Rattle.term_walks.specs.Valuations.{Stands, HasTables}
+use Rattle.step_log.specs.declared.premises.StepId.{StepId}
+use Rattle.step_log.specs.Logs.{derivation_in, IsLogOf}
+use Rattle.proof_writer.specs.Printing.{Fits}
+use Rattle.search_budget.specs.Budgets.{BudgetView}
+use Rattle.search_budget.specs.declared.limits.Limits.{Limits as CodeLimits}
+use Rattle.search_budget.specs.declared.limits.Reason.TheVariants as reasons
+use Rattle.script_stack.specs.Stacks.{Standing, IsStack}
+use Rattle.search_loop.specs.declared.cdcl.Answer.TheVariants.{Sat, Unsat, Unknown}
+use Rattle.search_loop.specs.declared.outcome.Outcome.{Outcome}
+use Rattle.search_loop.specs.Decisions.{IsJustified}
+use Rattle.check_evidence.specs.declared.evidence.Evidence.{Evidence}
+use Rattle.check_evidence.specs.declared.evidence.Evidence.TheVariants as found
+
+-- limits in the words of the definitions
+abbrev pub limits_meant : CodeLimits → Limits
+limits_meant l = record { conflicts = l.conflicts; terms = l.terms }
+
+-- a check of a stack, which assumes nothing
+abbrev pub check_on : Stack → Check
+check_on s = record { stack = s; assumptions = [] }
+
+-- what was found at a check of a stack
+abbrev pub checked_on : Stack → Found → Checked
+checked_on s f = record { check = check_on s; found = f }
+
+-- A stack of the code stands for a stack, which commands left under a limit on terms and names.
+pub record IsHeld (terms : ℕ) (x : Standing) (s : Stack) : Type 0 where
+  -- it is the stack
+  pub stack : IsStack terms x s
+  -- commands left it, and its names can be printed
+  pub kept : IsKeptCheck terms (check_on s)
+
+-- it stands for some stack
+abbrev pub HoldsSome : ℕ → Standing → Type 0
+HoldsSome terms x = (s : Stack) × IsHeld terms x s
+
+-- what was found is this, in the words of the definitions
+abbrev pub IsEvidence : TableView → BudgetView → Evidence → Found → Type 0
+IsEvidence t budget (found.Model interp) f =
+    (i : Interpretation) × HasTables t interp × Stands t interp i × Interprets i t.symbols × (f ≡ model i)
+IsEvidence t budget (found.Proof log plan) f =
+    IsLogOf t log × Fits t log plan × (f ≡ proof (proof_text (lines_of t.terms (derivation_in t log) plan)))
+IsEvidence t budget (found.Spent (reasons.Conflicts n)) f =
+    (d : Derivation) × (f ≡ spent n d (map (map (literal_at t)) budget.learned))
+
+-- it is evidence of something
+abbrev pub IsSomeEvidence : TableView → Evidence → Type 0
+IsSomeEvidence t e = (budget : BudgetView) × (f : Found) × IsEvidence t budget e f
+
+-- what was found is that of an outcome: its model, the proof that is printed of its log, or the clauses that it learned
+abbrev pub IsFoundBy : TableView → Outcome → Found → Type 0
+IsFoundBy t o (model i) = (interp : Interp) × (o.answer ≡ Sat interp) × Stands t interp i
+IsFoundBy t o (proof text) =
+    (step : StepId) × (plan : Plan) × (o.answer ≡ Unsat step) × IsPlan t.terms (derivation_in t o.log) step.0 plan
+    × (text ≡ proof_text (lines_of t.terms (derivation_in t o.log) plan))
+IsFoundBy t o (spent n d learned) =
+    (o.answer ≡ Unknown (reasons.Conflicts n)) × (d ≡ derivation_in t o.log)
+    × (learned ≡ map (map (literal_at t)) o.budget.learned)
+
+-- it shows what it should of a stack, within limits, and is that of an outcome
+abbrev pub IsShown : Limits → TableView → Stack → Evidence → Outcome → Type 0
+IsShown limits t s e o =
+    (f : Found) × Justifies limits (check_on s) f × IsEvidence t o.budget e f × IsFoundBy t o f
+
+-- the outcome is that of a decision on the assertions of a stack
+abbrev pub Decides : Limits → TableView → Stack → Outcome → Type 0
+Decides limits t s o = IsJustified t (asserting (terms_asserted (assertions_of s))) limits.conflicts o
+
+-- the budget is that of a decision on the assertions of a stack, which found this: it has the limit on conflicts, and
+-- its clauses are those that the decision learned and has in its log
+abbrev pub HasLearned : Limits → TableView → Stack → Found → BudgetView → Type 0
+HasLearned limits t s f budget =
+    (o : Outcome) × Decides limits t s o × IsFoundBy t o f × (budget ≡ o.budget)
+
+-- What a check of a stack found, and the stack of the code stands for the same stack.
+pub record HasChecked (limits : Limits) (s : Stack) (e : Evidence) (x : Standing) (budget : BudgetView) : Type 0 where
+  -- the outcome of the decision
+  pub outcome : Outcome
+  -- it is right
+  pub decided : Decides limits x.table s outcome
+  -- its budget is kept
+  pub budget_is : budget ≡ outcome.budget
+  -- what was found shows what it should
+  pub shown : IsShown limits x.table s e outcome
+  -- the stack stands for the same stack
+  pub held : IsHeld limits.terms x s
+
+-- a check of a stack found something; or memory ran out
+abbrev pub Checks : Limits → Stack → Result Evidence NoMemory → Standing → BudgetView → Type 0
+Checks limits s (Ok e) x budget = HasChecked limits s e x budget
+Checks limits s (Err _) x budget = IsHeld limits.terms x s

@@ -1,0 +1,2 @@
+-- What a check finds, and what shows it.
+pub mod Evidence

@@ -1,0 +1,112 @@
+//! What a check finds, with what shows it.
+
+ghost use Rattle.std.specs.Prelude.{◌≡◌, ℕ, true, List, IfOk, OnErr};
+ghost use Rattle.spec_sorts.specs.Terms.{Term};
+ghost use Rattle.spec_sorts.specs.Signatures.{symbols_in};
+ghost use Rattle.spec_commands.specs.Stack.{Stack as ScriptStack, signature_of, all_in_reach, assertions_of};
+ghost use Rattle.spec_derivations.specs.Examples.{asserting};
+ghost use Rattle.spec_sessions.specs.Evidence.{Limits as SpokenLimits};
+ghost use Rattle.spec_sessions.specs.Meaning.{IsKeptCheck};
+ghost use Rattle.script_stack.specs.Stacks.{standing};
+ghost use Rattle.search_loop.specs.Decisions.{IsJustified};
+ghost use Rattle.check_evidence.specs.Evidence.{limits_meant, check_on, IsHeld, HoldsSome, Decides, IsShown, Checks};
+
+use proof_writer::printable::{logs_are_over_their_terms, terms_are_printable};
+use proof_writer::{Plan, prepare};
+use script_stack::Stack;
+use script_stack::laws::stacks_stand_in_grown_tables;
+use search_budget::{Budget, Limits, Reason};
+use search_loop::{Answer, Outcome, decide};
+use spec_commands::{assertions_are_formulas, commands_keep_stacks};
+use spec_derivations::laws::base_clauses_are_over_subterms;
+use spec_proof_texts::laws::{lines_in_reach_have_no_numbers, well_sorted_terms_are_printable};
+use std::alloc::Global;
+use step_log::ProofLog;
+use term_table::TermTable;
+use term_walks::Interp;
+use world_io::NoMemory;
+
+/// What a check found, with what shows it.
+///
+/// Contracts see it as what was found, by the relation `IsEvidence`. Source: SMT-LIB 2.6, section 4.2.5.
+#[derive(Drop)]
+pub enum Evidence {
+    /// Tables under which all assertions are true.
+    Model(Interp),
+    /// A log with a clause that is empty, and what is printed for it.
+    Proof(ProofLog, Plan),
+    /// What was spent without an answer.
+    Spent(Reason),
+}
+
+/// Checks what is asserted, all of which the search must reach, and keeps what was learned in the budget.
+///
+/// The table grows by the terms of the clauses that define the assertions. The budget is then that of the decision,
+/// under the limit on conflicts. `NoMemory` comes where memory ran out; table and budget are then as they were.
+pub fn check(
+    alloc: Global,
+    table: &mut TermTable,
+    stack: &Stack,
+    budget: &mut Budget,
+    limits: &Limits,
+) -> Result<Evidence, NoMemory>
+    requires held { HoldsSome limits.now.terms (standing table.old stack.now) }
+    requires reach { stack.now.assertions.in_reach ≡ true }
+    ensures checks { (s : ScriptStack) → IsHeld limits.now.terms (standing table.old stack.now) s
+        → Checks (limits_meant limits.now) s result (standing table.new stack.now) budget.new }
+    ensures limit { IfOk result (λ _. budget.new.limit ≡ limits.now.conflicts) }
+    ensures table { OnErr result (table.new ≡ table.old) }
+    ensures budget { OnErr result (budget.new ≡ budget.old) }
+{
+    assertions_are_formulas();
+    stacks_stand_in_grown_tables();
+    let len = table.len();
+    let outcome = decide(alloc, table, stack.assertions.as_slice(), limits)?;
+    match evidence_of(alloc, table, outcome) {
+        Ok((evidence, learned)) => {
+            *budget = learned;
+            Ok(evidence)
+        }
+        Err(NoMemory) => {
+            table.cut(len);
+            Err(NoMemory)
+        }
+    }
+}
+
+/// Keeps of an outcome what shows its answer, and prepares the printing of a proof. It takes time and memory in
+/// proportion to the log and the table.
+///
+/// `NoMemory` comes where memory ran out.
+fn evidence_of(
+    alloc: Global,
+    table: &TermTable,
+    outcome: Outcome,
+) -> Result<(Evidence, Budget), NoMemory>
+    requires { (terms : List Term) × (conflicts : ℕ) × IsJustified table.now (asserting terms) conflicts outcome }
+    ensures shown { IfOk result (λ x. (limits : SpokenLimits) (s : ScriptStack)
+        → IsKeptCheck limits.terms (check_on s) → all_in_reach (assertions_of s) ≡ true
+        → symbols_in (signature_of s) ≡ table.now.symbols → Decides limits table.now s outcome
+        → IsShown limits table.now s x.0 outcome) }
+    ensures budget { IfOk result (λ x. x.1 ≡ outcome.budget) }
+{
+    commands_keep_stacks();
+    base_clauses_are_over_subterms();
+    well_sorted_terms_are_printable();
+    lines_in_reach_have_no_numbers();
+    logs_are_over_their_terms();
+    terms_are_printable(table);
+    let Outcome {
+        answer,
+        log,
+        budget,
+    } = outcome;
+    match answer {
+        Answer::Sat(interp) => Ok((Evidence::Model(interp), budget)),
+        Answer::Unsat(step) => {
+            let plan = prepare(alloc, &log, table, step)?;
+            Ok((Evidence::Proof(log, plan), budget))
+        }
+        Answer::Unknown(reason) => Ok((Evidence::Spent(reason), budget)),
+    }
+}

@@ -1,0 +1,64 @@
+//! How what a check found is written.
+
+ghost use Rattle.std.specs.Prelude.{◌≡◌};
+ghost use Rattle.world_io.specs.Writing.{Sends};
+ghost use Rattle.spec_sorts.specs.Signatures.{symbols_in};
+ghost use Rattle.spec_commands.specs.Stack.{Stack as ScriptStack, signature_of};
+ghost use Rattle.spec_replies.specs.Lines.{word_line};
+ghost use Rattle.spec_sessions.specs.Evidence.{Found};
+ghost use Rattle.spec_sessions.specs.Responses.{answer_text, evidence_text};
+ghost use Rattle.search_budget.specs.Budgets.{BudgetView};
+ghost use Rattle.term_table.specs.Tables.{TableView};
+ghost use Rattle.check_evidence.specs.Evidence.{checked_on, IsEvidence, IsSomeEvidence};
+
+use crate::evidence::Evidence;
+use model_writer::send as send_model;
+use proof_writer::send as send_proof;
+use reply_lines::{Word, spent, word};
+use search_budget::Reason;
+use term_table::TermTable;
+use world_io::{Failed, Sink};
+
+/// Writes the word that answers a check: `sat`, `unsat` or `unknown`, on a line. It takes no memory.
+///
+/// `Failed` comes only where the sink's count of faults rose in this call; a prefix was then appended.
+/// Source: SMT-LIB 2.6, section 4.2.5.
+pub fn send_answer<K: Sink>(evidence: &Evidence, out: &mut K) -> Result<(), Failed>
+    ensures { (t : TableView) (budget : BudgetView) (f : Found) → IsEvidence t budget evidence.now f
+        → Sends (answer_text f) result (K.state out.old) (K.state out.new) }
+{
+    word(word_of(evidence), out)
+}
+
+/// The word that answers a check.
+fn word_of(evidence: &Evidence) -> Word
+    ensures { (t : TableView) (budget : BudgetView) (f : Found) → IsEvidence t budget evidence.now f
+        → answer_text f ≡ word_line result }
+{
+    match evidence {
+        Evidence::Model(_) => Word::Sat,
+        Evidence::Proof(_, _) => Word::Unsat,
+        Evidence::Spent(_) => Word::Unknown,
+    }
+}
+
+/// Writes what shows that the answer of a check is right: a model, a proof or a reason. It takes no memory.
+///
+/// `Failed` comes only where the sink's count of faults rose in this call; a prefix was then appended.
+/// Source: SMT-LIB 2.6, section 4.2.6, for models; Alethe specification, for proofs.
+pub fn send_evidence<K: Sink>(
+    table: &TermTable,
+    evidence: &Evidence,
+    out: &mut K,
+) -> Result<(), Failed>
+    requires { IsSomeEvidence table.now evidence.now }
+    ensures { (budget : BudgetView) (s : ScriptStack) (f : Found) → symbols_in (signature_of s) ≡ table.now.symbols
+        → IsEvidence table.now budget evidence.now f
+        → Sends (evidence_text (checked_on s f)) result (K.state out.old) (K.state out.new) }
+{
+    match evidence {
+        Evidence::Model(interp) => send_model(interp, table, out),
+        Evidence::Proof(log, plan) => send_proof(plan, log, table, out),
+        Evidence::Spent(Reason::Conflicts(count)) => spent(*count, out),
+    }
+}
