@@ -1,0 +1,9 @@
+-- The lemmas of this crate.
+pub mod Keywords
+pub mod Namings
+pub mod Members
+pub mod Entries
+pub mod PremiseLists
+pub mod Rooms
+pub mod ReadParts
+pub mod ReadCommands
