@@ -20,3 +20,5 @@ pub mod Functions
 pub mod NamesGiven
 pub mod Parameters
 pub mod Definitions
+pub mod FreeNames
+pub mod Looking

@@ -7,3 +7,4 @@ pub mod Naming
 pub mod Steps
 pub mod Rows
 pub mod Defining
+pub mod Mentions
