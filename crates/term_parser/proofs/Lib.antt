@@ -22,3 +22,4 @@ pub mod Parameters
 pub mod Definitions
 pub mod FreeNames
 pub mod Looking
+pub mod Scoping

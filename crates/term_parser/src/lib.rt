@@ -13,6 +13,8 @@ mod naming;
 mod reads;
 mod sorted;
 mod splitting;
+#[cfg(test)]
+mod tests;
 mod walk;
 
 pub use reads::{Parts, Room, define, term, terms};
