@@ -9,3 +9,4 @@ pub mod Stacks
 pub mod Declared
 pub mod Back
 pub mod Steps
+pub mod Checking

@@ -104,3 +104,8 @@ Steps limit left x new (Ok e) = (d : Taken) × (left ≡ Ok d) × (effect_meant 
 Steps limit left x new (Err (refusals.Fault r)) =
     (left ≡ Err (record { offset = r.place.offset; fault = r.fault })) × IsPlaceOf (text_of x) r.place
 Steps limit left x new (Err refusals.Memory) = Unit {0}
+
+-- a check leaves the table, and of the stack it changes no more than that it ends the start
+abbrev pub KeepsAtCheck : {E : Type 0} → Result CodeEffect E → Standing → Standing → Type 0
+KeepsAtCheck (Ok effects.Check) old new = new ≡ standing old.table (record old.stack { started = true })
+KeepsAtCheck _ old new = Unit {0}

@@ -1,6 +1,6 @@
 //! Logics, options, and the beginning of a check.
 
-ghost use Rattle.std.specs.Prelude.{◌≡◌, ℕ, OnErr};
+ghost use Rattle.std.specs.Prelude.{◌≡◌, ℕ, true, OnErr, OnOk};
 ghost use Rattle.spec_commands.specs.Commands.{SetLogic, SetOption, CheckSat};
 ghost use Rattle.spec_commands.specs.Stack.{Stack as ScriptStack, performed};
 ghost use Rattle.smt_sexpr.specs.Items.{tree_meant};
@@ -64,6 +64,7 @@ pub(crate) fn set_option<'a>(
 pub(crate) fn begin_check<'a>(stack: &mut Stack, place: u64) -> Result<Effect<'a>, ReadError>
     ensures performs { (limit at : ℕ) (t : TableView) (s : ScriptStack) → IsStack limit (standing t stack.old) s
         → Performs limit (performed limit at s (CheckSat place)) (standing t stack.new) result }
+    ensures begun { OnOk result (stack.new ≡ record stack.old { started = true }) }
     ensures same { OnErr result (stack.new ≡ stack.old) }
 {
     if !stack.assertions.are_in_reach() {

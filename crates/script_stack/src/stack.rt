@@ -5,7 +5,7 @@ ghost use Rattle.spec_commands.specs.Stack.{Stack as ScriptStack, empty_stack, p
 ghost use Rattle.script_commands.specs.Commands.{command_view};
 ghost use Rattle.smt_sexpr.specs.Items.{tree_of};
 ghost use Rattle.term_table.specs.Tables.{TableView, Extends};
-ghost use Rattle.script_stack.specs.Stacks.{standing, HasStack, IsStack, Performs, Steps};
+ghost use Rattle.script_stack.specs.Stacks.{standing, HasStack, IsStack, Performs, Steps, KeepsAtCheck};
 
 use crate::asserting::{assert_term, define_fun};
 use crate::assertions::Assertions;
@@ -95,6 +95,7 @@ impl Stack {
         requires { HasStack (standing table.old self.old) }
         ensures steps { (limit : ℕ) (s : ScriptStack) → IsStack limit (standing table.old self.old) s
             → Steps limit (step limit s (tree_of sexpr.now)) sexpr.now (standing table.new self.new) result }
+        ensures check { KeepsAtCheck result (standing table.old self.old) (standing table.new self.new) }
         ensures kept { OnOk result (Extends table.old table.new) }
         ensures same { OnErr result ((self.new ≡ self.old) × (table.new ≡ table.old)) }
     {
@@ -126,6 +127,7 @@ fn perform<'a>(
     requires { HasStack (standing table.old stack.old) }
     ensures performs { (limit : ℕ) (s : ScriptStack) → IsStack limit (standing table.old stack.old) s
         → Performs limit (performed limit at s (command_view command.entry)) (standing table.new stack.new) result }
+    ensures check { KeepsAtCheck result (standing table.old stack.old) (standing table.new stack.new) }
     ensures kept { OnOk result (Extends table.old table.new) }
     ensures same { OnErr result ((stack.new ≡ stack.old) × (table.new ≡ table.old)) }
 {

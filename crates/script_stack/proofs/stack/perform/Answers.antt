@@ -1,9 +1,15 @@
 -- Each command is performed by its own function, or changes nothing.
 use Rattle.std.proofs.Common.{refl}
+use Rattle.spec_text.specs.Trees.{none}
+use Rattle.spec_commands.specs.Commands.{SetLogic, SetOption, DeclareSort, DefineSort, DeclareFun, DefineFun, Assert}
 use Rattle.spec_commands.specs.Stack.{did, say, leave}
+use Rattle.smt_sexpr.specs.Items.{trees_meant, tree_meant}
+use Rattle.smt_sexpr.specs.Views.{word_view}
+use Rattle.script_commands.specs.Commands.{parts_view}
 use Rattle.term_table.specs.Tables.{Extends}
 use Rattle.term_table.proofs.TermsExtend.{Extends-self}
 use Rattle.script_stack.proofs.Steps.{anyway}
+use Rattle.script_stack.proofs.Checking.{not_asked, begins_check}
 use Rattle.script_stack.proofs.stack.perform.Goals as goal
 
 pub returns-in-SetLogic-clause-kept : goal.returns-in-SetLogic-clause-kept
@@ -47,3 +53,30 @@ returns-in-Exit-clause-performs c limit s h = rw c.in-Exit.is (record { effect =
 
 pub returns-in-Exit-clause-kept : goal.returns-in-Exit-clause-kept
 returns-in-Exit-clause-kept c = Extends-self c.args.table.now
+
+pub returns-in-SetLogic-clause-check : goal.returns-in-SetLogic-clause-check
+returns-in-SetLogic-clause-check c = not_asked c.requires.0 c.args.at c.requires.1 (SetLogic (word_view c.in-SetLogic.word)) (λ no. no) _ _ c.set_logic.result (c.set_logic.ensures.performs c.requires.0 c.args.table.now c.requires.1 c.requires.2)
+
+pub returns-in-SetOption-clause-check : goal.returns-in-SetOption-clause-check
+returns-in-SetOption-clause-check c = not_asked c.requires.0 c.args.at c.requires.1 (SetOption c.in-SetOption.name.now (tree_meant c.in-SetOption.value)) (λ no. no) _ _ c.set_option.result (c.set_option.ensures.performs c.requires.0 c.args.table.now c.requires.1 c.requires.2)
+
+pub returns-in-DeclareSort-clause-check : goal.returns-in-DeclareSort-clause-check
+returns-in-DeclareSort-clause-check c = not_asked c.requires.0 c.args.at c.requires.1 (DeclareSort (word_view c.in-DeclareSort.word)) (λ no. no) _ _ c.declare_sort.result (c.declare_sort.ensures.performs c.requires.0 c.requires.1 c.requires.2)
+
+pub returns-in-DefineSort-clause-check : goal.returns-in-DefineSort-clause-check
+returns-in-DefineSort-clause-check c = not_asked c.requires.0 c.args.at c.requires.1 (DefineSort (word_view c.in-DefineSort.word) (tree_meant c.in-DefineSort.sort)) (λ no. no) _ _ c.define_sort.result (c.define_sort.ensures.performs c.requires.0 c.requires.1 c.requires.2)
+
+pub returns-in-DeclareConst-clause-check : goal.returns-in-DeclareConst-clause-check
+returns-in-DeclareConst-clause-check c = not_asked c.requires.0 c.args.at c.requires.1 (DeclareFun (word_view c.in-DeclareConst.word) none (tree_meant c.in-DeclareConst.sort)) (λ no. no) _ _ c.declare_const.result (c.declare_const.ensures.performs c.requires.0 c.requires.1 c.requires.2)
+
+pub returns-in-DeclareFun-clause-check : goal.returns-in-DeclareFun-clause-check
+returns-in-DeclareFun-clause-check c = not_asked c.requires.0 c.args.at c.requires.1 (DeclareFun (word_view c.in-DeclareFun.word) (trees_meant c.in-DeclareFun.parameters) (tree_meant c.in-DeclareFun.sort)) (λ no. no) _ _ c.declare_fun.result (c.declare_fun.ensures.performs c.requires.0 c.requires.1 c.requires.2)
+
+pub returns-in-DefineFun-clause-check : goal.returns-in-DefineFun-clause-check
+returns-in-DefineFun-clause-check c = not_asked c.requires.0 c.args.at c.requires.1 (DefineFun (parts_view c.in-DefineFun.parts)) (λ no. no) _ _ c.define_fun.result (c.define_fun.ensures.performs c.requires.0 c.requires.1 c.requires.2)
+
+pub returns-in-Assert-clause-check : goal.returns-in-Assert-clause-check
+returns-in-Assert-clause-check c = not_asked c.requires.0 c.args.at c.requires.1 (Assert (tree_meant c.in-Assert.tree)) (λ no. no) _ _ c.assert_term.result (c.assert_term.ensures.performs c.requires.0 c.requires.1 c.requires.2)
+
+pub returns-in-CheckSat-clause-check : goal.returns-in-CheckSat-clause-check
+returns-in-CheckSat-clause-check c = begins_check c.args.table.now c.args.stack.now c.begin_check.new.stack c.begin_check.result c.begin_check.ensures.begun
