@@ -4,11 +4,12 @@ use Rattle.std.specs.List.{AllByRecursion}
 use Rattle.std.proofs.lemmas.Bool.{and_parts, cases_lt}
 use Rattle.std.proofs.lemmas.List.{append-nil, get_or_past}
 use Rattle.std.proofs.lemmas.List.Elements.{All-contains, All-from_recursion, Contains-get_or, Contains-append_cases, Contains-push_cases}
-use Rattle.spec_text.proofs.Members.{first, later, none, only, to_image}
-use Rattle.spec_sorts.specs.Terms.{True, Not, Ite, Equal, Term, app, nil, cons, of, pair}
+use Rattle.spec_text.proofs.Members.{first, later, cases, none, only, to_image}
+use Rattle.spec_sorts.specs.Terms.{True, Not, Ite, Equal, Term, Terms, app, nil, cons, list_of, of, pair}
+use Rattle.spec_sorts.specs.Subsets.{arguments_of}
 use Rattle.spec_sorts.specs.Subterms.{subterms_of}
 use Rattle.spec_sorts.specs.Literals.{Clause, Literal, literal_of, literals_of}
-use Rattle.spec_commands.specs.Stack.{Assertion, terms_asserted, head_in_reach, is_in_reach, all_in_reach}
+use Rattle.spec_commands.specs.Stack.{Assertion, terms_asserted, head_in_reach, is_in_reach, are_in_reach, all_in_reach}
 use Rattle.spec_derivations.specs.Problems.{Problem, subterms_in, known_subterms}
 use Rattle.spec_derivations.specs.Derivations.{Inference, Derivation, conclusion, inference_at, conclusion_at, no_inference}
 use Rattle.spec_derivations.specs.Base.{base_clauses}
@@ -19,7 +20,6 @@ use Rattle.spec_derivations.proofs.Below.{subterms_have}
 use Rattle.spec_derivations.proofs.Formulas.{reached_head}
 use Rattle.spec_proof_texts.specs.Plans.{IsPrinted, in_clause, as_argument}
 use Rattle.spec_proof_texts.specs.Printable.{head_of}
-use Rattle.script_stack.proofs.Reaching.{arguments_reached}
 use Rattle.search_loop.specs.Rounds.{HasSteps}
 
 -- the search reaches the term
@@ -39,6 +39,18 @@ asserted_reached xs e = All-from_recursion IsReached (terms_asserted xs) (each_a
 -- a term that is reached has a head that is
 pub head_reached : (t : Term) → IsReached t → head_in_reach (head_of t) ≡ true
 head_reached (app h ts) e = reached_head h ts e
+
+each_reached : (ts : Terms) → are_in_reach ts ≡ true → (u : Term) → Contains (list_of ts) u → IsReached u
+unfolding is_in_reach
+each_reached nil e u c = absurd (none u c)
+each_reached (cons t ts) e u c =
+    let both = and_parts (is_in_reach t) (are_in_reach ts) e in
+    elim (cases t (list_of ts) u c) [ inl same ↦ subst IsReached same both.0 | inr rest ↦ each_reached ts both.1 u rest ]
+
+-- and arguments that are
+arguments_reached : (t : Term) → IsReached t → (u : Term) → Contains (arguments_of t) u → IsReached u
+unfolding is_in_reach
+arguments_reached (app h ts) e u c = each_reached ts (and_parts (head_in_reach h) (are_in_reach ts) e).1 u c
 
 -- a term is reached where what it negates is
 bare_reached : (t : Term) → IsReached (literal_of t).atom → IsReached t

@@ -17,6 +17,7 @@ use Rattle.term_reader.specs.Scopes.{Stands}
 use Rattle.script_stack.specs.declared.stack.Stack.{Stack as CodeStack}
 use Rattle.script_stack.specs.Stacks.{standing, IsStack, with_sort, with_function}
 use Rattle.script_stack.proofs.Levels.{signature_last}
+use Rattle.script_stack.proofs.Reaching.{marks_kept}
 use Rattle.script_stack.proofs.Naming.{sort_last, sort_before, stands_sort, stands_symbol}
 
 among_last : (ns : List Name) (n m : Name) → among ns m ≡ false → bytes_eq n m ≡ false → among (ns ++ n ∷ []) m ≡ false
@@ -52,6 +53,7 @@ module _ (limit : ℕ) (old new : TableView) (x : CodeStack) (s : Stack) (h : Is
     terms = clause_at-kept old new grows x.assertions.ids h.inside ∙ h.terms;
     starts = h.starts;
     in_reach = h.in_reach;
+    reached = marks_kept old new grows x.reached h.reached;
     options = h.options;
     started = refl;
   }
@@ -83,6 +85,7 @@ symbol_stack limit t x s f h long free =
       terms = clause_at-kept t new grows x.assertions.ids h.inside ∙ h.terms;
       starts = h.starts;
       in_reach = h.in_reach;
+      reached = marks_kept t new grows x.reached h.reached;
       options = h.options;
       started = refl;
     }

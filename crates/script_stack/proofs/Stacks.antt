@@ -35,8 +35,10 @@ use Rattle.term_parser.specs.Reads.{within, roomy_reading, roomy_definitions, St
 use Rattle.script_stack.specs.declared.options.Options.{Options as CodeOptions}
 use Rattle.script_stack.specs.declared.stack.Stack.{Stack as CodeStack}
 use Rattle.script_stack.specs.Assertions.{starts_of}
+use Rattle.script_stack.specs.Marks.{AreMarks}
 use Rattle.script_stack.specs.Views.{Fails}
 use Rattle.script_stack.specs.Stacks.{options_meant, standing, IsStack, with_term}
+use Rattle.script_stack.proofs.Reaching.{no_marks, marks_kept}
 use Rattle.script_stack.proofs.Levels.{signature_last, signature_with, rest_with, sorts_with, starts_last, terms_last, reach_last}
 
 -- a stack in a table that has terms more
@@ -50,13 +52,14 @@ stack_grown limit old new x s h k = record {
   terms = clause_at-kept old new k.extends x.assertions.ids h.inside ∙ h.terms;
   starts = h.starts;
   in_reach = h.in_reach;
+  reached = marks_kept old new k.extends x.reached h.reached;
   options = h.options;
   started = h.started;
 }
 
 -- the first stack
-pub first_stack : (limit : ℕ) (t : TableView) (x : CodeStack) → x.limit ≡ limit → Stands t x.scope [] → t.sorts ≡ [] → t.symbols ≡ [] → x.assertions ≡ record { ids = []; starts = []; in_reach = true } → options_meant x.options ≡ empty_stack.options → x.started ≡ false → IsStack limit (standing t x) empty_stack
-first_stack limit t x l scope sorts symbols assertions options started = record {
+pub first_stack : (limit : ℕ) (t : TableView) (x : CodeStack) → x.limit ≡ limit → Stands t x.scope [] → t.sorts ≡ [] → t.symbols ≡ [] → x.assertions ≡ record { ids = []; starts = []; in_reach = true } → x.reached ≡ [] → options_meant x.options ≡ empty_stack.options → x.started ≡ false → IsStack limit (standing t x) empty_stack
+first_stack limit t x l scope sorts symbols assertions marks options started = record {
   limit_is = l;
   scope = scope;
   symbols = symbols;
@@ -65,6 +68,7 @@ first_stack limit t x l scope sorts symbols assertions options started = record 
   terms = ap (λ a. clause_at t a.ids) assertions;
   starts = ap (λ a. a.starts) assertions;
   in_reach = ap (λ a. a.in_reach) assertions;
+  reached = subst (AreMarks t) (sym marks) (no_marks t);
   options = options;
   started = started;
 }
@@ -81,6 +85,7 @@ module _ (limit : ℕ) (t : TableView) (x : CodeStack) (s : Stack) (h : IsStack 
     terms = h.terms;
     starts = h.starts;
     in_reach = h.in_reach;
+    reached = h.reached;
     options = h.options;
     started = refl;
   }
@@ -96,6 +101,7 @@ module _ (limit : ℕ) (t : TableView) (x : CodeStack) (s : Stack) (h : IsStack 
     terms = h.terms;
     starts = h.starts;
     in_reach = h.in_reach;
+    reached = h.reached;
     options = e ∙ ap (with_option k b) h.options;
     started = h.started;
   }
@@ -282,13 +288,15 @@ module _ (limit : ℕ) (old new : TableView) (x : CodeStack) (s : Stack) (v : Sc
     terms = clause_at-kept old new k.extends x.assertions.ids h.inside ∙ h.terms ∙ ap (λ (y : Stack). terms_asserted (assertions_of y)) (sym (rest_with s ds));
     starts = h.starts ∙ ap (λ (y : Stack). starts_of y.levels) (sym (rest_with s ds));
     in_reach = h.in_reach ∙ ap (λ (y : Stack). all_in_reach (assertions_of y)) (sym (rest_with s ds));
+    reached = marks_kept old new k.extends x.reached h.reached;
     options = h.options ∙ ap (λ (y : Stack). y.options) (sym (rest_with s ds));
     started = h.started ∙ ap (λ (y : Stack). y.started) (sym (rest_with s ds));
   }
 
 -- and an assertion more
-pub one_asserted : (limit : ℕ) (t : TableView) (x : CodeStack) (s : Stack) (tree : Tree) (u : Term) (id : TermId) → IsStack limit (standing t x) s → Means t u id → IsStack limit (standing t (with_term x id (is_in_reach (term_at t id)))) (begun (with_assertion s tree u))
-one_asserted limit t x s tree u id h m =
+pub one_asserted : (limit : ℕ) (t : TableView) (x : CodeStack) (s : Stack) (tree : Tree) (u : Term) (id : TermId) (marks : List Bool) → IsStack limit (standing t x) s → Means t u id → AreMarks t marks
+    → IsStack limit (standing t (with_term x marks id (is_in_reach (term_at t id)))) (begun (with_assertion s tree u))
+one_asserted limit t x s tree u id marks h m reached =
     let a : Assertion = record { text = tree; term = u } in record {
       limit_is = h.limit_is;
       scope = h.scope;
@@ -298,6 +306,7 @@ one_asserted limit t x s tree u id h m =
       terms = map-append (term_at t) x.assertions.ids (id ∷ []) ∙ (λ i. h.terms i ++ m.1 i ∷ []) ∙ sym (terms_last s.levels a);
       starts = h.starts ∙ sym (starts_last s.levels a);
       in_reach = (λ i. h.in_reach i && is_in_reach (m.1 i)) ∙ sym (reach_last s.levels a);
+      reached = reached;
       options = h.options;
       started = refl;
     }

@@ -1,5 +1,5 @@
 -- The stack of the definitions that a stack of the code stands for in a table, and what commands make of it.
-use Rattle.std.specs.Prelude.{◌≡◌, ℕ, Bool, true, false, ◌&&◌, [], ◌∷◌, ◌++◌, None, Result, Ok, Err}
+use Rattle.std.specs.Prelude.{◌≡◌, ℕ, Bool, true, false, ◌&&◌, List, [], ◌∷◌, ◌++◌, None, Result, Ok, Err}
 use Rattle.spec_text.specs.Places.{IsPlaceOf}
 use Rattle.spec_text.specs.Answers.{Answer}
 use Rattle.spec_text.specs.Bytes.{Name, among}
@@ -20,6 +20,7 @@ use Rattle.script_stack.specs.declared.stack.Stack.{Stack as CodeStack}
 use Rattle.script_stack.specs.declared.stack.Effect.{Effect as CodeEffect}
 use Rattle.script_stack.specs.declared.stack.Effect.TheVariants as effects
 use Rattle.script_stack.specs.Assertions.{starts_of}
+use Rattle.script_stack.specs.Marks.{AreMarks}
 use Rattle.script_stack.specs.Views.{Fails}
 
 -- the options in the words of the definitions
@@ -63,6 +64,8 @@ pub record IsStack (limit : ℕ) (x : Standing) (s : Stack) : Type 0 where
   pub starts : x.stack.assertions.starts ≡ starts_of s.levels
   -- whether the search reaches all of them
   pub in_reach : x.stack.assertions.in_reach ≡ all_in_reach (assertions_of s)
+  -- marks tell it of the first terms of the table
+  pub reached : AreMarks x.table x.stack.reached
   -- the options
   pub options : options_meant x.stack.options ≡ s.options
   -- whether a command has begun it
@@ -86,10 +89,11 @@ with_function x n f = record x {
   started = true;
 }
 
--- an asserted term more, by a command that ends the start
-abbrev pub with_term : CodeStack → TermId → Bool → CodeStack
-with_term x id in_reach = record x {
+-- an asserted term more, over these marks, by a command that ends the start
+abbrev pub with_term : CodeStack → List Bool → TermId → Bool → CodeStack
+with_term x marks id in_reach = record x {
   assertions = record x.assertions { ids = x.assertions.ids ++ id ∷ []; in_reach = x.assertions.in_reach && in_reach };
+  reached = marks;
   started = true;
 }
 

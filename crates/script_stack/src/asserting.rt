@@ -1,16 +1,16 @@
 //! Assertions and definitions of functions: the commands that read terms.
 
-ghost use Rattle.std.specs.Prelude.{◌≡◌, ℕ, true, Some, OnErr, OnOk};
+ghost use Rattle.std.specs.Prelude.{◌≡◌, ℕ, true, Bool, List, Some, OnErr, OnOk};
 ghost use Rattle.spec_commands.specs.Commands.{Assert, DefineFun};
 ghost use Rattle.spec_commands.specs.Stack.{Stack as ScriptStack, is_in_reach, performed};
 ghost use Rattle.smt_sexpr.specs.Items.{tree_meant};
 ghost use Rattle.term_table.specs.Tables.{term_at, IsIn};
 ghost use Rattle.term_reader.specs.Building.{Keeps};
 ghost use Rattle.script_commands.specs.Commands.{parts_view};
+ghost use Rattle.script_stack.specs.Marks.{AreMarks};
 ghost use Rattle.script_stack.specs.Stacks.{standing, HasStack, IsStack, Performs, with_term};
 
 use crate::names::in_script;
-use crate::reach::is_in_reach;
 use crate::stack::{Effect, Stack};
 use script_commands::Parts;
 use smt_sexpr::Trees;
@@ -31,15 +31,26 @@ fn room(stack: &Stack, at: u64) -> Room
 }
 
 /// Puts a term of the table among the assertions.
-fn add(stack: &mut Stack, alloc: Global, table: &TermTable, id: TermId) -> Result<(), NoMemory>
-    requires { IsIn table.now id }
-    ensures added { OnOk result (stack.new ≡ with_term stack.old id (is_in_reach (term_at table.now id))) }
+fn add(stack: &mut Stack, table: &TermTable, id: TermId) -> Result<(), NoMemory>
+    requires there { IsIn table.now id }
+    requires marks { AreMarks table.now stack.old.reached }
+    ensures added { OnOk result ((marks : List Bool) × AreMarks table.now marks
+        × (stack.new ≡ with_term stack.old marks id (is_in_reach (term_at table.now id)))) }
     ensures same { OnErr result (stack.new ≡ stack.old) }
 {
-    let in_reach = is_in_reach(alloc, table, id)?;
-    stack.assertions.add(id, in_reach)?;
-    stack.started = true;
-    Ok(())
+    let marked = stack.reached.len();
+    stack.reached.extend(table, id)?;
+    let in_reach = stack.reached.tells(id);
+    match stack.assertions.add(id, in_reach) {
+        Ok(()) => {
+            stack.started = true;
+            Ok(())
+        }
+        Err(stop) => {
+            stack.reached.cut(marked);
+            Err(stop)
+        }
+    }
 }
 
 /// Asserts the term that the first tree is, by a command at an offset.
@@ -70,7 +81,7 @@ pub(crate) fn assert_term<'a>(
         tree,
         room,
     ) {
-        Ok(id) => match add(stack, alloc, table, id) {
+        Ok(id) => match add(stack, table, id) {
             Ok(()) => Ok(Effect::Done),
             Err(_) => {
                 stack.scope.back(sorts, functions);

@@ -18,4 +18,5 @@ mod stack;
 
 pub use assertions::Assertions;
 pub use options::Options;
+pub use reach::Reached;
 pub use stack::{Effect, Stack, TERM_LIMIT};

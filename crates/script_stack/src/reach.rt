@@ -1,27 +1,120 @@
-//! Whether the search reaches a term.
+//! Whether the search reaches the terms of a table.
 
-ghost use Rattle.std.specs.Prelude.{◌≡◌, [], ◌∷◌, IfOk, OnOk};
+ghost use Rattle.std.specs.Prelude.{◌≡◌, ◌<◌, [], length, slice_index_or, take, false, OnErr, OnOk};
 ghost use Rattle.spec_commands.specs.Stack.{head_in_reach, is_in_reach};
 ghost use Rattle.term_table.specs.Symbols.{IsSymbol, symbol_at};
 ghost use Rattle.spec_sorts.specs.Terms.{Apply};
-ghost use Rattle.term_table.specs.Tables.{head_meant, term_at, HasHead, IsIn};
-ghost use Rattle.term_walks.specs.Counting.{AddsOnce};
+ghost use Rattle.term_table.specs.Tables.{head_meant, node_term, HasHead, IsIn, NamesBelow};
+ghost use Rattle.script_stack.specs.Marks.{AreMarks, Lengthens};
 
-use indexmap::IndexSet;
-use spec_sorts::subterms::subterms_are_least;
 use std::alloc::Global;
-use term_table::{Head, Sort, SymbolId, TermId, TermTable};
+use std::marker::Model;
+use term_table::{Head, Node, Sort, SymbolId, TermId, TermTable};
 use world_io::NoMemory;
 
-/// Tells whether a symbol is a constant of sort Bool.
-fn is_truth(table: &TermTable, symbol: SymbolId) -> bool
-    requires { IsSymbol table.now.symbols symbol }
-    ensures { result ≡ head_in_reach (Apply (symbol_at table.now.symbols symbol)) }
+/// Marks the first terms of a table by whether the search reaches them: each head of them and of their subterms.
+///
+/// Arguments have smaller numbers. So a term is marked by its head and the marks of its arguments, and is looked at once
+/// while the table grows, however many terms it stands in.
+#[derive(Drop)]
+pub struct Reached {
+    marks: Vec<bool>,
+}
+
+impl Model for Reached {
+    ghost use Rattle.std.specs.Prelude.{Bool, List};
+
+    ghost Value = { List Bool };
+
+    ghost view = { λ r. r.marks.items };
+}
+
+impl Reached {
+    /// Marks no term. It takes no memory.
+    pub(crate) fn new(alloc: Global) -> Reached
+        ensures { result ≡ [] }
+    {
+        Reached {
+            marks: Vec::new(alloc),
+        }
+    }
+
+    /// Counts the terms that have marks.
+    pub(crate) fn len(&self) -> u64
+        ensures { result ≡ length self.now }
+    {
+        self.marks.len() as u64
+    }
+
+    /// Tells whether the search reaches a term that has a mark.
+    pub(crate) fn tells(&self, id: TermId) -> bool
+        requires { id.0 < length self.now }
+        ensures { result ≡ slice_index_or self.now id.0 false }
+    {
+        self.marks[id.0 as usize]
+    }
+
+    /// Marks the terms up to this one, where they have no marks yet.
+    ///
+    /// `NoMemory` comes where a mark finds no memory; then all is as it was.
+    pub(crate) fn extend(&mut self, table: &TermTable, id: TermId) -> Result<(), NoMemory>
+        requires there { IsIn table.now id }
+        requires marks { AreMarks table.now self.old }
+        ensures marks { OnOk result (AreMarks table.now self.new) }
+        ensures marked { OnOk result (id.0 < length self.new) }
+        ensures longer { OnOk result (Lengthens self.old self.new) }
+        ensures same { OnErr result (self.new ≡ self.old) }
+    {
+        let marked = self.len();
+        match self.mark_up_to(table, id) {
+            Ok(()) => Ok(()),
+            Err(stop) => {
+                self.cut(marked);
+                Err(stop)
+            }
+        }
+    }
+
+    /// Marks the terms up to this one, as far as there is memory.
+    fn mark_up_to(&mut self, table: &TermTable, id: TermId) -> Result<(), NoMemory>
+        requires there { IsIn table.now id }
+        requires marks { AreMarks table.now self.old }
+        ensures marks { OnOk result (AreMarks table.now self.new) }
+        ensures marked { OnOk result (id.0 < length self.new) }
+        ensures longer { Lengthens self.old self.new }
+    {
+        'terms: while self.marks.len() as u64 <= id.0 {
+            let next = TermId(self.marks.len() as u64);
+            let mark = is_in_reach(table, table.node(next), self.marks.as_slice());
+            self.marks.push(mark)?;
+        }
+        Ok(())
+    }
+
+    /// Takes away all marks after the first `len`, none where there are no more. It takes no memory.
+    pub(crate) fn cut(&mut self, len: u64)
+        ensures { self.new ≡ take len self.old }
+    {
+        self.marks.truncate(len as usize);
+    }
+}
+
+/// Tells whether the search reaches the term of a node, by the marks of its arguments.
+fn is_in_reach(table: &TermTable, node: &Node, marks: &[bool]) -> bool
+    requires head { HasHead table.now node.now.head }
+    requires marks { AreMarks table.now marks.now }
+    requires below { NamesBelow (length marks.now) node.now }
+    ensures { result ≡ is_in_reach (node_term table.now node.now) }
 {
-    let [] = table.symbols().parameters(symbol) else {
+    if !is_head_in_reach(table, node.head) {
         return false;
-    };
-    table.symbols().result(symbol) == Sort::Bool
+    }
+    'ids: for id in node.arguments.as_slice().iter() {
+        if !marks[id.0 as usize] {
+            return false;
+        }
+    }
+    true
 }
 
 /// Tells whether the search reaches a head: those of theory Core, and constants of sort Bool.
@@ -44,45 +137,13 @@ fn is_head_in_reach(table: &TermTable, head: Head) -> bool
     }
 }
 
-/// Puts numbers after those that are there, each once.
-fn see_all(seen: &mut IndexSet<TermId>, ids: &[TermId]) -> Result<(), NoMemory>
-    ensures { OnOk result (AddsOnce seen.old.keys ids.now seen.new.keys) }
+/// Tells whether a symbol is a constant of sort Bool.
+fn is_truth(table: &TermTable, symbol: SymbolId) -> bool
+    requires { IsSymbol table.now.symbols symbol }
+    ensures { result ≡ head_in_reach (Apply (symbol_at table.now.symbols symbol)) }
 {
-    'ids: for id in ids.iter() {
-        seen.insert(*id)?;
-    }
-    Ok(())
-}
-
-/// Looks at what is seen, and sees the arguments of each, until there are no others or a head that is not reached.
-fn are_reached(table: &TermTable, id: TermId, seen: &mut IndexSet<TermId>) -> Result<bool, NoMemory>
-    requires there { IsIn table.now id }
-    requires start { AddsOnce [] (id ∷ []) seen.old.keys }
-    ensures { IfOk result (λ yes. yes ≡ is_in_reach (term_at table.now id)) }
-{
-    subterms_are_least();
-    let mut done = 0;
-    'seen: while done < seen.len() {
-        let next = seen.as_slice()[done];
-        let node = table.node(next);
-        if !is_head_in_reach(table, node.head) {
-            return Ok(false);
-        }
-        see_all(seen, node.arguments.as_slice())?;
-        done += 1;
-    }
-    Ok(true)
-}
-
-/// Tells whether the search reaches a term: each head of it and of its subterms.
-///
-/// It looks at each subterm once, and takes memory for their numbers. `NoMemory` comes where they find none, and says
-/// nothing of the term.
-pub(crate) fn is_in_reach(alloc: Global, table: &TermTable, id: TermId) -> Result<bool, NoMemory>
-    requires { IsIn table.now id }
-    ensures { IfOk result (λ yes. yes ≡ is_in_reach (term_at table.now id)) }
-{
-    let mut seen = IndexSet::new(alloc);
-    see_all(&mut seen, &[id])?;
-    are_reached(table, id, &mut seen)
+    let [] = table.symbols().parameters(symbol) else {
+        return false;
+    };
+    table.symbols().result(symbol) == Sort::Bool
 }

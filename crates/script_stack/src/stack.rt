@@ -12,6 +12,7 @@ use crate::assertions::Assertions;
 use crate::declaring::{declare_const, declare_fun, declare_sort, define_sort};
 use crate::faults::place_in;
 use crate::options::Options;
+use crate::reach::Reached;
 use crate::settings::{begin_check, set_logic, set_option};
 use script_commands::{Command, command};
 use smt_lexer::{Refusal, Refused};
@@ -35,6 +36,8 @@ pub struct Stack {
     pub scope: Scope,
     /// The assertions.
     pub assertions: Assertions,
+    /// Which of the table's first terms the search reaches.
+    pub reached: Reached,
     /// The options.
     pub options: Options,
     /// Whether a command has set the logic, or come without one.
@@ -70,6 +73,7 @@ impl Stack {
             limit,
             scope: Scope::new(alloc),
             assertions: Assertions::new(alloc),
+            reached: Reached::new(alloc),
             options: Options::new(),
             started: false,
         }
