@@ -1,0 +1,11 @@
+-- The lemmas of this crate.
+pub mod Numbers
+pub mod Within
+pub mod FewPremises
+pub mod Rows
+pub mod Commands
+pub mod Judged
+pub mod AllCommands
+pub mod Empties
+pub mod Loading
+pub mod Answering

@@ -1,0 +1,11 @@
+-- The clauses up to here.
+use Rattle.std.proofs.Common.{◌≡◌, All, map, take}
+use Rattle.term_table.specs.Tables.{AreIn, clause_at}
+use Rattle.proof_commands.specs.Holding.{clauses_numbered}
+use Rattle.proof_check.proofs.premises.clauses_of.Given as goal
+
+abbrev pub invariant-loop-number : goal.invariant-loop-number
+invariant-loop-number l = record {
+  same : map (clause_at l.state.table) l.made.items ≡ clauses_numbered l.state (take l.number-index l.numbers);
+  there : All (λ p. AreIn l.state.table p) l.made.items;
+}

@@ -1,0 +1,14 @@
+-- That several premises are too many.
+use Rattle.std.proofs.lemmas.List.{length-map}
+use Rattle.spec_rules.specs.Schemes.{kind_of}
+use Rattle.term_table.specs.Tables.{clause_at}
+use Rattle.rule_calls.specs.Arguments.{texts_meant}
+use Rattle.proof_commands.specs.Holding.{clauses_numbered}
+use Rattle.proof_check.proofs.FewPremises.{not_by, not_wide}
+use Rattle.proof_check.proofs.rules.is_judged.Goals as goal
+
+pub returns-in_default : goal.returns-in_default
+returns-in_default c = (
+  not_by (kind_of c.args.rule) (clauses_numbered c.args.state.now c.args.premises.now) (texts_meant c.args.arguments) (clause_at c.args.state.now.table c.args.clause.now) c.requires.rule (rw length-map c.in_default.ensures),
+  not_wide (kind_of c.args.rule) (clauses_numbered c.args.state.now c.args.premises.now) (texts_meant c.args.arguments) (clause_at c.args.state.now.table c.args.clause.now) c.requires.rule (rw length-map c.in_default.ensures),
+)

@@ -1,0 +1,5 @@
+-- The definitions that contracts cite.
+pub mod Stating
+pub mod Judging
+pub mod Loads
+pub mod Verdicts

@@ -1,0 +1,109 @@
+//! Judges an Alethe proof against an SMT-LIB script, over the whole language. The program does not use it yet.
+#![tactic(auto)]
+
+ghost use Rattle.std.specs.Prelude.{◌≤◌, ℕ, length, OnOk};
+ghost use Rattle.spec_commands.specs.Stack.{Stack as ScriptStack};
+ghost use Rattle.spec_commands.specs.Checks.{HasNoModel, term_limit};
+ghost use Rattle.spec_checking.specs.Accepted.{IsAccepted};
+ghost use Rattle.script_stack.specs.Stacks.{standing, HasStack, IsStack};
+ghost use Rattle.proof_commands.specs.Holding.{known_on};
+ghost use Rattle.proof_check.specs.Judging.{JudgesAll};
+ghost use Rattle.proof_check.specs.Verdicts.{Answers, Refuses};
+
+mod command;
+mod judge;
+mod load;
+mod premises;
+mod rules;
+
+use judge::judge;
+use load::{Script, current_at};
+use proof_commands::{CommandError, ProofState};
+use smt_lexer::place_at;
+pub use spec_proofs::ProofKind;
+pub use spec_text::Place;
+use std::alloc::Global;
+use thiserror::Error;
+
+/// Why a proof is not accepted, and where: a place of the proof.
+#[derive(Clone, Copy, Debug, PartialEq, Eq)]
+pub struct ProofFault {
+    /// The place in the proof.
+    pub place: Place,
+    /// What is wrong.
+    pub kind: ProofKind,
+}
+
+/// Why a check did not answer that the proof is accepted.
+#[derive(Clone, Copy, Debug, Error, PartialEq, Eq)]
+pub enum ProofStop {
+    /// The first fault of the proof.
+    #[error("{0:?}")]
+    Fault(ProofFault),
+    /// Out of memory, which says nothing of the proof.
+    #[error("out of memory")]
+    Memory,
+}
+
+/// Judges a proof against the `at`-th check of a script, counted from 1.
+///
+/// `Ok` means that the proof is accepted: each assume is a current assertion of that check, each step is right by its rule,
+/// and one step has the empty clause. Then no interpretation makes the assertions of that check true.
+///
+/// Commands of the script that are refused are passed over. Of both texts the first 2^26 bytes are read.
+///
+/// - `Fault` has the first fault of the proof, with its place there. First of all `NoSuchCheck`, at line 1, column 1, where
+///   the script ends before that check, by its end, by `exit`, or by a fault after which it cannot be read on. Then, command
+///   by command: `Lexical` where the text cannot be read on; for a command its shape, its name, its sort, its terms, its
+///   rule, its premises, and whether it is right. After all commands `BadShape` where something follows a list of them, and
+///   `NoEmptyClause` at the end of the text.
+/// - `Memory` may come at any allocation, and says nothing of the proof.
+///
+/// It keeps nothing. It takes memory of a multiple of the bytes of both texts and of the terms that they are read as, however
+/// often a premise is named. Source: Alethe specification.
+pub fn check(alloc: Global, script: &[u8], at: u64, proof: &[u8]) -> Result<(), ProofStop>
+    ensures verdict { Answers script.now at proof.now result }
+    ensures accepted { OnOk result (IsAccepted script.now at proof.now) }
+    ensures sound { OnOk result (HasNoModel term_limit script.now at) }
+{
+    spec_checking::laws::accepted_proofs_have_no_fault();
+    spec_checking::laws::acceptance_is_sound();
+    judge_texts(alloc, script, at, proof)
+}
+
+/// Makes the answer of a fault of the proof.
+fn refused(proof: &[u8], fault: ProofKind, offset: u64) -> ProofStop
+    requires { offset ≤ length proof.now }
+    ensures { Refuses proof.now offset fault result }
+{
+    ProofStop::Fault(ProofFault {
+        place: place_at(proof, offset as usize),
+        kind: fault,
+    })
+}
+
+/// Judges a proof at the check before which a script has stated so much: its first fault, or none.
+fn judge_at(alloc: Global, stated: Script, proof: &[u8]) -> Result<(), CommandError>
+    requires { HasStack (standing stated.table stated.stack) }
+    ensures { (limit : ℕ) (s : ScriptStack) → IsStack limit (standing stated.table stated.stack) s
+        → JudgesAll proof.now (known_on s) result }
+{
+    let known = ProofState::at_check(alloc, stated.table, stated.stack)?;
+    judge(alloc, proof, known)
+}
+
+/// Judges the two texts, and gives the verdict on them.
+fn judge_texts(alloc: Global, script: &[u8], at: u64, proof: &[u8]) -> Result<(), ProofStop>
+    ensures { Answers script.now at proof.now result }
+{
+    spec_checking::laws::faults_stand_in_their_proof();
+    match current_at(alloc, script, at) {
+        Ok(Some(stated)) => match judge_at(alloc, stated, proof) {
+            Ok(()) => Ok(()),
+            Err(CommandError::Fault(found)) => Err(refused(proof, found.kind, found.offset)),
+            Err(CommandError::Memory) => Err(ProofStop::Memory),
+        },
+        Ok(None) => Err(refused(proof, ProofKind::NoSuchCheck, 0)),
+        Err(_) => Err(ProofStop::Memory),
+    }
+}

@@ -1,0 +1,77 @@
+//! Judges a step by its rule.
+
+ghost use Rattle.term_table.specs.Tables.{AreIn, clause_at};
+ghost use Rattle.proof_commands.specs.Holding.{clauses_numbered, AreNumbers};
+ghost use Rattle.proof_commands.specs.Reads.{IsReadyStep, step_view};
+ghost use Rattle.rule_calls.specs.Arguments.{texts_meant};
+ghost use Rattle.proof_check.specs.Stating.{HasClauses, TakesFew, JudgesResolvent, JudgesBy, JudgesStep};
+
+use crate::premises::{distinct_clauses, one_or_none};
+use proof_commands::{ProofState, ProofStep};
+use rule_calls::{ArgumentTexts, RuleStop, judge, resolution};
+use spec_proofs::Rule;
+use std::alloc::Global;
+use term_table::TermId;
+
+/// Judges by resolution whether a clause follows from the clauses of numbers, each of which is taken once.
+fn is_resolved(
+    alloc: Global,
+    state: &ProofState,
+    premises: &[u64],
+    clause: &[TermId],
+) -> Result<(), RuleStop>
+    requires clauses { HasClauses state.now }
+    requires premises { AreNumbers state.now premises.now }
+    requires clause { AreIn state.now.table clause.now }
+    ensures { JudgesResolvent (clauses_numbered state.now premises.now) (clause_at state.now.table clause.now) result }
+{
+    let clauses = distinct_clauses(alloc, state, premises)?;
+    resolution(alloc, &state.table, &clauses, clause)
+}
+
+/// Judges by a rule that takes one premise at most whether a clause follows from the clauses of numbers.
+fn is_judged(
+    alloc: Global,
+    state: &ProofState,
+    rule: Rule,
+    premises: &[u64],
+    arguments: ArgumentTexts<'_>,
+    clause: &[TermId],
+) -> Result<(), RuleStop>
+    requires rule { TakesFew rule }
+    requires clauses { HasClauses state.now }
+    requires premises { AreNumbers state.now premises.now }
+    requires clause { AreIn state.now.table clause.now }
+    ensures { JudgesBy rule (clauses_numbered state.now premises.now) (texts_meant arguments.entry)
+        (clause_at state.now.table clause.now) result }
+{
+    let Some(clauses) = one_or_none(state, premises) else {
+        return Err(RuleStop::Fails);
+    };
+    judge(alloc, &state.table, rule, clauses, arguments, clause)
+}
+
+/// Judges a step by its rule. The clauses of its premises are lent where its rule takes one at most; else each different one is
+/// copied once.
+pub(crate) fn follows(
+    alloc: Global,
+    state: &ProofState,
+    step: &ProofStep<'_>,
+) -> Result<(), RuleStop>
+    requires clauses { HasClauses state.now }
+    requires ready { IsReadyStep state.now step.now }
+    ensures { JudgesStep (step_view state.now step.now) result }
+{
+    match step.rule {
+        Rule::Resolution => is_resolved(alloc, state, &step.premises, &step.clause),
+        Rule::ThResolution => is_resolved(alloc, state, &step.premises, &step.clause),
+        _ => is_judged(
+            alloc,
+            state,
+            step.rule,
+            &step.premises,
+            step.arguments,
+            &step.clause,
+        ),
+    }
+}
