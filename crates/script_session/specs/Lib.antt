@@ -1,0 +1,3 @@
+-- What sessions do.
+pub mod Sessions
+pub mod Runs

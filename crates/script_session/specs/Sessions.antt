@@ -1,0 +1,171 @@
+-- Sessions: what one stands for, and what a command comes to. Source: SMT-LIB 2.6, section 4.2.
+use Rattle.std.specs.Prelude.{◌≡◌, ℕ, List, [], Result, Ok, Err, IsErr}
+use Rattle.world_io.specs.declared.bytes.NoMemory.{NoMemory}
+use Rattle.world_io.specs.declared.fault.Failed.{Failed}
+use Rattle.world_io.specs.Writing.{SinkView, Sent, NotSent}
+use Rattle.spec_text.specs.Places.{IsPlaceOf}
+use Rattle.spec_sorts.specs.Signatures.{symbols_in}
+use Rattle.spec_commands.specs.Stack.{Stack, signature_of}
+use Rattle.spec_sessions.specs.Evidence.{Limits, Checked}
+use Rattle.spec_sessions.specs.Responses.{Mode, solve, certify, Response, success, not_supported, answered, said, ended, rejected, Answered, Answers, response_text}
+use Rattle.spec_sessions.specs.Meaning.{MeansAt}
+use Rattle.smt_lexer.specs.declared.Refused.{Refused}
+use Rattle.smt_lexer.specs.declared.Refused.TheVariants as refusals
+use Rattle.smt_sexpr.specs.declared.sexpr.Sexpr.{Sexpr}
+use Rattle.smt_sexpr.specs.Items.{text_of, tree_of}
+use Rattle.term_table.specs.Tables.{TableView}
+use Rattle.search_budget.specs.Budgets.{BudgetView}
+use Rattle.search_budget.specs.declared.limits.Limits.{Limits as CodeLimits}
+use Rattle.script_stack.specs.declared.stack.Stack.{Stack as CodeStack}
+use Rattle.script_stack.specs.Stacks.{Standing, standing}
+use Rattle.check_evidence.specs.Evidence.{limits_meant, check_on, IsHeld, IsEvidence, HasLearned}
+use Rattle.script_session.specs.declared.mode.Mode.{Mode as CodeMode}
+use Rattle.script_session.specs.declared.mode.Mode.TheVariants as modes
+use Rattle.script_session.specs.declared.responses.Response.{Response as CodeResponse}
+use Rattle.script_session.specs.declared.responses.Response.TheVariants as responses
+use Rattle.script_session.specs.declared.session.After.{After}
+use Rattle.script_session.specs.declared.session.After.TheVariants as afters
+use Rattle.script_session.specs.declared.session.Halt.{Halt}
+use Rattle.script_session.specs.declared.session.Halt.TheVariants as halts
+
+-- how much is written
+abbrev pub mode_meant : CodeMode → Mode
+mode_meant modes.Solve = solve
+mode_meant modes.Certify = certify
+
+-- the response is this, in the words of the definitions, to a command of a text
+abbrev pub IsResponse : TableView → List ℕ → BudgetView → CodeResponse → Response → Type 0
+IsResponse t text budget responses.Success r = r ≡ success
+IsResponse t text budget responses.Unsupported r = r ≡ not_supported
+IsResponse t text budget (responses.Answered e) r =
+    (c : Checked) × IsEvidence t budget e c.found × (r ≡ answered c)
+IsResponse t text budget (responses.Said s) r = r ≡ said s.now
+IsResponse t text budget responses.Ended r = r ≡ ended
+IsResponse t text budget (responses.Rejected x) r =
+    (r ≡ rejected (record { offset = x.place.offset; fault = x.fault })) × IsPlaceOf text x.place
+
+-- a check that is answered is one of the stack
+abbrev pub IsAskedOf : Response → Stack → Type 0
+IsAskedOf (answered c) s = c.check ≡ check_on s
+IsAskedOf _ s = Unit {0}
+
+-- The response of a script, to a command of a text, is this, after which the script is a stack.
+pub record IsResponseOf (x : Standing) (text : List ℕ) (budget : BudgetView) (response : CodeResponse) (a : Answered) : Type 0 where
+  -- it is this
+  pub is : IsResponse x.table text budget response a.response
+  -- a check is one of the stack
+  pub asked : IsAskedOf a.response a.stack
+  -- what is declared
+  pub symbols : symbols_in (signature_of a.stack) ≡ x.table.symbols
+  -- the option
+  pub option : a.stack.options.print_success ≡ x.stack.options.print_success
+
+-- the response means something
+abbrev pub IsSomeResponse : TableView → CodeResponse → Type 0
+IsSomeResponse t response =
+    (text : List ℕ) × (budget : BudgetView) × (r : Response) × IsResponse t text budget response r
+
+-- what was learned at a check, where the response is to one
+abbrev pub LearnsBy : Limits → TableView → Response → Stack → BudgetView → Type 0
+LearnsBy limits t (answered c) s budget = HasLearned limits t s c.found budget
+LearnsBy limits t _ s budget = Unit {0}
+
+-- no other command than a check changes the budget
+abbrev pub KeepsBudget : Result CodeResponse NoMemory → BudgetView → BudgetView → Type 0
+KeepsBudget (Ok (responses.Answered e)) old new = Unit {0}
+KeepsBudget _ old new = new ≡ old
+
+-- A command is answered after a stack, and the script stands for the stack after it.
+pub record IsTaken (limits : Limits) (s : Stack) (c : Sexpr) (response : CodeResponse) (x : Standing) (budget : BudgetView) : Type 0 where
+  -- what it is answered
+  pub a : Answered
+  -- that is so
+  pub answers : Answers limits s (tree_of c) a
+  -- the response says this
+  pub is : IsResponse x.table (text_of c) budget response a.response
+  -- a check is one of the stack
+  pub asked : IsAskedOf a.response a.stack
+  -- what the script stands for
+  pub held : IsHeld limits.terms x a.stack
+  -- what was learned
+  pub learned : LearnsBy limits x.table a.response a.stack budget
+
+-- a command is answered after a stack; or memory ran out, and the script stands for this stack
+abbrev pub Takes : Limits → Stack → Sexpr → Result CodeResponse NoMemory → Standing → BudgetView → Type 0
+Takes limits s c (Ok response) x budget = IsTaken limits s c response x budget
+Takes limits s c (Err _) x budget = IsHeld limits.terms x s
+
+-- a command that was not taken is refused with its fault, or memory ran out
+abbrev pub Rejects : Refused → Result CodeResponse NoMemory → Type 0
+Rejects (refusals.Fault r) x = x ≡ Ok (responses.Rejected r)
+Rejects refusals.Memory x = IsErr x
+
+-- what comes after a response
+abbrev pub after_meant : Response → After
+after_meant ended = afters.Ended
+after_meant (rejected f) = afters.Refused
+after_meant _ = afters.Went
+
+-- What a session holds.
+pub record SessionView : Type 0 where
+  -- the table of terms
+  pub table : TableView
+  -- what was stated
+  pub stack : CodeStack
+  -- what a check may spend, and a script name
+  pub limits : CodeLimits
+  -- how much is written
+  pub mode : CodeMode
+  -- what the last check learned
+  pub budget : BudgetView
+
+-- what was stated, with the table of its terms
+abbrev pub stated : SessionView → Standing
+stated x = standing x.table x.stack
+
+-- the session stands for the stack
+abbrev pub IsSession : SessionView → Stack → Type 0
+IsSession x s = IsHeld x.limits.terms (stated x) s
+
+-- what was learned at a check stands in the budget: it is that of the decision that found what is answered; no other
+-- command changes it
+abbrev pub HasLists : Response → Stack → SessionView → SessionView → Type 0
+HasLists (answered c) s old new = HasLearned (limits_meant old.limits) new.table s c.found new.budget
+HasLists _ s old new = new.budget ≡ old.budget
+
+-- what the answer of a check means, where the response is one
+abbrev pub ResponseMeans : Response → Type 0
+ResponseMeans (answered c) = MeansAt c.check c.found
+ResponseMeans _ = Unit {0}
+
+-- a command is answered after a stack, and that is what the session then stands for
+pub record IsAnswered (s : Stack) (x : Sexpr) (old new : SessionView) (a : Answered) : Type 0 where
+  -- it is what the command is to be answered
+  pub answers : Answers (limits_meant old.limits) s (tree_of x) a
+  -- the session stands for what is so after the command
+  pub stands : IsSession new a.stack
+  -- a check is one of the stack
+  pub asked : IsAskedOf a.response a.stack
+  -- what its answer means
+  pub means : ResponseMeans a.response
+  -- the lists of its budget
+  pub lists : HasLists a.response a.stack old new
+
+-- what is written for the response to a command
+abbrev pub written_for : SessionView → Sexpr → Answered → List ℕ
+written_for x c a = response_text (mode_meant x.mode) (text_of c) a
+
+-- what a call that writes a text and passes it on does to a sink, by its result: with `Ok` nothing waits in a buffer
+abbrev pub Delivers : List ℕ → Result (Unit {0}) Failed → SinkView → SinkView → Type 0
+Delivers text (Ok _) old new = Sent text old new × (new.pending ≡ [])
+Delivers text (Err _) old new = NotSent text old new
+
+-- what a step comes to, by its result: the response is written, and nothing waits; or memory ran out, and neither the
+-- session nor the sink is changed; or the sink failed, and the session is as after the command
+abbrev pub Stepped : SessionView → SessionView → Sexpr → Result After Halt → SinkView → SinkView → Type 0
+Stepped old new x (Ok after) out next = (s : Stack) → IsSession old s
+    → (a : Answered) × IsAnswered s x old new a × (after ≡ after_meant a.response)
+    × Delivers (written_for old x a) (Ok tt) out next
+Stepped old new x (Err halts.Memory) out next = (next ≡ out) × (new ≡ old)
+Stepped old new x (Err halts.Sink) out next = (s : Stack) → IsSession old s
+    → (a : Answered) × IsAnswered s x old new a × NotSent (written_for old x a) out next

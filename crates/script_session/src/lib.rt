@@ -1,0 +1,14 @@
+//! Sessions over the whole language: commands of a script one after the other, each with its response, and runs of a whole
+//! text. The program does not use them yet.
+#![tactic(auto)]
+
+mod mode;
+mod responses;
+mod session;
+mod status;
+mod whole_text;
+
+pub use mode::Mode;
+pub use session::{After, Halt, Session};
+pub use status::Status;
+pub use whole_text::run_text;

@@ -1,0 +1,127 @@
+//! What commands are answered, and how that is written.
+
+ghost use Rattle.std.specs.Prelude.{◌≡◌, ◌++◌, ℕ, List};
+ghost use Rattle.world_io.specs.Writing.{Sends};
+ghost use Rattle.spec_sorts.specs.Signatures.{symbols_in};
+ghost use Rattle.spec_commands.specs.Stack.{Stack as ScriptStack, signature_of};
+ghost use Rattle.spec_sessions.specs.Evidence.{Checked};
+ghost use Rattle.spec_sessions.specs.Responses.{Response as SpokenResponse, Answered, answer_text, shown_text, success_by, string_line, response_text};
+ghost use Rattle.search_budget.specs.Budgets.{BudgetView};
+ghost use Rattle.term_table.specs.Tables.{TableView};
+ghost use Rattle.script_stack.specs.Stacks.{standing};
+ghost use Rattle.check_evidence.specs.Evidence.{check_on, IsEvidence, IsSomeEvidence};
+ghost use Rattle.script_session.specs.Sessions.{mode_meant, IsResponse, IsResponseOf, IsSomeResponse, after_meant, Delivers};
+
+use crate::mode::Mode;
+use crate::session::After;
+use check_evidence::{Evidence, send_answer, send_evidence};
+use reply_lines::{Word, error, word};
+use script_stack::Stack;
+use smt_lexer::Refusal;
+use term_table::TermTable;
+use world_io::{Failed, Sink, write_pieces};
+
+/// What a command is answered.
+#[derive(Drop)]
+pub(crate) enum Response<'a> {
+    /// It was done.
+    Success,
+    /// Its option is not known.
+    Unsupported,
+    /// This was found at its check.
+    Answered(Evidence),
+    /// Its text is written, which stands between its quotes.
+    Said(&'a [u8]),
+    /// It was done, and the script ends.
+    Ended,
+    /// It was refused.
+    Rejected(Refusal),
+}
+
+/// Tells what comes after a command that is answered so.
+pub(crate) fn after_of(response: &Response<'_>) -> After
+    ensures { (t : TableView) (text : List ℕ) (budget : BudgetView) (r : SpokenResponse)
+        → IsResponse t text budget response.now r → result ≡ after_meant r }
+{
+    match response {
+        Response::Success | Response::Unsupported | Response::Answered(_) | Response::Said(_) =>
+            After::Went,
+        Response::Ended => After::Ended,
+        Response::Rejected(_) => After::Refused,
+    }
+}
+
+/// Writes the answer of a check, and what shows it where that is wanted.
+fn send_check<K: Sink>(
+    mode: Mode,
+    table: &TermTable,
+    evidence: &Evidence,
+    out: &mut K,
+) -> Result<(), Failed>
+    requires { IsSomeEvidence table.now evidence.now }
+    ensures { (budget : BudgetView) (s : ScriptStack) (c : Checked) → symbols_in (signature_of s) ≡ table.now.symbols
+        → c.check ≡ check_on s → IsEvidence table.now budget evidence.now c.found
+        → Sends (answer_text c.found ++ shown_text (mode_meant mode) c) result (K.state out.old) (K.state out.new) }
+{
+    send_answer(evidence, out)?;
+    match mode {
+        Mode::Solve => Ok(()),
+        Mode::Certify => send_evidence(table, evidence, out),
+    }
+}
+
+/// Writes a string as it stands in a script, on a line.
+fn send_string<K: Sink>(text: &[u8], out: &mut K) -> Result<(), Failed>
+    ensures { Sends (string_line text.now) result (K.state out.old) (K.state out.new) }
+{
+    write_pieces(out, &[b"\"", text, b"\"\n"])
+}
+
+/// Writes `success`, where that is printed.
+fn send_success<K: Sink>(print: bool, out: &mut K) -> Result<(), Failed>
+    ensures { Sends (success_by print) result (K.state out.old) (K.state out.new) }
+{
+    if print {
+        return word(Word::Success, out);
+    }
+    Ok(())
+}
+
+/// Writes a response, of which bytes may wait in a buffer then.
+fn write_response<K: Sink>(
+    mode: Mode,
+    table: &TermTable,
+    stack: &Stack,
+    response: &Response<'_>,
+    out: &mut K,
+) -> Result<(), Failed>
+    requires { IsSomeResponse table.now response.now }
+    ensures { (text : List ℕ) (budget : BudgetView) (a : Answered)
+        → IsResponseOf (standing table.now stack.now) text budget response.now a
+        → Sends (response_text (mode_meant mode) text a) result (K.state out.old) (K.state out.new) }
+{
+    match response {
+        Response::Success | Response::Ended => send_success(stack.options.print_success, out),
+        Response::Unsupported => word(Word::Unsupported, out),
+        Response::Answered(evidence) => send_check(mode, table, evidence, out),
+        Response::Said(text) => send_string(text, out),
+        Response::Rejected(refusal) => error(refusal.place, refusal.fault.name().as_bytes(), out),
+    }
+}
+
+/// Writes a response, and passes on what waits of it: then nothing waits in a buffer.
+pub(crate) fn send_response<K: Sink>(
+    mode: Mode,
+    table: &TermTable,
+    stack: &Stack,
+    response: &Response<'_>,
+    out: &mut K,
+) -> Result<(), Failed>
+    requires { IsSomeResponse table.now response.now }
+    ensures { (text : List ℕ) (budget : BudgetView) (a : Answered)
+        → IsResponseOf (standing table.now stack.now) text budget response.now a
+        → Delivers (response_text (mode_meant mode) text a) result (K.state out.old) (K.state out.new) }
+{
+    write_response(mode, table, stack, response, out)?;
+    out.flush()
+}

@@ -1,0 +1,191 @@
+//! A session: it takes commands one after the other, and writes what each is answered.
+
+ghost use Rattle.std.specs.Prelude.{◌≡◌, ◌≤◌, [], IfOk, OnErr, IsErrOf};
+ghost use Rattle.world_io.specs.Outside.{Rose};
+ghost use Rattle.spec_commands.specs.Stack.{Stack as ScriptStack, empty_stack};
+ghost use Rattle.script_stack.specs.Stacks.{standing};
+ghost use Rattle.check_evidence.specs.Evidence.{limits_meant, IsHeld, HoldsSome};
+ghost use Rattle.script_session.specs.Sessions.{IsSession, Takes, KeepsBudget, Rejects, Stepped};
+
+use crate::mode::Mode;
+use crate::responses::{Response, after_of, send_response};
+use check_evidence::check;
+use script_stack::{Effect, Stack};
+use search_budget::{Budget, Limits};
+use smt_lexer::Refused;
+use smt_sexpr::Sexpr;
+use spec_commands::commands_keep_stacks;
+use spec_proof_texts::laws::commands_leave_script_names;
+use spec_sessions::laws::what_is_shown_is_so;
+use std::alloc::Global;
+use std::marker::Model;
+use term_table::TermTable;
+use world_io::{Failed, NoMemory, Sink};
+
+/// Tells what comes after a command.
+#[derive(Clone, Copy, Debug, PartialEq, Eq)]
+pub enum After {
+    /// It was taken; the session goes on.
+    Went,
+    /// It was refused, and changed nothing; the session goes on.
+    Refused,
+    /// It ended the script.
+    Ended,
+}
+
+/// Tells why a step came to no end.
+#[derive(Clone, Copy, Debug, PartialEq, Eq)]
+pub enum Halt {
+    /// Memory ran out: the session is as before the command, and nothing was written.
+    Memory,
+    /// The sink failed: the session is as after the command, and a prefix of its response was written.
+    Sink,
+}
+
+impl From<NoMemory> for Halt {
+    ghost use Rattle.script_session.specs.declared.session.Halt.TheVariants as halts;
+
+    ghost from_gives = { λ _ r. r ≡ halts.Memory };
+
+    fn from(_error: NoMemory) -> Halt {
+        Halt::Memory
+    }
+}
+
+/// Holds what a script has stated up to here, what its checks may spend, and what the last check learned.
+///
+/// Contracts see it as a stack of the definitions, by the relation `IsSession`. Source: SMT-LIB 2.6, section 4.2.
+#[derive(Drop)]
+pub struct Session {
+    alloc: Global,
+    table: TermTable,
+    stack: Stack,
+    limits: Limits,
+    mode: Mode,
+    budget: Budget,
+}
+
+impl Model for Session {
+    ghost use Rattle.std.specs.Prelude.{◌≡◌};
+    ghost use Rattle.std.specs.Coded.{codes};
+    ghost use Rattle.term_table.specs.Tables.{table_code};
+    ghost use Rattle.script_stack.specs.Stacks.{standing};
+    ghost use Rattle.check_evidence.specs.Evidence.{HoldsSome};
+    ghost use Rattle.script_session.specs.Sessions.{SessionView};
+
+    ghost Value = { SessionView };
+
+    ghost coded = { Prim.hlevel (codes, table_code) };
+
+    ghost view = { λ x. record { table = x.table; stack = x.stack; limits = x.limits; mode = x.mode; budget = x.budget } };
+
+    ghost invariant = { λ x. HoldsSome x.limits.terms (standing x.table x.stack) × (x.budget.limit ≡ x.limits.conflicts) };
+}
+
+impl Session {
+    /// Makes a session that has stated nothing.
+    ///
+    /// `limits` are those of each check, but `terms`: how many names there may be, and how many different subterms
+    /// the terms of a command may have. `NoMemory` comes where memory ran out.
+    pub fn new(alloc: Global, limits: &Limits, mode: Mode) -> Result<Session, NoMemory>
+        ensures begun { IfOk result (λ x. IsSession x empty_stack × (x.limits ≡ limits.now) × (x.mode ≡ mode)) }
+        ensures budget { IfOk result (λ x. (x.budget.learned ≡ []) × (x.budget.limit ≡ limits.now.conflicts)) }
+    {
+        commands_keep_stacks();
+        commands_leave_script_names();
+        let budget = Budget::new(alloc, limits)?;
+        Ok(Session {
+            alloc,
+            table: TermTable::new(alloc),
+            stack: Stack::new(alloc, limits.terms),
+            limits: *limits,
+            mode,
+            budget,
+        })
+    }
+
+    /// Gives the budget of the last check that was answered, with its limit on conflicts and the clauses that it learned; before the
+    /// first one there are none. At `unsat` these clauses are in the log whose steps are printed, and at `unknown` they show it. At
+    /// `sat` some search with that model has them: no clause says that it is the one that was run. It takes no memory.
+    pub fn budget(&self) -> &Budget
+        ensures budget { result.now ≡ self.now.budget }
+        ensures limit { result.now.limit ≡ self.now.limits.conflicts }
+    {
+        &self.budget
+    }
+
+    /// Takes the command that an s-expression is, and writes what it is answered.
+    ///
+    /// It takes its memory first, then changes the session, then writes, and passes on what was written: then nothing waits
+    /// in a buffer. `Memory` comes where memory ran out: the session is the same as before the command, and nothing was written.
+    /// `Sink` comes only where the sink's count of faults rose in this call, and there was no room for the response: the
+    /// session is as after the command, and a prefix of its response was written.
+    /// Source: SMT-LIB 2.6, sections 3.9 and 4.2.
+    pub fn step<K: Sink>(&mut self, command: &Sexpr<'_>, out: &mut K) -> Result<After, Halt>
+        ensures same { (self.new.limits ≡ self.old.limits) × (self.new.mode ≡ self.old.mode) }
+        ensures limit { self.new.budget.limit ≡ self.new.limits.conflicts }
+        ensures stepped { Stepped self.old self.new command.now result (K.state out.old) (K.state out.new) }
+        ensures failed { IsErrOf result Halt.Sink → Rose (K.state out.old).faults (K.state out.new).faults }
+        ensures count { (K.state out.old).faults ≤ (K.state out.new).faults }
+    {
+        what_is_shown_is_so();
+        let response = take(
+            self.alloc,
+            &mut self.table,
+            &mut self.stack,
+            &mut self.budget,
+            &self.limits,
+            command,
+        )?;
+        match send_response(self.mode, &self.table, &self.stack, &response, out) {
+            Ok(()) => Ok(after_of(&response)),
+            Err(Failed) => Err(Halt::Sink),
+        }
+    }
+}
+
+/// Takes a command: all that it changes, but nothing is written. Where memory runs out nothing is changed.
+fn take<'a>(
+    alloc: Global,
+    table: &mut TermTable,
+    stack: &mut Stack,
+    budget: &mut Budget,
+    limits: &Limits,
+    command: &'a Sexpr<'_>,
+) -> Result<Response<'a>, NoMemory>
+    requires { HoldsSome limits.now.terms (standing table.old stack.old) }
+    ensures takes { (s : ScriptStack) → IsHeld limits.now.terms (standing table.old stack.old) s
+        → Takes (limits_meant limits.now) s command.now result (standing table.new stack.new) budget.new }
+    ensures table { OnErr result (table.new ≡ table.old) }
+    ensures stack { OnErr result (stack.new ≡ stack.old) }
+    ensures budget { KeepsBudget result budget.old budget.new }
+    ensures limit { budget.old.limit ≡ limits.now.conflicts → budget.new.limit ≡ limits.now.conflicts }
+{
+    commands_keep_stacks();
+    commands_leave_script_names();
+    let started = stack.started;
+    match stack.command(alloc, table, command) {
+        Ok(Effect::Done) => Ok(Response::Success),
+        Ok(Effect::Unsupported) => Ok(Response::Unsupported),
+        Ok(Effect::Check) => match check(alloc, table, stack, budget, limits) {
+            Ok(evidence) => Ok(Response::Answered(evidence)),
+            Err(NoMemory) => {
+                stack.started = started;
+                Err(NoMemory)
+            }
+        },
+        Ok(Effect::Say(text)) => Ok(Response::Said(text)),
+        Ok(Effect::Exit) => Ok(Response::Ended),
+        Err(stop) => rejected(stop),
+    }
+}
+
+/// What a command is answered that was not taken.
+fn rejected<'a>(stop: Refused) -> Result<Response<'a>, NoMemory>
+    ensures { Rejects stop result }
+{
+    match stop {
+        Refused::Fault(refusal) => Ok(Response::Rejected(refusal)),
+        Refused::Memory => Err(NoMemory),
+    }
+}
