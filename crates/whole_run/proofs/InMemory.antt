@@ -1,0 +1,99 @@
+-- From the end of a run to that of a run from memory to memory.
+use Rattle.std.proofs.Common.{◌≡◌, ◌⊎◌, inl, inr, ℕ, zero, suc, ◌<◌, ◌≤◌, List, [], ◌∷◌, length, Option, Some, None, IsSome, IfSome, ap, arith}
+use Rattle.std.specs.Prelude.{unwrap_or}
+use Rattle.std.proofs.lemmas.Bool.{false≢true}
+use Rattle.world_io.specs.Memory.{Text, text_named, SinkState, promised, seen_sink}
+use Rattle.world_io.specs.Outside.{Rose}
+use Rattle.world_io.specs.Writing.{SinkView, IsRoomFor, HasRoom, Sent, NotSent}
+use Rattle.script_session.specs.declared.status.Status.{Status}
+use Rattle.script_session.specs.declared.status.Status.TheVariants.{Done, Refused, Words, Memory, ReadFault, WriteFault}
+use Rattle.whole_run.specs.Arguments.{Names, Asked, runs, checks, limits_by}
+use Rattle.whole_run.specs.Output.{longest_line}
+use Rattle.whole_run.specs.Ends.{Holdings, ScriptRun, CheckEnds, ScriptEnds, Ends, AreHeld, BothHold, IsUnread}
+use Rattle.whole_run.specs.InMemory.{Grows, LacksRoom, GrowsByPrefix, CheckEndsInMemory, ScriptEndsInMemory, UsageEndsInMemory, EndsInMemory}
+
+-- a text that is known, and is this one
+known_is : (o : Option (List ℕ)) (text : List ℕ) → IsSome o → IfSome o (λ t. t ≡ text) → o ≡ Some text
+known_is None text h e = absurd (false≢true h)
+known_is (Some t) text h e = ap Some e
+
+lacks : (failing : List ℕ) (most room n : ℕ) → (IsRoomFor (promised failing most room) n → ⊥) → failing ≡ [] → 0 < most → room < n
+lacks [] zero room n h e l = absurd (omega (arith, l))
+lacks [] (suc m) room n h e l = less n room h
+  where
+    less : (n room : ℕ) → (n ≤ room → ⊥) → room < n
+    less n room h = grind (arith, h)
+lacks (k ∷ ks) most room n h e l = cc
+
+-- what a sink of which the state was kept has written
+same_written : (old new : SinkState) → seen_sink new ≡ seen_sink old → new.written ≡ old.written
+same_written old new e = ap (λ (s : SinkView). unwrap_or s.known []) e
+
+module _ (texts : List Text) (old new : SinkState) where
+  abbrev before : SinkView
+  before = seen_sink old
+
+  abbrev after : SinkView
+  after = seen_sink new
+
+  lacks_room : (n : ℕ) → (HasRoom before n → ⊥) → LacksRoom old n
+  lacks_room n h = lacks old.failing old.most old.room n h
+
+  grows : (x : List ℕ) → Sent x before after → Grows old new x
+  grows x s = s.appended
+
+  cut : (x : List ℕ) → NotSent x before after → GrowsByPrefix old new x
+  cut x s = (s.prefix, lacks_room (length x) s.room)
+
+  usage_ends : (status : Status) → CheckEnds status None (text_named texts) before after → UsageEndsInMemory status old new
+  usage_ends Done h = h
+  usage_ends Refused h = h
+  usage_ends Words h = grows _ h.1.0
+  usage_ends Memory h = same_written old new h
+  usage_ends ReadFault h = absurd (false≢true h.0)
+  usage_ends WriteFault h = (cut _ h.0, lacks_room longest_line h.1)
+
+  checked : (status : Status) (n : Names) → CheckEnds status (Some n) (text_named texts) before after
+      → BothHold (Some n) (text_named texts) ⊎ IsUnread status before after → CheckEndsInMemory status n texts old new
+  checked Done n (script, proof, s, p, (valid, w)) (inl held) = (script, proof, known_is _ script held.0 s, known_is _ proof held.1 p, (valid, grows _ w.0))
+  checked Done n h (inr (inl e, same)) = cc
+  checked Done n h (inr (inr e, same)) = cc
+  checked Refused n (script, proof, s, p, (f, r)) (inl held) = (script, proof, known_is _ script held.0 s, known_is _ proof held.1 p, (f, r.verdict, grows _ r.written.0))
+  checked Refused n h (inr (inl e, same)) = cc
+  checked Refused n h (inr (inr e, same)) = cc
+  checked Words n h found = cc
+  checked Memory n h found = same_written old new h
+  checked ReadFault n h found = same_written old new h.1
+  checked WriteFault n ((script, proof, s, p, (found, v, w)), room) (inl held) =
+      ((script, proof, known_is _ script held.0 s, known_is _ proof held.1 p, (found, v, cut _ w)), lacks_room longest_line room)
+  checked WriteFault n h (inr (inl e, same)) = cc
+  checked WriteFault n h (inr (inr e, same)) = cc
+
+  ran : (status : Status) (r : ScriptRun) → ScriptEnds status r (text_named texts) before after
+      → IsSome (text_named texts r.name) ⊎ IsUnread status before after → ScriptEndsInMemory status r texts old new
+  ran Done r (text, e, (all, t, say, d)) (inl held) = (text, known_is _ text held e, (all, t, say, grows all d.sent))
+  ran Done r h (inr (inl e, same)) = cc
+  ran Done r h (inr (inr e, same)) = cc
+  ran Refused r (text, e, (all, t, say, d)) (inl held) = (text, known_is _ text held e, (all, t, say, grows all d.sent))
+  ran Refused r h (inr (inl e, same)) = cc
+  ran Refused r h (inr (inr e, same)) = cc
+  ran Words r h found = h
+  ran Memory r (inl (text, e, (begun, t, say, d))) (inl held) = inl (text, known_is _ text held e, (begun, t, say, grows begun d.sent))
+  ran Memory r (inr same) (inl held) = inr (same_written old new same)
+  ran Memory r h (inr (e, same)) = inr (same_written old new same)
+  ran ReadFault r h found = same_written old new h
+  ran WriteFault r (text, e, (begun, t, say, d)) (inl held) = (text, known_is _ text held e, (begun, t, say, cut begun d))
+  ran WriteFault r h (inr (inl e, same)) = cc
+  ran WriteFault r h (inr (inr e, same)) = cc
+
+  pub ends_in_memory : (status : Status) (asked : Option Asked) → Ends status asked (text_named texts) before after
+      → AreHeld asked (text_named texts) ⊎ IsUnread status before after → EndsInMemory status asked texts old new
+  ends_in_memory status None h found = usage_ends status h
+  ends_in_memory status (Some (checks n)) h found = checked status n h found
+  ends_in_memory status (Some (runs mode name budgets)) h found = ran status (record { mode = mode; name = name; limits = limits_by budgets }) h found
+
+-- where the sink failed, its count of faults rose
+pub fault_counted : (asked : Option Asked) (holds : Holdings) (old new : SinkView) → Ends WriteFault asked holds old new → Rose old.faults new.faults
+fault_counted None holds old new h = h.0.failed
+fault_counted (Some (checks n)) holds old new ((script, proof, s, p, (found, v, w)), room) = w.failed
+fault_counted (Some (runs mode name budgets)) holds old new (text, e, (begun, t, say, d)) = d.failed

@@ -1,0 +1,10 @@
+-- Lemmas on the parts of a run.
+pub mod Verdicts
+pub mod Statuses
+pub mod Numbers
+pub mod Asked
+pub mod Scripts
+pub mod Lengths
+pub mod InMemory
+pub mod Buffers
+pub mod Taken

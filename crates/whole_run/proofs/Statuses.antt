@@ -1,0 +1,18 @@
+-- From what was written for two texts to the end of a run.
+use Rattle.std.proofs.Common.{◌≡◌, ℕ, List, Some, IfSome}
+use Rattle.world_io.specs.Writing.{SinkView}
+use Rattle.script_session.specs.declared.status.Status.{Status}
+use Rattle.script_session.specs.declared.status.Status.TheVariants.{Done, Refused, Words, Memory, ReadFault, WriteFault}
+use Rattle.whole_run.specs.Arguments.{Names}
+use Rattle.whole_run.specs.Ends.{Holdings, CheckEnds}
+use Rattle.whole_run.specs.Calls.{Reports}
+
+-- the names are known, and the texts are those that they hold
+pub ends_with : (status : Status) (n : Names) (holds : Holdings) (old new : SinkView) (script proof : List ℕ) → IfSome (holds n.script) (λ t. t ≡ script) → IfSome (holds n.proof) (λ t. t ≡ proof)
+    → Reports status script n.at proof old new → CheckEnds status (Some n) holds old new
+ends_with Done n holds old new script proof s p r = (script, proof, s, p, r)
+ends_with Refused n holds old new script proof s p r = (script, proof, s, p, r)
+ends_with Words n holds old new script proof s p r = absurd r
+ends_with Memory n holds old new script proof s p r = r
+ends_with ReadFault n holds old new script proof s p r = absurd r
+ends_with WriteFault n holds old new script proof s p r = ((script, proof, s, p, r.0), r.1)

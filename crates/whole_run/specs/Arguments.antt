@@ -1,0 +1,134 @@
+-- The arguments of a run.
+use Rattle.std.specs.Prelude.{◌≡◌, ℕ, ◌≤◌, true, ◌&&◌, List, [], ◌∷◌, map, codes, decimal, Option, Some, None, option_map, option_and_then, unwrap_or, String, string_bytes, nat_le, if◌then◌else◌}
+use Rattle.std.specs.Str.{bytes_eq}
+use Rattle.std.specs.Str.Parse.{digits_value}
+use Rattle.std.specs.declared.alloc.Global.{Global}
+use Rattle.clap.specs.Words.{App, Row, Rule, Text, Kinds, fault_of, first_of, new_app, new_rule, subcommand_of, with_rule, with_subcommand}
+use Rattle.spec_commands.specs.Checks.{term_limit}
+use Rattle.spec_sessions.specs.Evidence.{Limits}
+use Rattle.spec_sessions.specs.Responses.{Mode, solve, certify}
+
+-- The names of a script and of a proof, and the check that is meant.
+pub record Names : Type 0 where
+  -- the script's name
+  pub script : List ℕ
+  -- the proof's name
+  pub proof : List ℕ
+  -- which of the script's checks is meant, from 1
+  pub at : ℕ
+
+-- What each check of a run may spend.
+pub record Budgets : Type 0 where
+  -- how many conflicts it may learn from
+  pub conflicts : ℕ
+  -- how many pivots it may make; this has no effect yet
+  pub pivots : ℕ
+
+-- the two as one
+abbrev pub budgets : ℕ × ℕ → Budgets
+budgets b = record { conflicts = b.0; pivots = b.1 }
+
+-- What the arguments of a run ask for.
+pub data Asked : Type 0 where
+  -- a script is to be run: how much is written, its name, and what each check may spend
+  runs : Mode → List ℕ → Budgets → Asked
+  -- a proof is to be judged against a script
+  checks : Names → Asked
+
+-- an option of this name, with any word as its value
+abbrev pub option_named : Text → Rule
+option_named id = record (new_rule id) { long = Some id }
+
+-- an argument that must be there, in its place
+abbrev pub required_argument : Text → Rule
+required_argument id = record (new_rule id) { required = true }
+
+-- a command of this name with the arguments `[--conflicts N] [--pivots N] [NAME]`
+abbrev pub run_app : Text → App
+run_app name = with_rule (with_rule (with_rule (new_app name) (option_named (codes "conflicts"))) (option_named (codes "pivots"))) (new_rule (codes "name"))
+
+-- the command `check [--at K] SCRIPT PROOF`
+abbrev pub check_app : App
+check_app = with_rule (with_rule (with_rule (new_app (codes "check")) (option_named (codes "at"))) (required_argument (codes "script"))) (required_argument (codes "proof"))
+
+-- the program without its commands: one must be there, and no word asks for help or a version
+abbrev pub bare_app : App
+bare_app =
+    let top = new_app (codes "smt_cli") in
+    record top { top = record top.top { disable_help_flag = true; disable_help_subcommand = true; disable_version_flag = true; subcommand_required = true } }
+
+-- the program
+abbrev pub smt_app : App
+smt_app = with_subcommand (with_subcommand (with_subcommand bare_app (run_app (codes "solve")).top) (run_app (codes "certify")).top) check_app.top
+
+-- no number of the arguments is greater
+abbrev pub most_number : ℕ
+most_number = 1000000000
+
+-- how many conflicts a check may learn from where no word says so
+abbrev pub usual_conflicts : ℕ
+usual_conflicts = 1000000
+
+-- how many pivots a check may make where no word says so
+abbrev pub usual_pivots : ℕ
+usual_pivots = 10000000
+
+-- the word is the number's decimal digits, with no sign and no zero before them, and the number is from 1 to `most_number`
+abbrev pub IsNumber : List ℕ → ℕ → Type 0
+IsNumber word n = (word ≡ decimal n) × (1 ≤ n) × (n ≤ most_number)
+
+-- the number of which the word is the digits, where there is one: no other than the value of the digits
+unfoldable pub number_of : List ℕ → Option ℕ
+number_of word =
+    let n = digits_value 10 word in
+    if bytes_eq word (decimal n) && (nat_le 1 n && nat_le n most_number) then Some n else None
+
+-- the number that the value of an option stands for, and this one where the option has none
+abbrev pub number_or : ℕ → Option Text → Option ℕ
+number_or usual None = Some usual
+number_or usual (Some word) = number_of word
+
+-- both budgets, where both are numbers
+abbrev pub both_budgets : Option ℕ → Option ℕ → Option Budgets
+both_budgets (Some conflicts) (Some pivots) = Some (record { conflicts = conflicts; pivots = pivots })
+both_budgets _ _ = None
+
+-- what each check may spend, by the values of `conflicts` and `pivots` of a command's matches
+abbrev pub budgets_in : List Row → Option Budgets
+budgets_in rows =
+    both_budgets (number_or usual_conflicts (first_of (codes "conflicts") rows)) (number_or usual_pivots (first_of (codes "pivots") rows))
+
+-- the limits of a run in which each check may spend so much
+abbrev pub limits_by : Budgets → Limits
+limits_by budgets = record { conflicts = budgets.conflicts; terms = term_limit }
+
+-- the run that the values of a command's matches ask for; where no name is given, that of the empty name
+abbrev pub run_in : Mode → List Row → Option Asked
+run_in mode rows = option_map (runs mode (unwrap_or (first_of (codes "name") rows) [])) (budgets_in rows)
+
+-- all three are there
+abbrev pub all_three : Option Text → Option Text → Option ℕ → Option Names
+all_three (Some script) (Some proof) (Some at) = Some (record { script = script; proof = proof; at = at })
+all_three _ _ _ = None
+
+-- the values of `script`, `proof` and `at` of a command's matches
+abbrev pub names_in : List Row → Option Names
+names_in rows = all_three (first_of (codes "script") rows) (first_of (codes "proof") rows) (number_or 1 (first_of (codes "at") rows))
+
+-- what a command asks for, by its name and its matches
+abbrev pub asked_in : Text × List Row → Option Asked
+asked_in m =
+    if bytes_eq m.0 (codes "solve") then run_in solve m.1
+    else if bytes_eq m.0 (codes "certify") then run_in certify m.1
+    else if bytes_eq m.0 (codes "check") then option_map checks (names_in m.1)
+    else None
+
+-- by the faults of the arguments and the command that they name
+abbrev pub asked_by_faults : Kinds → Option (Text × List Row) → Option Asked
+asked_by_faults [] met = option_and_then asked_in met
+asked_by_faults (k ∷ ks) met = None
+
+-- what the arguments of a run ask for, where they are taken; the first word is the program's name. They are taken where `clap` by its
+-- definition finds no fault in them for `smt_app`, and the value of each option that is given stands for a number.
+unfoldable pub asked : List (String Global) → Option Asked
+asked arguments = asked_by_faults (fault_of smt_app (map string_bytes arguments)) (subcommand_of smt_app (map string_bytes arguments))

@@ -1,0 +1,56 @@
+-- What the parts of a run promise.
+use Rattle.std.specs.Prelude.{◌≡◌, ℕ, List, Option, Some, None, Result, Ok, Err, ⊤}
+use Rattle.world_io.specs.Writing.{SinkView, HasRoom, NotSent}
+use Rattle.spec_proofs.specs.Faults.{Fault}
+use Rattle.spec_checking.specs.Accepted.{IsVerdict}
+use Rattle.proof_check.specs.declared.ProofStop.{ProofStop}
+use Rattle.proof_check.specs.Verdicts.{Answers}
+use Rattle.script_session.specs.declared.status.Status.{Status}
+use Rattle.script_session.specs.declared.status.Status.TheVariants.{Done, Refused, Memory, WriteFault}
+use Rattle.script_session.specs.Sessions.{mode_meant, Delivers}
+use Rattle.whole_run.specs.declared.arguments.CheckRequest.{CheckRequest}
+use Rattle.whole_run.specs.declared.arguments.RunRequest.{RunRequest}
+use Rattle.whole_run.specs.declared.arguments.Request.{Request}
+use Rattle.whole_run.specs.declared.arguments.Request.TheVariants as request
+use Rattle.whole_run.specs.declared.arguments.ArgumentsStop.{ArgumentsStop}
+use Rattle.whole_run.specs.declared.arguments.ArgumentsStop.TheVariants as stop
+use Rattle.whole_run.specs.Ends.{IsValid, IsRefused, ScriptRun}
+use Rattle.whole_run.specs.Arguments.{Names, Budgets, Asked, runs, checks, limits_by}
+use Rattle.whole_run.specs.Output.{valid, output_of, longest_line}
+
+-- what was judged of a proof of a check of a script, and for an accepted one that nothing makes true what is asserted there
+abbrev pub Judges : List ℕ → ℕ → List ℕ → Result (Unit {0}) ProofStop → Type 0
+Judges script at proof (Ok u) = IsValid script at proof
+Judges script at proof (Err stop) = Answers script at proof (Err stop)
+
+-- what is written for the texts, by how that ends
+abbrev pub Reports : Status → List ℕ → ℕ → List ℕ → SinkView → SinkView → Type 0
+Reports Done script at proof old new = IsValid script at proof × Delivers valid (Ok tt) old new
+Reports Refused script at proof old new = (f : Fault) × IsRefused script at proof f old new
+Reports Memory script at proof old new = new ≡ old
+Reports WriteFault script at proof old new =
+    ((found : Option Fault) × IsVerdict script at proof found × NotSent (output_of proof found) old new) × (HasRoom old longest_line → ⊥)
+Reports _ script at proof old new = ⊥
+
+-- the texts that a request to judge a proof names
+abbrev pub names_of : CheckRequest → Names
+names_of r = record { script = r.names.script.now; proof = r.names.proof.now; at = r.at }
+
+-- what each check may spend, by a request
+abbrev pub budgets_of : RunRequest → Budgets
+budgets_of r = record { conflicts = r.conflicts; pivots = r.pivots }
+
+-- the run that a request asks for
+abbrev pub run_of : RunRequest → ScriptRun
+run_of r = record { mode = mode_meant r.mode; name = r.name.now; limits = limits_by (budgets_of r) }
+
+-- what a request asks for
+abbrev pub asked_by : Request → Asked
+asked_by (request.Run r) = runs (mode_meant r.mode) r.name.now (budgets_of r)
+asked_by (request.Check r) = checks (names_of r)
+
+-- what the arguments ask for, or that they ask for nothing, unless memory ran out
+abbrev pub Asks : Option Asked → Result Request ArgumentsStop → Type 0
+Asks wanted (Ok r) = wanted ≡ Some (asked_by r)
+Asks wanted (Err stop.Wrong) = wanted ≡ None
+Asks wanted (Err stop.Memory) = ⊤

@@ -1,0 +1,144 @@
+-- How a run ends: what it was given, what it judged, and what it wrote.
+use Rattle.std.specs.Prelude.{◌≡◌, ◌+◌, ◌^◌, ◌≤◌, ℕ, Bool, true, false, List, ◌++◌, length, Option, Some, None, Ok, IsSome, IfSome, ⊤, ◌⊎◌}
+use Rattle.world_io.specs.Writing.{SinkView, HasRoom, NotSent}
+use Rattle.world_io.specs.Buffering.{sink_of, pending_in, buffered}
+use Rattle.world_io.specs.declared.buffered_sink.BufferedSink.{BufferedSink}
+use Rattle.spec_commands.specs.Checks.{HasNoModel, term_limit}
+use Rattle.spec_proofs.specs.Faults.{Fault}
+use Rattle.spec_checking.specs.Accepted.{IsAccepted, IsVerdict}
+use Rattle.script_session.specs.declared.status.Status.{Status}
+use Rattle.script_session.specs.declared.status.Status.TheVariants.{Done, Refused, Words, Memory, ReadFault, WriteFault}
+use Rattle.spec_sessions.specs.Evidence.{Limits}
+use Rattle.spec_sessions.specs.Responses.{Mode}
+use Rattle.script_session.specs.Sessions.{Delivers}
+use Rattle.spec_sessions.specs.Statements.{OnTranscript, OnBegun}
+use Rattle.script_session.specs.Runs.{Delivered}
+use Rattle.whole_run.specs.Arguments.{Names, Asked, runs, checks, limits_by}
+use Rattle.whole_run.specs.Output.{usage, valid, error_line, output_of, longest_line}
+
+-- what each name holds, where that is known
+abbrev pub Holdings : Type 0
+Holdings = List ℕ → Option (List ℕ)
+
+-- a sink with a buffer before it, by how the sink is seen
+abbrev pub through : {K : Type 0} → (K → SinkView) → BufferedSink K → SinkView
+through state b = buffered (state (sink_of b)) (pending_in b)
+
+-- the verdict on the texts is that the proof is accepted, with all that this means: no interpretation makes true what is
+-- asserted at that check of the script
+pub record IsValid (script : List ℕ) (at : ℕ) (proof : List ℕ) : Type 0 where
+  -- the verdict has no fault
+  pub verdict : IsVerdict script at proof None
+  -- the proof is accepted, of that check
+  pub accepted : IsAccepted script at proof
+  -- no interpretation makes true what is asserted there
+  pub no_model : HasNoModel term_limit script at
+
+-- the arguments are accepted, and P is true of the check that is meant, and of a script and a proof that are those of the two names,
+-- where these are known
+abbrev pub OnTexts : Option Names → Holdings → (List ℕ → ℕ → List ℕ → Type 0) → Type 0
+OnTexts None holds P = ⊥
+OnTexts (Some n) holds P =
+    (script : List ℕ) × (proof : List ℕ)
+    × IfSome (holds n.script) (λ t. t ≡ script) × IfSome (holds n.proof) (λ t. t ≡ proof) × P script n.at proof
+
+-- both names hold a text, where the arguments are accepted
+abbrev pub BothHold : Option Names → Holdings → Type 0
+BothHold None holds = ⊤
+BothHold (Some n) holds = IsSome (holds n.script) × IsSome (holds n.proof)
+
+-- no more bytes are taken of a text: those that are read, and one read more
+abbrev pub most_taken : ℕ
+most_taken = 2 ^ 26 + 2 ^ 16
+
+-- a prefix of the known bytes was taken, of so many bytes at most, and the rest is left
+abbrev pub TakesText : Option (List ℕ) → Option (List ℕ) → Type 0
+TakesText None new = ⊤
+TakesText (Some old) None = ⊥
+TakesText (Some old) (Some new) = (taken : List ℕ) × (old ≡ taken ++ new) × (length taken ≤ most_taken)
+
+-- the proof was read last: what is left on the shelf is what is left of it, where that is known
+abbrev pub ProofIsLast : Option Names → Holdings → Option (List ℕ) → Type 0
+ProofIsLast None holds left = ⊤
+ProofIsLast (Some n) holds left = TakesText (holds n.proof) left
+
+-- a prefix of a right output was written, for which the sink had no room as a whole: of the usage text, or of a verdict on the texts
+abbrev pub WritesPrefix : Option Names → Holdings → SinkView → SinkView → Type 0
+WritesPrefix None holds old new = NotSent usage old new
+WritesPrefix (Some n) holds old new =
+    OnTexts (Some n) holds (λ script at proof. (found : Option Fault) × IsVerdict script at proof found × NotSent (output_of proof found) old new)
+
+-- The verdict on the texts is this fault, and its line was written.
+pub record IsRefused (script : List ℕ) (at : ℕ) (proof : List ℕ) (f : Fault) (old new : SinkView) : Type 0 where
+  -- the verdict
+  pub verdict : IsVerdict script at proof (Some f)
+  -- its line is not too long
+  pub short : length (error_line proof f) ≤ longest_line
+  -- it was written, and nothing waits
+  pub written : Delivers (error_line proof f) (Ok tt) old new
+
+-- how a run that judges a proof ends, by its status; or one of which the arguments are not accepted. The sink fails only where it has
+-- no room for the longest line
+abbrev pub CheckEnds : Status → Option Names → Holdings → SinkView → SinkView → Type 0
+CheckEnds Done names holds old new = OnTexts names holds (λ script at proof. IsValid script at proof × Delivers valid (Ok tt) old new)
+CheckEnds Refused names holds old new = OnTexts names holds (λ script at proof. (f : Fault) × IsRefused script at proof f old new)
+CheckEnds Words names holds old new = (names ≡ None) × Delivers usage (Ok tt) old new
+CheckEnds Memory names holds old new = new ≡ old
+CheckEnds ReadFault names holds old new = IsSome names × (new ≡ old)
+CheckEnds WriteFault names holds old new = WritesPrefix names holds old new × (HasRoom old longest_line → ⊥)
+
+-- P is true of a text that is the name's, where that is known
+abbrev pub OnText : List ℕ → Holdings → (List ℕ → Type 0) → Type 0
+OnText name holds P = (text : List ℕ) × IfSome (holds name) (λ t. t ≡ text) × P text
+
+-- A run of a script: how much is written, its name, and its limits.
+pub record ScriptRun : Type 0 where
+  -- how much is written
+  pub mode : Mode
+  -- the script's name
+  pub name : List ℕ
+  -- what it may spend
+  pub limits : Limits
+
+-- how the run of a script ends, by its status: a transcript of its text was written; or what is to be written for the commands that
+-- were run, where memory ran out; or a prefix of that, where the sink failed and had no room for all of it; where memory ran out or the
+-- shelf failed before the text was read, nothing was. What the answers say is so: the limits of a run have the limit on terms under
+-- which proofs are checked
+abbrev pub ScriptEnds : Status → ScriptRun → Holdings → SinkView → SinkView → Type 0
+ScriptEnds Done r holds old new = OnText r.name holds (λ text. OnTranscript r.limits r.mode text false (λ all. Delivered all old new))
+ScriptEnds Refused r holds old new = OnText r.name holds (λ text. OnTranscript r.limits r.mode text true (λ all. Delivered all old new))
+ScriptEnds Words r holds old new = ⊥
+ScriptEnds Memory r holds old new =
+    OnText r.name holds (λ text. OnBegun r.limits r.mode text (λ begun. Delivered begun old new)) ⊎ (new ≡ old)
+ScriptEnds ReadFault r holds old new = new ≡ old
+ScriptEnds WriteFault r holds old new = OnText r.name holds (λ text. OnBegun r.limits r.mode text (λ begun. NotSent begun old new))
+
+-- all that was to be written was written
+abbrev pub is_answered : Status → Bool
+is_answered Done = true
+is_answered Refused = true
+is_answered Words = true
+is_answered _ = false
+
+-- how a run ends, by what its arguments ask for and its status
+abbrev pub Ends : Status → Option Asked → Holdings → SinkView → SinkView → Type 0
+Ends status None holds old new = CheckEnds status None holds old new
+Ends status (Some (checks n)) holds old new = CheckEnds status (Some n) holds old new
+Ends status (Some (runs mode name budgets)) holds old new =
+    ScriptEnds status (record { mode = mode; name = name; limits = limits_by budgets }) holds old new
+
+-- the texts that are asked for are held
+abbrev pub AreHeld : Option Asked → Holdings → Type 0
+AreHeld None holds = ⊤
+AreHeld (Some (checks n)) holds = BothHold (Some n) holds
+AreHeld (Some (runs mode name budgets)) holds = IsSome (holds name)
+
+-- the run ended before the texts were read, and nothing was written: the shelf failed, or memory ran out
+abbrev pub IsUnread : Status → SinkView → SinkView → Type 0
+IsUnread status old new = ((status ≡ ReadFault) ⊎ (status ≡ Memory)) × (new ≡ old)
+
+-- the text that was read last: what is left on the shelf is what is left of it, where that is known; none may be asked for
+abbrev pub LastIsRead : Option Asked → Holdings → Option (List ℕ) → Type 0
+LastIsRead None holds left = ⊤
+LastIsRead (Some (checks n)) holds left = ProofIsLast (Some n) holds left
+LastIsRead (Some (runs mode name budgets)) holds left = TakesText (holds name) left

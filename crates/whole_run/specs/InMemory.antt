@@ -1,0 +1,68 @@
+-- A run from memory to memory.
+use Rattle.std.specs.Prelude.{◌≡◌, ℕ, ◌<◌, ◌≤◌, true, false, List, [], ◌++◌, length, take, Option, Some, None, ◌⊎◌}
+use Rattle.world_io.specs.Memory.{Text, text_named, SinkState}
+use Rattle.spec_proofs.specs.Faults.{Fault}
+use Rattle.spec_checking.specs.Accepted.{IsVerdict}
+use Rattle.script_session.specs.declared.status.Status.{Status}
+use Rattle.script_session.specs.declared.status.Status.TheVariants.{Done, Refused, Words, Memory, ReadFault, WriteFault}
+use Rattle.spec_sessions.specs.Statements.{OnTranscript, OnBegun}
+use Rattle.whole_run.specs.Arguments.{Names, Asked, runs, checks, limits_by}
+use Rattle.whole_run.specs.Ends.{IsValid, ScriptRun}
+use Rattle.whole_run.specs.Output.{usage, valid, error_line, output_of, longest_line}
+
+-- both names have texts, and P is true of these and of the check that is meant
+abbrev pub OnNamed : Names → List Text → (List ℕ → ℕ → List ℕ → Type 0) → Type 0
+OnNamed n texts P =
+    (script : List ℕ) × (proof : List ℕ) × (text_named texts n.script ≡ Some script) × (text_named texts n.proof ≡ Some proof) × P script n.at proof
+
+-- the bytes were written
+abbrev pub Grows : SinkState → SinkState → List ℕ → Type 0
+Grows old new bytes = new.written ≡ old.written ++ bytes
+
+-- a sink of which no write is to fail has no room for so many bytes
+abbrev pub LacksRoom : SinkState → ℕ → Type 0
+LacksRoom sink n = sink.failing ≡ [] → 0 < sink.most → sink.room < n
+
+-- a prefix of the bytes was written, and there was no room for all of them
+abbrev pub GrowsByPrefix : SinkState → SinkState → List ℕ → Type 0
+GrowsByPrefix old new bytes = ((n : ℕ) × (n ≤ length bytes) × (new.written ≡ old.written ++ take n bytes)) × LacksRoom old (length bytes)
+
+-- how a run that judges a proof ends, by its status
+abbrev pub CheckEndsInMemory : Status → Names → List Text → SinkState → SinkState → Type 0
+CheckEndsInMemory Done n texts old new = OnNamed n texts (λ script at proof. IsValid script at proof × Grows old new valid)
+CheckEndsInMemory Refused n texts old new =
+    OnNamed n texts (λ script at proof. (f : Fault) × IsVerdict script at proof (Some f) × Grows old new (error_line proof f))
+CheckEndsInMemory Words n texts old new = ⊥
+CheckEndsInMemory Memory n texts old new = new.written ≡ old.written
+CheckEndsInMemory ReadFault n texts old new = new.written ≡ old.written
+CheckEndsInMemory WriteFault n texts old new =
+    OnNamed n texts (λ script at proof. (found : Option Fault) × IsVerdict script at proof found × GrowsByPrefix old new (output_of proof found))
+    × LacksRoom old longest_line
+
+-- the name has a text, and P is true of it
+abbrev pub OnScript : List ℕ → List Text → (List ℕ → Type 0) → Type 0
+OnScript name texts P = (text : List ℕ) × (text_named texts name ≡ Some text) × P text
+
+-- how the run of a script ends, by its status
+abbrev pub ScriptEndsInMemory : Status → ScriptRun → List Text → SinkState → SinkState → Type 0
+ScriptEndsInMemory Done r texts old new = OnScript r.name texts (λ text. OnTranscript r.limits r.mode text false (Grows old new))
+ScriptEndsInMemory Refused r texts old new = OnScript r.name texts (λ text. OnTranscript r.limits r.mode text true (Grows old new))
+ScriptEndsInMemory Words r texts old new = ⊥
+ScriptEndsInMemory Memory r texts old new =
+    OnScript r.name texts (λ text. OnBegun r.limits r.mode text (Grows old new)) ⊎ (new.written ≡ old.written)
+ScriptEndsInMemory ReadFault r texts old new = new.written ≡ old.written
+ScriptEndsInMemory WriteFault r texts old new = OnScript r.name texts (λ text. OnBegun r.limits r.mode text (GrowsByPrefix old new))
+
+-- how a run whose arguments are not accepted ends, by its status
+abbrev pub UsageEndsInMemory : Status → SinkState → SinkState → Type 0
+UsageEndsInMemory Words old new = Grows old new usage
+UsageEndsInMemory Memory old new = new.written ≡ old.written
+UsageEndsInMemory WriteFault old new = GrowsByPrefix old new usage × LacksRoom old longest_line
+UsageEndsInMemory _ old new = ⊥
+
+-- how a run ends, by what its arguments ask for and its status
+abbrev pub EndsInMemory : Status → Option Asked → List Text → SinkState → SinkState → Type 0
+EndsInMemory status None texts old new = UsageEndsInMemory status old new
+EndsInMemory status (Some (checks n)) texts old new = CheckEndsInMemory status n texts old new
+EndsInMemory status (Some (runs mode name budgets)) texts old new =
+    ScriptEndsInMemory status (record { mode = mode; name = name; limits = limits_by budgets }) texts old new

@@ -1,0 +1,26 @@
+-- What a run writes.
+use Rattle.std.specs.Prelude.{ℕ, List, codes, Option, Some, None}
+use Rattle.spec_text.specs.Places.{line_of, column_of}
+use Rattle.spec_proofs.specs.Faults.{Fault, fault_name}
+use Rattle.spec_replies.specs.Lines.{error_text}
+
+-- how the arguments are to be
+abbrev pub usage : List ℕ
+usage = codes "usage: smt_cli solve [--conflicts N] [--pivots N] [NAME]\n       smt_cli certify [--conflicts N] [--pivots N] [NAME]\n       smt_cli check [--at K] SCRIPT PROOF\n"
+
+-- the proof is accepted
+abbrev pub valid : List ℕ
+valid = codes "valid\n"
+
+-- a fault of a proof, with the line and column that it stands at
+abbrev pub error_line : List ℕ → Fault → List ℕ
+error_line proof f = error_text (line_of proof f.offset) (column_of proof f.offset) (fault_name f.kind)
+
+-- what is written for a verdict
+abbrev pub output_of : List ℕ → Option Fault → List ℕ
+output_of proof None = valid
+output_of proof (Some f) = error_line proof f
+
+-- neither the usage text nor a line that `check` writes has more bytes
+abbrev pub longest_line : ℕ
+longest_line = 256

@@ -1,0 +1,135 @@
+//! The run.
+
+ghost use Rattle.std.specs.Prelude.{◌≡◌, ◌≢◌, ℕ, ◌≤◌, ◌⊎◌, List, Some, None, IsSome};
+ghost use Rattle.world_io.specs.Outside.{Rose};
+ghost use Rattle.whole_run.specs.Arguments.{asked};
+ghost use Rattle.whole_run.specs.Calls.{names_of, run_of};
+ghost use Rattle.whole_run.specs.Ends.{Holdings, BothHold, ProofIsLast, TakesText, CheckEnds, ScriptEnds, Ends, AreHeld, LastIsRead, IsUnread};
+
+use crate::arguments::{ArgumentsStop, CheckRequest, Request, RunRequest, request_from};
+use crate::output::write_usage;
+use crate::read::{read_both, read_text};
+use crate::verdict::{judge, report};
+use script_session::{Status, run_text};
+use script_stack::TERM_LIMIT;
+use search_budget::Limits;
+use std::alloc::Global;
+use world_io::{ReadStop, Shelf, Sink};
+
+/// Judges the proof of a request against its script, and writes the verdict.
+///
+/// Both texts are read, the script first, before anything is judged. Of each text the first 2^26 bytes are judged: a check
+/// after them is not there, and a proof that goes on after them has a fault.
+fn run_check<F: Shelf, K: Sink>(
+    alloc: Global,
+    request: CheckRequest<'_>,
+    shelf: &mut F,
+    out: &mut K,
+) -> Status
+    ensures ends { CheckEnds result (Some (names_of request.entry)) (F.holds shelf.old) (K.state out.old) (K.state out.new) }
+    ensures read_fault { result ≡ Status.ReadFault → Rose (F.faults shelf.old) (F.faults shelf.new) }
+    ensures read { F.is_sound shelf.old → BothHold (Some (names_of request.entry)) (F.holds shelf.old)
+        → result ≢ Status.ReadFault }
+    ensures order { result ≢ Status.Memory → result ≢ Status.ReadFault
+        → ProofIsLast (Some (names_of request.entry)) (F.holds shelf.old) (F.left shelf.new) }
+    ensures found { ((s : F) → IsSome (F.left s)) → BothHold (Some (names_of request.entry)) (F.holds shelf.old)
+        ⊎ IsUnread result (K.state out.old) (K.state out.new) }
+    ensures same { (n : List ℕ) → F.holds shelf.new n ≡ F.holds shelf.old n }
+    ensures reads { F.faults shelf.old ≤ F.faults shelf.new }
+    ensures sound { F.is_sound shelf.old → F.is_sound shelf.new }
+{
+    match read_both(alloc, shelf, request.names) {
+        Ok(texts) => report(judge(alloc, &texts, request.at), out),
+        Err(ReadStop::Failed) => Status::ReadFault,
+        Err(ReadStop::Memory) => Status::Memory,
+    }
+}
+
+/// Runs the script of a request: its text is read to its end, and then each command is taken and its response written.
+fn run_script<F: Shelf, K: Sink>(
+    alloc: Global,
+    request: RunRequest<'_>,
+    shelf: &mut F,
+    out: &mut K,
+) -> Status
+    ensures ends { ScriptEnds result (run_of request.entry) (F.holds shelf.old) (K.state out.old) (K.state out.new) }
+    ensures read_fault { result ≡ Status.ReadFault → Rose (F.faults shelf.old) (F.faults shelf.new) }
+    ensures read { F.is_sound shelf.old → IsSome (F.holds shelf.old request.entry.name.now) → result ≢ Status.ReadFault }
+    ensures order { result ≢ Status.Memory → result ≢ Status.ReadFault
+        → TakesText (F.holds shelf.old request.entry.name.now) (F.left shelf.new) }
+    ensures found { ((s : F) → IsSome (F.left s)) → IsSome (F.holds shelf.old request.entry.name.now)
+        ⊎ IsUnread result (K.state out.old) (K.state out.new) }
+    ensures same { (n : List ℕ) → F.holds shelf.new n ≡ F.holds shelf.old n }
+    ensures reads { F.faults shelf.old ≤ F.faults shelf.new }
+    ensures sound { F.is_sound shelf.old → F.is_sound shelf.new }
+{
+    spec_sessions::laws::transcripts_need_a_front_alone();
+    spec_sessions::laws::answers_say_what_is_so();
+    match read_text(alloc, shelf, request.name) {
+        Ok(bytes) => {
+            let limits = Limits {
+                conflicts: request.conflicts,
+                pivots: request.pivots,
+                terms: TERM_LIMIT,
+            };
+            run_text(alloc, bytes.as_slice(), &limits, request.mode, out)
+        }
+        Err(ReadStop::Failed) => Status::ReadFault,
+        Err(ReadStop::Memory) => Status::Memory,
+    }
+}
+
+/// Writes the usage text.
+fn run_usage<K: Sink>(out: &mut K) -> Status
+    ensures ends { (holds : Holdings) → CheckEnds result None holds (K.state out.old) (K.state out.new) }
+    ensures no_read { (result ≡ Status.Words) ⊎ (result ≡ Status.WriteFault) }
+{
+    match write_usage(out) {
+        Ok(()) => Status::Words,
+        Err(_) => Status::WriteFault,
+    }
+}
+
+/// Runs the program: does what the arguments ask for after its name.
+///
+/// - `solve [--conflicts N] [--pivots N] [NAME]` runs the script of that name and writes the standard's responses; an absent
+///   name is the empty one. `certify` does the same, and writes after the answer of each check what shows it: a model, a
+///   proof or a reason. N is the most conflicts of a check (1,000,000 where it is not given) or pivots (without effect yet).
+///   Of the text the first 2^26 bytes are run.
+/// - `check [--at K] SCRIPT PROOF` judges the proof against the script's K-th check, from 1, or the first where K is not
+///   given: it writes `valid`, or the proof's first fault with its line and column.
+/// - All other arguments give the usage text, and `Words`.
+///
+/// `Done` and `Refused` tell of a script whether something in it was refused, of a proof whether it is accepted. `Memory`
+/// comes where an allocation was refused, `ReadFault` where the shelf failed, `WriteFault` where the sink failed: what was
+/// written is then a prefix of what was to be written for the commands that were run, or of the line, and the sink had no
+/// room for all of it.
+///
+/// What is written is passed on: where nothing waited in a buffer before, nothing waits after `Done`, `Refused` and `Words`.
+/// Of the text that was read last at most 2^26 bytes and one read more are taken. After `Memory` and `ReadFault` no clause
+/// says how many. Where the arguments ask for no text, the shelf is as it was.
+pub fn run<F: Shelf, K: Sink>(
+    alloc: Global,
+    arguments: &[String],
+    shelf: &mut F,
+    out: &mut K,
+) -> Status
+    ensures ends { Ends result (asked arguments.now) (F.holds shelf.old) (K.state out.old) (K.state out.new) }
+    ensures read_fault { result ≡ Status.ReadFault → Rose (F.faults shelf.old) (F.faults shelf.new) }
+    ensures read { F.is_sound shelf.old → AreHeld (asked arguments.now) (F.holds shelf.old) → result ≢ Status.ReadFault }
+    ensures order { result ≢ Status.Memory → result ≢ Status.ReadFault
+        → LastIsRead (asked arguments.now) (F.holds shelf.old) (F.left shelf.new) }
+    ensures unasked { asked arguments.now ≡ None → shelf.new ≡ shelf.old }
+    ensures found { ((s : F) → IsSome (F.left s)) → AreHeld (asked arguments.now) (F.holds shelf.old)
+        ⊎ IsUnread result (K.state out.old) (K.state out.new) }
+    ensures same { (n : List ℕ) → F.holds shelf.new n ≡ F.holds shelf.old n }
+    ensures reads { F.faults shelf.old ≤ F.faults shelf.new }
+    ensures sound { F.is_sound shelf.old → F.is_sound shelf.new }
+{
+    match request_from(alloc, arguments) {
+        Ok(Request::Check(request)) => run_check(alloc, request, shelf, out),
+        Ok(Request::Run(request)) => run_script(alloc, request, shelf, out),
+        Err(ArgumentsStop::Wrong) => run_usage(out),
+        Err(ArgumentsStop::Memory) => Status::Memory,
+    }
+}

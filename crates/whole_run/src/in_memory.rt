@@ -1,0 +1,32 @@
+//! A run over texts in memory.
+
+ghost use Rattle.std.specs.Prelude.{◌≡◌, ◌≢◌, ◌<◌, ℕ, List, []};
+ghost use Rattle.world_io.specs.Memory.{text_named};
+ghost use Rattle.world_io.specs.Outside.{Rose};
+ghost use Rattle.whole_run.specs.Arguments.{asked};
+ghost use Rattle.whole_run.specs.Ends.{AreHeld};
+ghost use Rattle.whole_run.specs.InMemory.{EndsInMemory};
+
+use crate::run;
+use script_session::Status;
+use std::alloc::Global;
+use world_io::{MemShelf, MemSink};
+
+/// Runs from memory to memory.
+///
+/// The statuses are those of `run`, and the names hold what they held.
+pub fn run_in_memory(
+    alloc: Global,
+    arguments: &[String],
+    shelf: &mut MemShelf,
+    out: &mut MemSink,
+) -> Status
+    ensures ends { EndsInMemory result (asked arguments.now) shelf.old.texts out.old out.new }
+    ensures same { (n : List ℕ) → text_named shelf.new.texts n ≡ text_named shelf.old.texts n }
+    ensures read_fault { result ≡ Status.ReadFault → Rose shelf.old.faults shelf.new.faults }
+    ensures write_fault { result ≡ Status.WriteFault → Rose out.old.faults out.new.faults }
+    ensures read { shelf.old.failing ≡ [] → 0 < shelf.old.most → AreHeld (asked arguments.now) (text_named shelf.old.texts)
+        → result ≢ Status.ReadFault }
+{
+    run(alloc, arguments, shelf, out)
+}

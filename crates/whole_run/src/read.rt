@@ -1,0 +1,72 @@
+//! Reads the two texts of a run.
+
+ghost use Rattle.std.specs.Prelude.{◌≡◌, ◌≢◌, ℕ, ◌≤◌, List, IfOk, IfSome, IsSome, IsOk, IsErrOf};
+ghost use Rattle.world_io.specs.Outside.{Rose};
+ghost use Rattle.spec_text.specs.Readings.{front};
+ghost use Rattle.whole_run.specs.Ends.{TakesText};
+
+use crate::arguments::Names;
+use smt_sexpr::TEXT_LIMIT;
+use std::alloc::Global;
+use world_io::{Bytes, ReadStop, Shelf, read_prefix};
+
+/// How many bytes of a text are read: as many as a text may have, and one more, by which it has too many.
+const FRONT: u64 = TEXT_LIMIT as u64 + 1;
+
+/// Holds the prefixes of the two texts of a run.
+#[derive(Drop)]
+pub(crate) struct Texts {
+    /// The script.
+    pub(crate) script: Bytes,
+    /// The proof.
+    pub(crate) proof: Bytes,
+}
+
+/// Reads the prefix of a name's text.
+///
+/// `Failed` comes only where the shelf's count of faults rose in this call, `Memory` where an allocation was refused.
+pub(crate) fn read_text<F: Shelf>(
+    alloc: Global,
+    shelf: &mut F,
+    name: &str,
+) -> Result<Bytes, ReadStop>
+    ensures end { IfOk result (λ bytes. (text : List ℕ) × (bytes ≡ front text)
+        × IfSome (F.holds shelf.old name.now) (λ t. t ≡ text)) }
+    ensures found { ((s : F) → IsSome (F.left s)) → IsOk result → IsSome (F.holds shelf.old name.now) }
+    ensures last { IsOk result → TakesText (F.holds shelf.old name.now) (F.left shelf.new) }
+    ensures same { (n : List ℕ) → F.holds shelf.new n ≡ F.holds shelf.old n }
+    ensures count { F.faults shelf.old ≤ F.faults shelf.new }
+    ensures failed { IsErrOf result ReadStop.Failed → Rose (F.faults shelf.old) (F.faults shelf.new) }
+    ensures sound { F.is_sound shelf.old → F.is_sound shelf.new
+        × (IsSome (F.holds shelf.old name.now) → result ≢ Err ReadStop.Failed) }
+{
+    shelf.begin(name)?;
+    read_prefix(alloc, shelf, FRONT)
+}
+
+/// Reads the prefixes of the texts of both names, the script's first.
+///
+/// `Failed` comes only where the shelf's count of faults rose in this call, `Memory` where an allocation was refused.
+pub(crate) fn read_both<F: Shelf>(
+    alloc: Global,
+    shelf: &mut F,
+    names: Names<'_>,
+) -> Result<Texts, ReadStop>
+    ensures script { IfOk result (λ texts. (text : List ℕ) × (texts.script ≡ front text)
+        × IfSome (F.holds shelf.old names.entry.script.now) (λ t. t ≡ text)) }
+    ensures proof { IfOk result (λ texts. (text : List ℕ) × (texts.proof ≡ front text)
+        × IfSome (F.holds shelf.old names.entry.proof.now) (λ t. t ≡ text)) }
+    ensures last { IsOk result → TakesText (F.holds shelf.old names.entry.proof.now) (F.left shelf.new) }
+    ensures found { ((s : F) → IsSome (F.left s)) → IsOk result
+        → IsSome (F.holds shelf.old names.entry.script.now) × IsSome (F.holds shelf.old names.entry.proof.now) }
+    ensures same { (n : List ℕ) → F.holds shelf.new n ≡ F.holds shelf.old n }
+    ensures count { F.faults shelf.old ≤ F.faults shelf.new }
+    ensures failed { IsErrOf result ReadStop.Failed → Rose (F.faults shelf.old) (F.faults shelf.new) }
+    ensures sound { F.is_sound shelf.old → F.is_sound shelf.new
+        × (IsSome (F.holds shelf.old names.entry.script.now) → IsSome (F.holds shelf.old names.entry.proof.now)
+        → result ≢ Err ReadStop.Failed) }
+{
+    let script = read_text(alloc, shelf, names.script)?;
+    let proof = read_text(alloc, shelf, names.proof)?;
+    Ok(Texts { script, proof })
+}

@@ -1,0 +1,46 @@
+//! Judges what was read, and writes the verdict.
+
+ghost use Rattle.std.specs.Prelude.{◌≡◌, ◌≢◌, ℕ, List};
+ghost use Rattle.spec_text.specs.Readings.{front};
+ghost use Rattle.whole_run.specs.Calls.{Judges, Reports};
+
+use crate::output::{write_fault, write_valid};
+use crate::read::Texts;
+use proof_check::{ProofStop, check};
+use script_session::Status;
+use std::alloc::Global;
+use world_io::Sink;
+
+/// Judges a proof against the `at`-th check of a script, counted from 1, by the prefixes of their texts.
+///
+/// `Fault` has the first fault of the proof. `Memory` comes where an allocation was refused.
+pub(crate) fn judge(alloc: Global, texts: &Texts, at: u64) -> Result<(), ProofStop>
+    ensures { (script proof : List ℕ) → texts.now.script ≡ front script → texts.now.proof ≡ front proof
+        → Judges script at proof result }
+{
+    spec_checking::laws::verdicts_need_a_front_alone();
+    spec_checking::laws::accepted_proofs_have_no_fault();
+    spec_checking::laws::acceptance_is_sound();
+    check(alloc, texts.script.as_slice(), at, texts.proof.as_slice())
+}
+
+/// Writes a verdict, and tells how the run ends by it.
+///
+/// Where memory ran out nothing is written.
+pub(crate) fn report<K: Sink>(verdict: Result<(), ProofStop>, out: &mut K) -> Status
+    ensures reports { (script : List ℕ) (at : ℕ) (proof : List ℕ) → Judges script at proof verdict
+        → Reports result script at proof (K.state out.old) (K.state out.new) }
+    ensures no_read { result ≢ Status.ReadFault }
+{
+    match verdict {
+        Ok(()) => match write_valid(out) {
+            Ok(()) => Status::Done,
+            Err(_) => Status::WriteFault,
+        },
+        Err(ProofStop::Fault(fault)) => match write_fault(out, fault) {
+            Ok(()) => Status::Refused,
+            Err(_) => Status::WriteFault,
+        },
+        Err(ProofStop::Memory) => Status::Memory,
+    }
+}
