@@ -1,0 +1,122 @@
+//! Models that `certify` writes of scripts of the whole language.
+
+/// Symbols of each sort, with parameters and without; definitions and names for terms, which are no lines; names between bars; checks that are refused.
+pub(crate) const EVIDENCE: &str = "0 smt_cli|certify
+----
+(declare-sort U 0)(define-sort V () U)(declare-fun f (V Bool) Real)
+(declare-const |a b| Bool)(declare-const c V)
+(define-fun g ((z Bool)) Bool (not z))
+(declare-const p Bool)
+(assert (! (g (let ((p |a b|)) p)) :named n))
+(assert (and n p))
+(check-sat)
+
+----
+success
+success
+success
+success
+success
+success
+success
+success
+success
+sat
+(
+  (define-fun f ((@x0 U) (@x1 Bool)) Real 0)
+  (define-fun |a b| () Bool false)
+  (define-fun c () U (as @e0 U))
+  (define-fun p () Bool true)
+)
+====
+0 smt_cli|certify
+----
+(set-option :print-success false)
+(set-logic QF_UFLRA)
+(declare-const x Real)(declare-sort |let| 0)(declare-const y |let|)(declare-fun |assert| (|let|) |let|)
+(declare-fun g (Real) Bool)
+(check-sat)
+
+----
+sat
+(
+  (define-fun x () Real 0)
+  (define-fun y () |let| (as @e0 |let|))
+  (define-fun |assert| ((@x0 |let|)) |let| (as @e0 |let|))
+  (define-fun g ((@x0 Real)) Bool false)
+)
+====
+0 smt_cli|certify
+----
+(set-option :print-success false) ; the names that definitions and terms have are no symbols
+(declare-fun q () Bool)
+(define-fun f ((x Bool) (y Real)) Bool (not x))
+(define-fun two () Real 2.0)
+(assert (! (f q two) :named n))
+(check-sat)
+(declare-const r Bool)
+(assert (=> n r))
+(check-sat)
+
+----
+sat
+(
+  (define-fun q () Bool false)
+)
+sat
+(
+  (define-fun q () Bool false)
+  (define-fun r () Bool true)
+)
+====
+0 smt_cli|certify
+----
+(set-option :print-success false) ; let binds in parallel
+(declare-const p Bool)
+(declare-const q Bool)
+(assert (let ((p q) (q p)) (and p (not q))))
+(check-sat)
+
+----
+sat
+(
+  (define-fun p () Bool false)
+  (define-fun q () Bool true)
+)
+====
+1 smt_cli|certify
+----
+(set-option :print-success false) ; a check that is refused has no model, and the next one has none
+(declare-const x Real)
+(check-sat)
+(assert (< 0 x))
+(check-sat)
+(check-sat)
+
+----
+sat
+(
+  (define-fun x () Real 0)
+)
+(error \"5:2: UnknownLogic\")
+(error \"6:2: UnknownLogic\")
+====
+1 smt_cli|certify
+----
+(set-option :print-success false) ; what is refused declares nothing
+(declare-fun f (U) Bool)
+(declare-const p Bool)
+(define-fun p () Bool true)
+(assert (distinct p (not p)))
+(check-sat)
+(echo \"a \"\"b\"\"\")
+
+----
+(error \"2:17: UnknownSort\")
+(error \"4:13: Twice\")
+sat
+(
+  (define-fun p () Bool false)
+)
+\"a \"\"b\"\"\"
+";
