@@ -8,10 +8,10 @@ use Rattle.spec_text.specs.Readings.{AreTrees, StopsAt, kept, is_long, limited}
 use Rattle.spec_text.specs.Faults.{Located}
 use Rattle.spec_text.proofs.Blanks.{HasNoBlank}
 use Rattle.spec_text.proofs.Parsing.{each_parsed}
-use Rattle.spec_proofs.specs.Commands.{Known}
+use Rattle.spec_checking.specs.Commands.{Known}
 use Rattle.spec_proofs.specs.Texts.{Ending, complete, broken, left_over, EndsRow, EndsBehind, EndsList, behind_unsat, begins_listed, proof_lexemes, ending_fault}
-use Rattle.spec_proofs.specs.Judging.{EndsBy, FirstFault}
-use Rattle.spec_scripts.specs.Stack.{term_limit}
+use Rattle.spec_checking.specs.Judging.{EndsBy, FirstFault}
+use Rattle.spec_commands.specs.Checks.{term_limit}
 use Rattle.spec_proofs.specs.declared.ProofKind.TheVariants.{BadShape}
 use Rattle.spec_proofs.specs.Faults.{Fault, text_fault}
 use Rattle.smt_sexpr.specs.declared.sexpr.Sexpr.{Sexpr}
@@ -19,14 +19,13 @@ use Rattle.smt_sexpr.specs.Items.{tree_of}
 use Rattle.smt_sexpr.specs.Reads.{Reads}
 use Rattle.smt_lexer.specs.declared.Refusal.{Refusal}
 use Rattle.smt_sexpr.specs.Limited.{refusal_meant, StopsIn, IsStopped}
-use Rattle.alethe_check.specs.declared.proof_state.ProofState.{ProofState}
-use Rattle.alethe_check.specs.declared.errors.LocatedFault.{LocatedFault}
+use Rattle.alethe_reader.specs.declared.proof_state.ProofState.{ProofState}
+use Rattle.alethe_reader.specs.declared.errors.LocatedFault.{LocatedFault}
 use Rattle.alethe_check.specs.declared.judge.SequenceEnd.TheVariants as ends
-use Rattle.alethe_check.specs.declared.errors.CommandError.{CommandError}
-use Rattle.alethe_check.specs.declared.errors.CommandError.TheVariants as errors
+use Rattle.alethe_reader.specs.declared.errors.CommandError.{CommandError}
+use Rattle.alethe_reader.specs.declared.errors.CommandError.TheVariants as errors
 use Rattle.alethe_check.specs.Judging.{JudgesSequence, JudgesCommands, JudgesAll, IsJudgedFrom, IsEnding, Leaves, Finishes}
-use Rattle.alethe_check.specs.Holding.{known_view}
-use Rattle.alethe_check.specs.Views.{located_view}
+use Rattle.alethe_reader.specs.Reads.{located_view}
 use Rattle.alethe_check.proofs.Rows.{left_behind}
 
 -- what stops commands that stand in no list ends them
@@ -172,15 +171,15 @@ module _ (text : List ℕ) (k : Known) (new : ProofState) where
       (subst (λ (b : Bool). JudgesCommands b text (lexemes_from bytes from) k r new) (sym listed)
       (subst (λ (b : List ℕ). JudgesCommands false text (lexemes_from b from) k r new) (sym e) j)))
 
-  whole : (found : Option LocatedFault) (last : Option Fault) → JudgesText (Ok found) → EndsBy (known_view new) (length text) (option_map located_view found) last → IsJudgedFrom k text last
+  whole : (found : Option LocatedFault) (last : Option Fault) (j : JudgesText (Ok found)) → EndsBy j.4.now (length text) (option_map located_view found) last → IsJudgedFrom k text last
   whole found last j f = record {
     commands = j.0;
     ending = j.1;
     read = j.2;
-    fault = subst (λ (e : Option Fault). FirstFault (Some term_limit) k (length text) e j.0 last) j.3 (j.4 (length text) (option_map located_view found) last f);
+    fault = subst (λ (e : Option Fault). FirstFault (Some term_limit) k (length text) e j.0 last) j.3 (j.4.fault (length text) (option_map located_view found) last f);
   }
 
-  pub text_judged : (found : Option LocatedFault) (r : Result (Unit {0}) CommandError) → JudgesText (Ok found) → Finishes (known_view new) text (option_map located_view found) r → JudgesAll text k r
+  pub text_judged : (found : Option LocatedFault) (r : Result (Unit {0}) CommandError) (j : JudgesText (Ok found)) → Finishes j.4.now text (option_map located_view found) r → JudgesAll text k r
   text_judged found (Ok u) j f = whole found None j f
   text_judged found (Err (errors.Fault e)) j f = whole found (Some (located_view e)) j f
   text_judged found (Err errors.Memory) j f = tt

@@ -1,23 +1,18 @@
 -- From what was read to the verdict.
-use Rattle.std.proofs.Common.{◌≡◌, ◌≤◌, ℕ, inl, inr, List, [], length, map, Option, Some, None, refl, sym, ap, ◌∙◌, subst, arith}
+use Rattle.std.proofs.Common.{◌≡◌, ◌≤◌, ℕ, inl, inr, List, length, Option, Some, None, refl, sym, subst}
 use Rattle.std.specs.Prelude.{Result, Ok, Err, OnOk}
-use Rattle.spec_terms.specs.Reading.{scope_of}
-use Rattle.spec_scripts.specs.Stack.{Stack, term_limit, IsCurrent, HasNoCheck}
+use Rattle.spec_commands.specs.Checks.{term_limit, HasNoCheck}
 use Rattle.spec_proofs.specs.declared.ProofKind.TheVariants.{NoSuchCheck}
-use Rattle.spec_proofs.specs.Commands.{Known, known_at}
 use Rattle.spec_proofs.specs.Faults.{Fault}
-use Rattle.spec_proofs.specs.Accepted.{IsVerdict}
-use Rattle.term_core.specs.Tables.{term_at, AreIn}
-use Rattle.sort_check.specs.Definitions.{no_definitions, scope_at}
+use Rattle.spec_checking.specs.Accepted.{IsVerdict}
+use Rattle.assertion_stack.specs.Stacks.{Standing}
+use Rattle.alethe_reader.specs.declared.errors.LocatedFault.{LocatedFault}
+use Rattle.alethe_reader.specs.Holding.{known_on}
+use Rattle.alethe_reader.specs.Reads.{located_view}
 use Rattle.alethe_check.specs.declared.ProofStop.{ProofStop}
 use Rattle.alethe_check.specs.declared.ProofStop.TheVariants as stops
-use Rattle.alethe_check.specs.declared.proof_state.ProofState.{ProofState}
-use Rattle.assertion_stack.specs.declared.script.Script.{Script}
-use Rattle.alethe_check.specs.declared.errors.LocatedFault.{LocatedFault}
-use Rattle.alethe_check.specs.Views.{located_view}
-use Rattle.assertion_stack.specs.Scripts.{IsStack}
-use Rattle.alethe_check.specs.Holding.{known_view, entries_of, IsSound}
 use Rattle.alethe_check.specs.Judging.{IsJudgedFrom}
+use Rattle.alethe_check.specs.Loads.{bare, IsLoaded}
 use Rattle.alethe_check.specs.Verdicts.{Answers, Refuses, fault_view}
 
 -- the faults of verdicts stand in the proof
@@ -36,36 +31,18 @@ module _ (script : List ℕ) (k : ℕ) (proof : List ℕ) where
   pub no_check : (r : ProofStop) → HasNoCheck term_limit script k → Refuses proof 0 NoSuchCheck r → Answers script k proof (Err r)
   no_check r h s = answered record { offset = 0; kind = NoSuchCheck } r (inr (h, refl)) s
 
-  module _ (x : Script) (s : Stack) (current : IsCurrent term_limit script k s) (stated : IsStack x s) (h : ProofState) (table : h.table ≡ x.table) (definitions : h.definitions ≡ no_definitions) (asserted : h.asserted ≡ x.asserted) (names : h.names ≡ []) (clauses : h.clauses.items ≡ []) where
-    -- what is known at the check
-    known : known_view h ≡ known_at s
-    known =
-        let scope : scope_at h.table h.definitions ≡ scope_of s.symbols = (λ i. scope_at (table i) (definitions i)) ∙ ap scope_of (sym stated.symbols) in
-        let terms : map (term_at h.table) h.asserted ≡ map (term_at x.table) x.asserted = λ i. map (term_at (table i)) (asserted i) in
-        let entries : entries_of h.table h.names h.clauses.items ≡ [] = λ i. entries_of h.table (names i) (clauses i) in
-        λ i. record { scope = scope i; asserted = (terms ∙ sym stated.terms) i; entries = entries i }
+  module _ (x : Standing) (l : IsLoaded script k x) where
+    verdict : (found : Option Fault) → IsJudgedFrom (known_on l.stack) proof found → IsVerdict script k proof found
+    verdict found j = inl (bare l.stack, l.current, record { commands = j.commands; ending = j.ending; read = j.read; fault = j.fault })
 
-    verdict : (found : Option Fault) → IsJudgedFrom (known_view h) proof found → IsVerdict script k proof found
-    verdict found j =
-        let at : IsJudgedFrom (known_at s) proof found = subst (λ (z : Known). IsJudgedFrom z proof found) known j in
-        inl (s, current, record { commands = at.commands; ending = at.ending; read = at.read; fault = at.fault })
-
-    pub accepted : (u : Unit {0}) → IsJudgedFrom (known_view h) proof None → Answers script k proof (Ok u)
+    pub accepted : (u : Unit {0}) → IsJudgedFrom (known_on l.stack) proof None → Answers script k proof (Ok u)
     accepted u j = verdict None j
 
-    pub fault_stands : FaultsStand → (f : LocatedFault) → IsJudgedFrom (known_view h) proof (Some (located_view f)) → f.offset ≤ length proof
+    pub fault_stands : FaultsStand → (f : LocatedFault) → IsJudgedFrom (known_on l.stack) proof (Some (located_view f)) → f.offset ≤ length proof
     fault_stands law f j = law script proof k (located_view f) (verdict (Some (located_view f)) j)
 
-    pub fault_told : (f : LocatedFault) (r : ProofStop) → IsJudgedFrom (known_view h) proof (Some (located_view f)) → Refuses proof f.offset f.kind r → Answers script k proof (Err r)
+    pub fault_told : (f : LocatedFault) (r : ProofStop) → IsJudgedFrom (known_on l.stack) proof (Some (located_view f)) → Refuses proof f.offset f.kind r → Answers script k proof (Err r)
     fault_told f r j s = answered (located_view f) r (verdict (Some (located_view f)) j) s
-
-pub nothing_sound : (h : ProofState) (x : Script) → h.table ≡ x.table → h.definitions ≡ no_definitions → h.asserted ≡ x.asserted → h.names ≡ [] → h.clauses.items ≡ [] → AreIn x.table x.asserted → IsSound h
-nothing_sound h x table definitions asserted names clauses within = record {
-  paired = (λ i. length (names i)) ∙ sym (λ i. length (clauses i));
-  definitions = rw definitions (λ k d l. absurd (omega arith));
-  asserted = subst (λ t. AreIn t h.asserted) (sym table) (subst (λ ids. AreIn x.table ids) (sym asserted) within);
-  clauses = rw clauses (λ k d l. absurd (omega arith));
-}
 
 -- what follows from an accepted proof
 pub accepted_gives : (script : List ℕ) (k : ℕ) (proof : List ℕ) (r : Result (Unit {0}) ProofStop) (P : Type 0) → Answers script k proof r → (IsVerdict script k proof None → P) → OnOk r P

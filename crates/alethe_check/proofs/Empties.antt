@@ -1,13 +1,16 @@
 -- The empty clause among those of names.
-use Rattle.std.proofs.Common.{◌≡◌, ℕ, zero, suc, Bool, true, false, cond, ◌==◌, ◌⊎◌, inl, inr, List, [], ◌∷◌, length, get_or, ◌<◌, refl, ap, ◌∙◌, arith}
+use Rattle.std.proofs.Common.{◌≡◌, ℕ, subst, zero, suc, Bool, true, false, cond, ◌==◌, ◌⊎◌, inl, inr, List, [], ◌∷◌, length, get_or, ◌<◌, refl, ap, ◌∙◌, arith}
 use Rattle.std.specs.Prelude.{Any, MatchBool}
 use Rattle.std.proofs.lemmas.Bool.{eqb-true}
 use Rattle.std.proofs.lemmas.Bool.Decides.{nat_tests}
 use Rattle.spec_text.specs.Bytes.{Name}
-use Rattle.spec_proofs.specs.Commands.{Entry}
+use Rattle.spec_checking.specs.Commands.{Entry, Known}
+use Rattle.spec_checking.specs.Judging.{HasEmptyClause}
 use Rattle.term_core.specs.declared.ids.TermId.{TermId}
 use Rattle.term_core.specs.Tables.{TableView, clause_at}
-use Rattle.alethe_check.specs.Holding.{entries_of, some_empty}
+use Rattle.alethe_reader.specs.declared.proof_state.ProofState.{ProofState}
+use Rattle.alethe_reader.specs.Holding.{entries_of, IsKnown}
+use Rattle.alethe_check.specs.Judging.{some_empty}
 
 abbrev pub IsEmpty : Entry → Type 0
 IsEmpty e = e.clause ≡ []
@@ -33,7 +36,7 @@ nothing_left : (t : TableView) (c : List TermId) → length c ≡ 0 → clause_a
 nothing_left t [] e = refl
 nothing_left t (x ∷ c) e = absurd (omega arith)
 
-pub empty_exact : (t : TableView) (ns : List Name) (cs : List (List TermId)) (b : Bool) → length ns ≡ length cs → b ≡ some_empty cs → MatchBool b (Any IsEmpty (entries_of t ns cs)) (Any IsEmpty (entries_of t ns cs) → ⊥)
+empty_exact : (t : TableView) (ns : List Name) (cs : List (List TermId)) (b : Bool) → length ns ≡ length cs → b ≡ some_empty cs → MatchBool b (Any IsEmpty (entries_of t ns cs)) (Any IsEmpty (entries_of t ns cs) → ⊥)
 empty_exact t [] [] b l e = rw e (λ a. absurd (omega (arith, a.2)))
 empty_exact t [] (c ∷ cs) b l e = absurd (omega arith)
 empty_exact t (n ∷ ns) [] b l e = absurd (omega arith)
@@ -52,3 +55,7 @@ empty_exact t (n ∷ ns) (c ∷ cs) b l e = go (length c == 0) refl b e (empty_e
     go : (z : Bool) → (length c == 0) ≡ z → (b : Bool) → b ≡ cond z true (some_empty cs) → MatchBool (some_empty cs) (Any IsEmpty rest) (Any IsEmpty rest → ⊥) → MatchBool b (Any IsEmpty (entry ∷ rest)) (Any IsEmpty (entry ∷ rest) → ⊥)
     go true q b e h = rw e (any_here entry rest (nothing_left t c (eqb-true (length c) 0 q)))
     go false q b e h = rw e (later (some_empty cs) (λ z. grind (arith, nat_tests)) h)
+
+-- whether a command that is known has the empty clause
+pub empty_known : (h : ProofState) (k : Known) (b : Bool) → IsKnown h k → b ≡ some_empty h.clauses.items → MatchBool b (HasEmptyClause k) (HasEmptyClause k → ⊥)
+empty_known h k b known e = subst (λ (es : List Entry). MatchBool b (Any IsEmpty es) (Any IsEmpty es → ⊥)) known.entries (empty_exact h.table h.names h.clauses.items b known.paired e)

@@ -1,7 +1,5 @@
 -- The definitions that contracts cite.
-pub mod Views
-pub mod Loads
-pub mod Shapes
-pub mod Holding
+pub mod Stating
 pub mod Judging
+pub mod Loads
 pub mod Verdicts

@@ -3,7 +3,7 @@ use Rattle.std.specs.Prelude.{◌≡◌, ℕ, List, Some, None, Result, Ok, Err}
 use Rattle.spec_text.specs.Places.{IsPlaceOf}
 use Rattle.spec_proofs.specs.declared.ProofKind.{ProofKind}
 use Rattle.spec_proofs.specs.Faults.{Fault, fault_at}
-use Rattle.spec_proofs.specs.Accepted.{IsVerdict}
+use Rattle.spec_checking.specs.Accepted.{IsVerdict}
 use Rattle.alethe_check.specs.declared.ProofFault.{ProofFault}
 use Rattle.alethe_check.specs.declared.ProofStop.{ProofStop}
 use Rattle.alethe_check.specs.declared.ProofStop.TheVariants as stops

@@ -1,31 +1,26 @@
-//! Judges the commands of a proof, one after the other.
+//! Judges the commands of a proof, one after the other, and what ends them.
 
-ghost use Rattle.std.specs.Prelude.{◌≡◌, ◌∷◌, [], ℕ, IfOk, IfErr, OnOk, MatchBool, MatchOption, Some, true, false, ◌≤◌, option_map};
+ghost use Rattle.std.specs.Prelude.{◌≡◌, ◌≤◌, ◌∷◌, ℕ, OnOk, MatchBool, MatchOption, true, false, option_map};
 ghost use Rattle.spec_text.specs.Places.{IsPlaceOf};
 ghost use Rattle.spec_text.specs.Lexemes.{lexemes, lexemes_from, opens};
 ghost use Rattle.spec_text.specs.Readings.{kept};
 ghost use Rattle.spec_text.specs.Faults.{nesting_limit};
-ghost use Rattle.spec_scripts.specs.Stack.{term_limit};
 ghost use Rattle.spec_proofs.specs.Texts.{behind_unsat, begins_listed, proof_lexemes};
 ghost use Rattle.spec_proofs.specs.Faults.{text_fault};
-ghost use Rattle.spec_proofs.specs.Known.{command_of};
-ghost use Rattle.spec_proofs.specs.Judging.{IsRightAfter, HasEmptyClause, with_command, fault_of};
-ghost use Rattle.smt_sexpr.specs.Items.{tree_of};
+ghost use Rattle.spec_checking.specs.Commands.{Known};
+ghost use Rattle.spec_checking.specs.Judging.{HasEmptyClause};
 ghost use Rattle.smt_sexpr.specs.Limited.{whole_of, refusal_meant};
-ghost use Rattle.alethe_check.specs.Views.{located_view};
-ghost use Rattle.alethe_check.specs.Holding.{known_view, IsSound, some_empty};
-ghost use Rattle.alethe_check.specs.Judging.{begins_parenthesis, Leaves, command_view, IsReady, JudgesOne, JudgesSequence, JudgesCommands, JudgesAll, Finishes};
+ghost use Rattle.alethe_reader.specs.Holding.{IsKnown, HasKnown};
+ghost use Rattle.alethe_reader.specs.Reads.{located_view};
+ghost use Rattle.alethe_check.specs.Judging.{begins_parenthesis, some_empty, Leaves, JudgesSequence, JudgesCommands, JudgesAll, Finishes};
 
-use crate::define::define;
-use crate::errors::{CommandError, LocatedFault, fault};
-use crate::proof::{ReadCommand, proof_command};
-use crate::proof_state::{ProofState, add, is_asserted};
-use crate::rules::follows;
+use crate::command::judge_one;
+use alethe_reader::{CommandError, LocatedFault, ProofState, fault};
 use smt_lexer::{Place, Refusal, Refused, TokenKind, next, start};
-use smt_sexpr::{LimitedText, Next, Sexpr, is_symbol, offset, same_bytes};
+use smt_sexpr::{LimitedText, Next, is_symbol, offset, same_bytes};
 use spec_proofs::ProofKind;
-use std::alloc::{AllocError, Global};
-use term_core::{Clause, TermId};
+use std::alloc::Global;
+use term_core::Clause;
 
 /// What ends a sequence of commands that are right.
 #[derive(Clone, Copy, Debug, PartialEq, Eq)]
@@ -38,99 +33,6 @@ enum SequenceEnd {
     Broken(Refusal),
 }
 
-/// Says whether a command is right.
-fn is_right(
-    alloc: Global,
-    state: &ProofState,
-    command: &ReadCommand<'_>,
-) -> Result<bool, CommandError>
-    requires sound { IsSound state.now }
-    requires ready { IsReady state.now command.now }
-    ensures exact { IfOk result (λ yes. MatchBool yes
-        (IsRightAfter (known_view state.now) (command_view state.now command.now))
-        (IsRightAfter (known_view state.now) (command_view state.now command.now) → ⊥)) }
-    ensures memory { IfErr result (λ e. e ≡ CommandError.Memory) }
-{
-    match command {
-        ReadCommand::Assume(_, _, id) => Ok(is_asserted(state, *id)),
-        ReadCommand::Step(_, _, clause, rule, premises) => {
-            follows(alloc, state, *rule, premises, clause)
-        }
-        ReadCommand::Define(_, _, _) => Ok(true),
-    }
-}
-
-/// Gives the fault of a command that is not right; a definition always is.
-fn wrong(command: &ReadCommand<'_>) -> LocatedFault
-    ensures { (h : ProofState) → located_view result ≡ fault_of (command_view h command.now) }
-{
-    match command {
-        ReadCommand::Assume(at, _, _) => LocatedFault {
-            offset: *at,
-            kind: ProofKind::NotAsserted,
-        },
-        ReadCommand::Step(at, _, _, _, _) => LocatedFault {
-            offset: *at,
-            kind: ProofKind::RuleFails,
-        },
-        ReadCommand::Define(at, _, _) => LocatedFault {
-            offset: *at,
-            kind: ProofKind::BadShape,
-        },
-    }
-}
-
-/// Makes the clause of one term.
-fn unit(alloc: Global, id: TermId) -> Result<Clause, AllocError>
-    ensures { IfOk result (λ c. c ≡ id ∷ []) }
-{
-    let mut made = Vec::new(alloc);
-    made.push(id)?;
-    Ok(Clause::from(made))
-}
-
-/// Adds what a command makes known.
-fn add_command(
-    alloc: Global,
-    state: &mut ProofState,
-    command: ReadCommand<'_>,
-) -> Result<(), CommandError>
-    requires sound { IsSound state.old }
-    requires ready { IsReady state.old command }
-    ensures added { OnOk result (known_view state.new
-        ≡ with_command (known_view state.old) (command_view state.old command.entry)) }
-    ensures sound { OnOk result (IsSound state.new) }
-    ensures memory { IfErr result (λ e. e ≡ CommandError.Memory) }
-{
-    match command {
-        ReadCommand::Assume(_, name, id) => {
-            let clause = unit(alloc, id)?;
-            add(state, name, clause)
-        }
-        ReadCommand::Step(_, name, clause, _, _) => add(state, name, Clause::from(clause)),
-        ReadCommand::Define(_, name, id) => define(state, name, id),
-    }
-}
-
-/// Judges the command that an s-expression is, and adds it where it is right.
-fn judge_one(alloc: Global, state: &mut ProofState, sexpr: &Sexpr<'_>) -> Result<(), CommandError>
-    requires { IsSound state.old }
-    ensures judged { JudgesOne (known_view state.old)
-        (command_of (Some term_limit) (known_view state.old) (tree_of sexpr.now)) result state.new }
-    ensures sound { OnOk result (IsSound state.new) }
-{
-    // A `match`, and no `?`: the clause goes by cases on the result, and each arm then closes by itself.
-    let command = match proof_command(alloc, state, sexpr.trees()) {
-        Ok(command) => command,
-        Err(error) => return Err(error),
-    };
-    match is_right(alloc, state, &command) {
-        Ok(true) => add_command(alloc, state, command),
-        Ok(false) => Err(CommandError::Fault(wrong(&command))),
-        Err(error) => Err(error),
-    }
-}
-
 /// Judges commands from a place on, where so many lists are open, up to what ends them.
 fn judge_sequence(
     alloc: Global,
@@ -139,12 +41,12 @@ fn judge_sequence(
     at: Place,
     lists: usize,
 ) -> Result<SequenceEnd, CommandError>
-    requires sound { IsSound state.old }
+    requires known { HasKnown state.old }
     requires place { IsPlaceOf (kept (whole_of text)) at }
     requires few { lists ≤ nesting_limit }
-    ensures judged { JudgesSequence (whole_of text.entry) lists
-        (lexemes_from (kept (whole_of text.entry)) at.offset) (known_view state.old) result state.new }
-    ensures sound { OnOk result (IsSound state.new) }
+    ensures judged { (k : Known) → IsKnown state.old k → JudgesSequence (whole_of text.entry) lists
+        (lexemes_from (kept (whole_of text.entry)) at.offset) k result state.new }
+    ensures known { OnOk result (HasKnown state.new) }
 {
     spec_text::laws::each_text_is_read();
     let mut place = at;
@@ -181,11 +83,11 @@ fn judge_plain(
     text: LimitedText<'_>,
     at: Place,
 ) -> Result<Option<LocatedFault>, CommandError>
-    requires sound { IsSound state.old }
+    requires known { HasKnown state.old }
     requires place { IsPlaceOf (kept (whole_of text)) at }
-    ensures judged { JudgesCommands false (whole_of text.entry)
-        (lexemes_from (kept (whole_of text.entry)) at.offset) (known_view state.old) result state.new }
-    ensures sound { OnOk result (IsSound state.new) }
+    ensures judged { (k : Known) → IsKnown state.old k → JudgesCommands false (whole_of text.entry)
+        (lexemes_from (kept (whole_of text.entry)) at.offset) k result state.new }
+    ensures known { OnOk result (HasKnown state.new) }
 {
     match judge_sequence(alloc, state, text, at, 0) {
         Ok(SequenceEnd::Broken(refusal)) => Ok(Some(lexical(refusal))),
@@ -223,12 +125,11 @@ fn judge_listed(
     text: LimitedText<'_>,
     at: Place,
 ) -> Result<Option<LocatedFault>, CommandError>
-    requires sound { IsSound state.old }
+    requires known { HasKnown state.old }
     requires place { IsPlaceOf (kept (whole_of text)) at }
-    ensures judged { (begin : ℕ) → JudgesCommands true (whole_of text.entry)
-        ((begin, opens) ∷ lexemes_from (kept (whole_of text.entry)) at.offset)
-        (known_view state.old) result state.new }
-    ensures sound { OnOk result (IsSound state.new) }
+    ensures judged { (begin : ℕ) (k : Known) → IsKnown state.old k → JudgesCommands true (whole_of text.entry)
+        ((begin, opens) ∷ lexemes_from (kept (whole_of text.entry)) at.offset) k result state.new }
+    ensures known { OnOk result (HasKnown state.new) }
 {
     match judge_sequence(alloc, state, text, at, 1) {
         Ok(SequenceEnd::Broken(refusal)) => Ok(Some(lexical(refusal))),
@@ -299,10 +200,11 @@ fn judge_commands(
     state: &mut ProofState,
     text: LimitedText<'_>,
 ) -> Result<Option<LocatedFault>, CommandError>
-    requires sound { IsSound state.old }
-    ensures judged { JudgesCommands (begins_listed (proof_lexemes (whole_of text.entry))) (whole_of text.entry)
-        (proof_lexemes (whole_of text.entry)) (known_view state.old) result state.new }
-    ensures sound { OnOk result (IsSound state.new) }
+    requires known { HasKnown state.old }
+    ensures judged { (k : Known) → IsKnown state.old k
+        → JudgesCommands (begins_listed (proof_lexemes (whole_of text.entry))) (whole_of text.entry)
+        (proof_lexemes (whole_of text.entry)) k result state.new }
+    ensures known { OnOk result (HasKnown state.new) }
 {
     let bytes = text.bytes();
     let at = after_unsat(bytes);
@@ -326,16 +228,16 @@ fn any_empty(clauses: &[Clause]) -> bool
 
 /// Says whether a command has the empty clause.
 fn has_empty(state: &ProofState) -> bool
-    requires { IsSound state.now }
-    ensures { MatchBool result (HasEmptyClause (known_view state.now)) (HasEmptyClause (known_view state.now) → ⊥) }
+    ensures { (k : Known) → IsKnown state.now k
+        → MatchBool result (HasEmptyClause k) (HasEmptyClause k → ⊥) }
 {
     any_empty(&state.clauses)
 }
 
 /// Answers after the last command: the fault that ends the text, or whether some clause is empty.
 fn finish(state: &ProofState, text: &[u8], found: Option<LocatedFault>) -> Result<(), CommandError>
-    requires { IsSound state.now }
-    ensures { Finishes (known_view state.now) text.now (option_map located_view found) result }
+    ensures { (k : Known) → IsKnown state.now k
+        → Finishes k text.now (option_map located_view found) result }
 {
     if let Some(found) = found {
         return Err(CommandError::Fault(found));
@@ -348,8 +250,8 @@ fn finish(state: &ProofState, text: &[u8], found: Option<LocatedFault>) -> Resul
 
 /// Judges a proof under what is known before it: its first fault, or none.
 pub(crate) fn judge(alloc: Global, text: &[u8], known: ProofState) -> Result<(), CommandError>
-    requires { IsSound known }
-    ensures { JudgesAll text.now (known_view known) result }
+    requires { HasKnown known }
+    ensures { (k : Known) → IsKnown known k → JudgesAll text.now k result }
 {
     let mut state = known;
     match judge_commands(alloc, &mut state, LimitedText::new(text)) {

@@ -1,25 +1,24 @@
-//! Judges an Alethe proof against an SMT-LIB script.
+//! Judges an Alethe proof against an SMT-LIB script, over the whole language.
 #![tactic(auto)]
 
-ghost use Rattle.std.specs.Prelude.{◌≤◌, length, Some, OnOk};
-ghost use Rattle.spec_scripts.specs.Stack.{HasNoModel, term_limit};
-ghost use Rattle.spec_proofs.specs.Accepted.{IsAccepted};
+ghost use Rattle.std.specs.Prelude.{◌≤◌, ℕ, length, OnOk};
+ghost use Rattle.spec_commands.specs.Stack.{Stack as ScriptStack};
+ghost use Rattle.spec_commands.specs.Checks.{HasNoModel, term_limit};
+ghost use Rattle.spec_checking.specs.Accepted.{IsAccepted};
+ghost use Rattle.assertion_stack.specs.Stacks.{standing, HasStack, IsStack};
+ghost use Rattle.alethe_reader.specs.Holding.{known_on};
+ghost use Rattle.alethe_check.specs.Judging.{JudgesAll};
 ghost use Rattle.alethe_check.specs.Verdicts.{Answers, Refuses};
 
-mod define;
-mod errors;
+mod command;
 mod judge;
 mod load;
 mod premises;
-mod proof;
-mod proof_state;
 mod rules;
-mod shapes;
 
-use errors::CommandError;
+use alethe_reader::{CommandError, ProofState};
 use judge::judge;
-use load::current_at;
-use proof_state::at_check;
+use load::{Script, current_at};
 use smt_lexer::place_at;
 pub use spec_proofs::ProofKind;
 pub use spec_text::Place;
@@ -67,8 +66,8 @@ pub fn check(alloc: Global, script: &[u8], at: u64, proof: &[u8]) -> Result<(), 
     ensures accepted { OnOk result (IsAccepted script.now at proof.now) }
     ensures sound { OnOk result (HasNoModel term_limit script.now at) }
 {
-    spec_proofs::laws::accepted_proofs_have_no_fault();
-    spec_proofs::laws::acceptance_is_sound();
+    spec_checking::laws::accepted_proofs_have_no_fault();
+    spec_checking::laws::acceptance_is_sound();
     judge_texts(alloc, script, at, proof)
 }
 
@@ -83,14 +82,23 @@ fn refused(proof: &[u8], fault: ProofKind, offset: u64) -> ProofStop
     })
 }
 
+/// Judges a proof at the check before which a script has stated so much: its first fault, or none.
+fn judge_at(alloc: Global, stated: Script, proof: &[u8]) -> Result<(), CommandError>
+    requires { HasStack (standing stated.table stated.stack) }
+    ensures { (limit : ℕ) (s : ScriptStack) → IsStack limit (standing stated.table stated.stack) s
+        → JudgesAll proof.now (known_on s) result }
+{
+    let known = ProofState::at_check(alloc, stated.table, stated.stack)?;
+    judge(alloc, proof, known)
+}
+
 /// Judges the two texts, and gives the verdict on them.
 fn judge_texts(alloc: Global, script: &[u8], at: u64, proof: &[u8]) -> Result<(), ProofStop>
     ensures { Answers script.now at proof.now result }
 {
-    spec_proofs::laws::faults_stand_in_their_proof();
-    spec_scripts::laws::assertions_are_read();
+    spec_checking::laws::faults_stand_in_their_proof();
     match current_at(alloc, script, at) {
-        Ok(Some(stated)) => match judge(alloc, proof, at_check(alloc, stated)) {
+        Ok(Some(stated)) => match judge_at(alloc, stated, proof) {
             Ok(()) => Ok(()),
             Err(CommandError::Fault(found)) => Err(refused(proof, found.kind, found.offset)),
             Err(CommandError::Memory) => Err(ProofStop::Memory),

@@ -1,39 +1,60 @@
 //! Reads a script up to a check.
 
+ghost use Rattle.spec_commands.specs.Stack.{empty_stack};
+ghost use Rattle.spec_commands.specs.Checks.{term_limit};
 ghost use Rattle.smt_sexpr.specs.Limited.{whole_of};
-ghost use Rattle.alethe_check.specs.Loads.{Loads};
+ghost use Rattle.assertion_stack.specs.Stacks.{standing, IsStack};
+ghost use Rattle.alethe_check.specs.Loads.{Loads, Reaches};
 
-use assertion_stack::{Effect, Script, TERM_LIMIT};
+use assertion_stack::{Effect, Stack, TERM_LIMIT};
 use smt_lexer::{Refused, start};
 use smt_sexpr::LimitedText;
 use std::alloc::Global;
+use term_core::TermTable;
 use world_io::NoMemory;
 
-/// Runs the commands of a limited text up to its `at`-th check, and gives what is current there.
-fn current_in(alloc: Global, text: LimitedText<'_>, at: u64) -> Result<Option<Script>, NoMemory>
-    ensures { Loads (whole_of text.entry) at result }
+/// Holds what a script has stated: its stack, and the table that has the stack's terms.
+#[derive(Drop)]
+pub(crate) struct Script {
+    /// The terms, and what is declared.
+    pub table: TermTable,
+    /// The names, the assertions and the options.
+    pub stack: Stack,
+}
+
+/// Takes the commands of a limited text up to its `at`-th check, and tells whether there is one. Then the stack has what is
+/// current there. Before the first command it has nothing.
+fn reaches_check(
+    alloc: Global,
+    text: LimitedText<'_>,
+    at: u64,
+    table: &mut TermTable,
+    stack: &mut Stack,
+) -> Result<bool, NoMemory>
+    requires { IsStack term_limit (standing table.old stack.old) empty_stack }
+    ensures { Reaches (whole_of text.entry) at result (standing table.new stack.new) }
 {
     spec_text::laws::each_text_is_read();
-    let mut script = Script::new(alloc);
     let mut place = start();
     let mut left = at;
     'commands: loop {
         let (sexpr, after) = match text.next_one(alloc, place) {
             Ok(Some(read)) => read,
-            Ok(None) => return Ok(None),
-            Err(Refused::Fault(_)) => return Ok(None),
+            Ok(None) => return Ok(false),
+            Err(Refused::Fault(_)) => return Ok(false),
             Err(Refused::Memory) => return Err(NoMemory),
         };
-        match script.command(alloc, &sexpr, TERM_LIMIT) {
+        match stack.command(alloc, table, &sexpr) {
             Ok(Effect::Check) => {
                 if left == 1 {
-                    return Ok(Some(script));
+                    return Ok(true);
                 }
                 left = left.saturating_sub(1);
             }
-            Ok(Effect::Exit) => return Ok(None),
+            Ok(Effect::Exit) => return Ok(false),
             Ok(Effect::Done) => {}
             Ok(Effect::Unsupported) => {}
+            Ok(Effect::Say(_)) => {}
             Err(Refused::Fault(_)) => {}
             Err(Refused::Memory) => return Err(NoMemory),
         }
@@ -41,7 +62,20 @@ fn current_in(alloc: Global, text: LimitedText<'_>, at: u64) -> Result<Option<Sc
     }
 }
 
-/// Runs the commands of a script up to its `at`-th check, counted from 1, and gives what is current there: `None` where
+/// Takes the commands of a limited text up to its `at`-th check, and gives what is current there.
+fn current_in(alloc: Global, text: LimitedText<'_>, at: u64) -> Result<Option<Script>, NoMemory>
+    ensures { Loads (whole_of text.entry) at result }
+{
+    let mut table = TermTable::new(alloc);
+    let mut stack = Stack::new(alloc, TERM_LIMIT);
+    match reaches_check(alloc, text, at, &mut table, &mut stack) {
+        Ok(true) => Ok(Some(Script { table, stack })),
+        Ok(false) => Ok(None),
+        Err(error) => Err(error),
+    }
+}
+
+/// Takes the commands of a script up to its `at`-th check, counted from 1, and gives what is current there: `None` where
 /// the script ends before it. Commands that are refused change nothing, and are passed over.
 pub(crate) fn current_at(alloc: Global, text: &[u8], at: u64) -> Result<Option<Script>, NoMemory>
     ensures { Loads text.now at result }

@@ -1,11 +1,12 @@
 //! The clauses of a step's premises.
 
 ghost use Rattle.std.specs.Prelude.{◌≡◌, ◌<◌, ◌≤◌, [], slice_index_or, ℕ, ◌↔◌, All, Contains, IfOk, length, map, MatchOption};
-ghost use Rattle.spec_terms.specs.Literals.{Clause as Meant};
+ghost use Rattle.spec_sorts.specs.Literals.{Clause as Meant};
 ghost use Rattle.term_core.specs.Tables.{AreIn, clause_at};
-ghost use Rattle.alethe_check.specs.Holding.{IsSound, clauses_numbered, AreNumbers};
+ghost use Rattle.alethe_reader.specs.Holding.{clauses_numbered, AreNumbers};
+ghost use Rattle.alethe_check.specs.Stating.{HasClauses};
 
-use crate::proof_state::ProofState;
+use alethe_reader::ProofState;
 use indexmap::IndexSet;
 use std::alloc::{AllocError, Global};
 use term_core::Clause;
@@ -34,7 +35,7 @@ fn clause_of(alloc: Global, state: &ProofState, number: u64) -> Result<Clause, A
 
 /// Copies the clause of each number, in order.
 fn clauses_of(alloc: Global, state: &ProofState, numbers: &[u64]) -> Result<Vec<Clause>, AllocError>
-    requires sound { IsSound state.now }
+    requires clauses { HasClauses state.now }
     requires numbers { AreNumbers state.now numbers.now }
     ensures same { IfOk result (λ v. map (clause_at state.now.table) v.items
         ≡ clauses_numbered state.now numbers.now) }
@@ -57,7 +58,7 @@ pub(crate) fn distinct_clauses(
     state: &ProofState,
     numbers: &[u64],
 ) -> Result<Vec<Clause>, AllocError>
-    requires sound { IsSound state.now }
+    requires clauses { HasClauses state.now }
     requires numbers { AreNumbers state.now numbers.now }
     ensures same { IfOk result (λ v. (c : Meant)
         → Contains (map (clause_at state.now.table) v.items) c ↔ Contains
@@ -70,7 +71,7 @@ pub(crate) fn distinct_clauses(
 
 /// Lends the clause of the one number, as a list of one, or no clause of none; `None` where there are several.
 pub(crate) fn one_or_none<'a>(state: &'a ProofState, numbers: &[u64]) -> Option<&'a [Clause]>
-    requires sound { IsSound state.now }
+    requires clauses { HasClauses state.now }
     requires numbers { AreNumbers state.now numbers.now }
     ensures { MatchOption result (2 ≤ length numbers.now)
         (λ cs. (map (clause_at state.now.table) cs.now ≡ clauses_numbered state.now numbers.now)

@@ -1,89 +1,77 @@
 //! Judges a step by its rule.
 
-ghost use Rattle.std.specs.Prelude.{◌≡◌, IfOk, IfErr, MatchBool};
-ghost use Rattle.spec_proofs.specs.Clauses.{IsResolvent};
-ghost use Rattle.spec_proofs.specs.Rules.{IsRight};
 ghost use Rattle.term_core.specs.Tables.{AreIn, clause_at};
-ghost use Rattle.alethe_check.specs.Holding.{IsSound, clauses_numbered, AreNumbers};
-ghost use Rattle.alethe_check.specs.Judging.{TakesFew};
+ghost use Rattle.alethe_reader.specs.Holding.{clauses_numbered, AreNumbers};
+ghost use Rattle.alethe_reader.specs.Reads.{IsReadyStep, step_view};
+ghost use Rattle.rule_bool.specs.Arguments.{texts_meant};
+ghost use Rattle.alethe_check.specs.Stating.{HasClauses, TakesFew, JudgesResolvent, JudgesBy, JudgesStep};
 
-use crate::errors::CommandError;
 use crate::premises::{distinct_clauses, one_or_none};
-use crate::proof_state::ProofState;
-use rule_bool::{RuleStop, judge, resolution};
+use alethe_reader::{ProofState, ProofStep};
+use rule_bool::{ArgumentTexts, RuleStop, judge, resolution};
 use spec_proofs::Rule;
 use std::alloc::Global;
 use term_core::TermId;
 
-/// Says whether a clause follows by resolution from the clauses of numbers, each of which is taken once.
+/// Judges by resolution whether a clause follows from the clauses of numbers, each of which is taken once.
 fn is_resolved(
     alloc: Global,
     state: &ProofState,
     premises: &[u64],
     clause: &[TermId],
-) -> Result<bool, CommandError>
-    requires sound { IsSound state.now }
+) -> Result<(), RuleStop>
+    requires clauses { HasClauses state.now }
     requires premises { AreNumbers state.now premises.now }
     requires clause { AreIn state.now.table clause.now }
-    ensures exact { IfOk result (λ yes. MatchBool yes
-        (IsResolvent (clauses_numbered state.now premises.now) (clause_at state.now.table clause.now))
-        (IsResolvent (clauses_numbered state.now premises.now) (clause_at state.now.table clause.now) → ⊥)) }
-    ensures memory { IfErr result (λ e. e ≡ CommandError.Memory) }
+    ensures { JudgesResolvent (clauses_numbered state.now premises.now) (clause_at state.now.table clause.now) result }
 {
     let clauses = distinct_clauses(alloc, state, premises)?;
-    match resolution(alloc, &state.table, &clauses, clause) {
-        Ok(()) => Ok(true),
-        Err(RuleStop::Fails) => Ok(false),
-        Err(RuleStop::Memory) => Err(CommandError::Memory),
-    }
+    resolution(alloc, &state.table, &clauses, clause)
 }
 
-/// Says whether a clause follows by a rule that takes one premise at most from the clauses of numbers.
+/// Judges by a rule that takes one premise at most whether a clause follows from the clauses of numbers.
 fn is_judged(
     alloc: Global,
     state: &ProofState,
     rule: Rule,
     premises: &[u64],
+    arguments: ArgumentTexts<'_>,
     clause: &[TermId],
-) -> Result<bool, CommandError>
+) -> Result<(), RuleStop>
     requires rule { TakesFew rule }
-    requires sound { IsSound state.now }
+    requires clauses { HasClauses state.now }
     requires premises { AreNumbers state.now premises.now }
     requires clause { AreIn state.now.table clause.now }
-    ensures exact { IfOk result (λ yes. MatchBool yes
-        (IsRight rule (clauses_numbered state.now premises.now) (clause_at state.now.table clause.now))
-        (IsRight rule (clauses_numbered state.now premises.now) (clause_at state.now.table clause.now) → ⊥)) }
-    ensures memory { IfErr result (λ e. e ≡ CommandError.Memory) }
+    ensures { JudgesBy rule (clauses_numbered state.now premises.now) (texts_meant arguments.entry)
+        (clause_at state.now.table clause.now) result }
 {
     let Some(clauses) = one_or_none(state, premises) else {
-        return Ok(false);
+        return Err(RuleStop::Fails);
     };
-    match judge(alloc, &state.table, rule, clauses, clause) {
-        Ok(()) => Ok(true),
-        Err(RuleStop::Fails) => Ok(false),
-        Err(RuleStop::Memory) => Err(CommandError::Memory),
-    }
+    judge(alloc, &state.table, rule, clauses, arguments, clause)
 }
 
-/// Says whether a clause follows by a rule from the clauses of numbers.
+/// Judges a step by its rule. The clauses of its premises are lent where its rule takes one at most; else each different one is
+/// copied once.
 pub(crate) fn follows(
     alloc: Global,
     state: &ProofState,
-    rule: Rule,
-    premises: &[u64],
-    clause: &[TermId],
-) -> Result<bool, CommandError>
-    requires sound { IsSound state.now }
-    requires premises { AreNumbers state.now premises.now }
-    requires clause { AreIn state.now.table clause.now }
-    ensures exact { IfOk result (λ yes. MatchBool yes
-        (IsRight rule (clauses_numbered state.now premises.now) (clause_at state.now.table clause.now))
-        (IsRight rule (clauses_numbered state.now premises.now) (clause_at state.now.table clause.now) → ⊥)) }
-    ensures memory { IfErr result (λ e. e ≡ CommandError.Memory) }
+    step: &ProofStep<'_>,
+) -> Result<(), RuleStop>
+    requires clauses { HasClauses state.now }
+    requires ready { IsReadyStep state.now step.now }
+    ensures { JudgesStep (step_view state.now step.now) result }
 {
-    match rule {
-        Rule::Resolution => is_resolved(alloc, state, premises, clause),
-        Rule::ThResolution => is_resolved(alloc, state, premises, clause),
-        _ => is_judged(alloc, state, rule, premises, clause),
+    match step.rule {
+        Rule::Resolution => is_resolved(alloc, state, &step.premises, &step.clause),
+        Rule::ThResolution => is_resolved(alloc, state, &step.premises, &step.clause),
+        _ => is_judged(
+            alloc,
+            state,
+            step.rule,
+            &step.premises,
+            step.arguments,
+            &step.clause,
+        ),
     }
 }

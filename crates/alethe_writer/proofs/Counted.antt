@@ -1,8 +1,8 @@
 -- Numbers that are given one after the other.
 use Rattle.std.proofs.Common.{◌≡◌, ℕ, suc, ◌+◌, ◌<◌, ◌≤◌, Bool, true, false, List, [], ◌∷◌, ◌++◌, length, get_or, drop, Option, refl, sym, ap, ◌∙◌, append_assoc, append-nil, arith}
 use Rattle.std.proofs.lemmas.List.{drop_more, drop_all, length-map, get_or-map}
-use Rattle.spec_search.specs.Derivations.{Derivation, «assumption», by_rule, no_inference}
-use Rattle.spec_printing.specs.Plans.{counted, counted_inferences}
+use Rattle.spec_derivations.specs.Derivations.{Derivation, «assumption», by_rule, no_inference}
+use Rattle.spec_proof_texts.specs.Plans.{counted, counted_inferences}
 use Rattle.term_core.specs.Tables.{TableView}
 use Rattle.proof_log.specs.Logs.{Logged, assumed, stepped, no_logged, inference_of, derivation_in}
 use Rattle.alethe_writer.specs.Counting.{IsNext, IsNextOf}
@@ -19,8 +19,8 @@ counted_on whole out n m cs k b o lt is next h =
 inferences_one : (t : TableView) (l : Logged) (b : Bool) (h s h' s' : ℕ) (o : Option ℕ) (bs : List Bool) (xs : Derivation) → IsNextOf l b h s o h' s' → counted_inferences h s (b ∷ bs) (inference_of t l ∷ xs) ≡ o ∷ counted_inferences h' s' bs xs
 inferences_one t (assumed id) true h s h' s' o bs xs k = let e : suc h ≡ h' = omega (arith, k.0.1) in λ i. sym k.0.0 i ∷ counted_inferences (e i) (sym k.1 i) bs xs
 inferences_one t (assumed id) false h s h' s' o bs xs k = λ i. sym k.0.0 i ∷ counted_inferences (sym k.0.1 i) (sym k.1 i) bs xs
-inferences_one t (stepped r ps c) true h s h' s' o bs xs k = let e : suc s ≡ s' = omega (arith, k.0.1) in λ i. sym k.0.0 i ∷ counted_inferences (sym k.1 i) (e i) bs xs
-inferences_one t (stepped r ps c) false h s h' s' o bs xs k = λ i. sym k.0.0 i ∷ counted_inferences (sym k.1 i) (sym k.0.1 i) bs xs
+inferences_one t (stepped r ps qs c) true h s h' s' o bs xs k = let e : suc s ≡ s' = omega (arith, k.0.1) in λ i. sym k.0.0 i ∷ counted_inferences (sym k.1 i) (e i) bs xs
+inferences_one t (stepped r ps qs c) false h s h' s' o bs xs k = λ i. sym k.0.0 i ∷ counted_inferences (sym k.1 i) (sym k.0.1 i) bs xs
 
 -- what is left of the log
 pub log_left : (t : TableView) (log : List Logged) (k : ℕ) → k < length log → drop k (derivation_in t log) ≡ inference_of t (get_or log k no_logged) ∷ drop (k + 1) (derivation_in t log)
@@ -51,7 +51,7 @@ next_below n false o m k h le = omega (arith, h.1, le)
 
 pub nexts_below : (l : Logged) (b : Bool) (h s : ℕ) (o : Option ℕ) (h' s' k : ℕ) → IsNextOf l b h s o h' s' → h ≤ k → s ≤ k → (h' ≤ k + 1) × (s' ≤ k + 1)
 nexts_below (assumed id) b h s o h' s' k e lh ls = (next_below h b o h' k e.0 lh, omega (arith, e.1, ls))
-nexts_below (stepped r ps c) b h s o h' s' k e lh ls = (omega (arith, e.1, lh), next_below s b o s' k e.0 ls)
+nexts_below (stepped r ps qs c) b h s o h' s' k e lh ls = (omega (arith, e.1, lh), next_below s b o s' k e.0 ls)
 
 -- there are no more numbers than inferences
 pub inferences_length : (h s : ℕ) (bs : List Bool) (xs : Derivation) → length (counted_inferences h s bs xs) ≤ length xs
@@ -60,5 +60,5 @@ inferences_length h s [] (x ∷ xs) = omega arith
 inferences_length h s (true ∷ bs) [] = omega arith
 inferences_length h s (false ∷ bs) [] = omega arith
 inferences_length h s (true ∷ bs) («assumption» u ∷ xs) = omega (arith, inferences_length (suc h) s bs xs)
-inferences_length h s (true ∷ bs) (by_rule r ps c ∷ xs) = omega (arith, inferences_length h (suc s) bs xs)
+inferences_length h s (true ∷ bs) (by_rule r ps given c ∷ xs) = omega (arith, inferences_length h (suc s) bs xs)
 inferences_length h s (false ∷ bs) (x ∷ xs) = omega (arith, inferences_length h s bs xs)

@@ -9,3 +9,5 @@ mod TermNumbers
 mod Wholes
 pub mod Listing
 pub mod Logging
+mod WellSorted
+mod Decimals

@@ -4,17 +4,18 @@ use Rattle.std.specs.Prelude.{MatchBool}
 use Rattle.std.specs.List.{slice_get}
 use Rattle.std.proofs.lemmas.Bool.{cases_eq, false≢true}
 use Rattle.std.proofs.lemmas.List.{get_or-map, take_more, map-append}
-use Rattle.std.proofs.lemmas.List.Elements.{All-contains, All-get_or}
+use Rattle.std.proofs.lemmas.List.Elements.{All-contains}
 use Rattle.std.proofs.lemmas.Option.{slice_get-get_or, slice_get_within, get_or_from_slice_get}
 use Rattle.spec_text.proofs.Members.{to_image, from_image}
-use Rattle.spec_terms.specs.Terms.{Term}
-use Rattle.spec_terms.specs.Subsets.{arguments_of, IsClosed}
-use Rattle.spec_search.specs.Derivations.{conclusion, conclusion_at, no_inference}
-use Rattle.spec_printing.specs.Plans.{IsPrinted, in_clause, as_argument, AreRests, ArePrinted}
+use Rattle.spec_sorts.specs.Terms.{Term, no_term}
+use Rattle.spec_sorts.specs.Subsets.{arguments_of, IsClosed}
+use Rattle.spec_derivations.specs.Derivations.{conclusion, conclusion_at, no_inference}
+use Rattle.spec_proof_texts.specs.Plans.{IsPrinted, in_clause, as_argument, AreRests, ArePrinted}
 use Rattle.term_core.specs.declared.ids.TermId.{TermId}
-use Rattle.term_core.specs.Tables.{TableView, no_term, term_at, clause_at, IsIn, AreIn, AreDifferent, Shape, shape_term}
+use Rattle.term_core.specs.Tables.{TableView, term_at, clause_at, IsIn, AreDifferent, Shape, shape_term}
 use Rattle.term_core.proofs.TermsClosed.{argument_of, argument_in}
 use Rattle.proof_log.specs.Logs.{Logged, assumed, stepped, named, no_logged, inference_of, derivation_in, IsLogOf}
+use Rattle.alethe_writer.proofs.Logging.{entry_there}
 use Rattle.alethe_writer.specs.Marks.{IsMarked, Marks, Reaches, root, onward, IsArgument, AreOfClauses, Closes, plain_numbers}
 use Rattle.alethe_writer.proofs.Closing.{IsClosedFrom, closing_more, closing_end, marked_below}
 
@@ -101,7 +102,7 @@ clause_there t log m lt = ap conclusion (get_or-map (inference_of t) log m no_lo
   where
     go : (l : Logged) → conclusion (inference_of t l) ≡ clause_at t (named l)
     go (assumed id) = refl
-    go (stepped r ps c) = refl
+    go (stepped r ps qs c) = refl
 
 -- a term that is printed has a place that is reached
 has_place : (t : TableView) (log : List Logged) (rests old : List Bool) (n : ℕ) → IsClosed t.terms → IsLogOf t log → length rests ≤ length log → AreRests (derivation_in t log) n rests → AreOfClauses t log rests old → (u : Term) → IsPrinted (derivation_in t log) n u → (k : ℕ) × (slice_get t.terms k ≡ Some u) × Reaches (IsMarked old) (IsArgument t) k
@@ -110,7 +111,7 @@ has_place t log rests old n closed right short are h u (in_clause m _ on c) =
     let lt = marked_below rests m e in
     let within : m < length log = omega (arith, lt, short) in
     let x = from_image (term_at t) (named (get_or log m no_logged)) u (subst (λ d. Contains d u) (clause_there t log m within) c) in
-    let there : IsIn t x.0 = All-contains (IsIn t) (named (get_or log m no_logged)) x.0 (All-get_or (λ l. AreIn t (named l)) log m no_logged within right.there) x.1 in
+    let there : IsIn t x.0 = All-contains (IsIn t) (named (get_or log m no_logged)) x.0 (entry_there t log m within right) x.1 in
     (x.0.0, slice_get-get_or t.terms x.0.0 no_term there ∙ ap Some x.2, root x.0.0 (h.each m x.0 e x.1))
 has_place t log rests old n closed right short are h u (as_argument w _ p c) =
     let x = has_place t log rests old n closed right short are h w p in

@@ -3,9 +3,9 @@ use Rattle.std.proofs.Common.{◌≡◌, ℕ, suc, ◌<◌, ◌+◌, inl, inr, B
 use Rattle.std.proofs.lemmas.List.{get_or-map, take_more, map-append}
 use Rattle.std.proofs.lemmas.List.Elements.{All-contains}
 use Rattle.spec_text.proofs.Members.{from_image}
-use Rattle.spec_search.specs.Derivations.{Derivation, premises_of, inference_at, no_inference, RestsOn, itself, by_premise}
-use Rattle.spec_search.proofs.Spending.{rests_onward}
-use Rattle.spec_printing.specs.Plans.{AreRests}
+use Rattle.spec_derivations.specs.Derivations.{Derivation, premises_of, inference_at, no_inference, RestsOn, itself, by_premise}
+use Rattle.spec_derivations.proofs.Spending.{rests_onward}
+use Rattle.spec_proof_texts.specs.Plans.{AreRests}
 use Rattle.term_core.specs.Tables.{TableView}
 use Rattle.proof_log.specs.declared.premises.StepId.{StepId}
 use Rattle.proof_log.specs.Logs.{Logged, assumed, stepped, no_logged, premises_in, numbers_of, inference_of, derivation_in, AreEarlier}
@@ -26,7 +26,7 @@ numbers_more ids k lt = ap numbers_of (take_more ids k (record { 0 = 0 }) lt) �
 
 premises_same : (t : TableView) (l : Logged) → premises_of (inference_of t l) ≡ numbers_of (premises_in l)
 premises_same t (assumed id) = refl
-premises_same t (stepped r ps c) = refl
+premises_same t (stepped r ps qs c) = refl
 
 premises_there : (t : TableView) (log : List Logged) (n : ℕ) → n < length log → premises_of (inference_at (derivation_in t log) n) ≡ numbers_of (premises_in (get_or log n no_logged))
 premises_there t log n lt = ap premises_of (get_or-map (inference_of t) log n no_logged no_inference lt) ∙ premises_same t (get_or log n no_logged)

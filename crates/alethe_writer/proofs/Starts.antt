@@ -1,17 +1,24 @@
 -- The pieces of which texts are written, before the first of them and one by one.
-use Rattle.std.proofs.Common.{◌≡◌, ℕ, ◌+◌, ◌≤◌, ◌<◌, List, [], ◌∷◌, ◌++◌, length, drop, map, flat_map, get_or, Some, codes, decimal, sym, ap}
+use Rattle.std.proofs.Common.{◌≡◌, ℕ, ◌+◌, ◌≤◌, ◌<◌, List, [], ◌∷◌, ◌++◌, length, drop, map, flat_map, get_or, Some, codes, sym, ap, ◌∙◌}
 use Rattle.std.proofs.lemmas.List.{drop_more, drop_all}
+use Rattle.spec_text.specs.Printed.{printed}
+use Rattle.spec_numbers.specs.Fractions.{Fraction}
+use Rattle.spec_sorts.specs.Terms.{Sort, sort_of}
 use Rattle.spec_proofs.specs.RuleNames.{rule_name}
-use Rattle.spec_printing.specs.Lines.{proof_text, line_text}
-use Rattle.spec_printing.specs.Plans.{Plan, definition_lines, inference_lines, lines_of}
+use Rattle.spec_models.specs.Values.{numeral, sort_tree, fraction_tree}
+use Rattle.spec_proof_texts.specs.Lines.{proof_text, line_text}
+use Rattle.spec_proof_texts.specs.Plans.{Plan, definition_lines, inference_lines, lines_of}
 use Rattle.term_core.specs.declared.ids.TermId.{TermId}
 use Rattle.term_core.specs.Tables.{TableView, Shape, shape_term, term_at, clause_at}
+use Rattle.ratio128.specs.declared.ratio.Ratio.{Ratio}
+use Rattle.ratio128.specs.Meant.{fraction}
+use Rattle.rule_bool.specs.Arguments.{fractions_of}
 use Rattle.proof_log.specs.declared.premises.StepId.{StepId}
 use Rattle.proof_log.specs.declared.step.Step.{Step}
 use Rattle.proof_log.specs.Logs.{Logged, derivation_in}
 use Rattle.world_io.specs.Writing.{SinkView}
 use Rattle.world_io.proofs.Chains.{IsSending, start, split, skip}
-use Rattle.alethe_writer.specs.Printing.{name_by, logged_reference, term_number, clause_number, clause_text, argument_text, arguments_text, references_text, reference_text, premises_listed, head_text, definition_text, assume_text, step_text, definitions_text, clauses_text, refer_by}
+use Rattle.alethe_writer.specs.Printing.{name_by, logged_reference, term_number, clause_number, clause_text, argument_text, arguments_text, references_text, reference_text, premises_listed, fractions_spaced, given_listed, head_text, definition_text, assume_text, step_text, definitions_text, clauses_text, refer_by}
 use Rattle.alethe_writer.proofs.Texts.{assume_pieces, step_pieces}
 use Rattle.alethe_writer.proofs.Wholes.{definition_whole, definitions_more, definitions_done, inferences_more, inferences_ended, proof_whole}
 
@@ -24,14 +31,19 @@ abbrev pub clauses_from : TableView → List Logged → Plan → ℕ → List �
 clauses_from t log plan k = flat_map line_text (inference_lines (name_by t plan) (refer_by t log plan) (drop k (derivation_in t log)) (drop k plan.inferences))
 
 -- texts before their first pieces
-pub definition_start : (t : TableView) (plan : Plan) (id : TermId) (n : ℕ) (s : Shape) (a : SinkView) → term_at t id ≡ shape_term t s → IsSending (definition_text t plan id (Some n)) ((codes "(define-fun @p" ++ decimal n) ∷ (codes " () Bool (" ++ head_text t s.head) ∷ arguments_text t plan s.arguments ∷ codes "))\n" ∷ []) a a
-definition_start t plan id n s a e = start _ _ a (sym (definition_whole t (name_by t plan) n s (term_at t id) e))
+pub definition_start : (t : TableView) (plan : Plan) (id : TermId) (n : ℕ) (s : Shape) (r : Sort) (a : SinkView) → term_at t id ≡ shape_term t s → r ≡ sort_of (term_at t id)
+    → IsSending (definition_text t plan id (Some n)) ((codes "(define-fun @p" ++ numeral n) ∷ (codes " () " ++ printed (sort_tree r)) ∷ (codes " (" ++ head_text t s.head) ∷ arguments_text t plan s.arguments ∷ codes "))\n" ∷ []) a a
+definition_start t plan id n s r a e f =
+    start _ _ a (ap (λ (x : Sort). (codes "(define-fun @p" ++ numeral n) ++ ((codes " () " ++ printed (sort_tree x)) ++ ((codes " (" ++ head_text t s.head) ++ (arguments_text t plan s.arguments ++ codes "))\n")))) f ∙ sym (definition_whole t (name_by t plan) n s (term_at t id) e))
 
-pub assume_start : (t : TableView) (plan : Plan) (id : TermId) (n : ℕ) (a : SinkView) → IsSending (assume_text t plan id n) ((codes "(assume h" ++ decimal n) ∷ argument_text t plan id ∷ codes ")\n" ∷ []) a a
+pub assume_start : (t : TableView) (plan : Plan) (id : TermId) (n : ℕ) (a : SinkView) → IsSending (assume_text t plan id n) ((codes "(assume h" ++ numeral n) ∷ argument_text t plan id ∷ codes ")\n" ∷ []) a a
 assume_start t plan id n a = start _ _ a (sym (assume_pieces n (name_by t plan (term_at t id))))
 
-pub step_start : (t : TableView) (log : List Logged) (plan : Plan) (s : Step) (n : ℕ) (a : SinkView) → IsSending (step_text t log plan s n) ((codes "(step t" ++ decimal n) ∷ codes " (cl" ∷ arguments_text t plan s.clause ∷ (codes ") :rule " ++ rule_name s.rule) ∷ premises_listed log plan s.premises ∷ codes ")\n" ∷ []) a a
-step_start t log plan s n a = start _ _ a (sym (step_pieces n (map (name_by t plan) (clause_at t s.clause)) s.rule (map (logged_reference log plan.inferences) s.premises)))
+pub step_start : (t : TableView) (log : List Logged) (plan : Plan) (s : Step) (n : ℕ) (a : SinkView) → IsSending (step_text t log plan s n) ((codes "(step t" ++ numeral n) ∷ codes " (cl" ∷ arguments_text t plan s.clause ∷ (codes ") :rule " ++ rule_name s.rule) ∷ premises_listed log plan s.premises ∷ given_listed s.arguments ∷ codes ")\n" ∷ []) a a
+step_start t log plan s n a = start _ _ a (sym (step_pieces n (map (name_by t plan) (clause_at t s.clause)) s.rule (map (logged_reference log plan.inferences) s.premises) s.arguments))
+
+pub given_start : (qs : List Fraction) (first : Fraction) (others : List Fraction) (a : SinkView) → qs ≡ first ∷ others → IsSending (given_listed qs) ((codes " :args (" ++ printed (fraction_tree first)) ∷ fractions_spaced others ∷ codes ")" ∷ []) a a
+given_start qs first others a e = start _ _ a (ap given_listed (sym e))
 
 pub premises_start : (log : List Logged) (plan : Plan) (ids : List StepId) (first : StepId) (others : List StepId) (a : SinkView) → ids ≡ first ∷ others → IsSending (premises_listed log plan ids) ((codes " :premises (" ++ reference_text log plan first) ∷ references_text log plan others ∷ codes ")" ∷ []) a a
 premises_start log plan ids first others a e = start _ _ a (ap (premises_listed log plan) (sym e))
@@ -67,3 +79,10 @@ module _ {whole : List ℕ} {a b : SinkView} where
 
   pub no_clause : (t : TableView) (log : List Logged) (plan : Plan) (k : ℕ) → length plan.inferences ≤ k → IsSending whole (clauses_from t log plan k ∷ []) a b → IsSending whole [] a b
   no_clause t log plan k l = skip _ (inferences_ended (name_by t plan) (refer_by t log plan) (derivation_in t log) plan.inferences k l)
+
+  -- one argument of a rule more
+  pub next_fraction : (qs : List Ratio) (k : ℕ) (d q : Ratio) → k < length qs → q ≡ get_or qs k d → IsSending whole (fractions_spaced (fractions_of (drop k qs)) ∷ []) a b → IsSending whole ((32 ∷ printed (fraction_tree (fraction q))) ∷ fractions_spaced (fractions_of (drop (k + 1) qs)) ∷ []) a b
+  next_fraction qs k d q l e = split _ _ _ (ap (λ (rs : List Ratio). fractions_spaced (fractions_of rs)) (drop_more qs k d l ∙ ap (λ (r : Ratio). r ∷ drop (k + 1) qs) (sym e)))
+
+  pub no_fraction : (qs : List Ratio) (k : ℕ) → length qs ≤ k → IsSending whole (fractions_spaced (fractions_of (drop k qs)) ∷ []) a b → IsSending whole [] a b
+  no_fraction qs k l = skip _ (ap (λ (rs : List Ratio). fractions_spaced (fractions_of rs)) (drop_all k qs l))

@@ -2,11 +2,11 @@
 use Rattle.std.proofs.Common.{◌≡◌, ℕ, ◌<◌, Bool, false, not, ◌&&◌, ◌==◌, List, [], ◌∷◌, length, Option, None, get_or, refl, arith}
 use Rattle.std.proofs.lemmas.Bool.Decides.{nat_tests}
 use Rattle.std.proofs.lemmas.Option.{slice_get-get_or, slice_get_within, get_or_from_slice_get}
-use Rattle.spec_terms.specs.Terms.{of}
-use Rattle.spec_printing.specs.Plans.{number_of, is_compound, compounds}
-use Rattle.spec_printing.proofs.Numbers.{number_at_place, compound_at}
+use Rattle.spec_sorts.specs.Terms.{of, no_term}
+use Rattle.spec_proof_texts.specs.Plans.{number_of, is_compound, compounds}
+use Rattle.spec_proof_texts.proofs.Numbers.{number_at_place, compound_at}
 use Rattle.term_core.specs.declared.ids.TermId.{TermId}
-use Rattle.term_core.specs.Tables.{TableView, no_term, term_at, IsIn, AreDifferent, Shape, shape_term, clause_at, head_meant}
+use Rattle.term_core.specs.Tables.{TableView, term_at, IsIn, AreDifferent, Shape, shape_term, clause_at, head_meant}
 
 pub number_there : (t : TableView) (numbers : List (Option ℕ)) (id : TermId) → AreDifferent t.terms → IsIn t id → number_of t.terms numbers (term_at t id) ≡ get_or numbers id.0 None
 number_there t numbers id apart there = number_at_place t.terms numbers id.0 (term_at t id) (slice_get-get_or t.terms id.0 no_term there) (λ i h. apart i id.0 (slice_get_within t.terms i (term_at t id) h) there (get_or_from_slice_get t.terms i (term_at t id) no_term h))
@@ -15,7 +15,7 @@ number_there t numbers id apart there = number_at_place t.terms numbers id.0 (te
 pub compound_shape : (t : TableView) (s : Shape) → not (length s.arguments == 0) ≡ is_compound (shape_term t s)
 compound_shape t s = go s.arguments
   where
-    go : (ids : List TermId) → not (length ids == 0) ≡ is_compound (of (head_meant t.symbols s.head) (clause_at t ids))
+    go : (ids : List TermId) → not (length ids == 0) ≡ is_compound (of (head_meant t s.head) (clause_at t ids))
     go [] = refl
     go (id ∷ ids) = grind (arith, nat_tests)
 

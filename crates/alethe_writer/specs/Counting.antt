@@ -10,4 +10,4 @@ IsNext n false given next = (given ≡ None) × (next ≡ n)
 -- the next number of an assume or of a step, and those to come
 abbrev pub IsNextOf : Logged → Bool → (h t : ℕ) → Option ℕ → (new_h new_t : ℕ) → Type 0
 IsNextOf (assumed id) wanted h t given new_h new_t = IsNext h wanted given new_h × (new_t ≡ t)
-IsNextOf (stepped r ps c) wanted h t given new_h new_t = IsNext t wanted given new_t × (new_h ≡ h)
+IsNextOf (stepped r ps qs c) wanted h t given new_h new_t = IsNext t wanted given new_t × (new_h ≡ h)

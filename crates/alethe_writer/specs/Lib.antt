@@ -1,4 +1,5 @@
 -- How what is printed is marked, numbered and written.
 pub mod Marks
 pub mod Counting
+pub mod Digits
 pub mod Printing

@@ -1,9 +1,10 @@
 -- Numbers that are marked.
 use Rattle.std.specs.Prelude.{◌≡◌, ◌⊎◌, ℕ, ◌<◌, Bool, true, false, List, length, map, Contains, get_or, slice_index_or}
-use Rattle.spec_terms.specs.Subsets.{arguments_of}
+use Rattle.spec_sorts.specs.Terms.{no_term}
+use Rattle.spec_sorts.specs.Subsets.{arguments_of}
 use Rattle.term_core.specs.declared.ids.TermId.{TermId}
-use Rattle.term_core.specs.Tables.{TableView, no_term}
-use Rattle.spec_printing.specs.Plans.{AreRests, ArePrinted}
+use Rattle.term_core.specs.Tables.{TableView}
+use Rattle.spec_proof_texts.specs.Plans.{AreRests, ArePrinted}
 use Rattle.proof_log.specs.Logs.{Logged, named, no_logged, derivation_in}
 
 -- the number is marked

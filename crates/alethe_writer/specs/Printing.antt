@@ -1,10 +1,13 @@
 -- Which plans are of a log, and the texts of which its proof is made.
 use Rattle.std.specs.Prelude.{ℕ, ◌≤◌, List, [], ◌∷◌, ◌++◌, length, map, flat_map, Option, None, get_or, codes}
 use Rattle.spec_text.specs.Printed.{printed, printed_symbol}
-use Rattle.spec_terms.specs.Terms.{Term}
-use Rattle.spec_terms.specs.HeadNames.{head_name}
-use Rattle.spec_printing.specs.Lines.{Argument, argument_tree, Reference, assumed, stepped, reference_name, assumes, steps, line_text}
-use Rattle.spec_printing.specs.Plans.{Plan, number_or_zero, argument_for, reference_for, definition_by, definition_lines, inference_by, inference_lines}
+use Rattle.spec_numbers.specs.Fractions.{Fraction}
+use Rattle.spec_sorts.specs.Terms.{Term}
+use Rattle.spec_sorts.specs.HeadNames.{head_name}
+use Rattle.spec_proof_texts.specs.Lines.{Argument, argument_tree, Reference, assumed, stepped, reference_name, assumes, steps, line_text}
+use Rattle.spec_proof_texts.specs.Plans.{Plan, number_or_zero, argument_for, reference_for, definition_by, definition_lines, inference_by, inference_lines}
+use Rattle.spec_models.specs.Values.{fraction_tree}
+use Rattle.rule_bool.specs.Arguments.{texts_of}
 use Rattle.term_core.specs.declared.ids.TermId.{TermId}
 use Rattle.term_core.specs.declared.nodes.Head.{Head}
 use Rattle.term_core.specs.Tables.{TableView, head_meant, term_at, clause_at}
@@ -31,7 +34,7 @@ all_spaced items = flat_map spaced items
 -- a clause of a log by the number under which it is printed, as a premise
 abbrev pub logged_by : Logged → ℕ → Reference
 logged_by (logged.assumed id) n = assumed n
-logged_by (logged.stepped r ps c) n = stepped n
+logged_by (logged.stepped r ps qs c) n = stepped n
 
 -- the premise that a number of a log is
 abbrev pub logged_reference : List Logged → List (Option ℕ) → StepId → Reference
@@ -45,6 +48,15 @@ references_spaced ps = flat_map (λ p. 32 ∷ reference_name p) ps
 abbrev pub premises_text : List Reference → List ℕ
 premises_text [] = []
 premises_text (p ∷ ps) = codes " :premises (" ++ (reference_name p ++ (references_spaced ps ++ codes ")"))
+
+-- fractions, each after a space
+abbrev pub fractions_spaced : List Fraction → List ℕ
+fractions_spaced qs = flat_map (λ q. 32 ∷ printed (fraction_tree q)) qs
+
+-- the arguments of a step's rule, or nothing where there are none
+abbrev pub given_listed : List Fraction → List ℕ
+given_listed [] = []
+given_listed (q ∷ qs) = codes " :args (" ++ (printed (fraction_tree q) ++ (fractions_spaced qs ++ codes ")"))
 
 -- a term of a table as a plan prints it
 abbrev pub name_by : TableView → Plan → Term → Argument
@@ -76,7 +88,7 @@ premises_listed log plan ids = premises_text (map (logged_reference log plan.inf
 
 -- the name of a head, between bars where it needs them
 abbrev pub head_text : TableView → Head → List ℕ
-head_text t head = printed_symbol (head_name (head_meant t.symbols head))
+head_text t head = printed_symbol (head_name (head_meant t head))
 
 -- the number of a term's definition
 abbrev pub term_number : Plan → TermId → Option ℕ
@@ -96,7 +108,8 @@ assume_text t plan id number = line_text (assumes number (name_by t plan (term_a
 
 -- the line of a step by its number
 abbrev pub step_text : TableView → List Logged → Plan → Step → ℕ → List ℕ
-step_text t log plan step number = line_text (steps number (map (name_by t plan) (clause_at t step.clause)) step.rule (map (logged_reference log plan.inferences) step.premises))
+step_text t log plan step number =
+    line_text (steps (record { number = number; literals = map (name_by t plan) (clause_at t step.clause); rule = step.rule; premises = map (logged_reference log plan.inferences) step.premises; arguments = texts_of step.arguments }))
 
 -- the line of a clause of a log, where it has a number
 abbrev pub clause_text : TableView → List Logged → Plan → StepId → Option ℕ → List ℕ

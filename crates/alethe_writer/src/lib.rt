@@ -1,10 +1,11 @@
-//! Prints what a clause of a log rests on as an Alethe proof.
+//! Prints what a clause of a log over the whole language rests on as an Alethe proof.
 #![tactic(auto)]
 
 mod arguments;
 mod counter;
 mod lines;
 mod marks;
+mod numbers;
 mod plans;
 pub mod printable;
 mod proof;

@@ -4,13 +4,16 @@ ghost use Rattle.std.specs.Prelude.{◌<◌, ◌++◌, length, Some, codes};
 ghost use Rattle.spec_proofs.specs.RuleNames.{rule_name};
 ghost use Rattle.term_core.specs.Tables.{IsIn, AreIn, HasHead};
 ghost use Rattle.proof_log.specs.Logs.{IsLogOf};
+ghost use Rattle.rule_bool.specs.Arguments.{fractions_of};
 ghost use Rattle.world_io.specs.Writing.{Sends};
-ghost use Rattle.alethe_writer.specs.Printing.{premises_listed, references_text, reference_text, head_text, definition_text, clause_text, assume_text, step_text};
+ghost use Rattle.alethe_writer.specs.Printing.{premises_listed, given_listed, fractions_spaced, references_text, reference_text, head_text, definition_text, clause_text, assume_text, step_text};
 
-use crate::arguments::{write_argument, write_arguments, write_name, write_number, write_words};
+use crate::arguments::{write_argument, write_arguments, write_name, write_sort, write_words};
+use crate::numbers::{write_fraction, write_number};
 use crate::plans::Plan;
 use itoa::Buffer;
-use proof_log::{ProofLog, Rule, Step, StepId};
+use proof_log::{ProofLog, Ratio, Rule, Step, StepId};
+use spec_models::laws::numerals_are_decimal;
 use term_core::{Head, TermId, TermTable, head_name};
 use world_io::{Failed, Sink, write_all, write_pieces};
 
@@ -26,18 +29,20 @@ pub(crate) fn write_definition<K: Sink>(
     ensures { Sends (definition_text table.now plan.now id (Some number)) result (K.state out.old) (K.state out.new) }
 {
     let node = table.node(id);
-    write_number(b"(define-fun @p", number, out)?;
+    let sort = table.sort(id);
+    write_number(b"(define-fun @p", number as u128, out)?;
+    write_sort(b" () ", table, sort, out)?;
     write_head(table, node.head, out)?;
     write_arguments(plan, table, node.arguments.as_slice(), out)?;
     write_all(out, b"))\n")
 }
 
-/// Writes a definition's sort and the head of its term.
+/// Writes the head of a definition's term.
 fn write_head<K: Sink>(table: &TermTable, head: Head, out: &mut K) -> Result<(), Failed>
-    requires { HasHead table.now.symbols head }
-    ensures { Sends (codes " () Bool (" ++ head_text table.now head) result (K.state out.old) (K.state out.new) }
+    requires { HasHead table.now head }
+    ensures { Sends (codes " (" ++ head_text table.now head) result (K.state out.old) (K.state out.new) }
 {
-    write_name(b" () Bool (", head_name(table, head), out)
+    write_name(b" (", head_name(table, head), out)
 }
 
 /// Writes the line of a clause by its number: an assume or a step.
@@ -71,7 +76,7 @@ fn write_assume<K: Sink>(
     requires there { IsIn table.now term }
     ensures { Sends (assume_text table.now plan.now term number) result (K.state out.old) (K.state out.new) }
 {
-    write_number(b"(assume h", number, out)?;
+    write_number(b"(assume h", number as u128, out)?;
     write_argument(plan, table, term, out)?;
     write_all(out, b")\n")
 }
@@ -88,11 +93,12 @@ fn write_step<K: Sink>(
     requires there { AreIn table.now step.now.clause }
     ensures { Sends (step_text table.now log.now plan.now step.now number) result (K.state out.old) (K.state out.new) }
 {
-    write_number(b"(step t", number, out)?;
+    write_number(b"(step t", number as u128, out)?;
     write_all(out, b" (cl")?;
     write_arguments(plan, table, step.clause.as_slice(), out)?;
     write_rule(step.rule, out)?;
     write_premises(plan, log, step.premises.as_slice(), out)?;
+    write_given(step.arguments.as_slice(), out)?;
     write_all(out, b")\n")
 }
 
@@ -145,6 +151,7 @@ fn write_reference<K: Sink>(
 ) -> Result<(), Failed>
     ensures { Sends (before.now ++ reference_text log.now plan.now premise) result (K.state out.old) (K.state out.new) }
 {
+    numerals_are_decimal();
     let letter: &[u8] = match log.step(premise) {
         None => b"h",
         Some(_) => b"t",
@@ -152,4 +159,26 @@ fn write_reference<K: Sink>(
     let mut buffer = Buffer::new();
     let number = buffer.format(plan.number(premise));
     write_pieces(out, &[before, letter, number.as_bytes()])
+}
+
+/// Writes the arguments of a step's rule, or nothing where there are none.
+fn write_given<K: Sink>(arguments: &[Ratio], out: &mut K) -> Result<(), Failed>
+    ensures { Sends (given_listed (fractions_of arguments.now)) result (K.state out.old) (K.state out.new) }
+{
+    let Some((first, others)) = arguments.split_first() else {
+        return Ok(());
+    };
+    write_fraction(b" :args (", *first, out)?;
+    write_others(others, out)?;
+    write_all(out, b")")
+}
+
+/// Writes arguments of a rule, each after a space.
+fn write_others<K: Sink>(arguments: &[Ratio], out: &mut K) -> Result<(), Failed>
+    ensures { Sends (fractions_spaced (fractions_of arguments.now)) result (K.state out.old) (K.state out.new) }
+{
+    'arguments: for argument in arguments.iter() {
+        write_fraction(b" ", *argument, out)?;
+    }
+    Ok(())
 }

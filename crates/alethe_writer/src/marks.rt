@@ -3,7 +3,7 @@
 ghost use Rattle.std.specs.Prelude.{◌≡◌, ℕ, ◌+◌, ◌<◌, ◌≤◌, length, All, IfOk, MatchBool};
 ghost use Rattle.term_core.specs.Tables.{TableView};
 ghost use Rattle.proof_log.specs.Logs.{IsLogOf, logged_at, named, premises_in, derivation_in, numbers_of};
-ghost use Rattle.spec_printing.specs.Plans.{AreRests};
+ghost use Rattle.spec_proof_texts.specs.Plans.{AreRests};
 ghost use Rattle.alethe_writer.specs.Marks.{Marks, IsMarked, AreOfClauses, ArePrintedFor, Closes, plain_numbers};
 
 use proof_log::{ProofLog, StepId};

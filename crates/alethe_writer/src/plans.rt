@@ -1,7 +1,7 @@
 //! What is printed for a clause, by numbers.
 
 ghost use Rattle.std.specs.Prelude.{◌≡◌, ◌-◌, ◌<◌, ◌≤◌, ◌^◌, false, length, IfOk, None, get_or};
-ghost use Rattle.spec_printing.specs.Plans.{IsPlan, counted, compounds, is_compound, counted_inferences, number_or_zero};
+ghost use Rattle.spec_proof_texts.specs.Plans.{IsPlan, counted, compounds, is_compound, counted_inferences, number_or_zero};
 ghost use Rattle.term_core.specs.Tables.{TableView, IsIn, term_at};
 ghost use Rattle.proof_log.specs.Logs.{IsLogOf, logged_at, derivation_in};
 ghost use Rattle.alethe_writer.specs.Counting.{IsNextOf};
@@ -25,7 +25,7 @@ pub struct Plan {
 }
 
 impl Model for Plan {
-    ghost use Rattle.spec_printing.specs.Plans.{Plan as PlanView};
+    ghost use Rattle.spec_proof_texts.specs.Plans.{Plan as PlanView};
 
     ghost Value = { PlanView };
 

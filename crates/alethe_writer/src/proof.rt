@@ -1,8 +1,8 @@
 //! A whole proof.
 
 ghost use Rattle.std.specs.Prelude.{◌<◌, ◌≤◌, length};
-ghost use Rattle.spec_printing.specs.Lines.{proof_text};
-ghost use Rattle.spec_printing.specs.Plans.{lines_of};
+ghost use Rattle.spec_proof_texts.specs.Lines.{proof_text};
+ghost use Rattle.spec_proof_texts.specs.Plans.{lines_of};
 ghost use Rattle.term_core.specs.Tables.{IsIn};
 ghost use Rattle.proof_log.specs.Logs.{IsLogOf, derivation_in};
 ghost use Rattle.world_io.specs.Writing.{Sends};

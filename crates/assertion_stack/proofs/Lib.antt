@@ -1,4 +1,12 @@
 -- The lemmas of this crate.
+pub mod Known
+pub mod SortLists
+pub mod Levels
+pub mod Growing
+pub mod Naming
+pub mod Reaching
 pub mod Stacks
-pub mod Members
-pub mod TheoryNames
+pub mod Declared
+pub mod Back
+pub mod Steps
+pub mod Checking

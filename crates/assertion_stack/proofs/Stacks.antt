@@ -1,252 +1,312 @@
--- What a script states, command by command.
-use Rattle.std.proofs.Common.{◌≡◌, ◌<◌, ◌≤◌, ℕ, Bool, true, false, not, cond, ◌||◌, List, [], ◌∷◌, ◌++◌, map, length, take, Option, Some, None, refl, sym, ap, ◌∙◌, subst, arith}
-use Rattle.std.specs.Prelude.{Result, Ok, Err, nat_lt, slice_index_or}
-use Rattle.std.specs.Str.{bytes_eq}
-use Rattle.std.proofs.lemmas.List.{map-append, take_at}
-use Rattle.std.proofs.lemmas.List.Elements.{All-push}
-use Rattle.spec_text.specs.declared.Fault.TheVariants.{Full, Reserved, Twice, UnknownSymbol}
-use Rattle.spec_text.specs.declared.Kind.TheVariants.{Numeral}
+-- What commands make of a stack.
+use Rattle.std.proofs.Common.{◌≡◌, ℕ, ◌+◌, Bool, true, false, not, ◌&&◌, List, [], ◌∷◌, ◌++◌, length, Some, refl, sym, ap, ◌∙◌, subst, arith, length-append}
+use Rattle.std.specs.Prelude.{Ok, Err, nat_le, nat_lt}
+use Rattle.std.proofs.lemmas.Bool.Decides.{nat_tests}
+use Rattle.std.proofs.lemmas.List.{map-append}
+use Rattle.std.proofs.lemmas.List.Elements.{All-push, All-nil}
+use Rattle.spec_text.specs.declared.Fault.TheVariants.{Reserved, UnknownLogic, WrongMode, Full}
 use Rattle.spec_text.specs.Bytes.{Name, among}
 use Rattle.spec_text.specs.Faults.{Located}
-use Rattle.spec_text.specs.Shapes.{Word}
+use Rattle.spec_text.specs.Shapes.{Word, is_reserved}
 use Rattle.spec_text.specs.Answers.{Answer, ◌>>=◌, refused, require}
-use Rattle.spec_text.specs.Trees.{Tree, Trees, atom, none, more, offset_of}
-use Rattle.spec_terms.specs.Terms.{Truth, Symbol, Term, constant}
-use Rattle.spec_terms.specs.Reading.{scope_of, symbol_named, term_in, terms_in}
-use Rattle.spec_terms.specs.Subterms.{roomy_terms}
-use Rattle.spec_scripts.specs.Commands.{Command, DeclareConst, Assert, command_of}
-use Rattle.spec_scripts.specs.Stack.{Stack, Assertion, Taken, names_of, theory_names, is_taken, is_barred, new_name, sort_in, with_success, with_symbol, with_assertion, with_assertions, performed, effect_of, step}
+use Rattle.spec_text.specs.Trees.{Tree, Trees}
+use Rattle.spec_sorts.specs.Terms.{Sort, Truth, Declared, Term}
+use Rattle.spec_sorts.specs.Signatures.{Definition, Declaration, of_sort, of_function, declared, symbols_in, sort_as}
+use Rattle.spec_sorts.specs.Signatures as signatures
+use Rattle.spec_sorts.specs.Subterms.{has_room}
+use Rattle.spec_sorts.proofs.Signatures.{symbols_with}
+use Rattle.spec_reading.specs.Names.{Setting, script, new_name, is_function, is_sort}
+use Rattle.spec_reading.specs.Sorts.{sort_in, sorts_in}
+use Rattle.spec_reading.specs.Reading.{Reading, reading_of_sort}
+use Rattle.spec_reading.specs.Definitions.{Parts, definitions_in}
+use Rattle.spec_commands.specs.Commands.{SetLogic, DeclareSort, DefineSort, DeclareFun, DefineFun, Assert, CheckSat}
+use Rattle.spec_commands.specs.Stack.{Assertion, Stack, Key, check, did, empty_stack, signature_of, assertions_of, terms_asserted, begun, with_declaration, with_definitions, with_assertion, logics, with_option, is_in_reach, all_in_reach, roomy, terms_defined, performed}
 use Rattle.term_core.specs.declared.ids.TermId.{TermId}
-use Rattle.term_core.specs.Tables.{TableView, truth_symbol, term_at, no_term, IsIn, AreIn, Extends}
-use Rattle.sort_check.specs.declared.faults.ReadError.{ReadError}
-use Rattle.sort_check.specs.declared.faults.ReadError.TheVariants as read_errors
-use Rattle.sort_check.specs.Building.{Keeps}
-use Rattle.sort_check.specs.Reads.{HasTerms, AnswersTerms}
+use Rattle.term_core.specs.Tables.{TableView, term_at, IsIn, AreIn, clause_at}
 use Rattle.term_core.proofs.TermsExtend.{AreIn-kept, clause_at-kept}
-use Rattle.spec_text.specs.declared.Fault.{Fault}
-use Rattle.spec_text.specs.declared.Place.{Place}
-use Rattle.spec_text.specs.Offsets.{AllOffsets, HasOffset, at_offset}
-use Rattle.smt_sexpr.specs.declared.sexpr.Sexpr.{Sexpr}
-use Rattle.smt_sexpr.specs.Items.{split_first, text_of, start_of, tree_of}
-use Rattle.smt_sexpr.specs.Means.{first_of}
-use Rattle.assertion_stack.specs.Views.{located, Fails}
-use Rattle.assertion_stack.specs.declared.script.Script.{Script}
-use Rattle.smt_lexer.specs.declared.Refused.{Refused}
-use Rattle.smt_lexer.specs.declared.Refused.TheVariants as refusals
-use Rattle.smt_command.specs.Commands.{Reads}
-use Rattle.assertion_stack.specs.Scripts.{IsStack, Becomes, Steps, limited_symbol}
+use Rattle.term_reader.specs.Building.{Keeps, Means}
+use Rattle.term_reader.specs.Scopes.{ScopeView, Stands}
+use Rattle.term_reader.proofs.Standing.{stands_kept}
+use Rattle.term_reader.specs.Names.{located_of}
+use Rattle.term_reader.specs.declared.faults.ReadError.{ReadError}
+use Rattle.term_reader.specs.declared.faults.ReadError.TheVariants as errors
+use Rattle.sort_check.specs.Reads as parser
+use Rattle.sort_check.specs.Reads.{within, roomy_reading, roomy_definitions, Store, EndsTerm, EndsDefinition}
+use Rattle.assertion_stack.specs.declared.options.Options.{Options as CodeOptions}
+use Rattle.assertion_stack.specs.declared.stack.Stack.{Stack as CodeStack}
+use Rattle.assertion_stack.specs.Assertions.{starts_of}
+use Rattle.assertion_stack.specs.Marks.{AreMarks}
+use Rattle.assertion_stack.specs.Views.{Fails}
+use Rattle.assertion_stack.specs.Stacks.{options_meant, standing, IsStack, with_term}
+use Rattle.assertion_stack.proofs.Reaching.{no_marks, marks_kept}
+use Rattle.assertion_stack.proofs.Levels.{signature_last, signature_with, rest_with, sorts_with, starts_last, terms_last, reach_last}
 
--- a name that no symbol has finds none
-pub not_named : (ss : List Symbol) (n : Name) → among (names_of ss) n ≡ false → symbol_named ss n ≡ None
-not_named [] n e = refl
-not_named (s ∷ ss) n e = go (bytes_eq s.name n) (not_named ss n) e
-  where
-    go : (b : Bool) → (among (names_of ss) n ≡ false → symbol_named ss n ≡ None) → (b || among (names_of ss) n) ≡ false → cond b (Some s) (symbol_named ss n) ≡ None
-    go true rec e = cc
-    go false rec e = rec e
-
-pub some_among : (ss : List Symbol) (n : Name) (x : Symbol) → symbol_named ss n ≡ Some x → among (names_of ss) n ≡ true
-some_among [] n x e = cc
-some_among (s ∷ ss) n x e = go (bytes_eq s.name n) (some_among ss n x) e
-  where
-    go : (b : Bool) → (symbol_named ss n ≡ Some x → among (names_of ss) n ≡ true) → cond b (Some s) (symbol_named ss n) ≡ Some x → (b || among (names_of ss) n) ≡ true
-    go true rec e = refl
-    go false rec e = rec e
-
-not_second : (a b : Bool) → (a || b) ≡ false → b ≡ false
-not_second true b e = cc
-not_second false b e = e
-
--- a name that is not taken is no symbol's
-pub free_name : (ss : List Symbol) (n : Name) → is_taken ss n ≡ false → symbol_named ss n ≡ None
-free_name ss n e = not_named ss n (not_second (among theory_names n) (among (names_of ss) n) e)
-
--- new names, by their tests
-module _ (ss : List Symbol) (w : Word) where
-  pub barred_name : is_barred w ≡ true → new_name ss w ≡ refused w.at Reserved
-  unfolding require ◌>>=◌
-  barred_name e = ap (λ b. require (not b) w.at Reserved >>= λ free. require (not (is_taken ss w.bytes)) w.at Twice >>= λ new. Ok w.bytes) e
-
-  pub taken_name : is_barred w ≡ false → is_taken ss w.bytes ≡ true → new_name ss w ≡ refused w.at Twice
-  unfolding require ◌>>=◌
-  taken_name e f = (λ i. require (not (e i)) w.at Reserved >>= λ free. require (not (f i)) w.at Twice >>= λ new. Ok w.bytes)
-
-  pub good_name : is_barred w ≡ false → is_taken ss w.bytes ≡ false → new_name ss w ≡ Ok w.bytes
-  unfolding require ◌>>=◌
-  good_name e f = (λ i. require (not (e i)) w.at Reserved >>= λ free. require (not (f i)) w.at Twice >>= λ new. Ok w.bytes)
-
--- the option is set
-pub option_set : (t : TableView) (a : List TermId) (p q : Bool) (at : ℕ) (o : Option Bool) (s : Stack) → o ≡ Some q → IsStack (record { table = t; asserted = a; print_success = p }) s
-    → Becomes (with_success at s o) s (Ok tt) (record { table = t; asserted = a; print_success = q })
-option_set t a p q at o s e h = (record { symbols = s.symbols; assertions = s.assertions; print_success = q }, ap (with_success at s) e, record { symbols = h.symbols; terms = h.terms; inside = h.inside; option = refl })
-
--- a declaration, by its parts
-module _ (limit at : ℕ) (s : Stack) (w : Word) (t : Tree) where
-  pub not_named_so : (f : Located) → new_name s.symbols w ≡ Err f → performed limit at s (DeclareConst w t) ≡ Err f
-  unfolding ◌>>=◌
-  not_named_so f e = ap (λ o. o >>= λ n. sort_in t >>= λ sort. require (nat_lt (length s.symbols) limit) at Full >>= λ room. Ok (with_symbol s (constant n sort))) e
-
-  pub not_sorted : (n : Name) (f : Located) → new_name s.symbols w ≡ Ok n → sort_in t ≡ Err f → performed limit at s (DeclareConst w t) ≡ Err f
-  unfolding ◌>>=◌
-  not_sorted n f e g = (λ i. e i >>= λ n. g i >>= λ sort. require (nat_lt (length s.symbols) limit) at Full >>= λ room. Ok (with_symbol s (constant n sort)))
-
-  pub declared_so : (n : Name) → new_name s.symbols w ≡ Ok n → sort_in t ≡ Ok Truth → performed limit at s (DeclareConst w t) ≡ limited_symbol limit at s n
-  unfolding ◌>>=◌
-  declared_so n e g = (λ i. e i >>= λ n. g i >>= λ sort. require (nat_lt (length s.symbols) limit) at Full >>= λ room. Ok (with_symbol s (constant n sort)))
-
--- a declaration, where its parts answer so
-module _ (limit at : ℕ) (x : Script) (s : Stack) (w : Word) (t : Tree) (h : IsStack x s) where
-  pub name_refused : (stop : ReadError) → Fails stop (new_name x.table.symbols w) → Becomes (performed limit at s (DeclareConst w t)) s (Err stop) x
-  name_refused (read_errors.Fault f) e = (not_named_so limit at s w t (located f) (ap (λ ss. new_name ss w) h.symbols ∙ e), h)
-  name_refused read_errors.Memory e = (tt, h)
-
-  pub sort_refused : (n : Name) (stop : ReadError) → new_name x.table.symbols w ≡ Ok n → Fails stop (sort_in t) → Becomes (performed limit at s (DeclareConst w t)) s (Err stop) x
-  sort_refused n (read_errors.Fault f) e g = (not_sorted limit at s w t n (located f) (ap (λ ss. new_name ss w) h.symbols ∙ e) g, h)
-  sort_refused n read_errors.Memory e g = (tt, h)
-
-  pub name_declared : (n : Name) (r : Result (Unit {0}) ReadError) (new : Script) → new_name x.table.symbols w ≡ Ok n → sort_in t ≡ Ok Truth → Becomes (limited_symbol limit at s n) s r new → Becomes (performed limit at s (DeclareConst w t)) s r new
-  name_declared n r new e g b = subst (λ (a : Answer Stack). Becomes a s r new) (sym (declared_so limit at s w t n (ap (λ ss. new_name ss w) h.symbols ∙ e) g)) b
-
--- where there is no room for a name
-pub no_room : (limit at : ℕ) (x : Script) (s : Stack) (n : Name) → nat_lt (length x.table.symbols) limit ≡ false → IsStack x s → Becomes (limited_symbol limit at s n) s (Err (read_errors.Fault (record { offset = at; fault = Full }))) x
-unfolding require ◌>>=◌
-no_room limit at x s n e h = (ap (λ b. require b at Full >>= λ room. Ok (with_symbol s (constant n Truth))) (ap (λ ss. nat_lt (length ss) limit) h.symbols ∙ e), h)
-
-terms_at : (t u : TableView) → u.terms ≡ t.terms → (ids : List TermId) → map (term_at u) ids ≡ map (term_at t) ids
-terms_at t u e [] = refl
-terms_at t u e (id ∷ ids) = λ i. slice_index_or (e i) id.0 no_term ∷ terms_at t u e ids i
-
--- one name more
-pub name_more : (limit at : ℕ) (old new : Script) (s : Stack) (n : Name) → nat_lt (length old.table.symbols) limit ≡ true → new.table.symbols ≡ old.table.symbols ++ truth_symbol n ∷ [] → new.table.terms ≡ old.table.terms → new.asserted ≡ old.asserted → new.print_success ≡ old.print_success
-    → IsStack old s → Becomes (limited_symbol limit at s n) s (Ok tt) new
-unfolding require ◌>>=◌
-name_more limit at old new s n e symbols terms asserted option h = (
-  with_symbol s (constant n Truth),
-  ap (λ b. require b at Full >>= λ room. Ok (with_symbol s (constant n Truth))) (ap (λ ss. nat_lt (length ss) limit) h.symbols ∙ e),
-  record {
-    symbols = ap (λ ss. ss ++ truth_symbol n ∷ []) h.symbols ∙ sym symbols;
-    terms = h.terms ∙ sym (terms_at old.table new.table terms old.asserted) ∙ ap (map (term_at new.table)) (sym asserted);
-    inside = subst (λ ids. AreIn new.table ids) (sym asserted) (subst (λ ts. AreIn (record { symbols = new.table.symbols; terms = ts }) old.asserted) (sym terms) h.inside);
-    option = h.option ∙ sym option;
-  },
-)
-
--- a table that grew stands for the stack still
-pub stack_kept : (old new : Script) (s : Stack) → IsStack old s → Extends old.table new.table → new.table.symbols ≡ old.table.symbols → new.asserted ≡ old.asserted → new.print_success ≡ old.print_success → IsStack new s
-stack_kept old new s h grows symbols asserted option = record {
-  symbols = h.symbols ∙ sym symbols;
-  terms = h.terms ∙ sym (clause_at-kept old.table new.table grows old.asserted h.inside) ∙ ap (map (term_at new.table)) (sym asserted);
-  inside = subst (λ ids. AreIn new.table ids) (sym asserted) (AreIn-kept old.table new.table grows old.asserted h.inside);
-  option = h.option ∙ sym option;
+-- a stack in a table that has terms more
+pub stack_grown : (limit : ℕ) (old new : TableView) (x : CodeStack) (s : Stack) → IsStack limit (standing old x) s → Keeps old new → IsStack limit (standing new x) s
+stack_grown limit old new x s h k = record {
+  limit_is = h.limit_is;
+  scope = stands_kept old new k x.scope (signature_of s) h.scope;
+  symbols = ap (λ d. d.symbols) k.declared ∙ h.symbols;
+  sorts = λ n e. ap (λ d. among d.sorts n) k.declared ∙ h.sorts n e;
+  inside = AreIn-kept old new k.extends x.assertions.ids h.inside;
+  terms = clause_at-kept old new k.extends x.assertions.ids h.inside ∙ h.terms;
+  starts = h.starts;
+  in_reach = h.in_reach;
+  reached = marks_kept old new k.extends x.reached h.reached;
+  options = h.options;
+  started = h.started;
 }
 
--- a term that is asserted
-module _ (limit at : ℕ) (old : Script) (s : Stack) (t : Tree) (h : IsStack old s) where
-  under : (a : Answer (List Term)) → roomy_terms (scope_of old.table.symbols) limit at (more t none) ≡ a → roomy_terms (scope_of s.symbols) limit at (more t none) ≡ a
-  under a e = ap (λ ss. roomy_terms (scope_of ss) limit at (more t none)) h.symbols ∙ e
+-- the first stack
+pub first_stack : (limit : ℕ) (t : TableView) (x : CodeStack) → x.limit ≡ limit → Stands t x.scope [] → t.sorts ≡ [] → t.symbols ≡ [] → x.assertions ≡ record { ids = []; starts = []; in_reach = true } → x.reached ≡ [] → options_meant x.options ≡ empty_stack.options → x.started ≡ false → IsStack limit (standing t x) empty_stack
+first_stack limit t x l scope sorts symbols assertions marks options started = record {
+  limit_is = l;
+  scope = scope;
+  symbols = symbols;
+  sorts = λ n e. ap (λ ns. among ns n) sorts;
+  inside = subst (λ a. AreIn t a.ids) (sym assertions) (All-nil (IsIn t));
+  terms = ap (λ a. clause_at t a.ids) assertions;
+  starts = ap (λ a. a.starts) assertions;
+  in_reach = ap (λ a. a.in_reach) assertions;
+  reached = subst (AreMarks t) (sym marks) (no_marks t);
+  options = options;
+  started = started;
+}
 
-  after : (us : List Term) → roomy_terms (scope_of old.table.symbols) limit at (more t none) ≡ Ok us → performed limit at s (Assert t) ≡ Ok (with_assertions s t us)
-  unfolding ◌>>=◌
-  after us e = ap (λ a. a >>= λ vs. Ok (with_assertions s t vs)) (under (Ok us) e)
+module _ (limit : ℕ) (t : TableView) (x : CodeStack) (s : Stack) (h : IsStack limit (standing t x) s) where
+  -- the start is over
+  pub begun_stack : IsStack limit (standing t (record x { started = true })) (begun s)
+  begun_stack = record {
+    limit_is = h.limit_is;
+    scope = h.scope;
+    symbols = h.symbols;
+    sorts = h.sorts;
+    inside = h.inside;
+    terms = h.terms;
+    starts = h.starts;
+    in_reach = h.in_reach;
+    reached = h.reached;
+    options = h.options;
+    started = refl;
+  }
 
-  pub term_refused : (stop : ReadError) (new : Script) → new.table ≡ old.table → new.asserted ≡ old.asserted → new.print_success ≡ old.print_success → Fails stop (roomy_terms (scope_of old.table.symbols) limit at (more t none)) → Becomes (performed limit at s (Assert t)) s (Err stop) new
+  -- an option is set
+  pub option_stack : (k : Key) (b : Bool) (o : CodeOptions) → options_meant o ≡ with_option k b (options_meant x.options) → IsStack limit (standing t (record x { options = o })) (record s { options = with_option k b s.options })
+  option_stack k b o e = record {
+    limit_is = h.limit_is;
+    scope = h.scope;
+    symbols = h.symbols;
+    sorts = h.sorts;
+    inside = h.inside;
+    terms = h.terms;
+    starts = h.starts;
+    in_reach = h.in_reach;
+    reached = h.reached;
+    options = e ∙ ap (with_option k b) h.options;
+    started = h.started;
+  }
+
+-- setting a logic, by its tests
+module _ (limit at : ℕ) (s : Stack) (w : Word) where
+  logic_by : (a b c : Bool) → is_reserved w.kind ≡ a → among logics w.bytes ≡ b → s.started ≡ c
+      → performed limit at s (SetLogic w) ≡ (require (not a) w.at Reserved >>= λ free. require b w.at UnknownLogic >>= λ known. require (not c) at WrongMode >>= λ early. Ok (did (begun s)))
+  logic_by a b c e f g = λ i. require (not (e i)) w.at Reserved >>= λ free. require (f i) w.at UnknownLogic >>= λ known. require (not (g i)) at WrongMode >>= λ early. Ok (did (begun s))
+
+  pub logic_reserved : is_reserved w.kind ≡ true → performed limit at s (SetLogic w) ≡ refused w.at Reserved
+  unfolding require ◌>>=◌
+  logic_reserved e = logic_by true (among logics w.bytes) s.started e refl refl
+
+  pub logic_unknown : is_reserved w.kind ≡ false → among logics w.bytes ≡ false → performed limit at s (SetLogic w) ≡ refused w.at UnknownLogic
+  unfolding require ◌>>=◌
+  logic_unknown e f = logic_by false false s.started e f refl
+
+  pub logic_late : is_reserved w.kind ≡ false → among logics w.bytes ≡ true → s.started ≡ true → performed limit at s (SetLogic w) ≡ refused at WrongMode
+  unfolding require ◌>>=◌
+  logic_late e f g = logic_by false true true e f g
+
+  pub logic_set : is_reserved w.kind ≡ false → among logics w.bytes ≡ true → s.started ≡ false → performed limit at s (SetLogic w) ≡ Ok (did (begun s))
+  unfolding require ◌>>=◌
+  logic_set e f g = logic_by false true false e f g
+
+-- checking, by the reach of the search
+module _ (limit at place : ℕ) (s : Stack) where
+  pub check_refused : all_in_reach (assertions_of s) ≡ false → performed limit at s (CheckSat place) ≡ refused place UnknownLogic
+  unfolding require ◌>>=◌
+  check_refused e = ap (λ b. require b place UnknownLogic >>= λ reached. Ok (record { effect = check []; stack = begun s })) e
+
+  pub check_begun : all_in_reach (assertions_of s) ≡ true → performed limit at s (CheckSat place) ≡ Ok (record { effect = check []; stack = begun s })
+  unfolding require ◌>>=◌
+  check_begun e = ap (λ b. require b place UnknownLogic >>= λ reached. Ok (record { effect = check []; stack = begun s })) e
+
+-- declaring and defining sorts, by their parts
+module _ (limit at : ℕ) (s : Stack) (w : Word) where
+  pub sort_name_refused : (f : Located) → new_name script (is_sort (signature_of s)) w ≡ Err f → performed limit at s (DeclareSort w) ≡ Err f
   unfolding ◌>>=◌
-  term_refused stop new table asserted option e = (by stop e, subst (λ x. IsStack x s) (λ i. record { table = sym table i; asserted = sym asserted i; print_success = sym option i }) h)
+  sort_name_refused f e = ap (λ a. a >>= λ n. roomy limit at [] (begun (with_declaration s (of_sort n (Declared n))))) e
+
+  pub sort_declared : (n : Name) → new_name script (is_sort (signature_of s)) w ≡ Ok n → performed limit at s (DeclareSort w) ≡ roomy limit at [] (begun (with_declaration s (of_sort n (Declared n))))
+  unfolding ◌>>=◌
+  sort_declared n e = ap (λ a. a >>= λ n. roomy limit at [] (begun (with_declaration s (of_sort n (Declared n))))) e
+
+  module _ (t : Tree) where
+    sort_by : (a : Answer Name) (b : Answer Sort) → new_name script (is_sort (signature_of s)) w ≡ a → sort_in (signature_of s) t ≡ b
+        → performed limit at s (DefineSort w t) ≡ (a >>= λ n. b >>= λ sort. roomy limit at [] (begun (with_declaration s (of_sort n sort))))
+    sort_by a b e f = λ i. e i >>= λ n. f i >>= λ sort. roomy limit at [] (begun (with_declaration s (of_sort n sort)))
+
+    pub alias_refused : (f : Located) → new_name script (is_sort (signature_of s)) w ≡ Err f → performed limit at s (DefineSort w t) ≡ Err f
+    unfolding ◌>>=◌
+    alias_refused f e = sort_by (Err f) (sort_in (signature_of s) t) e refl
+
+    pub alias_not_sorted : (n : Name) (f : Located) → new_name script (is_sort (signature_of s)) w ≡ Ok n → sort_in (signature_of s) t ≡ Err f → performed limit at s (DefineSort w t) ≡ Err f
+    unfolding ◌>>=◌
+    alias_not_sorted n f e g = sort_by (Ok n) (Err f) e g
+
+    pub alias_defined : (n : Name) (r : Sort) → new_name script (is_sort (signature_of s)) w ≡ Ok n → sort_in (signature_of s) t ≡ Ok r → performed limit at s (DefineSort w t) ≡ roomy limit at [] (begun (with_declaration s (of_sort n r)))
+    unfolding ◌>>=◌
+    alias_defined n r e g = sort_by (Ok n) (Ok r) e g
+
+-- declaring functions, by their parts
+module _ (limit at : ℕ) (s : Stack) (w : Word) (ts : Trees) (t : Tree) where
+  abbrev symbol_stack : Name → List Sort → Sort → Stack
+  symbol_stack n ps r = begun (with_declaration s (of_function (declared (record { name = n; parameters = ps; result = r }))))
+
+  function_by : (a : Answer Name) (b : Answer (List Sort)) (c : Answer Sort) → new_name script (is_function (signature_of s)) w ≡ a → sorts_in (signature_of s) ts ≡ b → sort_in (signature_of s) t ≡ c
+      → performed limit at s (DeclareFun w ts t) ≡ (a >>= λ n. b >>= λ ps. c >>= λ r. roomy limit at [] (symbol_stack n ps r))
+  function_by a b c e f g = λ i. e i >>= λ n. f i >>= λ ps. g i >>= λ r. roomy limit at [] (symbol_stack n ps r)
+
+  pub function_refused : (f : Located) → new_name script (is_function (signature_of s)) w ≡ Err f → performed limit at s (DeclareFun w ts t) ≡ Err f
+  unfolding ◌>>=◌
+  function_refused f e = function_by (Err f) (sorts_in (signature_of s) ts) (sort_in (signature_of s) t) e refl refl
+
+  pub parameters_refused : (n : Name) (f : Located) → new_name script (is_function (signature_of s)) w ≡ Ok n → sorts_in (signature_of s) ts ≡ Err f → performed limit at s (DeclareFun w ts t) ≡ Err f
+  unfolding ◌>>=◌
+  parameters_refused n f e g = function_by (Ok n) (Err f) (sort_in (signature_of s) t) e g refl
+
+  pub parameters_fail : (n : Name) (stop : ReadError) → new_name script (is_function (signature_of s)) w ≡ Ok n → Fails stop (sorts_in (signature_of s) ts) → Fails stop (performed limit at s (DeclareFun w ts t))
+  parameters_fail n (errors.Fault f) e g = parameters_refused n (located_of f) e g
+  parameters_fail n errors.Memory e g = tt
+
+  pub result_refused : (n : Name) (ps : List Sort) (f : Located) → new_name script (is_function (signature_of s)) w ≡ Ok n → sorts_in (signature_of s) ts ≡ Ok ps → sort_in (signature_of s) t ≡ Err f → performed limit at s (DeclareFun w ts t) ≡ Err f
+  unfolding ◌>>=◌
+  result_refused n ps f e g h = function_by (Ok n) (Ok ps) (Err f) e g h
+
+  pub function_declared : (n : Name) (ps : List Sort) (r : Sort) → new_name script (is_function (signature_of s)) w ≡ Ok n → sorts_in (signature_of s) ts ≡ Ok ps → sort_in (signature_of s) t ≡ Ok r → performed limit at s (DeclareFun w ts t) ≡ roomy limit at [] (symbol_stack n ps r)
+  unfolding ◌>>=◌
+  function_declared n ps r e g h = function_by (Ok n) (Ok ps) (Ok r) e g h
+
+-- room for one name more
+module _ (limit at : ℕ) (s : Stack) (d : Declaration) where
+  room_by : (b : Bool) → has_room limit (signature_of s ++ d ∷ []) [] ≡ b → roomy limit at [] (begun (with_declaration s d)) ≡ (require b at Full >>= λ fits. Ok (did (begun (with_declaration s d))))
+  room_by b e = ap (λ c. require c at Full >>= λ fits. Ok (did (begun (with_declaration s d)))) (ap (λ x. has_room limit x []) (signature_last s d) ∙ e)
+
+  room_is : (n : ℕ) → n ≡ length (signature_of s) → has_room limit (signature_of s ++ d ∷ []) [] ≡ nat_lt n limit
+  room_is n e = go (length (signature_of s ++ d ∷ [])) (omega (arith, e, length-append (signature_of s) (d ∷ [])))
     where
-      by : (stop : ReadError) → Fails stop (roomy_terms (scope_of old.table.symbols) limit at (more t none)) → Fails stop (performed limit at s (Assert t))
-      by (read_errors.Fault f) e = ap (λ a. a >>= λ vs. Ok (with_assertions s t vs)) (under (Err (located f)) e)
-      by read_errors.Memory e = tt
+      go : (m : ℕ) → m ≡ n + 1 → (nat_le m limit && nat_le 0 limit) ≡ nat_lt n limit
+      go m f = grind (arith, nat_tests, f)
 
-  pub none_asserted : (new : Script) → Extends old.table new.table → new.table.symbols ≡ old.table.symbols → new.asserted ≡ old.asserted → new.print_success ≡ old.print_success → roomy_terms (scope_of old.table.symbols) limit at (more t none) ≡ Ok [] → Becomes (performed limit at s (Assert t)) s (Ok tt) new
-  none_asserted new grows symbols asserted option e = (s, after [] e, stack_kept old new s h grows symbols asserted option)
+  pub no_room : (n : ℕ) → n ≡ length (signature_of s) → nat_lt n limit ≡ false → roomy limit at [] (begun (with_declaration s d)) ≡ refused at Full
+  unfolding require ◌>>=◌
+  no_room n e f = room_by false (room_is n e ∙ f)
 
-  pub one_asserted : (new : Script) (id : TermId) (us : List Term) → Extends old.table new.table → new.table.symbols ≡ old.table.symbols → new.asserted ≡ old.asserted ++ id ∷ [] → new.print_success ≡ old.print_success → IsIn new.table id
-      → roomy_terms (scope_of old.table.symbols) limit at (more t none) ≡ Ok (term_at new.table id ∷ us) → Becomes (performed limit at s (Assert t)) s (Ok tt) new
-  one_asserted new id us grows symbols asserted option there e =
-      let to_term : Assertion → Term = λ a. a.term in (
-        with_assertion s t (term_at new.table id),
-        after (term_at new.table id ∷ us) e,
-        record {
-          symbols = h.symbols ∙ sym symbols;
-          terms = map-append to_term s.assertions ((record { text = t; term = term_at new.table id }) ∷ []) ∙ ap (λ ts. ts ++ term_at new.table id ∷ []) (h.terms ∙ sym (clause_at-kept old.table new.table grows old.asserted h.inside)) ∙ sym (ap (map (term_at new.table)) asserted ∙ map-append (term_at new.table) old.asserted (id ∷ []));
-          inside = subst (λ ids. AreIn new.table ids) (sym asserted) (All-push (λ x. IsIn new.table x) old.asserted id (AreIn-kept old.table new.table grows old.asserted h.inside) there);
-          option = h.option ∙ sym option;
-        },
-      )
+  pub has_place : (n : ℕ) → n ≡ length (signature_of s) → nat_lt n limit ≡ true → roomy limit at [] (begun (with_declaration s d)) ≡ Ok (did (begun (with_declaration s d)))
+  unfolding require ◌>>=◌
+  has_place n e f = room_by true (room_is n e ∙ f)
 
--- a fault of reading terms is that of the answer
-fails_of : (stop : ReadError) (a : Answer (List Term)) (old new : TableView) → AnswersTerms a old new (Err stop) → Fails stop a
-fails_of (read_errors.Fault f) a old new e = e
-fails_of read_errors.Memory a old new e = tt
+-- an assertion is what is read with room, with an assertion more
+module _ (limit at : ℕ) (s : Stack) (t : Tree) where
+  abbrev pub asserted : Reading → Stack
+  asserted r = begun (with_assertion (with_definitions s r.made) t r.term)
 
--- what asserting comes to, by what reading the terms of one tree gave
-module _ (limit at : ℕ) (t : TableView) (asserted : List TermId) (print : Bool) (s : Stack) (tree : Tree) (ts : Trees) (alone : ts ≡ more tree none) (h : IsStack (record { table = t; asserted = asserted; print_success = print }) s) where
-  pub not_read : (stop : ReadError) (u : TableView) → u ≡ t → AnswersTerms (roomy_terms (scope_of t.symbols) limit at ts) t u (Err stop) → Becomes (performed limit at s (Assert tree)) s (Err stop) (record { table = u; asserted = asserted; print_success = print })
-  not_read stop u same e =
-      let old : Script = record { table = t; asserted = asserted; print_success = print } in
-      term_refused limit at old s tree h stop (record { table = u; asserted = asserted; print_success = print }) same refl refl (subst (λ us. Fails stop (roomy_terms (scope_of t.symbols) limit at us)) alone (fails_of stop (roomy_terms (scope_of t.symbols) limit at ts) t u e))
+  pub assert_by : performed limit at s (Assert t) ≡ (roomy_reading (record { limit = Some limit; at = at }) script (signature_of s) Truth t >>= λ r. Ok (did (asserted r)))
+  unfolding require ◌>>=◌ roomy_reading
+  assert_by = go (reading_of_sort script (signature_of s) [] Truth t)
+    where
+      fits : (r : Reading) (b : Bool) → (require b at Full >>= λ room. Ok (did (asserted r))) ≡ ((require b at Full >>= λ fits. Ok r) >>= λ r. Ok (did (asserted r)))
+      fits r true = refl
+      fits r false = refl
 
-  pub read_none : (u : TableView) (ids : List TermId) → HasTerms (roomy_terms (scope_of t.symbols) limit at ts) t u ids → ids ≡ [] → Becomes (performed limit at s (Assert tree)) s (Ok tt) (record { table = u; asserted = asserted; print_success = print })
-  read_none u ids r e =
-      let old : Script = record { table = t; asserted = asserted; print_success = print } in
-      none_asserted limit at old s tree h (record { table = u; asserted = asserted; print_success = print }) r.keeps.extends r.keeps.symbols refl refl (ap (roomy_terms (scope_of t.symbols) limit at) (sym alone) ∙ r.terms ∙ ap (λ xs. Ok (map (term_at u) xs)) e)
+      go : (a : Answer Reading) → (a >>= λ r. roomy limit at (r.term ∷ []) (asserted r)) ≡ ((a >>= λ r. within (record { limit = Some limit; at = at }) (signatures.with_definitions (signature_of s) r.made) (r.term ∷ []) >>= λ fits. Ok r) >>= λ r. Ok (did (asserted r)))
+      go (Err f) = refl
+      go (Ok r) = ap (λ x. require (has_room limit x (r.term ∷ [])) at Full >>= λ room. Ok (did (asserted r))) (signature_with s r.made) ∙ fits r (has_room limit (signatures.with_definitions (signature_of s) r.made) (r.term ∷ []))
 
-  pub read_one_more : (u : TableView) (ids more_ids : List TermId) (id : TermId) (rest : List TermId) → HasTerms (roomy_terms (scope_of t.symbols) limit at ts) t u ids → ids ≡ id ∷ rest → more_ids ≡ asserted ++ id ∷ [] → Becomes (performed limit at s (Assert tree)) s (Ok tt) (record { table = u; asserted = more_ids; print_success = print })
-  read_one_more u ids more_ids id rest r e added =
-      let old : Script = record { table = t; asserted = asserted; print_success = print } in
-      one_asserted limit at old s tree h (record { table = u; asserted = more_ids; print_success = print }) id (map (term_at u) rest) r.keeps.extends r.keeps.symbols added refl (subst (λ xs. AreIn u xs) e r.there 0 id (omega arith)) (ap (roomy_terms (scope_of t.symbols) limit at) (sym alone) ∙ r.terms ∙ ap (λ xs. Ok (map (term_at u) xs)) e)
+  -- by what was read in a room and a setting that are these
+  module _ (r : parser.Room) (w : Setting) (room_is : r ≡ record { limit = Some limit; at = at }) (script_is : w ≡ script) where
+    same_reading : roomy_reading r w (signature_of s) Truth t ≡ roomy_reading (record { limit = Some limit; at = at }) script (signature_of s) Truth t
+    same_reading = λ i. roomy_reading (room_is i) (script_is i) (signature_of s) Truth t
 
--- a table that is cut back is as it was
-pub cut_back : (t u v : TableView) (n : ℕ) → Keeps t u → n ≡ length t.terms → v.terms ≡ take n u.terms → v.symbols ≡ u.symbols → v ≡ t
-cut_back t u v n k e terms symbols =
-    let back : v.terms ≡ t.terms = terms ∙ (λ i. take (e i) (k.extends.terms i)) ∙ take_at t.terms k.extends.more_terms (length t.terms) refl in
-    λ i. record { symbols = (symbols ∙ k.symbols) i; terms = back i }
+    pub assert_done : (x : Reading) → roomy_reading r w (signature_of s) Truth t ≡ Ok x → performed limit at s (Assert t) ≡ Ok (did (asserted x))
+    unfolding ◌>>=◌
+    assert_done x e = assert_by ∙ ap (λ a. a >>= λ y. Ok (did (asserted y))) (sym same_reading ∙ e)
 
--- a script of the same parts is the same
-pub same_script : (t u : TableView) (a b : List TermId) (print : Bool) → u ≡ t → b ≡ a → (let x : Script = record { table = u; asserted = b; print_success = print } in x) ≡ record { table = t; asserted = a; print_success = print }
-same_script t u a b print e f = λ i. record { table = e i; asserted = f i; print_success = print }
+    pub assert_fails : (new : Store) (stop : ReadError) → EndsTerm (signature_of s) new (roomy_reading r w (signature_of s) Truth t) (Err stop) → Fails stop (performed limit at s (Assert t))
+    unfolding ◌>>=◌
+    assert_fails new (errors.Fault f) e = assert_by ∙ ap (λ a. a >>= λ y. Ok (did (asserted y))) (sym same_reading ∙ e)
+    assert_fails new errors.Memory e = tt
 
--- a script that is as it was stands for the same stack
-pub stack_same : (x y : Script) (s : Stack) → y ≡ x → IsStack x s → IsStack y s
-stack_same x y s e h = subst (λ z. IsStack z s) (sym e) h
+-- a definition is what is read with room, with definitions more
+module _ (limit at : ℕ) (s : Stack) (d : Parts) where
+  abbrev pub defined_stack : List Definition → Stack
+  defined_stack ds = begun (with_definitions s ds)
 
--- where there is no tree the first is none that is a term
-pub no_first : (ts : Trees) → None ≡ split_first ts → first_of ts ≡ atom 0 Numeral []
-no_first none e = refl
-no_first (more t ts) e = cc
+  pub define_by : performed limit at s (DefineFun d) ≡ (roomy_definitions (record { limit = Some limit; at = at }) script (signature_of s) d >>= λ ds. Ok (did (defined_stack ds)))
+  unfolding require ◌>>=◌ roomy_definitions
+  define_by = go (definitions_in script (signature_of s) d)
+    where
+      fits : (ds : List Definition) (b : Bool) → (require b at Full >>= λ room. Ok (did (defined_stack ds))) ≡ ((require b at Full >>= λ fits. Ok ds) >>= λ ds. Ok (did (defined_stack ds)))
+      fits ds true = refl
+      fits ds false = refl
 
-nothing_read : (symbols : List Symbol) (limit at : ℕ) → roomy_terms (scope_of symbols) limit at (more (atom 0 Numeral []) none) ≡ refused 0 UnknownSymbol
-unfolding roomy_terms terms_in term_in ◌>>=◌
-nothing_read symbols limit at = refl
+      go : (a : Answer (List Definition)) → (a >>= λ ds. roomy limit at (terms_defined ds) (defined_stack ds)) ≡ ((a >>= λ ds. within (record { limit = Some limit; at = at }) (signatures.with_definitions (signature_of s) ds) (terms_defined ds) >>= λ fits. Ok ds) >>= λ ds. Ok (did (defined_stack ds)))
+      go (Err f) = refl
+      go (Ok ds) = ap (λ x. require (has_room limit x (terms_defined ds)) at Full >>= λ room. Ok (did (defined_stack ds))) (signature_with s ds) ∙ fits ds (has_room limit (signatures.with_definitions (signature_of s) ds) (terms_defined ds))
 
-pub nothing_asserted : (limit at : ℕ) (s : Stack) (t : Tree) → t ≡ atom 0 Numeral [] → performed limit at s (Assert t) ≡ refused 0 UnknownSymbol
-unfolding ◌>>=◌
-nothing_asserted limit at s t e = ap (λ x. performed limit at s (Assert x)) e ∙ ap (λ a. a >>= λ us. Ok (with_assertions s (atom 0 Numeral []) us)) (nothing_read s.symbols limit at)
+  -- by what was read in a room and a setting that are these
+  module _ (r : parser.Room) (w : Setting) (room_is : r ≡ record { limit = Some limit; at = at }) (script_is : w ≡ script) where
+    same_definitions : roomy_definitions r w (signature_of s) d ≡ roomy_definitions (record { limit = Some limit; at = at }) script (signature_of s) d
+    same_definitions = λ i. roomy_definitions (room_is i) (script_is i) (signature_of s) d
 
--- a command, by its parts
-module _ (limit : ℕ) (s : Stack) (t : Tree) where
-  pub not_a_command : (f : Located) → command_of t ≡ Err f → step limit s t ≡ Err f
-  unfolding step ◌>>=◌
-  not_a_command f e = ap (λ a. a >>= λ c. performed limit (offset_of t) s c >>= λ next. Ok (let d : Taken = record { effect = effect_of c; stack = next } in d)) e
+    pub define_done : (ds : List Definition) → roomy_definitions r w (signature_of s) d ≡ Ok ds → performed limit at s (DefineFun d) ≡ Ok (did (defined_stack ds))
+    unfolding ◌>>=◌
+    define_done ds e = define_by ∙ ap (λ a. a >>= λ x. Ok (did (defined_stack x))) (sym same_definitions ∙ e)
 
-  pub command_done : (c : Command) (at : ℕ) (next : Stack) → command_of t ≡ Ok c → at ≡ offset_of t → performed limit at s c ≡ Ok next → step limit s t ≡ Ok (record { effect = effect_of c; stack = next })
-  unfolding step ◌>>=◌
-  command_done c at next e here p = ap (λ a. a >>= λ c. performed limit (offset_of t) s c >>= λ next. Ok (let d : Taken = record { effect = effect_of c; stack = next } in d)) e ∙ ap (λ a. a >>= λ next. Ok (let d : Taken = record { effect = effect_of c; stack = next } in d)) (ap (λ n. performed limit n s c) (sym here) ∙ p)
+    pub define_fails : (new : Store) (stop : ReadError) → EndsDefinition (signature_of s) new (roomy_definitions r w (signature_of s) d) (Err stop) → Fails stop (performed limit at s (DefineFun d))
+    unfolding ◌>>=◌
+    define_fails new (errors.Fault f) e = define_by ∙ ap (λ a. a >>= λ x. Ok (did (defined_stack x))) (sym same_definitions ∙ e)
+    define_fails new errors.Memory e = tt
 
-  pub command_refused : (c : Command) (at : ℕ) (stop : ReadError) → command_of t ≡ Ok c → at ≡ offset_of t → Fails stop (performed limit at s c) → Fails stop (step limit s t)
-  unfolding step ◌>>=◌
-  command_refused c at (read_errors.Fault f) e here p = ap (λ a. a >>= λ c. performed limit (offset_of t) s c >>= λ next. Ok (let d : Taken = record { effect = effect_of c; stack = next } in d)) e ∙ ap (λ a. a >>= λ next. Ok (let d : Taken = record { effect = effect_of c; stack = next } in d)) (ap (λ n. performed limit n s c) (sym here) ∙ p)
-  command_refused c at read_errors.Memory e here p = tt
+-- a stack with names and terms that were read
+module _ (limit : ℕ) (old new : TableView) (x : CodeStack) (s : Stack) (v : ScopeView) (ds : List Definition) (h : IsStack limit (standing old x) s) (k : Keeps old new) (stands : Stands new v (signatures.with_definitions (signature_of s) ds)) where
+  -- definitions more
+  pub named : IsStack limit (standing new (record x { scope = v })) (with_definitions s ds)
+  named = record {
+    limit_is = h.limit_is;
+    scope = subst (Stands new v) (sym (signature_with s ds)) stands;
+    symbols = ap (λ d. d.symbols) k.declared ∙ h.symbols ∙ sym (symbols_with (signature_of s) ds) ∙ ap symbols_in (sym (signature_with s ds));
+    sorts = λ n e. ap (λ d. among d.sorts n) k.declared ∙ h.sorts n (sym (sorts_with (signature_of s) ds n) ∙ ap (λ g. sort_as g n) (sym (signature_with s ds)) ∙ e);
+    inside = AreIn-kept old new k.extends x.assertions.ids h.inside;
+    terms = clause_at-kept old new k.extends x.assertions.ids h.inside ∙ h.terms ∙ ap (λ (y : Stack). terms_asserted (assertions_of y)) (sym (rest_with s ds));
+    starts = h.starts ∙ ap (λ (y : Stack). starts_of y.levels) (sym (rest_with s ds));
+    in_reach = h.in_reach ∙ ap (λ (y : Stack). all_in_reach (assertions_of y)) (sym (rest_with s ds));
+    reached = marks_kept old new k.extends x.reached h.reached;
+    options = h.options ∙ ap (λ (y : Stack). y.options) (sym (rest_with s ds));
+    started = h.started ∙ ap (λ (y : Stack). y.started) (sym (rest_with s ds));
+  }
 
--- what is no command is refused with its fault, and changes nothing
-pub not_taken : (limit : ℕ) (s : Stack) (x : Sexpr) (stop : Refused) (old : Script) → Reads x (Err stop) → IsStack old s → Steps limit s x (Err stop) old
-not_taken limit s x (refusals.Fault r) old e h = (not_a_command limit s (tree_of x) (let f : Located = record { offset = r.place.offset; fault = r.fault } in f) e.0, e.1, h)
-not_taken limit s x refusals.Memory old e h = h
-
--- a fault of a command stands in its s-expression, so the place that was made of its offset has that offset
-pub placed_fault : (limit : ℕ) (s : Stack) (x : Sexpr) (n : ℕ) (f : Fault) (p : Place) → step limit s (tree_of x) ≡ Err (record { offset = n; fault = f })
-    → ((l : ℕ) (u : Stack) (t : Tree) (g : Located) → step l u t ≡ Err g → HasOffset t g.offset)
-    → AllOffsets (λ m. (start_of x ≤ m) × (m < length (text_of x))) (tree_of x) → (start_of x ≤ n → n < length (text_of x) → p.offset ≡ n) → step limit s (tree_of x) ≡ Err (record { offset = p.offset; fault = f })
-placed_fault limit s x n f p e stands all placed =
-    let within = at_offset (λ m. (start_of x ≤ m) × (m < length (text_of x))) (tree_of x) n all (stands limit s (tree_of x) (record { offset = n; fault = f }) e) in
-    e ∙ (λ i. Err (record { offset = sym (placed within.0 within.1) i; fault = f }))
+-- and an assertion more
+pub one_asserted : (limit : ℕ) (t : TableView) (x : CodeStack) (s : Stack) (tree : Tree) (u : Term) (id : TermId) (marks : List Bool) → IsStack limit (standing t x) s → Means t u id → AreMarks t marks
+    → IsStack limit (standing t (with_term x marks id (is_in_reach (term_at t id)))) (begun (with_assertion s tree u))
+one_asserted limit t x s tree u id marks h m reached =
+    let a : Assertion = record { text = tree; term = u } in record {
+      limit_is = h.limit_is;
+      scope = h.scope;
+      symbols = h.symbols;
+      sorts = h.sorts;
+      inside = All-push (IsIn t) x.assertions.ids id h.inside m.0;
+      terms = map-append (term_at t) x.assertions.ids (id ∷ []) ∙ (λ i. h.terms i ++ m.1 i ∷ []) ∙ sym (terms_last s.levels a);
+      starts = h.starts ∙ sym (starts_last s.levels a);
+      in_reach = (λ i. h.in_reach i && is_in_reach (m.1 i)) ∙ sym (reach_last s.levels a);
+      reached = reached;
+      options = h.options;
+      started = refl;
+    }

@@ -1,4 +1,5 @@
--- The definitions that contracts cite: scripts as stacks, what commands make of them, and what reading their parts gives.
+-- The definitions that contracts cite: what a stack of the code holds, the stack of the definitions that it stands for in a table, and what commands make of it.
 pub mod Views
-pub mod Members
-pub mod Scripts
+pub mod Assertions
+pub mod Marks
+pub mod Stacks

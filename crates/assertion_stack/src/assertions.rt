@@ -1,70 +1,75 @@
-//! The asserted terms, in order, with a look-up by hash.
+//! The asserted terms, in their order, with the levels that they belong to.
 
-ghost use Rattle.std.specs.Prelude.{◌≡◌, ◌++◌, [], ◌∷◌, Contains, MatchBool, OnErr, OnOk};
+ghost use Rattle.std.specs.Prelude.{◌≡◌, ◌&&◌, ◌++◌, [], ◌∷◌, length, OnErr, OnOk};
+ghost use Rattle.assertion_stack.specs.Assertions.{no_assertions};
 
-use indexmap::IndexSet;
-use std::alloc::{AllocError, Global};
+use std::alloc::Global;
 use std::marker::Model;
 use term_core::TermId;
+use world_io::NoMemory;
 
-/// Terms by their numbers, in the order in which they were asserted.
+/// Holds the asserted terms by their numbers, oldest first, and whether the search reaches all of them.
 ///
-/// Contracts see it as the list of these numbers.
+/// The first level begins with the first assertion. Each level above it begins at a place of its own.
+/// Source: SMT-LIB 2.6, section 4.1.4.
 #[derive(Drop)]
 pub struct Assertions {
-    list: Vec<TermId>,
-    set: IndexSet<TermId>,
+    ids: Vec<TermId>,
+    starts: Vec<u64>,
+    in_reach: bool,
 }
 
 impl Model for Assertions {
-    ghost use Rattle.std.specs.Prelude.{List};
-    ghost use Rattle.term_core.specs.declared.ids.TermId.{TermId};
-    ghost use Rattle.assertion_stack.specs.Members.{HaveSameMembers};
+    ghost use Rattle.assertion_stack.specs.Assertions.{AssertionsView};
 
-    ghost Value = { List TermId };
+    ghost Value = { AssertionsView };
 
-    ghost view = { λ a. a.list.items };
-
-    ghost invariant = { λ a. HaveSameMembers a.list.items a.set.keys };
+    ghost view = { λ a. record { ids = a.ids.items; starts = a.starts.items; in_reach = a.in_reach } };
 }
 
 impl Assertions {
-    /// Makes the list of no terms. It takes no memory.
+    /// Makes the one level without assertions. It takes no memory.
     pub fn new(alloc: Global) -> Assertions
-        ensures { result ≡ [] }
+        ensures { result ≡ no_assertions }
     {
         Assertions {
-            list: Vec::new(alloc),
-            set: IndexSet::new(alloc),
+            ids: Vec::new(alloc),
+            starts: Vec::new(alloc),
+            in_reach: true,
         }
     }
 
-    /// Gives the numbers, oldest first.
+    /// Lends the numbers of the asserted terms, oldest first.
     pub fn as_slice(&self) -> &[TermId]
-        ensures { result.now ≡ self.now }
+        ensures { result.now ≡ self.now.ids }
     {
-        self.list.as_slice()
+        self.ids.as_slice()
     }
 
-    /// Tells whether a term is asserted.
-    pub fn contains(&self, id: TermId) -> bool
-        ensures { MatchBool result (Contains self.now id) (Contains self.now id → ⊥) }
+    /// Counts the levels above the first.
+    pub fn levels(&self) -> u64
+        ensures { result ≡ length self.now.starts }
     {
-        self.set.contains(&id)
+        self.starts.len() as u64
     }
 
-    /// Puts a term last. Where memory runs out the list is as it was.
-    pub fn add(&mut self, id: TermId) -> Result<(), AllocError>
-        ensures added { OnOk result (self.new ≡ self.old ++ id ∷ []) }
+    /// Tells whether the search reaches all assertions.
+    pub fn are_in_reach(&self) -> bool
+        ensures { result ≡ self.now.in_reach }
+    {
+        self.in_reach
+    }
+
+    /// Puts a term last, at the last level. `in_reach` tells whether the search reaches it.
+    ///
+    /// `NoMemory` comes where its place finds no memory; then all is as it was.
+    pub fn add(&mut self, id: TermId, in_reach: bool) -> Result<(), NoMemory>
+        ensures added { OnOk result (self.new
+            ≡ record self.old { ids = self.old.ids ++ id ∷ []; in_reach = self.old.in_reach && in_reach }) }
         ensures same { OnErr result (self.new ≡ self.old) }
     {
-        self.list.reserve(1)?;
-        match self.set.insert(id) {
-            Ok(_) => {
-                self.list.push_reserved(id);
-                Ok(())
-            }
-            Err(_) => Err(AllocError),
-        }
+        self.ids.push(id)?;
+        self.in_reach = self.in_reach && in_reach;
+        Ok(())
     }
 }

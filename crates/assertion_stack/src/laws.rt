@@ -1,15 +1,14 @@
 //! What the definitions imply. Each law is a function whose contract is the law; it computes nothing.
 
-ghost use Rattle.std.specs.Prelude.{◌≡◌};
-ghost use Rattle.spec_scripts.specs.Stack.{Stack};
-ghost use Rattle.term_core.specs.Tables.{Extends};
-ghost use Rattle.assertion_stack.specs.declared.script.Script.{Script};
-ghost use Rattle.assertion_stack.specs.Scripts.{IsStack};
+ghost use Rattle.std.specs.Prelude.{ℕ};
+ghost use Rattle.spec_commands.specs.Stack.{Stack as ScriptStack};
+ghost use Rattle.term_core.specs.Tables.{TableView};
+ghost use Rattle.term_reader.specs.Building.{Keeps};
+ghost use Rattle.assertion_stack.specs.declared.stack.Stack.{Stack};
+ghost use Rattle.assertion_stack.specs.Stacks.{standing, IsStack};
 
-/// States that a script stays the stack that it is while its table grows by terms alone: it has the same symbols, assertions and
-/// option.
+/// States that a stack stays the stack that it is while its table grows by terms alone.
 pub fn stacks_stand_in_grown_tables()
-    ensures { (old new : Script) (s : Stack) → IsStack old s → Extends old.table new.table
-        → new.table.symbols ≡ old.table.symbols → new.asserted ≡ old.asserted → new.print_success ≡ old.print_success
-        → IsStack new s }
+    ensures { (limit : ℕ) (old new : TableView) (x : Stack) (s : ScriptStack) → IsStack limit (standing old x) s
+        → Keeps old new → IsStack limit (standing new x) s }
 {}

@@ -1,12 +1,21 @@
-//! What a script has stated: its commands one by one, and the declarations, assertions and option that stand after them.
+//! What a script of the whole language has stated: its names, assertions and options, command by command.
+//!
+//! The terms are in a table that stands beside the stack. A command that is refused changes neither. Levels of assertions
+//! are kept, of which no command opens one yet.
 #![tactic(auto)]
 
+mod asserting;
 mod assertions;
+mod declaring;
 mod faults;
 pub mod laws;
 mod names;
-mod script;
+mod options;
+mod reach;
+mod settings;
+mod stack;
 
 pub use assertions::Assertions;
-pub use names::{is_taken, sort_in};
-pub use script::{Effect, Script, TERM_LIMIT};
+pub use options::Options;
+pub use reach::Reached;
+pub use stack::{Effect, Stack, TERM_LIMIT};

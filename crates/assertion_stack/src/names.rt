@@ -1,108 +1,104 @@
-//! Names that a script declares, and its sorts.
+//! The names that a script may declare, and the sorts of texts.
 
-ghost use Rattle.std.specs.Prelude.{◌≡◌, Bool, true, false, IfOk};
-ghost use Rattle.spec_text.specs.Bytes.{among};
-ghost use Rattle.spec_terms.specs.Terms.{Truth};
-ghost use Rattle.spec_scripts.specs.Stack.{theory_names, reals_names, names_of, is_kept_name, is_barred, is_taken, new_name, sort_named, sort_in};
-ghost use Rattle.smt_sexpr.specs.Items.{tree_meant};
+ghost use Rattle.std.specs.Prelude.{◌≡◌, None};
+ghost use Rattle.spec_sorts.specs.Signatures.{Signature, known_as, is_some};
+ghost use Rattle.spec_reading.specs.Names.{script, new_name, is_function, is_sort};
+ghost use Rattle.spec_reading.specs.Sorts.{sorts_in};
+ghost use Rattle.smt_sexpr.specs.Items.{trees_meant};
 ghost use Rattle.smt_sexpr.specs.Views.{word_view};
-ghost use Rattle.assertion_stack.specs.Views.{Gives};
+ghost use Rattle.term_core.specs.Tables.{TableView};
+ghost use Rattle.term_reader.specs.Names.{answered, setting_meant};
+ghost use Rattle.term_reader.specs.Scopes.{Stands};
+ghost use Rattle.assertion_stack.specs.Views.{AreSortsOf};
 
-use crate::faults::refused;
-use smt_lexer::is_one_of;
-use smt_sexpr::{Kind, Trees, View, Word, is_reserved, look, same_bytes};
-use sort_check::ReadError;
-use spec_text::Fault;
-use term_core::{CoreHead, TermTable};
+use smt_sexpr::{Trees, Word, same_bytes, split};
+use std::alloc::Global;
+use term_core::{Sort, TheoryHead};
+use term_reader::{ReadError, Scope, Setting, TermFault, new_name, sort_in};
 
-/// The names of theory Reals. Source: SMT-LIB 2.6, theory Reals.
-const REALS_NAMES: [&[u8]; 8] = [b"-", b"+", b"*", b"/", b"<", b"<=", b">", b">="];
-
-/// Tells whether a name is one of theory Reals.
-fn is_reals_name(name: &[u8]) -> bool
-    ensures { result ≡ among reals_names name.now }
+/// Says how a script's text is read where it is asserted, and what its new names may be.
+pub(crate) fn in_script<'a>() -> Setting<'a>
+    ensures { setting_meant result ≡ script }
 {
-    is_one_of(&REALS_NAMES, name)
-}
-
-/// Tells whether a name is a theory's.
-fn is_theory_name(name: &[u8]) -> bool
-    ensures { result ≡ among theory_names name.now }
-{
-    match CoreHead::named(name) {
-        Some(_) => true,
-        None => is_reals_name(name),
+    Setting {
+        kept_names: false,
+        may_name: true,
+        own: None,
     }
 }
 
-/// Tells whether a name begins like those that are kept for solvers.
-fn is_kept(name: &[u8]) -> bool
-    ensures { result ≡ is_kept_name name.now }
+/// Tells whether a name is that of a sort: a theory's, or one that a scope has.
+fn is_sort(scope: &Scope, name: &[u8]) -> bool
+    ensures { (t : TableView) (s : Signature) → Stands t scope.now s → result ≡ is_sort s name.now }
 {
-    match name.first() {
-        Some(b) => *b == b'@' || *b == b'.',
-        None => false,
+    if same_bytes(b"Bool", name) {
+        return true;
     }
-}
-
-/// Tells whether a constant of that name is declared.
-fn is_declared(table: &TermTable, name: &[u8]) -> bool
-    ensures { result ≡ among (names_of table.now.symbols) name.now }
-{
-    match table.symbols().find(name) {
+    if same_bytes(b"Real", name) {
+        return true;
+    }
+    match scope.sort(name) {
         Some(_) => true,
         None => false,
     }
 }
 
-/// Tells whether a word is reserved, or a name that is kept.
-fn is_barred(word: Word<'_>) -> bool
-    ensures { result ≡ is_barred (word_view word.entry) }
+/// Tells whether a scope has a function of a name.
+fn has_function(scope: &Scope, name: &[u8]) -> bool
+    ensures { (t : TableView) (s : Signature) → Stands t scope.now s → result ≡ is_some (known_as s name.now) }
 {
-    is_reserved(word.kind) || is_kept(word.bytes)
+    match scope.function(name) {
+        Some(_) => true,
+        None => false,
+    }
 }
 
-/// Tells whether a name is a theory's, or declared.
-pub fn is_taken(table: &TermTable, name: &[u8]) -> bool
-    ensures { result ≡ is_taken table.now.symbols name.now }
+/// Tells whether a name is that of a function: a theory's, or one that a scope has.
+fn is_function(scope: &Scope, name: &[u8]) -> bool
+    ensures { (t : TableView) (s : Signature) → Stands t scope.now s → result ≡ is_function s name.now }
 {
-    is_theory_name(name) || is_declared(table, name)
+    match TheoryHead::named(name) {
+        Some(_) => true,
+        None => has_function(scope, name),
+    }
 }
 
-/// Gives the name that a word may declare.
-pub fn new_name<'a>(table: &TermTable, word: Word<'a>) -> Result<&'a [u8], ReadError>
-    ensures gives { Gives (λ b. b.now) result (new_name table.now.symbols (word_view word.entry)) }
-    ensures new { IfOk result (λ b. is_taken table.now.symbols b.now ≡ false) }
+/// Gives a word as the name of a new sort.
+pub(crate) fn new_sort<'a>(scope: &Scope, word: Word<'a>) -> Result<&'a [u8], TermFault>
+    ensures { (t : TableView) (s : Signature) → Stands t scope.now s
+        → answered (λ b. b.now) result ≡ new_name script (is_sort s) (word_view word.entry) }
 {
-    if is_barred(word) {
-        return Err(refused(word.at, Fault::Reserved));
-    }
-    if is_taken(table, word.bytes) {
-        return Err(refused(word.at, Fault::Twice));
-    }
-    Ok(word.bytes)
+    new_name(in_script(), is_sort(scope, word.bytes), word)
 }
 
-/// Asks that a name is that of a sort: Bool alone for now.
-fn sort_named(at: u64, name: &[u8]) -> Result<(), ReadError>
-    ensures { Gives (λ u. Truth) result (sort_named at name.now) }
+/// Gives a word as the name of a new function.
+pub(crate) fn new_function<'a>(scope: &Scope, word: Word<'a>) -> Result<&'a [u8], TermFault>
+    ensures { (t : TableView) (s : Signature) → Stands t scope.now s
+        → answered (λ b. b.now) result ≡ new_name script (is_function s) (word_view word.entry) }
 {
-    if same_bytes(name, b"Bool") {
-        return Ok(());
-    }
-    Err(refused(at, Fault::UnknownSort))
+    new_name(in_script(), is_function(scope, word.bytes), word)
 }
 
-/// Asks that the first tree is a sort.
-pub fn sort_in(trees: Trees<'_>) -> Result<(), ReadError>
-    ensures { Gives (λ u. Truth) result (sort_in (tree_meant trees.entry)) }
+/// Reads trees as sorts, one after the other.
+pub(crate) fn sorts_in(
+    alloc: Global,
+    scope: &Scope,
+    trees: Trees<'_>,
+) -> Result<Vec<Sort>, ReadError>
+    ensures { (t : TableView) (s : Signature) → Stands t scope.now s
+        → AreSortsOf t (sorts_in s (trees_meant trees.entry)) result }
 {
-    match look(trees) {
-        View::Atom(at, kind, bytes) => match kind {
-            Kind::Simple | Kind::Quoted => sort_named(u64::from(at), bytes),
-            Kind::Reserved => Err(refused(u64::from(at), Fault::Reserved)),
-            _ => Err(refused(u64::from(at), Fault::BadShape)),
-        },
-        View::List(at, _, _) => Err(refused(u64::from(at), Fault::UnknownSort)),
+    let mut sorts = Vec::new(alloc);
+    let mut rest = trees;
+    'trees: while let Some((first, after)) = split(rest) {
+        match sort_in(scope, first) {
+            Ok(sort) => match sorts.push(sort) {
+                Ok(()) => {}
+                Err(_) => return Err(ReadError::Memory),
+            },
+            Err(fault) => return Err(ReadError::Fault(fault)),
+        }
+        rest = after;
     }
+    Ok(sorts)
 }

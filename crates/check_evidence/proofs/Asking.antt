@@ -6,10 +6,10 @@ use Rattle.spec_sorts.specs.Signatures.{symbols_in}
 use Rattle.spec_sorts.specs.WellSorted.{IsFormulaOver}
 use Rattle.spec_commands.specs.Stack.{Assertion, Stack, signature_of, assertions_of, terms_asserted}
 use Rattle.spec_derivations.specs.Models.{AreInReach}
-use Rattle.term_table.specs.Tables.{TableView, term_at, clause_at}
-use Rattle.step_log.specs.Logs.{AreFormulasIn}
-use Rattle.script_stack.specs.declared.stack.Stack.{Stack as CodeStack}
-use Rattle.script_stack.specs.Stacks.{standing, IsStack}
+use Rattle.term_core.specs.Tables.{TableView, term_at, clause_at}
+use Rattle.proof_log.specs.Logs.{AreFormulasIn}
+use Rattle.assertion_stack.specs.declared.stack.Stack.{Stack as CodeStack}
+use Rattle.assertion_stack.specs.Stacks.{standing, IsStack}
 use Rattle.check_evidence.proofs.Reached.{asserted_reached}
 
 module _ (limit : ℕ) (t : TableView) (x : CodeStack) (s : Stack) (h : IsStack limit (standing t x) s) where

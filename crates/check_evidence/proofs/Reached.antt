@@ -20,7 +20,7 @@ use Rattle.spec_derivations.proofs.Below.{subterms_have}
 use Rattle.spec_derivations.proofs.Formulas.{reached_head}
 use Rattle.spec_proof_texts.specs.Plans.{IsPrinted, in_clause, as_argument}
 use Rattle.spec_proof_texts.specs.Printable.{head_of}
-use Rattle.search_loop.specs.Rounds.{HasSteps}
+use Rattle.solve_core.specs.Rounds.{HasSteps}
 
 -- the search reaches the term
 abbrev pub IsReached : Term → Type 0

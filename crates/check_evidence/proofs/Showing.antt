@@ -9,14 +9,14 @@ use Rattle.spec_sorts.specs.Meaning.{value_under}
 use Rattle.spec_commands.specs.Stack.{Assertion, Stack, signature_of, assertions_of, terms_asserted}
 use Rattle.spec_commands.specs.Checks.{IsTrueUnder}
 use Rattle.spec_sessions.specs.Evidence.{Limits, model, spent, Justifies}
-use Rattle.term_table.specs.Tables.{TableView, literal_at}
+use Rattle.term_core.specs.Tables.{TableView, literal_at}
 use Rattle.term_walks.specs.declared.values.Interp.{Interp}
-use Rattle.step_log.specs.Logs.{derivation_in}
-use Rattle.search_budget.specs.declared.limits.Reason.{Reason}
-use Rattle.search_budget.specs.declared.limits.Reason.TheVariants as reasons
-use Rattle.search_loop.specs.declared.cdcl.Answer.TheVariants.{Sat, Unknown}
-use Rattle.search_loop.specs.declared.outcome.Outcome.{Outcome}
-use Rattle.search_loop.specs.Rounds.{HasEvidence}
+use Rattle.proof_log.specs.Logs.{derivation_in}
+use Rattle.sat_budget.specs.declared.limits.Reason.{Reason}
+use Rattle.sat_budget.specs.declared.limits.Reason.TheVariants as reasons
+use Rattle.solve_core.specs.declared.cdcl.Answer.TheVariants.{Sat, Unknown}
+use Rattle.solve_core.specs.declared.outcome.Outcome.{Outcome}
+use Rattle.solve_core.specs.Rounds.{HasEvidence}
 use Rattle.spec_derivations.specs.Examples.{asserting}
 use Rattle.check_evidence.specs.declared.evidence.Evidence.TheVariants as found
 use Rattle.check_evidence.specs.Evidence.{check_on, IsShown}

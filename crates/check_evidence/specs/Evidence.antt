@@ -10,19 +10,19 @@ use Rattle.spec_proof_texts.specs.Lines.{proof_text}
 use Rattle.spec_proof_texts.specs.Plans.{Plan, IsPlan, lines_of}
 use Rattle.spec_sessions.specs.Evidence.{Limits, Found, model, proof, spent, Checked, Justifies}
 use Rattle.spec_sessions.specs.Meaning.{IsKeptCheck}
-use Rattle.term_table.specs.Tables.{TableView, literal_at}
+use Rattle.term_core.specs.Tables.{TableView, literal_at}
 use Rattle.term_walks.specs.declared.values.Interp.{Interp}
 use Rattle.term_walks.specs.Valuations.{Stands, HasTables}
-use Rattle.step_log.specs.declared.premises.StepId.{StepId}
-use Rattle.step_log.specs.Logs.{derivation_in, IsLogOf}
-use Rattle.proof_writer.specs.Printing.{Fits}
-use Rattle.search_budget.specs.Budgets.{BudgetView}
-use Rattle.search_budget.specs.declared.limits.Limits.{Limits as CodeLimits}
-use Rattle.search_budget.specs.declared.limits.Reason.TheVariants as reasons
-use Rattle.script_stack.specs.Stacks.{Standing, IsStack}
-use Rattle.search_loop.specs.declared.cdcl.Answer.TheVariants.{Sat, Unsat, Unknown}
-use Rattle.search_loop.specs.declared.outcome.Outcome.{Outcome}
-use Rattle.search_loop.specs.Decisions.{IsJustified}
+use Rattle.proof_log.specs.declared.premises.StepId.{StepId}
+use Rattle.proof_log.specs.Logs.{derivation_in, IsLogOf}
+use Rattle.alethe_writer.specs.Printing.{Fits}
+use Rattle.sat_budget.specs.Budgets.{BudgetView}
+use Rattle.sat_budget.specs.declared.limits.Limits.{Limits as CodeLimits}
+use Rattle.sat_budget.specs.declared.limits.Reason.TheVariants as reasons
+use Rattle.assertion_stack.specs.Stacks.{Standing, IsStack}
+use Rattle.solve_core.specs.declared.cdcl.Answer.TheVariants.{Sat, Unsat, Unknown}
+use Rattle.solve_core.specs.declared.outcome.Outcome.{Outcome}
+use Rattle.solve_core.specs.Decisions.{IsJustified}
 use Rattle.check_evidence.specs.declared.evidence.Evidence.{Evidence}
 use Rattle.check_evidence.specs.declared.evidence.Evidence.TheVariants as found
 

@@ -7,22 +7,22 @@ ghost use Rattle.spec_commands.specs.Stack.{Stack as ScriptStack, signature_of, 
 ghost use Rattle.spec_derivations.specs.Examples.{asserting};
 ghost use Rattle.spec_sessions.specs.Evidence.{Limits as SpokenLimits};
 ghost use Rattle.spec_sessions.specs.Meaning.{IsKeptCheck};
-ghost use Rattle.script_stack.specs.Stacks.{standing};
-ghost use Rattle.search_loop.specs.Decisions.{IsJustified};
+ghost use Rattle.assertion_stack.specs.Stacks.{standing};
+ghost use Rattle.solve_core.specs.Decisions.{IsJustified};
 ghost use Rattle.check_evidence.specs.Evidence.{limits_meant, check_on, IsHeld, HoldsSome, Decides, IsShown, Checks};
 
-use proof_writer::printable::{logs_are_over_their_terms, terms_are_printable};
-use proof_writer::{Plan, prepare};
-use script_stack::Stack;
-use script_stack::laws::stacks_stand_in_grown_tables;
-use search_budget::{Budget, Limits, Reason};
-use search_loop::{Answer, Outcome, decide};
+use alethe_writer::printable::{logs_are_over_their_terms, terms_are_printable};
+use alethe_writer::{Plan, prepare};
+use assertion_stack::Stack;
+use assertion_stack::laws::stacks_stand_in_grown_tables;
+use proof_log::ProofLog;
+use sat_budget::{Budget, Limits, Reason};
+use solve_core::{Answer, Outcome, decide};
 use spec_commands::{assertions_are_formulas, commands_keep_stacks};
 use spec_derivations::laws::base_clauses_are_over_subterms;
 use spec_proof_texts::laws::{lines_in_reach_have_no_numbers, well_sorted_terms_are_printable};
 use std::alloc::Global;
-use step_log::ProofLog;
-use term_table::TermTable;
+use term_core::TermTable;
 use term_walks::Interp;
 use world_io::NoMemory;
 

@@ -1,5 +1,4 @@
-//! A check of what a script has stated: what it finds, with what shows it, and how that is written. The program does
-//! not use it yet.
+//! A check of what a script has stated: what it finds, with what shows it, and how that is written.
 #![tactic(auto)]
 
 mod evidence;

@@ -7,16 +7,16 @@ ghost use Rattle.spec_commands.specs.Stack.{Stack as ScriptStack, signature_of};
 ghost use Rattle.spec_replies.specs.Lines.{word_line};
 ghost use Rattle.spec_sessions.specs.Evidence.{Found};
 ghost use Rattle.spec_sessions.specs.Responses.{answer_text, evidence_text};
-ghost use Rattle.search_budget.specs.Budgets.{BudgetView};
-ghost use Rattle.term_table.specs.Tables.{TableView};
+ghost use Rattle.sat_budget.specs.Budgets.{BudgetView};
+ghost use Rattle.term_core.specs.Tables.{TableView};
 ghost use Rattle.check_evidence.specs.Evidence.{checked_on, IsEvidence, IsSomeEvidence};
 
 use crate::evidence::Evidence;
-use model_writer::send as send_model;
-use proof_writer::send as send_proof;
-use reply_lines::{Word, spent, word};
-use search_budget::Reason;
-use term_table::TermTable;
+use alethe_writer::send as send_proof;
+use model_text::send as send_model;
+use reply_text::{Word, spent, word};
+use sat_budget::Reason;
+use term_core::TermTable;
 use world_io::{Failed, Sink};
 
 /// Writes the word that answers a check: `sat`, `unsat` or `unknown`, on a line. It takes no memory.

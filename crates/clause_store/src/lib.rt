@@ -9,8 +9,6 @@ mod propagate;
 mod scan;
 mod status;
 mod store;
-#[cfg(test)]
-mod tests;
 
 pub use proof_log::StepId;
 pub use propagate::Propagation;

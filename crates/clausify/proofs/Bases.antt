@@ -5,17 +5,18 @@ use Rattle.std.proofs.lemmas.List.{append-nil, length-append, length-map, map-ap
 use Rattle.std.proofs.lemmas.List.Elements.{Contains-append_left, Contains-append_right, Contains-append_cases}
 use Rattle.std.proofs.lemmas.Grind.{flat_map-append}
 use Rattle.spec_text.proofs.Members.{from_flat, in_flat}
-use Rattle.spec_terms.specs.Terms.{Term}
-use Rattle.spec_terms.specs.Literals.{Clause}
-use Rattle.spec_terms.specs.Subterms.{subterms_of}
-use Rattle.spec_terms.specs.Subsets.{AreAmong, AreOnce}
+use Rattle.spec_sorts.specs.Terms.{Term, no_term}
+use Rattle.spec_sorts.specs.Literals.{Clause}
+use Rattle.spec_sorts.specs.Subterms.{subterms_of}
+use Rattle.spec_sorts.specs.Subsets.{AreAmong, AreOnce}
 use Rattle.spec_proofs.specs.Resolution.{IsWithin}
-use Rattle.spec_search.specs.Base.{clauses_of}
+use Rattle.spec_derivations.specs.Base.{clauses_of, base_clauses}
+use Rattle.spec_derivations.specs.Examples.{asserting}
 use Rattle.term_core.specs.declared.ids.TermId.{TermId}
-use Rattle.term_core.specs.Tables.{TableView, no_term, term_at, clause_at}
+use Rattle.term_core.specs.Tables.{TableView, term_at, clause_at}
 use Rattle.proof_log.specs.declared.premises.StepId.{StepId}
-use Rattle.proof_log.specs.Logs.{Logged}
-use Rattle.clausify.specs.Clausified.{stated, HasClauses}
+use Rattle.proof_log.specs.Logs.{Logged, stated}
+use Rattle.clausify.specs.HavingClauses.{HasClauses}
 use Rattle.clausify.specs.Stating.{Says}
 use Rattle.clausify.specs.Marks.{IsMarked, marked, AreMarksOf}
 use Rattle.clausify.proofs.Marked.{marked_more}
@@ -57,19 +58,25 @@ within_flat us vs units among c c_in = elim (Contains-append_cases units (flat_m
   | inr h ↦ let x = from_flat clauses_of us c h in Contains-append_right units (flat_map clauses_of vs) c (in_flat clauses_of vs x.0 c (among x.0 x.1) x.2)
 ]
 
+-- the base clauses of terms that are asserted alone
+bases_are : (ts : List Term) → base_clauses (asserting ts) ≡ alone ts ++ flat_map clauses_of (subterms_of ts)
+bases_are ts = ap (λ us. alone ts ++ flat_map clauses_of (subterms_of us)) (append-nil ts)
+
 -- the numbers are those of the base clauses
 pub has_clauses : (t u : TableView) (log : List Logged) (roots : List TermId) (marks : List Bool) (steps : List StepId) → AreMarksOf t roots marks → AreOnce (subterms_of (clause_at t roots)) → Says u log steps (alone (clause_at t roots) ++ marked_clauses marks t.terms) → HasClauses u log (clause_at t roots) steps
 has_clauses t u log roots marks steps m once says =
-    let units = alone (clause_at t roots) in
+    let terms = clause_at t roots in
+    let units = alone terms in
     let same : map (stated u log) steps ≡ units ++ marked_clauses marks t.terms = says.same in
+    let bases = bases_are terms in
     record {
       there = says.there;
-      base = λ c c_in. subst (λ cs. Contains cs c) (sym same) (within_flat (subterms_of (clause_at t roots)) (marked marks t.terms) units m.each c c_in);
-      only = λ c c_in. within_flat (marked marks t.terms) (subterms_of (clause_at t roots)) units m.only c (subst (λ cs. Contains cs c) same c_in);
+      base = λ c c_in. subst (λ cs. Contains cs c) (sym same) (within_flat (subterms_of terms) (marked marks t.terms) units m.each c (subst (λ cs. Contains cs c) bases c_in));
+      only = λ c c_in. subst (λ cs. Contains cs c) (sym bases) (within_flat (marked marks t.terms) (subterms_of terms) units m.only c (subst (λ cs. Contains cs c) same c_in));
       count =
           sym (length-map steps (stated u log)) ∙ ap length same ∙ length-append units (marked_clauses marks t.terms)
-          ∙ ap (λ n. length units + n) (counts_same clauses_of (marked marks t.terms) (subterms_of (clause_at t roots)) m.once once m.only m.each)
-          ∙ sym (length-append units (flat_map clauses_of (subterms_of (clause_at t roots))));
+          ∙ ap (λ n. length units + n) (counts_same clauses_of (marked marks t.terms) (subterms_of terms) m.once once m.only m.each)
+          ∙ sym (length-append units (flat_map clauses_of (subterms_of terms))) ∙ ap length (sym bases);
     }
 
 -- no number says nothing

@@ -6,8 +6,8 @@ use Rattle.std.proofs.lemmas.List.Concat.{length-flat_map}
 use Rattle.std.proofs.lemmas.List.Sums.{sum_by-append, sum_by-cons}
 use Rattle.std.proofs.lemmas.List.Elements.{Contains-append_left, Contains-append_right, Contains-append_cases}
 use Rattle.spec_text.proofs.Members.{first, later, cases, none}
-use Rattle.spec_terms.specs.Terms.{Term}
-use Rattle.spec_terms.specs.Subsets.{AreAmong, AreOnce}
+use Rattle.spec_sorts.specs.Terms.{Term}
+use Rattle.spec_sorts.specs.Subsets.{AreAmong, AreOnce}
 
 -- none stands twice
 abbrev IsOnce : List Term → Type 0

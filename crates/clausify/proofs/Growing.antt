@@ -2,16 +2,16 @@
 use Rattle.std.proofs.Common.{◌≡◌, ◌+◌, ◌<◌, List, [], ◌∷◌, ◌++◌, length, map, get_or, All, refl, sym, ap, ap₂, ◌∙◌, subst, arith, length-append, append_assoc}
 use Rattle.std.proofs.lemmas.List.{append-nil, map-append, length-map, get_or_append_left, get_or_push}
 use Rattle.std.proofs.lemmas.List.Elements.{All-nil, All-append, All-push, All-head, All-tail}
-use Rattle.spec_terms.specs.Literals.{Clause}
-use Rattle.spec_search.specs.Derivations.{Derivation, conclusion, no_inference}
+use Rattle.spec_sorts.specs.Literals.{Clause}
+use Rattle.spec_derivations.specs.Derivations.{Derivation, conclusion, no_inference}
 use Rattle.term_core.specs.declared.ids.TermId.{TermId}
 use Rattle.term_core.specs.Tables.{TableView, clause_at}
 use Rattle.term_core.proofs.TermsExtend.{Extends-trans}
 use Rattle.proof_log.specs.declared.premises.StepId.{StepId}
-use Rattle.proof_log.specs.Logs.{Logged, assumed, stepped, named, inference_of, derivation_in, IsLogOf}
+use Rattle.proof_log.specs.Logs.{Logged, assumed, stepped, named, inference_of, derivation_in, stated, IsLogOf}
 use Rattle.proof_log.proofs.Tables.{grown_same}
 use Rattle.proof_log.proofs.Logged.{conclusion_of}
-use Rattle.clausify.specs.Clausified.{stated, AssumesOneOf, Grows}
+use Rattle.clausify.specs.HavingClauses.{AssumesOneOf, Grows}
 use Rattle.clausify.specs.Stating.{listed, Widens, Says, Tells}
 use Rattle.clausify.proofs.Arguments.{Widens-self}
 use Rattle.clausify.proofs.Making.{Makes-none, Makes-push, Makes-trans}
@@ -20,7 +20,7 @@ use Rattle.clausify.proofs.Making.{Makes-none, Makes-push, Makes-trans}
 pub Grows-wider : (roots : List TermId) (t u : TableView) (log : List Logged) → Widens t u → IsLogOf u log → Grows roots t u log log
 Grows-wider roots t u log wider right = record {
   table = wider.terms;
-  symbols = wider.symbols;
+  declared = wider.declared;
   more = [];
   log = sym (append-nil log);
   right = right;
@@ -33,7 +33,7 @@ Grows-self roots t log right = Grows-wider roots t t log (Widens-self t) right
 pub Grows-trans : (roots : List TermId) (t u v : TableView) (a b c : List Logged) → Grows roots t u a b → Grows roots u v b c → Grows roots t v a c
 Grows-trans roots t u v a b c g h = record {
   table = Extends-trans t u v g.table h.table;
-  symbols = h.symbols ∙ g.symbols;
+  declared = h.declared ∙ g.declared;
   more = g.more ++ h.more;
   log = h.log ∙ ap (λ l. l ++ h.more) g.log ∙ append_assoc a g.more h.more;
   right = h.right;
@@ -44,7 +44,7 @@ Grows-trans roots t u v a b c g h = record {
 pub Grows-push : (roots : List TermId) (t : TableView) (old new : List Logged) (l : Logged) → new ≡ old ++ l ∷ [] → AssumesOneOf roots l → IsLogOf t new → Grows roots t t old new
 Grows-push roots t old new l last assumes right = record {
   table = (Widens-self t).terms;
-  symbols = refl;
+  declared = refl;
   more = l ∷ [];
   log = last;
   right = right;
@@ -55,7 +55,7 @@ Grows-push roots t old new l last assumes right = record {
 pub Grows-weaker : (roots : List TermId) (t u : TableView) (old new : List Logged) → Grows [] t u old new → Grows roots t u old new
 Grows-weaker roots t u old new g = record {
   table = g.table;
-  symbols = g.symbols;
+  declared = g.declared;
   more = g.more;
   log = g.log;
   right = g.right;
@@ -64,7 +64,7 @@ Grows-weaker roots t u old new g = record {
   where
     weaker : (l : Logged) → AssumesOneOf [] l → AssumesOneOf roots l
     weaker (assumed id) h = absurd (omega (arith, h.1))
-    weaker (stepped r ps c) h = h
+    weaker (stepped r ps qs c) h = h
 
 module _ (roots : List TermId) (t u : TableView) (old new : List Logged) (g : Grows roots t u old new) (right : IsLogOf t old) where
   -- a number says what it said

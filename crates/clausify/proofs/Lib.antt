@@ -1,4 +1,5 @@
 -- The lemmas of this crate.
+pub mod Parts
 pub mod Arguments
 pub mod Making
 pub mod Growing

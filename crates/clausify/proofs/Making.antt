@@ -4,7 +4,7 @@ use Rattle.std.specs.List.{range_with_len}
 use Rattle.std.proofs.lemmas.List.{append-nil, map-append}
 use Rattle.proof_log.specs.declared.premises.StepId.{StepId}
 use Rattle.proof_log.specs.Logs.{Logged}
-use Rattle.clausify.specs.Clausified.{AreAllMade}
+use Rattle.clausify.specs.HavingClauses.{AreAllMade}
 use Rattle.clausify.specs.Stating.{Makes}
 
 -- numbers from one on, and then those that follow

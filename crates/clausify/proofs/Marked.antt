@@ -4,9 +4,9 @@ use Rattle.std.proofs.lemmas.Bool.{false≢true}
 use Rattle.std.proofs.lemmas.List.Kept.{AllPairs-cons}
 use Rattle.std.proofs.lemmas.List.Elements.{Contains-get_or}
 use Rattle.spec_text.proofs.Members.{first, later, cases, none}
-use Rattle.spec_terms.specs.Terms.{Term}
-use Rattle.spec_terms.specs.Subsets.{AreOnce}
-use Rattle.term_core.specs.Tables.{no_term, AreDifferent}
+use Rattle.spec_sorts.specs.Terms.{Term, no_term}
+use Rattle.spec_sorts.specs.Subsets.{AreOnce}
+use Rattle.term_core.specs.Tables.{AreDifferent}
 use Rattle.clausify.specs.Marks.{IsMarked, marked}
 
 -- no number is marked beyond the marks

@@ -1,14 +1,13 @@
 -- Marking the subterms of terms, from the greatest number down.
-use Rattle.std.proofs.Common.{◌≡◌, ℕ, zero, suc, ◌<◌, ◌≤◌, inl, inr, Bool, true, List, length, get_or, All, Contains, sym, ap, ◌∙◌, subst, arith}
+use Rattle.std.proofs.Common.{◌≡◌, ℕ, zero, suc, ◌<◌, ◌≤◌, inl, inr, Bool, List, length, get_or, All, Contains, sym, ap, ◌∙◌, subst, arith}
 use Rattle.std.proofs.lemmas.Bool.{cases_eq}
-use Rattle.std.proofs.lemmas.List.Elements.{All-contains, Contains-get_or}
+use Rattle.std.proofs.lemmas.List.Elements.{All-contains}
 use Rattle.spec_text.proofs.Members.{to_image, from_image}
-use Rattle.spec_terms.specs.Terms.{Term}
-use Rattle.spec_terms.specs.Subterms.{subterms_of}
-use Rattle.spec_terms.specs.Subsets.{arguments_of, AreAmong, IsClosed}
-use Rattle.spec_search.specs.Models.{is_formula}
+use Rattle.spec_sorts.specs.Terms.{Term, no_term}
+use Rattle.spec_sorts.specs.Subterms.{subterms_of}
+use Rattle.spec_sorts.specs.Subsets.{arguments_of, AreAmong, IsClosed}
 use Rattle.term_core.specs.declared.ids.TermId.{TermId}
-use Rattle.term_core.specs.Tables.{TableView, AreDifferent, no_term, term_at, clause_at, Shape, shape_term}
+use Rattle.term_core.specs.Tables.{TableView, AreDifferent, term_at, clause_at, Shape, shape_term}
 use Rattle.term_core.proofs.TermsClosed.{argument_of, argument_in}
 use Rattle.clausify.specs.Marks.{IsMarked, Marks, marked, AreMarksOf}
 use Rattle.clausify.proofs.Marked.{marked_below, in_marked, HasMarked, from_marked, marked_once}
@@ -19,7 +18,6 @@ pub record IsMarkedFrom (t : TableView) (roots : List TermId) (from : ℕ) (mark
   pub starts : (id : TermId) → Contains roots id → IsMarked marks id.0
   pub sound : (k : ℕ) → IsMarked marks k → Contains (subterms_of (clause_at t roots)) (get_or t.terms k no_term)
   pub closed : (k : ℕ) → from ≤ k → IsMarked marks k → (u : Term) → Contains (arguments_of (get_or t.terms k no_term)) u → HasMarked t.terms marks u
-  pub formulas : (k : ℕ) → from ≤ k → IsMarked marks k → is_formula (get_or t.terms k no_term) ≡ true
 
 -- with more marks it is still marked
 keeps : (ts : List Term) (old new : List Bool) (u : Term) → ((k : ℕ) → IsMarked old k → IsMarked new k) → HasMarked ts old u → HasMarked ts new u
@@ -35,12 +33,11 @@ module _ (t : TableView) (roots : List TermId) (there : AreAmong (clause_at t ro
       | inr h ↦ there (get_or t.terms k no_term) (subst (λ j. Contains (clause_at t roots) (get_or t.terms j no_term)) h.2 (to_image (term_at t) roots h.0 h.1))
     ];
     closed = λ k le e. let lt = marked_below new k e in absurd (omega arith);
-    formulas = λ k le e. let lt = marked_below new k e in absurd (omega arith);
   }
 
   -- the arguments of one marked term more
-  pub marks_more : (n : ℕ) (old new : List Bool) (s : Shape) → IsMarkedFrom t roots (suc n) old → IsMarked old n → get_or t.terms n no_term ≡ shape_term t s → is_formula (get_or t.terms n no_term) ≡ true → All (λ (id : TermId). id.0 < n) s.arguments → Marks old s.arguments new → IsMarkedFrom t roots n new
-  marks_more n old new s h here means formula below m = record {
+  pub marks_more : (n : ℕ) (old new : List Bool) (s : Shape) → IsMarkedFrom t roots (suc n) old → IsMarked old n → get_or t.terms n no_term ≡ shape_term t s → All (λ (id : TermId). id.0 < n) s.arguments → Marks old s.arguments new → IsMarkedFrom t roots n new
+  marks_more n old new s h here means below m = record {
     short = omega (arith, m.length, h.short);
     starts = λ id id_in. m.kept id.0 (h.starts id id_in);
     sound = λ k e. elim (m.no_others k e) [
@@ -58,13 +55,6 @@ module _ (t : TableView) (roots : List TermId) (there : AreAmong (clause_at t ro
             (x.0.0, m.there x.0 x.1, x.2)
       ]
     ];
-    formulas = λ k le e. elim (m.no_others k e) [
-      | inr x ↦ let lt : x.0.0 < n = All-contains (λ (id : TermId). id.0 < n) s.arguments x.0 below x.1 in absurd (omega (arith, x.2))
-      | inl e ↦ elim (cases_eq k n) [
-        | inr differ ↦ h.formulas k (grind (arith, le, differ)) e
-        | inl same ↦ ap (λ j. is_formula (get_or t.terms j no_term)) same ∙ formula
-      ]
-    ];
   }
 
   -- a number that is not marked
@@ -76,10 +66,6 @@ module _ (t : TableView) (roots : List TermId) (there : AreAmong (clause_at t ro
     closed = λ k le e. elim (cases_eq k n) [
       | inl same ↦ absurd (free (subst (IsMarked marks) same e))
       | inr differ ↦ h.closed k (grind (arith, le, differ)) e
-    ];
-    formulas = λ k le e. elim (cases_eq k n) [
-      | inl same ↦ absurd (free (subst (IsMarked marks) same e))
-      | inr differ ↦ h.formulas k (grind (arith, le, differ)) e
     ];
   }
 
@@ -95,8 +81,4 @@ module _ (t : TableView) (roots : List TermId) (there : AreAmong (clause_at t ro
         each = each;
         only = λ u u_in. let x = from_marked marks t.terms u u_in in subst (Contains (subterms_of (clause_at t roots))) x.2 (h.sound x.0 x.1);
         once = marked_once marks t.terms h.short apart;
-        formulas = λ k d lt.
-            let u = get_or (subterms_of (clause_at t roots)) k d in
-            let x = from_marked marks t.terms u (each u (Contains-get_or (subterms_of (clause_at t roots)) k d lt)) in
-            subst (λ (w : Term). is_formula w ≡ true) x.2 (h.formulas x.0 (omega arith) x.1);
       }

@@ -1,9 +1,8 @@
 -- Numbers that are marked.
 use Rattle.std.specs.Prelude.{◌≡◌, ◌⊎◌, ℕ, ◌≤◌, Bool, true, false, List, [], ◌∷◌, length, Contains, slice_index_or}
-use Rattle.spec_terms.specs.Terms.{Term}
-use Rattle.spec_terms.specs.Subterms.{subterms_of}
-use Rattle.spec_terms.specs.Subsets.{AreAmong, AreOnce}
-use Rattle.spec_search.specs.Models.{AreFormulas}
+use Rattle.spec_sorts.specs.Terms.{Term}
+use Rattle.spec_sorts.specs.Subterms.{subterms_of}
+use Rattle.spec_sorts.specs.Subsets.{AreAmong, AreOnce}
 use Rattle.term_core.specs.declared.ids.TermId.{TermId}
 use Rattle.term_core.specs.Tables.{TableView, clause_at}
 
@@ -38,5 +37,3 @@ pub record AreMarksOf (t : TableView) (roots : List TermId) (marks : List Bool) 
   pub only : AreAmong (marked marks t.terms) (subterms_of (clause_at t roots))
   -- each once
   pub once : AreOnce (marked marks t.terms)
-  -- each subterm has a head that takes its arguments, all of sort Bool
-  pub formulas : AreFormulas (subterms_of (clause_at t roots))

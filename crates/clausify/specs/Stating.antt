@@ -1,27 +1,47 @@
 -- Steps that state the clauses of a term, one scheme after the other.
-use Rattle.std.specs.Prelude.{◌≡◌, ℕ, ◌<◌, List, [], ◌∷◌, ◌++◌, length, map, All, flat_map}
+use Rattle.std.specs.Prelude.{◌≡◌, ◌<◌, true, List, [], ◌∷◌, ◌++◌, length, map, All, flat_map}
 use Rattle.std.specs.List.{AllByRecursion}
-use Rattle.spec_terms.specs.Terms.{Symbol, Head, Term, Terms, app}
-use Rattle.spec_terms.specs.Literals.{Clause}
+use Rattle.spec_sorts.specs.Terms.{Truth, Head, Term, Terms, app, sort_of, all_same}
+use Rattle.spec_sorts.specs.Subsets.{arguments_of}
+use Rattle.spec_sorts.specs.WellSorted.{IsWellSorted, IsFormulaOver}
+use Rattle.spec_sorts.specs.Literals.{Clause}
 use Rattle.spec_proofs.specs.declared.Rule.{Rule}
 use Rattle.spec_proofs.specs.declared.Rest.{Rest}
 use Rattle.spec_proofs.specs.declared.Rest.TheVariants.{Nothing, One, Two, AnyOne, Each, Innermost}
-use Rattle.spec_proofs.specs.Schemes.{signed, side_of, Scheme, true_scheme, Kind, states, kind_of, clauses_by}
-use Rattle.spec_search.specs.Base.{clauses_of}
+use Rattle.spec_rules.specs.Schemes.{signed, side_of, Scheme, true_scheme, Kind, states, kind_of, clauses_by}
+use Rattle.spec_derivations.specs.Base.{clauses_of}
 use Rattle.term_core.specs.declared.nodes.Head.{Head as NodeHead}
-use Rattle.term_core.specs.declared.nodes.Head.TheVariants as heads
 use Rattle.term_core.specs.declared.ids.TermId.{TermId}
-use Rattle.term_core.specs.Tables.{TableView, term_at, IsIn, AreIn, clause_at, head_meant, Extends}
+use Rattle.term_core.specs.Tables.{TableView, declared_in, term_at, IsIn, AreIn, clause_at, head_meant, Extends}
+use Rattle.rule_bool.specs.Schemes.{arity, HasPlaces}
 use Rattle.proof_log.specs.declared.premises.StepId.{StepId}
-use Rattle.proof_log.specs.Logs.{Logged}
-use Rattle.clausify.specs.Clausified.{stated, AreAllMade}
+use Rattle.proof_log.specs.Logs.{Logged, stated, IsFormulaIn}
+use Rattle.clausify.specs.HavingClauses.{AreAllMade}
 
--- The table has more terms, and the same symbols.
+-- The table has more terms, and the same sorts and symbols.
 pub record Widens (old new : TableView) : Type 0 where
   -- the terms that were there have their numbers
   pub terms : Extends old new
-  -- the symbols are the same
-  pub symbols : new.symbols ≡ old.symbols
+  -- the sorts and symbols are the same
+  pub declared : declared_in new ≡ declared_in old
+
+-- A term of a table that joins formulas: it has no parameters, and its arguments are of sort Bool.
+pub record JoinsFormulas (t : TableView) (id : TermId) : Type 0 where
+  -- it is there
+  pub there : IsIn t id
+  -- it is well sorted
+  pub sorted : IsWellSorted t.symbols [] (term_at t id)
+  -- its arguments are of sort Bool
+  pub arguments : all_same Truth (map sort_of (arguments_of (term_at t id))) ≡ true
+
+-- A term whose arguments are formulas, and a formula that comes before them in a clause.
+pub record ComesBefore (t : TableView) (id front : TermId) : Type 0 where
+  -- the term is there
+  pub there : IsIn t id
+  -- its arguments are formulas
+  pub arguments : All (IsFormulaOver t.symbols) (arguments_of (term_at t id))
+  -- what comes before them is one
+  pub first : IsFormulaIn t front
 
 -- The numbers are those of these clauses, in their order.
 pub record Says (t : TableView) (log : List Logged) (steps : List StepId) (clauses : List Clause) : Type 0 where
@@ -84,12 +104,6 @@ scheme_by rule = scheme_in (kind_of rule)
 abbrev pub IsRuleOf : Head → Rule → Type 0
 IsRuleOf h rule = (kind_of rule ≡ states (scheme_by rule)) × ((scheme_by rule).head ≡ h)
 
--- so many arguments have the places that are named
-abbrev pub HasPlaces : ℕ → Rest → Type 0
-HasPlaces n (One x) = x.place < n
-HasPlaces n (Two x y) = (x.place < n) × (y.place < n)
-HasPlaces n r = Unit {0}
-
 -- what comes after a term in the one clause of a scheme
 abbrev pub single : Rest → List Term → Clause
 single Nothing ts = []
@@ -104,15 +118,6 @@ IsSingle (AnyOne p) = ⊥
 IsSingle Innermost = ⊥
 IsSingle r = Unit {0}
 
--- how many arguments the head takes at least
-abbrev pub least_of : NodeHead → ℕ
-least_of heads.Not = 1
-least_of heads.Xor = 2
-least_of heads.Implies = 2
-least_of heads.Equal = 2
-least_of heads.Ite = 3
-least_of h = 0
-
 -- a term before each of these
 abbrev pub before : Term → List Clause → List Clause
 before t rests = map (λ ls. t ∷ ls) rests
@@ -124,8 +129,8 @@ clauses_in t list = flat_map (λ rule. clauses_by (scheme_by rule) t) list
 -- The rules that state the schemes of a head.
 pub record AreRulesOf (head : NodeHead) (list : List Rule) : Type 0 where
   -- each states a scheme of the head
-  pub rules : (symbols : List Symbol) → AllByRecursion (IsRuleOf (head_meant symbols head)) list
+  pub rules : (t : TableView) → AllByRecursion (IsRuleOf (head_meant t head)) list
   -- the head takes the arguments that are named
-  pub places : AllByRecursion (λ rule. HasPlaces (least_of head) (scheme_by rule).rest) list
+  pub places : AllByRecursion (λ rule. HasPlaces (arity head) (scheme_by rule).rest) list
   -- the clauses of a term with that head are theirs
-  pub whole : (symbols : List Symbol) (ts : Terms) → clauses_in (app (head_meant symbols head) ts) list ≡ clauses_of (app (head_meant symbols head) ts)
+  pub whole : (t : TableView) (ts : Terms) → clauses_in (app (head_meant t head) ts) list ≡ clauses_of (app (head_meant t head) ts)

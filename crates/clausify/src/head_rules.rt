@@ -24,6 +24,7 @@ pub(crate) fn rules_of(head: Head) -> &'static [Rule]
         ],
         Head::Xor => &[Rule::XorPos1, Rule::XorPos2, Rule::XorNeg1, Rule::XorNeg2],
         Head::Ite => &[Rule::ItePos1, Rule::ItePos2, Rule::IteNeg1, Rule::IteNeg2],
-        Head::Apply(_) => &[],
+        Head::Minus | Head::Plus | Head::Times | Head::Divide | Head::Less | Head::AtMost => &[],
+        Head::Literal(_) | Head::Apply(_) | Head::Parameter(_, _) => &[],
     }
 }

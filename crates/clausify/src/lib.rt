@@ -1,5 +1,5 @@
-//! Clauses of terms: what a search begins with. Each subterm of the terms gets the clauses that its rules without premises
-//! state, as steps of a log, and each term itself is assumed.
+//! Clauses of formulas: what a search begins with. Each subterm whose arguments are of sort Bool gets the clauses that its rules without
+//! premises state, as steps of a log, and each formula itself is assumed.
 #![tactic(auto)]
 
 mod head_rules;

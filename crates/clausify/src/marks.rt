@@ -4,7 +4,7 @@ ghost use Rattle.std.specs.Prelude.{ℕ, ◌<◌, ◌≤◌, length, All, IfOk};
 ghost use Rattle.term_core.specs.Tables.{IsIn, AreIn};
 ghost use Rattle.clausify.specs.Marks.{Marks, IsMarked, AreMarksOf};
 
-use spec_terms::subterms::subterms_are_least;
+use spec_sorts::subterms::subterms_are_least;
 use std::alloc::Global;
 use term_core::{TermId, TermTable};
 use world_io::NoMemory;
@@ -62,7 +62,6 @@ fn mark_subterms(table: &TermTable, roots: &[TermId], marks: &mut [bool])
 {
     subterms_are_least();
     table.ids_are_unique();
-    table.all_terms_are_bool();
     mark_each(marks, roots);
     'terms: for number in (0..marks.len()).rev() {
         if marks[number] {

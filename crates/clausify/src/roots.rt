@@ -1,19 +1,18 @@
 //! The clauses of terms and of all their subterms.
 
-ghost use Rattle.std.specs.Prelude.{◌≡◌, ◌≤◌, [], ◌∷◌, length, map, flat_map, IfOk, OnOk, OnErr};
-ghost use Rattle.spec_terms.specs.Subterms.{subterms_of};
-ghost use Rattle.spec_search.specs.Base.{clauses_of};
-ghost use Rattle.spec_search.specs.Models.{AreFormulas};
-ghost use Rattle.term_core.specs.Tables.{IsIn, AreIn, clause_at};
-ghost use Rattle.proof_log.specs.Logs.{IsLogOf};
-ghost use Rattle.clausify.specs.Clausified.{HasClauses, Grows, AreAllMade};
+ghost use Rattle.std.specs.Prelude.{◌≡◌, ◌≤◌, [], ◌∷◌, length, map, flat_map, All, IfOk, OnOk, OnErr};
+ghost use Rattle.spec_sorts.specs.WellSorted.{IsWellSorted};
+ghost use Rattle.spec_derivations.specs.Base.{clauses_of};
+ghost use Rattle.term_core.specs.Tables.{clause_at};
+ghost use Rattle.proof_log.specs.Logs.{IsFormulaIn, AreFormulasIn, IsLogOf};
+ghost use Rattle.clausify.specs.HavingClauses.{HasClauses, Grows, AreAllMade};
 ghost use Rattle.clausify.specs.Stating.{listed, Tells};
 ghost use Rattle.clausify.specs.Marks.{marked};
 
 use crate::marks::marks_of;
 use crate::statements::state_term;
 use proof_log::{ProofLog, StepId, StepIds};
-use spec_terms::subterms::subterms_are_least;
+use spec_sorts::subterms::subterms_are_least;
 use std::alloc::Global;
 use std::slice;
 use term_core::{TermId, TermTable};
@@ -24,8 +23,8 @@ use world_io::NoMemory;
 /// The term is assumed, and it and each of its subterms get the clauses that their rules without premises state, a shared one once.
 /// Gives the numbers of these clauses, and so of all that came into the log, in order.
 ///
-/// The log must be one over the table. Negations that the clauses need come into the table. Each subterm has a head that takes its
-/// arguments, all of sort Bool, so truths that meet the clauses give each its value.
+/// The term must be a formula, and the log one over the table. Negations that the clauses need come into the table. A subterm whose
+/// arguments are not all of sort Bool has no clauses: it is an atom.
 ///
 /// Where it is called for one term after the other, a subterm that they share gets its clauses again for each, and each call takes time
 /// and memory in proportion to the number of its term, however few subterms that has. So several terms want `clauses_of_all`.
@@ -38,11 +37,10 @@ pub fn clauses_of(
     log: &mut ProofLog,
     root: TermId,
 ) -> Result<StepIds, NoMemory>
-    requires root { IsIn table.old root }
+    requires root { IsFormulaIn table.old root }
     requires log { IsLogOf table.old log.old }
     ensures clauses { IfOk result (λ list. HasClauses table.new log.new (clause_at table.old (root ∷ [])) list) }
     ensures made { IfOk result (AreAllMade log.old log.new) }
-    ensures formulas { OnOk result (AreFormulas (subterms_of (clause_at table.old (root ∷ [])))) }
     ensures grown { OnOk result (Grows (root ∷ []) table.old table.new log.old log.new) }
     ensures same { OnErr result ((table.new ≡ table.old) × (log.new ≡ log.old)) }
 {
@@ -53,8 +51,8 @@ pub fn clauses_of(
 /// the clauses that its rules without premises state, a shared one once. Gives the numbers of these clauses, and so of all that came
 /// into the log, in order.
 ///
-/// The log must be one over the table. Negations that the clauses need come into the table. Each subterm has a head that takes its
-/// arguments, all of sort Bool, so truths that meet the clauses give each its value.
+/// The terms must be formulas, and the log one over the table. Negations that the clauses need come into the table. A subterm whose
+/// arguments are not all of sort Bool has no clauses: it is an atom. Where each root is in reach of the search, no subterm is such.
 ///
 /// Time and memory go in proportion to the greatest number of these terms and to the lengths of the clauses; but the rules `and_pos`
 /// and `or_neg` look for the argument that a clause has, so a term of n arguments costs in the order of n^2 comparisons of numbers.
@@ -67,11 +65,10 @@ pub fn clauses_of_all(
     log: &mut ProofLog,
     roots: &[TermId],
 ) -> Result<StepIds, NoMemory>
-    requires roots { AreIn table.old roots.now }
+    requires roots { AreFormulasIn table.old roots.now }
     requires log { IsLogOf table.old log.old }
     ensures clauses { IfOk result (λ list. HasClauses table.new log.new (clause_at table.old roots.now) list) }
     ensures made { IfOk result (AreAllMade log.old log.new) }
-    ensures formulas { OnOk result (AreFormulas (subterms_of (clause_at table.old roots.now))) }
     ensures grown { OnOk result (Grows roots.now table.old table.new log.old log.new) }
     ensures same { OnErr result ((table.new ≡ table.old) × (log.new ≡ log.old)) }
 {
@@ -94,11 +91,10 @@ fn stated_of(
     log: &mut ProofLog,
     roots: &[TermId],
 ) -> Result<StepIds, NoMemory>
-    requires roots { AreIn table.old roots.now }
+    requires roots { AreFormulasIn table.old roots.now }
     requires log { IsLogOf table.old log.old }
     ensures clauses { IfOk result (λ list. HasClauses table.new log.new (clause_at table.old roots.now) list) }
     ensures made { IfOk result (AreAllMade log.old log.new) }
-    ensures formulas { OnOk result (AreFormulas (subterms_of (clause_at table.old roots.now))) }
     ensures grows { Grows roots.now table.old table.new log.old log.new }
 {
     subterms_are_least();
@@ -116,7 +112,7 @@ fn assume_each(
     roots: &[TermId],
     steps: &mut Vec<StepId>,
 ) -> Result<(), NoMemory>
-    requires roots { AreIn table.now roots.now }
+    requires roots { AreFormulasIn table.now roots.now }
     requires log { IsLogOf table.now log.old }
     ensures grows { Grows roots.now table.now table.now log.old log.new }
     ensures tells { OnOk result (Tells (listed table.now log.old steps.old.items)
@@ -137,6 +133,7 @@ fn state_marked(
     steps: &mut Vec<StepId>,
 ) -> Result<(), NoMemory>
     requires short { length marks.now ≤ length table.old.terms }
+    requires sorted { All (IsWellSorted table.old.symbols []) (marked marks.now table.old.terms) }
     requires log { IsLogOf table.old log.old }
     ensures grows { Grows [] table.old table.new log.old log.new }
     ensures tells { OnOk result (Tells (listed table.old log.old steps.old.items)

@@ -1,37 +1,38 @@
 //! Terms that stand in a clause: a term or its negation, and those of its arguments.
 
 ghost use Rattle.std.specs.Prelude.{◌≡◌, ◌<◌, [], ◌∷◌, length, map, All, IfOk, MatchOption, slice_index_or};
-ghost use Rattle.spec_terms.specs.Terms.{negated};
-ghost use Rattle.spec_terms.specs.Theory.{no_term};
-ghost use Rattle.spec_terms.specs.Subsets.{arguments_of};
-ghost use Rattle.spec_proofs.specs.Schemes.{signed, side_of, innermost};
+ghost use Rattle.spec_sorts.specs.Terms.{negated, no_term};
+ghost use Rattle.spec_sorts.specs.Subsets.{arguments_of};
+ghost use Rattle.spec_sorts.specs.WellSorted.{IsFormulaOver};
+ghost use Rattle.spec_rules.specs.Schemes.{signed, side_of, innermost};
 ghost use Rattle.term_core.specs.Tables.{term_at, IsIn};
-ghost use Rattle.clausify.specs.Stating.{Names, NamesAll, Widens, HasPlaces, IsSingle, single};
+ghost use Rattle.rule_bool.specs.Schemes.{HasPlaces};
+ghost use Rattle.proof_log.specs.Logs.{IsFormulaIn};
+ghost use Rattle.clausify.specs.Stating.{ComesBefore, Names, NamesAll, Widens, IsSingle, single};
 
 use spec_proofs::{Rest, Side};
 use std::alloc::Global;
 use term_core::{Head, Node, TermId, TermTable};
 use world_io::NoMemory;
 
-/// Puts the negation of a term, or finds it.
+/// Puts the negation of a formula, or finds it.
 fn negation(alloc: Global, table: &mut TermTable, id: TermId) -> Result<TermId, NoMemory>
-    requires { IsIn table.old id }
+    requires { IsFormulaIn table.old id }
     ensures wider { Widens table.old table.new }
     ensures means { IfOk result (Names table.new (negated (term_at table.old id))) }
 {
-    table.all_terms_are_bool();
     let node = Node::new(alloc, Head::Not, &[id])?;
     table.put(node)
 }
 
-/// Gives a term as it stands, or puts its negation.
+/// Gives a formula as it stands, or puts its negation.
 pub(crate) fn signed(
     alloc: Global,
     table: &mut TermTable,
     id: TermId,
     positive: bool,
 ) -> Result<TermId, NoMemory>
-    requires { IsIn table.old id }
+    requires { IsFormulaIn table.old id }
     ensures wider { Widens table.old table.new }
     ensures means { IfOk result (Names table.new (signed positive (term_at table.old id))) }
 {
@@ -54,6 +55,7 @@ fn argument(table: &TermTable, id: TermId, place: usize) -> TermId
 /// Gives the argument of a place as it stands, or puts its negation.
 fn side(alloc: Global, table: &mut TermTable, id: TermId, side: Side) -> Result<TermId, NoMemory>
     requires there { IsIn table.old id }
+    requires arguments { All (IsFormulaOver table.old.symbols) (arguments_of (term_at table.old id)) }
     requires place { side.place < length (arguments_of (term_at table.old id)) }
     ensures wider { Widens table.old table.new }
     ensures means { IfOk result (Names table.new (side_of (arguments_of (term_at table.old id)) side)) }
@@ -78,7 +80,7 @@ pub(crate) fn with_rest(
     front: TermId,
     rest: Rest,
 ) -> Result<Vec<TermId>, NoMemory>
-    requires there { IsIn table.old id × IsIn table.old front }
+    requires there { ComesBefore table.old id front }
     requires places { HasPlaces (length (arguments_of (term_at table.old id))) rest }
     requires one { IsSingle rest }
     ensures wider { Widens table.old table.new }
@@ -103,7 +105,7 @@ fn with_sides(
     front: TermId,
     sides: &[Side],
 ) -> Result<Vec<TermId>, NoMemory>
-    requires there { IsIn table.old id × IsIn table.old front }
+    requires there { ComesBefore table.old id front }
     requires places { All (λ x. x.place < length (arguments_of (term_at table.old id))) sides.now }
     ensures wider { Widens table.old table.new }
     ensures means { IfOk result (λ v. NamesAll table.new
@@ -125,7 +127,7 @@ fn with_each(
     front: TermId,
     positive: bool,
 ) -> Result<Vec<TermId>, NoMemory>
-    requires { IsIn table.old id × IsIn table.old front }
+    requires { ComesBefore table.old id front }
     ensures wider { Widens table.old table.new }
     ensures means { IfOk result (λ v. NamesAll table.new
         (term_at table.old front ∷ map (signed positive) (arguments_of (term_at table.old id))) v.items) }

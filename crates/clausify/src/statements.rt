@@ -1,27 +1,30 @@
 //! The clauses of a term, stated by its rules without premises.
 
 ghost use Rattle.std.specs.Prelude.{List, [], ◌∷◌, length, map, Contains, OnOk};
-ghost use Rattle.spec_terms.specs.Terms.{Term};
-ghost use Rattle.spec_terms.specs.Subsets.{arguments_of};
-ghost use Rattle.spec_proofs.specs.Schemes.{signed, innermost, rests_of, clauses_by};
-ghost use Rattle.spec_proofs.specs.Rules.{IsRight};
-ghost use Rattle.spec_search.specs.Base.{clauses_of};
+ghost use Rattle.spec_sorts.specs.Terms.{Term};
+ghost use Rattle.spec_text.specs.Trees.{none};
+ghost use Rattle.spec_sorts.specs.Subsets.{arguments_of};
+ghost use Rattle.spec_sorts.specs.WellSorted.{IsWellSorted};
+ghost use Rattle.spec_rules.specs.Schemes.{signed, innermost, rests_of, clauses_by};
+ghost use Rattle.spec_rules.specs.Rules.{IsRight};
+ghost use Rattle.spec_derivations.specs.Base.{clauses_of};
 ghost use Rattle.term_core.specs.Tables.{term_at, IsIn};
+ghost use Rattle.rule_bool.specs.Schemes.{HasPlaces};
 ghost use Rattle.proof_log.specs.Logs.{IsLogOf};
-ghost use Rattle.clausify.specs.Clausified.{Grows};
-ghost use Rattle.clausify.specs.Stating.{listed, Tells, head_of, scheme_by, IsRuleOf, HasPlaces, IsSingle, single, before};
+ghost use Rattle.clausify.specs.HavingClauses.{Grows};
+ghost use Rattle.clausify.specs.Stating.{JoinsFormulas, ComesBefore, listed, Tells, head_of, scheme_by, IsRuleOf, IsSingle, single, before};
 
 use crate::head_rules::rules_of;
 use crate::signs::{argument_count, innermost, signed, with_rest};
 use crate::steps::state;
 use proof_log::{ProofLog, Rule, StepId};
-use rule_bool::scheme_of;
+use rule_bool::{are_formulas, scheme_of};
 use spec_proofs::{Rest, Side};
 use std::alloc::Global;
 use term_core::{TermId, TermTable};
 use world_io::NoMemory;
 
-/// States the clauses that a term gives by its rules without premises.
+/// States the clauses that a term gives by its rules without premises; it has none where an argument is not of sort Bool.
 pub(crate) fn state_term(
     alloc: Global,
     table: &mut TermTable,
@@ -30,12 +33,17 @@ pub(crate) fn state_term(
     id: TermId,
 ) -> Result<(), NoMemory>
     requires there { IsIn table.old id }
+    requires sorted { IsWellSorted table.old.symbols [] (term_at table.old id) }
     requires log { IsLogOf table.old log.old }
     ensures grows { Grows [] table.old table.new log.old log.new }
     ensures tells { OnOk result (Tells (listed table.old log.old steps.old.items)
         (listed table.new log.new steps.new.items) (clauses_of (term_at table.old id))) }
 {
-    let list = rules_of(table.node(id).head);
+    let node = table.node(id);
+    if !are_formulas(table, node.arguments.as_slice()) {
+        return Ok(());
+    }
+    let list = rules_of(node.head);
     'rules: for rule in list.iter() {
         state_scheme(alloc, table, log, steps, id, *rule)?;
     }
@@ -51,7 +59,7 @@ fn state_scheme(
     id: TermId,
     rule: Rule,
 ) -> Result<(), NoMemory>
-    requires there { IsIn table.old id }
+    requires there { JoinsFormulas table.old id }
     requires log { IsLogOf table.old log.old }
     requires rule { IsRuleOf (head_of (term_at table.old id)) rule }
     requires places { HasPlaces (length (arguments_of (term_at table.old id))) (scheme_by rule).rest }
@@ -60,7 +68,6 @@ fn state_scheme(
         (listed table.new log.new steps.new.items) (clauses_by (scheme_by rule) (term_at table.old id))) }
 {
     proof_log::laws::logs_stand_in_grown_tables();
-    table.all_terms_are_bool();
     let _ = table.node(id);
     let Some(scheme) = scheme_of(rule) else {
         unreachable!();
@@ -80,11 +87,11 @@ fn state_rests(
     rule: Rule,
     rest: Rest,
 ) -> Result<(), NoMemory>
-    requires there { IsIn table.old id × IsIn table.old front }
+    requires there { ComesBefore table.old id front }
     requires log { IsLogOf table.old log.old }
     requires places { HasPlaces (length (arguments_of (term_at table.old id))) rest }
     requires right { (ls : List Term) → Contains (rests_of rest (arguments_of (term_at table.old id))) ls
-        → IsRight rule [] (term_at table.old front ∷ ls) }
+        → IsRight rule [] none (term_at table.old front ∷ ls) }
     ensures grows { Grows [] table.old table.new log.old log.new }
     ensures tells { OnOk result (Tells (listed table.old log.old steps.old.items)
         (listed table.new log.new steps.new.items)
@@ -108,11 +115,12 @@ fn state_single(
     rule: Rule,
     rest: Rest,
 ) -> Result<(), NoMemory>
-    requires there { IsIn table.old id × IsIn table.old front }
+    requires there { ComesBefore table.old id front }
     requires log { IsLogOf table.old log.old }
     requires places { HasPlaces (length (arguments_of (term_at table.old id))) rest }
     requires one { IsSingle rest }
-    requires right { IsRight rule [] (term_at table.old front ∷ single rest (arguments_of (term_at table.old id))) }
+    requires right { IsRight rule [] none
+        (term_at table.old front ∷ single rest (arguments_of (term_at table.old id))) }
     ensures grows { Grows [] table.old table.new log.old log.new }
     ensures tells { OnOk result (Tells (listed table.old log.old steps.old.items)
         (listed table.new log.new steps.new.items)
@@ -133,10 +141,10 @@ fn state_innermost(
     front: TermId,
     rule: Rule,
 ) -> Result<(), NoMemory>
-    requires there { IsIn table.now id × IsIn table.now front }
+    requires there { ComesBefore table.now id front }
     requires log { IsLogOf table.now log.old }
     requires right { (ls : List Term) → Contains (innermost (arguments_of (term_at table.now id))) ls
-        → IsRight rule [] (term_at table.now front ∷ ls) }
+        → IsRight rule [] none (term_at table.now front ∷ ls) }
     ensures grows { Grows [] table.now table.now log.old log.new }
     ensures tells { OnOk result (Tells (listed table.now log.old steps.old.items)
         (listed table.now log.new steps.new.items)
@@ -163,10 +171,10 @@ fn state_any(
     rule: Rule,
     positive: bool,
 ) -> Result<(), NoMemory>
-    requires there { IsIn table.old id × IsIn table.old front }
+    requires there { ComesBefore table.old id front }
     requires log { IsLogOf table.old log.old }
     requires right { (u : Term) → Contains (arguments_of (term_at table.old id)) u
-        → IsRight rule [] (term_at table.old front ∷ signed positive u ∷ []) }
+        → IsRight rule [] none (term_at table.old front ∷ signed positive u ∷ []) }
     ensures grows { Grows [] table.old table.new log.old log.new }
     ensures tells { OnOk result (Tells (listed table.old log.old steps.old.items)
         (listed table.new log.new steps.new.items)

@@ -3,7 +3,7 @@ use Rattle.std.proofs.Common.{◌≡◌, ℕ, ◌<◌, ◌≤◌, Bool, true, fa
 use Rattle.std.proofs.lemmas.List.{length-set, get_or-set_same, get_or-set_other}
 use Rattle.std.proofs.lemmas.List.Elements.{Contains-push, Contains-push_cases, Contains-append_left}
 use Rattle.spec_text.proofs.Members.{none}
-use Rattle.spec_terms.specs.Literals.{Literal}
+use Rattle.spec_sorts.specs.Literals.{Literal}
 use Rattle.term_core.specs.declared.ids.Lit.{Lit}
 use Rattle.term_core.specs.Tables.{TableView, IsIn, AreDifferent, literal_at}
 use Rattle.rule_bool.proofs.Resolvents.{literals_apart}

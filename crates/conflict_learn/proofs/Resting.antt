@@ -1,14 +1,14 @@
 -- What a conflict rests on, where it was followed back to the end.
 use Rattle.std.proofs.Common.{◌≡◌, ℕ, zero, suc, ◌<◌, ◌≤◌, Bool, List, length, map, get_or, Contains, Option, Some, None, refl, sym, ap, ◌∙◌, subst, arith}
 use Rattle.spec_text.proofs.Members.{to_image}
-use Rattle.spec_terms.specs.Literals.{Literal, complement}
+use Rattle.spec_sorts.specs.Literals.{Literal, complement}
 use Rattle.spec_proofs.specs.Resolution.{Derives, given, unit, false_clause, Resolves}
 use Rattle.term_core.specs.declared.ids.Lit.{Lit}
 use Rattle.term_core.specs.Tables.{IsIn, literal_at}
 use Rattle.rule_bool.specs.Literals.{lit_complement}
 use Rattle.rule_bool.proofs.LiteralLists.{negation_twice}
 use Rattle.proof_log.specs.declared.premises.StepId.{StepId}
-use Rattle.proof_log.specs.Logs.{named, logged_at}
+use Rattle.proof_log.specs.Logs.{named, no_logged, logged_at, IsLogOf}
 use Rattle.sat_trail.specs.Trails.{no_lit, AreApart, IsLeveled}
 use Rattle.conflict_learn.specs.Conflicts.{Conflict, step_of, literals_in, HasLit, IsClash, AreReasons, IsNeeded, by_clash, by_reason, IsConflictLevel}
 use Rattle.conflict_learn.specs.Analyses.{IsMarked, IsMarkedAt, RestsAt, IsBare}
@@ -35,10 +35,12 @@ module _ (c : Conflict) (once : AreApart c.trail.literals) (leveled : IsLeveled 
       let rises : get_or c.trail.levels k.0 0 ≤ get_or c.trail.levels p 0 = leveled.rising k.0 p k.1 lt in
       (k.0, k.2, k.3, omega (arith, le, rises))
 
-  -- and of terms of the table that are no negations
-  pub needed_bare : (l : Lit) → IsNeeded c l → IsBare c.table l
-  needed_bare _ (by_clash m has) = let h = bare_in c.table (named (logged_at c.log c.clash)) m has.in_table has.there in record { there = h.there; bare = h.bare }
-  needed_bare _ (by_reason p r m lt reason needed has ne) = let h = bare_in c.table (named (logged_at c.log (step_of r))) m has.in_table has.there in record { there = h.there; bare = h.bare }
+  -- and of formulas of the table that are no negations
+  pub needed_bare : IsLogOf c.table c.log → (l : Lit) → IsNeeded c l → IsBare c.table l
+  needed_bare right _ (by_clash m has) = let h = bare_in c.table (named (logged_at c.log c.clash)) (right.formulas c.clash.0 no_logged clash.in_log) m has.in_table has.there in record { there = h.there; formula = h.formula; bare = h.bare }
+  needed_bare right _ (by_reason p r m lt reason needed has ne) =
+      let h = bare_in c.table (named (logged_at c.log (step_of r))) (right.formulas r no_logged (reasons p r lt reason).in_log) m has.in_table has.there in
+      record { there = h.there; formula = h.formula; bare = h.bare }
 
   module _ (marks : List Bool) (premises : List StepId) (r : RestsAt c 0 marks premises) where
     -- so it is with what is marked
@@ -48,8 +50,8 @@ module _ (c : Conflict) (once : AreApart c.trail.literals) (leveled : IsLeveled 
         let same : h.0 ≡ p = same_place c.trail once h.0 p h.1 lt (ap (λ (x : Lit). x.term.0) h.2) in
         subst (λ (q : ℕ). get_or c.trail.levels q 0 ≤ n) same h.3
 
-    pub marked_bare : (p : ℕ) → p < length held → IsMarkedAt c.trail marks p → IsBare c.table (at_place p)
-    marked_bare p lt m = needed_bare (at_place p) (r.needed p lt m)
+    pub marked_bare : IsLogOf c.table c.log → (p : ℕ) → p < length held → IsMarkedAt c.trail marks p → IsBare c.table (at_place p)
+    marked_bare right p lt m = needed_bare right (at_place p) (r.needed p lt m)
 
     -- a literal of the clash is marked at its place
     pub clash_place : (m : Lit) → IsIn c.table m.term → IsMarked marks m.term.0 → (p : ℕ) → at_place p ≡ lit_complement m → IsMarkedAt c.trail marks p

@@ -5,19 +5,23 @@ use Rattle.std.proofs.lemmas.List.Elements.{All-push}
 use Rattle.std.specs.Prelude.{Result, Ok, Err, IfOk}
 use Rattle.std.proofs.Math.Seq.{take-append_seam}
 use Rattle.spec_text.proofs.Members.{to_image}
-use Rattle.spec_terms.specs.Terms.{Term, negated}
-use Rattle.spec_terms.specs.Literals.{Clause, Literal, literal_of, literals_of, complement}
-use Rattle.spec_proofs.specs.Clauses.{IsResolvent}
+use Rattle.spec_text.specs.Trees.{none}
+use Rattle.spec_sorts.specs.Terms.{Term, negated}
+use Rattle.spec_sorts.specs.Literals.{Clause, Literal, literal_of, literals_of, complement}
+use Rattle.spec_rules.specs.Clauses.{IsResolvent}
 use Rattle.spec_proofs.specs.declared.Rule.TheVariants.{Resolution}
-use Rattle.spec_search.specs.Derivations.{by_rule, FollowsFrom}
+use Rattle.spec_derivations.specs.Derivations.{by_rule, FollowsFrom}
 use Rattle.world_io.specs.declared.bytes.NoMemory.{NoMemory}
 use Rattle.term_core.specs.declared.ids.TermId.{TermId}
 use Rattle.term_core.specs.declared.ids.Lit.{Lit}
-use Rattle.term_core.specs.Tables.{TableView, IsIn, term_at, literal_at, clause_at, positive_literal, Extends}
-use Rattle.term_core.proofs.TermsExtend.{Extends-self, IsIn-kept, term_at-kept, literal_at-kept, AreIn-kept, clause_at-kept}
+use Rattle.term_core.specs.Symbols.{SymbolsView}
+use Rattle.term_core.specs.Tables.{TableView, IsIn, declared_in, term_at, literal_at, clause_at, positive_literal, Extends}
+use Rattle.term_core.proofs.TermsExtend.{Extends-self, term_at-kept, literal_at-kept, clause_at-kept}
 use Rattle.proof_log.specs.declared.premises.StepId.{StepId}
-use Rattle.proof_log.specs.Logs.{Logged, named, logged_at, AreOf, clauses_in, numbers_of, derivation_in}
+use Rattle.proof_log.specs.Logs.{IsFormulaIn, Logged, named, logged_at, AreOf, clauses_in, numbers_of, derivation_in}
 use Rattle.proof_log.proofs.Logged.{numbers_there, premises_there}
+use Rattle.clausify.specs.Stating.{Widens}
+use Rattle.clausify.proofs.Parts.{formula_kept, signed_in}
 use Rattle.conflict_learn.specs.Conflicts.{literals_in}
 use Rattle.conflict_learn.specs.Analyses.{IsBare, States, StateAll}
 
@@ -28,37 +32,38 @@ negated_literal u = refl
 
 -- a term that is no negation states its literal
 pub states_own : (t : TableView) (l : Lit) → IsBare t l → l.positive ≡ true → States t (literal_at t l) l.term
-states_own t l b e = (b.there, b.bare ∙ ap (λ (p : Bool). let x : Literal = record { atom = term_at t l.term; positive = p } in x) (sym e))
+states_own t l b e = ((b.there, b.formula), b.bare ∙ ap (λ (p : Bool). let x : Literal = record { atom = term_at t l.term; positive = p } in x) (sym e))
 
 -- and its negation the complement
-pub states_negation : (t u : TableView) (l : Lit) (id : TermId) → IsBare t l → l.positive ≡ false → IsIn u id → term_at u id ≡ negated (term_at t l.term) → States u (literal_at t l) id
-states_negation t u l id b e there is = (
-  there,
+pub states_negation : (t u : TableView) → Widens t u → (l : Lit) (id : TermId) → IsBare t l → l.positive ≡ false → IsIn u id → term_at u id ≡ negated (term_at t l.term) → States u (literal_at t l) id
+states_negation t u wider l id b e there is = (
+  signed_in t u wider false l.term id (b.there, b.formula) there is,
   ap literal_of is ∙ negated_literal (term_at t l.term) ∙ ap complement b.bare ∙ ap (λ (p : Bool). let x : Literal = record { atom = term_at t l.term; positive = p } in x) (sym e),
 )
 
 -- as a call puts it, where it does
-pub states_put : (t u : TableView) (l : Lit) → IsBare t l → l.positive ≡ false → (r : Result TermId NoMemory) → IfOk r (λ id. IsIn u id × (term_at u id ≡ negated (term_at t l.term))) → IfOk r (States u (literal_at t l))
-states_put t u l b e (Ok id) h = states_negation t u l id b e h.0 h.1
-states_put t u l b e (Err x) h = tt
+pub states_put : (t u : TableView) → Widens t u → (l : Lit) → IsBare t l → l.positive ≡ false → (r : Result TermId NoMemory) → IfOk r (λ id. IsIn u id × (term_at u id ≡ negated (term_at t l.term))) → IfOk r (States u (literal_at t l))
+states_put t u wider l b e (Ok id) h = states_negation t u wider l id b e h.0 h.1
+states_put t u wider l b e (Err x) h = tt
 
 -- in a table that has grown too
-pub bare_kept : (t u : TableView) → Extends t u → (l : Lit) → IsBare t l → IsBare u l
-bare_kept t u more l b =
-    let same = term_at-kept t u more l.term b.there in
-    record { there = IsIn-kept t u more l.term b.there; bare = subst (λ (x : Term). literal_of x ≡ positive_literal x) (sym same) b.bare }
+pub bare_kept : (t u : TableView) → Widens t u → (l : Lit) → IsBare t l → IsBare u l
+bare_kept t u wider l b =
+    let same = term_at-kept t u wider.terms l.term b.there in
+    let f = formula_kept t u wider l.term (b.there, b.formula) in
+    record { there = f.0; formula = f.1; bare = subst (λ (x : Term). literal_of x ≡ positive_literal x) (sym same) b.bare }
 
 -- one literal more
-pub states_more : (t u w : TableView) (clause : List Lit) (i : ℕ) (d : Lit) (ids : List TermId) (id : TermId) → i < length clause → Extends t u → Extends u w → IsIn t (get_or clause i d).term
+pub states_more : (t u w : TableView) (clause : List Lit) (i : ℕ) (d : Lit) (ids : List TermId) (id : TermId) → i < length clause → Extends t u → Widens u w → IsIn t (get_or clause i d).term
     → StateAll u (map (literal_at t) (take i clause)) ids → States w (literal_at u (get_or clause i d)) id → StateAll w (map (literal_at t) (take (i + 1) clause)) (ids ++ id ∷ [])
 states_more t u w clause i d ids id lt more later there h one = (
-  All-push (IsIn w) ids id (AreIn-kept u w later ids h.0) one.0,
+  All-push (IsFormulaIn w) ids id (λ k e small. formula_kept u w later (get_or ids k e) (h.0 k e small)) one.0,
   ap literals_of (map-append (term_at w) ids (id ∷ [])) ∙ map-append literal_of (clause_at w ids) (term_at w id ∷ [])
       ∙ (λ j. before j ++ last j ∷ []) ∙ sym (map_more (literal_at t) clause i d lt),
 )
   where
     before : literals_of (clause_at w ids) ≡ map (literal_at t) (take i clause)
-    before = ap literals_of (clause_at-kept u w later ids h.0) ∙ h.1
+    before = ap literals_of (clause_at-kept u w later.terms ids (λ k e small. (h.0 k e small).0)) ∙ h.1
 
     last : literal_of (term_at w id) ≡ literal_at t (get_or clause i d)
     last = one.1 ∙ literal_at-kept t u more (get_or clause i d) there
@@ -73,13 +78,14 @@ module _ (t : TableView) (log : List Logged) (premises : List StepId) (there : A
       (to_image (clause_at t) (clauses_in log premises) (named (logged_at log s)) (to_image (λ (x : StepId). named (logged_at log x)) premises s i))
 
   -- what is resolved from them follows
-  pub step_follows : (clause : Clause) → IsResolvent (map (clause_at t) (clauses_in log premises)) clause → FollowsFrom (derivation_in t log) (by_rule Resolution (numbers_of premises) clause)
+  pub step_follows : (clause : Clause) → IsResolvent (map (clause_at t) (clauses_in log premises)) clause → FollowsFrom (derivation_in t log) (by_rule Resolution (numbers_of premises) none clause)
   step_follows clause right = (numbers_there t log premises there, subst (λ (cs : List Clause). IsResolvent cs clause) (sym (premises_there t log premises there)) right)
 
 -- a table that is cut back is as it was
-pub cut_back : (t u v : TableView) (n : ℕ) → n ≡ length t.terms → Extends t u → u.symbols ≡ t.symbols → v.terms ≡ take n u.terms → v.symbols ≡ u.symbols → v ≡ t
-cut_back t u v n len more symbols cut kept = λ i. record {
-  symbols = (kept ∙ symbols) i;
+pub cut_back : (t u v : TableView) (n : ℕ) → n ≡ length t.terms → Extends t u → declared_in u ≡ declared_in t → v.terms ≡ take n u.terms → declared_in v ≡ declared_in u → v ≡ t
+cut_back t u v n len more declared cut kept = λ i. record {
+  sorts = ap (λ (d : SymbolsView). d.sorts) (kept ∙ declared) i;
+  symbols = ap (λ (d : SymbolsView). d.symbols) (kept ∙ declared) i;
   terms = (cut ∙ ap (λ (k : ℕ). take k u.terms) len ∙ ap (take (length t.terms)) more.terms ∙ take-append_seam t.terms more.more_terms) i;
 }
 

@@ -1,12 +1,13 @@
 -- How far a conflict was followed back, what is marked on the way, and the clause that is drawn from the marks.
 use Rattle.std.specs.Prelude.{◌≡◌, ◌≢◌, ◌⊎◌, ◌<◌, ◌≤◌, ℕ, Bool, true, false, List, length, get_or, Contains, Some, None}
-use Rattle.spec_terms.specs.Literals.{Literal, literal_of, literals_of}
+use Rattle.spec_sorts.specs.WellSorted.{IsFormulaOver}
+use Rattle.spec_sorts.specs.Literals.{Literal, literal_of, literals_of}
 use Rattle.term_core.specs.declared.ids.TermId.{TermId}
 use Rattle.term_core.specs.declared.ids.Lit.{Lit}
-use Rattle.term_core.specs.Tables.{TableView, IsIn, AreIn, term_at, literal_at, clause_at, positive_literal}
+use Rattle.term_core.specs.Tables.{TableView, IsIn, term_at, literal_at, clause_at, positive_literal}
 use Rattle.rule_bool.specs.Literals.{lit_complement}
 use Rattle.proof_log.specs.declared.premises.StepId.{StepId}
-use Rattle.proof_log.specs.Logs.{AreOf}
+use Rattle.proof_log.specs.Logs.{AreOf, IsFormulaIn, AreFormulasIn}
 use Rattle.sat_trail.specs.Trails.{TrailView, no_lit}
 use Rattle.conflict_learn.specs.Conflicts.{Conflict, step_of, literals_in, IsFalseAt, IsNeeded, IsPremise}
 use Rattle.conflict_learn.specs.declared.analysis.Analysis.{Analysis}
@@ -122,17 +123,19 @@ pub record DrawsAt (s : Source) (k : ℕ) (clause : List Lit) (level : ℕ) : Ty
 abbrev pub HasDrawn : Source → ℕ → Drawn → Type 0
 HasDrawn s k d = DrawsAt s k d.literals.items d.level
 
--- A literal's term is one of the table's and no negation.
+-- A literal's term is a formula of the table's and no negation.
 pub record IsBare (t : TableView) (l : Lit) : Type 0 where
   -- it is there
   pub there : IsIn t l.term
+  -- it is a formula over the symbols
+  pub formula : IsFormulaOver t.symbols (term_at t l.term)
   -- it is no negation
   pub bare : literal_of (term_at t l.term) ≡ positive_literal (term_at t l.term)
 
--- the number is one of the table's, and its term states the literal
+-- the number is that of a formula of the table, which states the literal
 abbrev pub States : TableView → Literal → TermId → Type 0
-States t x id = IsIn t id × (literal_of (term_at t id) ≡ x)
+States t x id = IsFormulaIn t id × (literal_of (term_at t id) ≡ x)
 
--- the numbers are the table's, and their terms state the literals
+-- the numbers are those of formulas of the table, which state the literals
 abbrev pub StateAll : TableView → List Literal → List TermId → Type 0
-StateAll t xs ids = AreIn t ids × (literals_of (clause_at t ids) ≡ xs)
+StateAll t xs ids = AreFormulasIn t ids × (literals_of (clause_at t ids) ≡ xs)

@@ -1,6 +1,6 @@
 -- Clashes and reasons: steps of a log whose clauses are false under a trail, or were unit.
 use Rattle.std.specs.Prelude.{◌≡◌, ◌≢◌, ◌⊎◌, ◌<◌, ◌≤◌, ℕ, List, length, take, get_or, Contains, Some, None}
-use Rattle.spec_terms.specs.Literals.{Literal, literals_of}
+use Rattle.spec_sorts.specs.Literals.{Literal, literals_of}
 use Rattle.term_core.specs.declared.ids.Lit.{Lit}
 use Rattle.term_core.specs.Tables.{TableView, IsIn, clause_at, literal_at}
 use Rattle.rule_bool.specs.Literals.{lit_complement}

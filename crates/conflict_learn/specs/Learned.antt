@@ -5,7 +5,7 @@ use Rattle.world_io.specs.declared.bytes.NoMemory.{NoMemory}
 use Rattle.term_core.specs.declared.ids.TermId.{TermId}
 use Rattle.term_core.specs.declared.ids.Lit.{Lit}
 use Rattle.term_core.specs.Tables.{TableView, clause_at}
-use Rattle.rule_bool.specs.Resolvents.{Means}
+use Rattle.rule_bool.specs.Literals.{Means}
 use Rattle.proof_log.specs.declared.premises.StepId.{StepId}
 use Rattle.proof_log.specs.Logs.{Logged, stepped, IsLogOf}
 use Rattle.sat_trail.specs.Trails.{TrailView}
@@ -21,7 +21,7 @@ pub record IsLogged (c : Conflict) (t : TableView) (new : List Logged) (clause :
   -- and the terms that state the clause
   pub terms : List TermId
   -- it stands last
-  pub last : new ≡ c.log ++ stepped Resolution premises terms ∷ []
+  pub last : new ≡ c.log ++ stepped Resolution premises [] terms ∷ []
   -- with it, the log is right
   pub right : IsLogOf t new
   -- the terms state the clause

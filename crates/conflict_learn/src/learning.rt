@@ -1,7 +1,7 @@
 //! Learning from a conflict.
 
 ghost use Rattle.std.specs.Prelude.{◌≡◌, IfOk, OnErr};
-ghost use Rattle.term_core.specs.Tables.{Extends};
+ghost use Rattle.term_core.specs.Tables.{declared_in, Extends};
 ghost use Rattle.proof_log.specs.Logs.{IsLogOf};
 ghost use Rattle.conflict_learn.specs.Conflicts.{IsClash, AreReasons, IsAboveZero, IsOfZero};
 ghost use Rattle.conflict_learn.specs.Learned.{IsLearned, Refutes};
@@ -40,7 +40,7 @@ pub fn learn(
     requires above { IsAboveZero (record { table = table.old; log = log.old; trail = trail.now; clash = clash }) }
     requires reasons { AreReasons table.old log.old trail.now }
     ensures grown { Extends table.old table.new }
-    ensures symbols { table.new.symbols ≡ table.old.symbols }
+    ensures declared { declared_in table.new ≡ declared_in table.old }
     ensures learned { IfOk result (IsLearned
         (record { table = table.old; log = log.old; trail = trail.now; clash = clash }) table.new log.new) }
     ensures table { OnErr result (table.new ≡ table.old) }
@@ -69,7 +69,7 @@ fn learned(
     requires above { IsAboveZero (record { table = table.old; log = log.old; trail = trail.now; clash = clash }) }
     requires reasons { AreReasons table.old log.old trail.now }
     ensures grown { Extends table.old table.new }
-    ensures symbols { table.new.symbols ≡ table.old.symbols }
+    ensures declared { declared_in table.new ≡ declared_in table.old }
     ensures learned { IfOk result (IsLearned
         (record { table = table.old; log = log.old; trail = trail.now; clash = clash }) table.new log.new) }
     ensures log { OnErr result (log.new ≡ log.old) }
@@ -84,7 +84,7 @@ fn learned(
     };
     let drawn = draw(alloc, trail, &analysis.marks, level, negated(oldest))?;
     let terms = terms_of(alloc, table, &drawn.literals)?;
-    let step = log_step(table, log, analysis.premises, terms)?;
+    let step = log_step(alloc, table, log, analysis.premises, terms)?;
     Ok(Learned {
         clause: Lits::from(drawn.literals),
         step,
@@ -116,5 +116,5 @@ pub fn refute(
 {
     trail.is_sound();
     let analysis = analyze(alloc, table, trail, log, clash)?;
-    log_step(table, log, analysis.premises, Vec::new(alloc))
+    log_step(alloc, table, log, analysis.premises, Vec::new(alloc))
 }

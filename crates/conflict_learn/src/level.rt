@@ -1,7 +1,7 @@
 //! Levels of conflicts.
 
 ghost use Rattle.std.specs.Prelude.{◌++◌, ◌∷◌, [], List, Contains};
-ghost use Rattle.spec_terms.specs.Literals.{Literal};
+ghost use Rattle.spec_sorts.specs.Literals.{Literal};
 ghost use Rattle.term_core.specs.Tables.{TableView, IsIn, AreDifferent, literal_at};
 ghost use Rattle.rule_bool.specs.Literals.{lit_complement};
 ghost use Rattle.proof_log.specs.Logs.{IsLogOf};

@@ -1,7 +1,7 @@
 //! Marks by variable.
 
 ghost use Rattle.std.specs.Prelude.{◌<◌, length, Contains};
-ghost use Rattle.spec_terms.specs.Literals.{literals_of};
+ghost use Rattle.spec_sorts.specs.Literals.{literals_of};
 ghost use Rattle.term_core.specs.declared.ids.Lit.{Lit};
 ghost use Rattle.term_core.specs.Tables.{IsIn, AreIn, clause_at, literal_at};
 ghost use Rattle.conflict_learn.specs.Analyses.{Marks};

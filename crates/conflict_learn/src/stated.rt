@@ -1,28 +1,28 @@
 //! The step of a learned clause.
 
-ghost use Rattle.std.specs.Prelude.{◌≡◌, map, All, IfOk, MatchResult};
-ghost use Rattle.spec_terms.specs.Terms.{negated};
+ghost use Rattle.std.specs.Prelude.{◌≡◌, [], map, All, IfOk, MatchResult};
+ghost use Rattle.spec_sorts.specs.Terms.{negated};
 ghost use Rattle.spec_proofs.specs.declared.Rule.TheVariants.{Resolution};
-ghost use Rattle.spec_search.specs.Derivations.{FollowsFrom};
-ghost use Rattle.term_core.specs.Tables.{IsIn, AreIn, term_at, literal_at, Extends};
-ghost use Rattle.proof_log.specs.Logs.{stepped, inference_of, derivation_in, IsLogOf};
+ghost use Rattle.spec_derivations.specs.Derivations.{FollowsFrom};
+ghost use Rattle.term_core.specs.Tables.{IsIn, declared_in, term_at, literal_at, Extends};
+ghost use Rattle.proof_log.specs.Logs.{IsFormulaIn, AreFormulasIn, stepped, inference_of, derivation_in, IsLogOf};
 ghost use Rattle.proof_log.specs.Adding.{IsAdded};
 ghost use Rattle.conflict_learn.specs.Analyses.{IsBare, States, StateAll};
 
-use proof_log::{Clause, LogFault, ProofLog, Rule, Step, StepId, StepIds};
+use proof_log::{Clause, LogFault, Numbers, ProofLog, Rule, Step, StepId, StepIds};
+use spec_rules::laws::wide_steps_are_not_right;
 use std::alloc::Global;
 use term_core::{Head, Lit, Node, TermId, TermTable};
 use world_io::NoMemory;
 
-/// Gives the negation of a term, which is put where it is not there.
+/// Gives the negation of a formula, which is put where it is not there.
 fn negation(alloc: Global, table: &mut TermTable, id: TermId) -> Result<TermId, NoMemory>
-    requires { IsIn table.old id }
+    requires { IsFormulaIn table.old id }
     ensures grown { Extends table.old table.new }
-    ensures symbols { table.new.symbols ≡ table.old.symbols }
+    ensures declared { declared_in table.new ≡ declared_in table.old }
     ensures means { IfOk result (λ n. IsIn table.new n
         × (term_at table.new n ≡ negated (term_at table.old id))) }
 {
-    table.all_terms_are_bool();
     let node = Node::new(alloc, Head::Not, &[id])?;
     table.put(node)
 }
@@ -31,7 +31,7 @@ fn negation(alloc: Global, table: &mut TermTable, id: TermId) -> Result<TermId, 
 fn term_of(alloc: Global, table: &mut TermTable, l: Lit) -> Result<TermId, NoMemory>
     requires { IsBare table.old l }
     ensures grown { Extends table.old table.new }
-    ensures symbols { table.new.symbols ≡ table.old.symbols }
+    ensures declared { declared_in table.new ≡ declared_in table.old }
     ensures states { IfOk result (States table.new (literal_at table.old l)) }
 {
     if l.positive {
@@ -48,7 +48,7 @@ pub(crate) fn terms_of(
 ) -> Result<Vec<TermId>, NoMemory>
     requires { All (IsBare table.old) clause.now }
     ensures grown { Extends table.old table.new }
-    ensures symbols { table.new.symbols ≡ table.old.symbols }
+    ensures declared { declared_in table.new ≡ declared_in table.old }
     ensures states { IfOk result (λ terms. StateAll table.new (map (literal_at table.old) clause.now) terms.items) }
 {
     let mut terms = Vec::new(alloc);
@@ -61,27 +61,31 @@ pub(crate) fn terms_of(
 
 /// Logs a clause as a step by `resolution`.
 pub(crate) fn log_step(
+    alloc: Global,
     table: &TermTable,
     log: &mut ProofLog,
     premises: Vec<StepId>,
     clause: Vec<TermId>,
 ) -> Result<StepId, NoMemory>
     requires log { IsLogOf table.now log.old }
-    requires clause { AreIn table.now clause.items }
+    requires clause { AreFormulasIn table.now clause.items }
     requires follows { FollowsFrom (derivation_in table.now log.old)
-        (inference_of table.now (stepped Resolution premises.items clause.items)) }
+        (inference_of table.now (stepped Resolution premises.items [] clause.items)) }
     ensures { MatchResult result
-        (λ id. IsAdded table.now log.old (stepped Resolution premises.items clause.items) id log.new)
+        (λ id. IsAdded table.now log.old (stepped Resolution premises.items [] clause.items) id log.new)
         (λ _. log.new ≡ log.old) }
 {
+    wide_steps_are_not_right();
     let step = Step {
         rule: Rule::Resolution,
         premises: StepIds::from(premises),
+        arguments: Numbers::from(Vec::new(alloc)),
         clause: Clause::from(clause),
     };
     match log.add(table, step) {
         Ok(number) => Ok(number),
         Err(LogFault::RuleFails) => unreachable!(),
+        Err(LogFault::Wide) => unreachable!(),
         Err(LogFault::Memory) => Err(NoMemory),
     }
 }

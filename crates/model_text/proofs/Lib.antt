@@ -1,2 +1,4 @@
--- Lemmas of this crate.
+-- Lemmas on the texts of models.
+pub mod Numbers
 pub mod Texts
+pub mod Loops

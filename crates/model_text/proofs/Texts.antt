@@ -1,68 +1,95 @@
--- Texts of models as they are written, piece by piece.
-use Rattle.std.proofs.Common.{◌≡◌, ℕ, suc, ◌+◌, ◌≤◌, ◌<◌, List, [], ◌∷◌, ◌++◌, length, drop, get_or, refl, sym, ap, ◌∙◌, subst, arith}
-use Rattle.std.specs.Prelude.{codes, slice_index_or, flat_map}
-use Rattle.std.proofs.lemmas.List.{get_or-map, drop_more, drop_all, length-map}
-use Rattle.spec_text.specs.Bytes.{Name}
-use Rattle.spec_terms.specs.Terms.{Symbol}
-use Rattle.spec_terms.specs.Values.{Value, Table, Interpretation, IsTableOf, Interprets}
+-- The texts of values, sorts and definitions, piece by piece.
+use Rattle.std.proofs.Common.{◌≡◌, ℕ, suc, ◌<◌, List, [], ◌∷◌, ◌++◌, length, flat_map, refl, sym, ap, ◌∙◌, append_assoc, append-nil, arith}
+use Rattle.std.specs.Prelude.{codes}
+use Rattle.spec_text.specs.Printed.{printed, printed_all, printed_symbol}
+use Rattle.spec_text.specs.Trees.{Tree}
+use Rattle.spec_sorts.specs.Terms.{Sort, Symbol}
+use Rattle.spec_sorts.specs.Values.{Value, Row, Table}
+use Rattle.spec_models.specs.Values.{numeral, trees_of, in_list, word_tree, sort_tree, value_tree, value_text}
+use Rattle.spec_models.specs.Models.{parameter, parameters_from, parameter_trees, equality_tree, equality_trees, condition_tree, body_tree, body_front, body_back, definition_tree, indented}
 use Rattle.world_io.specs.Writing.{SinkView}
-use Rattle.world_io.proofs.Chains.{IsSending, start, joined}
-use Rattle.spec_replies.specs.Values.{name_text, value_text}
-use Rattle.spec_replies.proofs.Lines.{line_pieces, bare_table}
-use Rattle.spec_replies.specs.Models.{definition_tree, definition_line, indented, model_text}
-use Rattle.term_core.specs.declared.values.Table.{Table as CodeTable}
-use Rattle.term_core.specs.declared.values.Interp.{Interp}
-use Rattle.term_core.specs.Tables.{truth_symbol, no_symbol, AreTruths}
-use Rattle.term_core.specs.Valuations.{value_meant, table_meant, tables_meant, no_table, Stands, HasTables}
-use Rattle.model_text.specs.Lines.{constant_line, default_lines, default_text}
+use Rattle.world_io.proofs.Chains.{IsSending, joined, start}
+use Rattle.model_text.specs.Lines.{gap, parameter_text, parameters_listed, equalities_listed, row_front, lines_by, text_by}
 
--- the pieces of a line, before the first
-pub line_begun : (n : Name) (v : Value) (a : SinkView) → IsSending (constant_line n v) (codes "  (define-fun " ∷ name_text n ∷ codes " () Bool " ∷ value_text v ∷ codes ")\n" ∷ []) a a
-line_begun n v a = start _ _ a (sym (line_pieces n v))
+-- trees, each after a space
+abbrev spaced : List Tree → List ℕ
+spaced ts = flat_map (λ t. 32 ∷ printed t) ts
 
--- the pieces of a model, before the first
-pub model_begun : (ss : List Symbol) (ts : List Table) (a : SinkView) → IsSending (default_text ss ts) (codes "(\n" ∷ joined (default_lines ss ts) ∷ codes ")\n" ∷ []) a a
-model_begun ss ts a = start _ _ a refl
+printed_row : (t : Tree) (ts : List Tree) → printed_all (trees_of (t ∷ ts)) ≡ printed t ++ spaced ts
+printed_row t [] = sym (append-nil (printed t))
+printed_row t (u ∷ us) = ap (λ r. printed t ++ 32 ∷ r) (printed_row u us)
 
--- the lines from a number on are its own and the others
-lines_from : (ss : List Symbol) (ts : List Table) (k : ℕ) (n : Name) (v : Value) → k < length ss → k < length ts → n ≡ (get_or ss k no_symbol).name → v ≡ (get_or ts k no_table).default → default_lines (drop k ss) (drop k ts) ≡ constant_line n v ∷ default_lines (drop (k + 1) ss) (drop (k + 1) ts)
-lines_from ss ts k n v l m named valued =
-    ap (λ xs. default_lines xs (drop k ts)) (drop_more ss k no_symbol l)
-    ∙ ap (λ ys. default_lines (get_or ss k no_symbol ∷ drop (k + 1) ss) ys) (drop_more ts k no_table m)
-    ∙ ap (λ x. constant_line x (get_or ts k no_table).default ∷ default_lines (drop (k + 1) ss) (drop (k + 1) ts)) (sym named)
-    ∙ ap (λ x. constant_line n x ∷ default_lines (drop (k + 1) ss) (drop (k + 1) ts)) (sym valued)
+-- parameters after the first
+later_parameters : (k : ℕ) (ss : List Sort) → spaced (parameter_trees (parameters_from (suc k) ss)) ≡ parameters_listed (suc k) ss
+later_parameters k [] = refl
+later_parameters k (s ∷ ss) = ap (λ r. 32 ∷ parameter_text (suc k) s ++ r) (later_parameters (suc k) ss)
 
--- the next line to come is that of the symbol and the table that the code reads
-pub line_next : (whole : List ℕ) (ss : List Symbol) (interp : Interp) (k : ℕ) (n : Name) (t : CodeTable) (a b : SinkView) → k < length ss → k < length interp.tables.items → n ≡ (slice_index_or ss k no_symbol).name → table_meant t ≡ slice_index_or (tables_meant interp) k no_table → IsSending whole (default_lines (drop k ss) (drop k (tables_meant interp))) a b → IsSending whole (constant_line n (value_meant t.default) ∷ default_lines (drop (k + 1) ss) (drop (k + 1) (tables_meant interp))) a b
-line_next whole ss interp k n t a b l m named read s =
-    let there : k < length (tables_meant interp) = omega (arith, m, length-map interp.tables.items table_meant) in
-    subst (λ rest. IsSending whole rest a b) (lines_from ss (tables_meant interp) k n (value_meant t.default) l there named (ap (λ (x : Table). x.default) read)) s
+all_parameters : (ss : List Sort) → printed_all (trees_of (parameter_trees (parameters_from 0 ss))) ≡ parameters_listed 0 ss
+all_parameters [] = refl
+all_parameters (s ∷ ss) = printed_row (in_list (word_tree (parameter 0) ∷ sort_tree s ∷ [])) (parameter_trees (parameters_from 1 ss)) ∙ ap (λ r. parameter_text 0 s ++ r) (later_parameters 0 ss)
 
--- no line is to come after the last symbol
-pub no_lines : (whole : List ℕ) (ss : List Symbol) (ts : List Table) (k : ℕ) (a b : SinkView) → length ss ≤ k → IsSending whole (default_lines (drop k ss) (drop k ts)) a b → IsSending whole [] a b
-no_lines whole ss ts k a b l s = subst (λ rest. IsSending whole rest a b) (ap (λ xs. default_lines xs (drop k ts)) (drop_all k ss l)) s
+-- the list of parameters, before its first piece
+pub parameters_start : (ss : List Sort) (a : SinkView) → IsSending (printed (in_list (parameter_trees (parameters_from 0 ss)))) (codes "(" ∷ parameters_listed 0 ss ∷ codes ")" ∷ []) a a
+parameters_start ss a = start _ _ a (sym (ap (λ r. 40 ∷ r ++ 41 ∷ []) (all_parameters ss)))
 
--- the line of a symbol under an interpretation that has its table
-line_meant : (i : Interpretation) (s : Symbol) (t : Table) → s ≡ truth_symbol s.name → IsTableOf s (i.table s.name) → i.table s.name ≡ t → constant_line s.name t.default ≡ definition_line i s
-line_meant i s t truth tabled same =
-    let rows : (i.table s.name).rows ≡ [] = tabled.bare (ap (λ (x : Symbol). x.parameters) truth) in
-    let with_default : Value → Table = λ d. record { rows = []; default = d } in
-    sym (ap (λ (x : Symbol). indented (definition_tree x (i.table s.name))) truth
-    ∙ ap (λ (x : Table). indented (definition_tree (truth_symbol s.name) x)) (bare_table (i.table s.name) rows ∙ ap (λ (x : Table). with_default x.default) same))
+-- a parameter, before its first piece
+pub parameter_start : (k : ℕ) (s : Sort) (before : List ℕ) (a : SinkView) → before ≡ gap k ++ codes "(@x" → IsSending (gap k ++ parameter_text k s) ((before ++ (numeral k ++ codes " ")) ∷ printed (sort_tree s) ∷ codes ")" ∷ []) a a
+parameter_start k s before a e = start _ _ a (ap (λ b. (b ++ (numeral k ++ codes " ")) ++ (printed (sort_tree s) ++ codes ")")) e ∙ pieces (gap k) (numeral k) (printed (sort_tree s)))
+  where
+    pieces : (g n p : List ℕ) → ((g ++ codes "(@x") ++ (n ++ codes " ")) ++ (p ++ codes ")") ≡ g ++ (40 ∷ ((codes "@x" ++ n) ++ 32 ∷ p) ++ 41 ∷ [])
+    pieces g n p = simp (append_assoc) refl
 
-lines_meant : (i : Interpretation) (ss : List Symbol) (ts : List Table) → AreTruths ss → Interprets i ss → length ss ≤ length ts → ((k : ℕ) → k < length ss → i.table (slice_index_or ss k no_symbol).name ≡ slice_index_or ts k no_table) → joined (default_lines ss ts) ≡ flat_map (definition_line i) ss
-lines_meant i [] ts truths tabled l h = refl
-lines_meant i (s ∷ ss) [] truths tabled l h = absurd (omega arith)
-lines_meant i (s ∷ ss) (t ∷ ts) truths tabled l h =
-    let later = lines_meant i ss ts (λ k d m. truths (suc k) d (omega arith)) (λ k d m. tabled (suc k) d (omega arith)) (omega arith) (λ k m. h (suc k) (omega arith)) in
-    ap (λ x. x ++ joined (default_lines ss ts)) (line_meant i s t (truths 0 s (omega arith)) (tabled 0 s (omega arith)) (h 0 (omega arith))) ∙ ap (λ x. definition_line i s ++ x) later
+-- the equalities of a conjunction
+all_equalities : (k : ℕ) (vs : List Value) → spaced (equality_trees k vs) ≡ equalities_listed k vs
+all_equalities k [] = refl
+all_equalities k (v ∷ vs) = ap (λ r. (32 ∷ printed (equality_tree k v)) ++ r) (all_equalities (suc k) vs)
 
--- under an interpretation that stands for the tables, their text is the model's
-pub text_meant : (i : Interpretation) (ss : List Symbol) (interp : Interp) → AreTruths ss → HasTables ss interp → Stands ss interp i → Interprets i ss → default_text ss (tables_meant interp) ≡ model_text i ss
-text_meant i ss interp truths there stands tabled =
-    let lines = lines_meant i ss (tables_meant interp) truths tabled (omega (arith, there, length-map interp.tables.items table_meant)) stands in
-    ap (λ x. 40 ∷ 10 ∷ x ++ 41 ∷ 10 ∷ []) lines
+-- a space before a text
+pub spaced_start : (text : List ℕ) (a : SinkView) → IsSending (32 ∷ text) (codes " " ∷ text ∷ []) a a
+spaced_start text a = start _ _ a (ap (λ r. 32 ∷ r) (append-nil text))
 
--- the table of a number that the code reads
-pub table_read : (interp : Interp) (k : ℕ) (t : CodeTable) → k < length interp.tables.items → t ≡ slice_index_or interp.tables.items k t → table_meant t ≡ slice_index_or (tables_meant interp) k no_table
-table_read interp k t l e = ap table_meant e ∙ sym (get_or-map table_meant interp.tables.items k t no_table l)
+-- a conjunction of several, before its first piece
+pub conjunction_start : (vs : List Value) (a : SinkView) → 1 < length vs → IsSending (printed (condition_tree vs)) (codes "(and" ∷ equalities_listed 0 vs ∷ codes ")" ∷ []) a a
+conjunction_start [] a l = absurd (omega (arith, l))
+conjunction_start (v ∷ []) a l = absurd (omega (arith, l))
+conjunction_start (v ∷ w ∷ vs) a l = start _ _ a (sym (ap (λ r. 40 ∷ r ++ 41 ∷ []) (printed_row (word_tree (codes "and")) (equality_trees 0 (v ∷ w ∷ vs))) ∙ ap (λ r. 40 ∷ (codes "and" ++ r) ++ 41 ∷ []) (all_equalities 0 (v ∷ w ∷ vs))))
+
+-- an equality, before its first piece
+pub equality_start : (k : ℕ) (v : Value) (a : SinkView) → IsSending (printed (equality_tree k v)) ((codes "(= @x" ++ (numeral k ++ codes " ")) ∷ value_text v ∷ codes ")" ∷ []) a a
+equality_start k v a = start _ _ a (pieces (numeral k) (value_text v))
+  where
+    pieces : (n t : List ℕ) → (codes "(= @x" ++ (n ++ codes " ")) ++ (t ++ codes ")") ≡ 40 ∷ (codes "= " ++ ((codes "@x" ++ n) ++ 32 ∷ t)) ++ 41 ∷ []
+    pieces n t = simp (append_assoc) refl
+
+-- a row, before its first piece
+pub front_start : (r : Row) (a : SinkView) → IsSending (row_front r) (codes "(ite " ∷ printed (condition_tree r.arguments) ∷ codes " " ∷ value_text r.value ∷ codes " " ∷ []) a a
+front_start r a = start _ _ a (pieces (printed (condition_tree r.arguments)) (printed (value_tree r.value)))
+  where
+    pieces : (c v : List ℕ) → codes "(ite " ++ (c ++ (codes " " ++ (v ++ codes " "))) ≡ codes "(ite " ++ c ++ codes " " ++ v ++ codes " "
+    pieces c v = simp (append_assoc) refl
+
+-- one row more
+pub front_more : (r : Row) (rs : List Row) → body_front (r ∷ rs) ≡ row_front r ++ body_front rs
+front_more r rs = pieces (printed (condition_tree r.arguments)) (printed (value_tree r.value)) (body_front rs)
+  where
+    pieces : (c v rest : List ℕ) → codes "(ite " ++ c ++ codes " " ++ v ++ codes " " ++ rest ≡ (codes "(ite " ++ c ++ codes " " ++ v ++ codes " ") ++ rest
+    pieces c v rest = simp (append_assoc) refl
+
+-- a definition, before its first piece
+pub definition_start : (s : Symbol) (t : Table) (a : SinkView)
+    → IsSending (indented (definition_tree s t)) (codes "  (define-fun " ∷ printed_symbol s.name ∷ codes " " ∷ printed (in_list (parameter_trees (parameters_from 0 s.parameters))) ∷ codes " " ∷ printed (sort_tree s.result) ∷ codes " " ∷ printed (body_tree t.rows t.default) ∷ codes ")\n" ∷ []) a a
+definition_start s t a = start _ _ a (pieces (printed_symbol s.name) (printed (in_list (parameter_trees (parameters_from 0 s.parameters)))) (printed (sort_tree s.result)) (printed (body_tree t.rows t.default)))
+  where
+    pieces : (n p r b : List ℕ) → codes "  (define-fun " ++ (n ++ (codes " " ++ (p ++ (codes " " ++ (r ++ (codes " " ++ (b ++ codes ")\n"))))))) ≡ 32 ∷ 32 ∷ (40 ∷ (codes "define-fun " ++ (n ++ 32 ∷ (p ++ 32 ∷ (r ++ 32 ∷ b)))) ++ 41 ∷ []) ++ 10 ∷ []
+    pieces n p r b = simp (append_assoc) refl
+
+-- a body, before its first piece
+pub body_start : (rs : List Row) (d : Value) (a : SinkView) → ((rows : List Row) (v : Value) → printed (body_tree rows v) ≡ body_front rows ++ value_text v ++ body_back rows) → IsSending (printed (body_tree rs d)) (body_front rs ∷ value_text d ∷ body_back rs ∷ []) a a
+body_start rs d a by_rows = start _ _ a (pieces (body_front rs) (value_text d) (body_back rs) ∙ sym (by_rows rs d))
+  where
+    pieces : (f v b : List ℕ) → f ++ (v ++ (b ++ [])) ≡ f ++ v ++ b
+    pieces f v b = simp (append_assoc, append-nil) refl
+
+-- a model, before its first piece
+pub model_start : (ss : List Symbol) (ts : List Table) (a : SinkView) → IsSending (text_by ss ts) (codes "(\n" ∷ joined (lines_by ss ts) ∷ codes ")\n" ∷ []) a a
+model_start ss ts a = start _ _ a refl

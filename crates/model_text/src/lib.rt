@@ -1,6 +1,10 @@
-//! Writes models. No call takes memory.
+//! Writes names, values, and models of the symbols of a table of terms. No call takes memory.
 #![tactic(auto)]
 
-mod lines;
+mod definitions;
+mod models;
+mod sorts;
+mod values;
 
-pub use lines::send;
+pub use models::send;
+pub use values::{name, value};

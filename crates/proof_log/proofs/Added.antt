@@ -4,32 +4,37 @@ use Rattle.std.specs.Result.{IsErrAnd}
 use Rattle.std.proofs.lemmas.List.{map_more}
 use Rattle.std.proofs.lemmas.List.Elements.{All-push}
 use Rattle.std.proofs.Math.Seq.{take-suc}
+use Rattle.spec_numbers.specs.Fractions.{Fraction}
 use Rattle.spec_proofs.specs.declared.Rule.{Rule}
-use Rattle.spec_proofs.specs.Rules.{IsRight}
+use Rattle.spec_rules.specs.Rules.{IsRight, IsWide}
 use Rattle.term_core.specs.declared.ids.TermId.{TermId}
-use Rattle.term_core.specs.Tables.{TableView, AreIn, clause_at}
+use Rattle.term_core.specs.Tables.{TableView, clause_at}
 use Rattle.rule_bool.specs.declared.rule_stop.RuleStop.{RuleStop}
-use Rattle.rule_bool.specs.declared.rule_stop.RuleStop.TheVariants.{Fails, Memory as no_memory}
+use Rattle.rule_bool.specs.declared.rule_stop.RuleStop.TheVariants.{Fails, Wide as is_wide, Memory as no_memory}
 use Rattle.rule_bool.specs.Resolvents.{Stops}
+use Rattle.rule_bool.specs.Arguments.{texts_of}
 use Rattle.proof_log.specs.declared.premises.StepId.{StepId}
 use Rattle.proof_log.specs.declared.log_fault.LogFault.{LogFault}
-use Rattle.proof_log.specs.declared.log_fault.LogFault.TheVariants.{RuleFails, Memory}
-use Rattle.spec_search.specs.Derivations.{FollowsFrom}
-use Rattle.proof_log.specs.Logs.{Logged, stepped, AreOf, clauses_in, named, logged_at, inference_of, derivation_in, IsLogOf}
+use Rattle.proof_log.specs.declared.log_fault.LogFault.TheVariants.{RuleFails, Wide, Memory}
+use Rattle.spec_derivations.specs.Derivations.{FollowsFrom}
+use Rattle.proof_log.specs.Logs.{Logged, stepped, AreOf, clauses_in, named, logged_at, inference_of, derivation_in, AreFormulasIn, IsLogOf}
 use Rattle.proof_log.specs.Faults.{fault_of}
 use Rattle.proof_log.specs.Adding.{IsAdded, Judges, Collects}
-use Rattle.proof_log.proofs.Logged.{numbers_back, follows_back, log_push}
+use Rattle.proof_log.proofs.Logged.{numbers_back, follows_back, wide_there, wide_back, log_push}
 
-module _ (t : TableView) (log : List Logged) (r : Rule) (ps : List StepId) (c : List TermId) where
+module _ (t : TableView) (log : List Logged) (r : Rule) (ps : List StepId) (qs : List Fraction) (c : List TermId) where
   -- a premise is not there, or its copy found no memory
-  pub missing : (f : LogFault) → Collects log ps (Err f) → Judges t log (stepped r ps c) (Err f)
-  missing RuleFails h = λ follows. h (numbers_back t log ps follows.0)
+  pub missing : (f : LogFault) → Collects log ps (Err f) → Judges t log (stepped r ps qs c) (Err f)
+  missing RuleFails h = (λ follows. h (numbers_back t log ps follows.0), λ wide. h (numbers_back t log ps wide.0))
+  missing Wide h = absurd h
   missing Memory h = tt
 
   -- the rule does not take the step, or found no memory
-  pub refused : (stop : RuleStop) → AreOf log ps → Stops stop (IsRight r (map (clause_at t) (clauses_in log ps)) (clause_at t c))
-      → Judges t log (stepped r ps c) (Err (fault_of stop))
-  refused Fails there h = λ follows. h (follows_back t log r ps c there follows)
+  pub refused : (stop : RuleStop) → AreOf log ps
+      → Stops stop (IsRight r (map (clause_at t) (clauses_in log ps)) (texts_of qs) (clause_at t c)) (IsWide r (map (clause_at t) (clauses_in log ps)) (texts_of qs) (clause_at t c))
+      → Judges t log (stepped r ps qs c) (Err (fault_of stop))
+  refused Fails there h = (λ follows. h.0 (follows_back t log r ps qs c there follows), λ wide. h.1 (wide_back t log r ps qs c there wide))
+  refused is_wide there h = wide_there t log r ps qs c there h
   refused no_memory there h = tt
 
 -- an error is that fault
@@ -39,7 +44,7 @@ judged t log l (Err e) f is h = subst (λ g. Judges t log l (Err g)) (sym is) h
 judged t log l (Ok x) f is h = absurd is
 
 -- what follows, and stands last, is added
-pub added : (t : TableView) (old : List Logged) (l : Logged) (id : StepId) (new : List Logged) → IsLogOf t old → AreIn t (named l)
+pub added : (t : TableView) (old : List Logged) (l : Logged) (id : StepId) (new : List Logged) → IsLogOf t old → AreFormulasIn t (named l)
     → FollowsFrom (derivation_in t old) (inference_of t l) → id.0 ≡ length old → new ≡ old ++ l ∷ [] → IsAdded t old l id new
 added t old l id new h here follows is_next is_last = record {
   number = is_next;

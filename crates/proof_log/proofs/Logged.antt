@@ -3,20 +3,24 @@ use Rattle.std.proofs.Common.{◌≡◌, ℕ, suc, ◌<◌, List, [], ◌∷◌,
 use Rattle.std.proofs.lemmas.List.{take-append-drop, map-append, length-map, get_or-map}
 use Rattle.std.proofs.lemmas.List.Elements.{All-take, All-push, All-map}
 use Rattle.std.proofs.Math.ListN.{get_or-map as get_or-map_same}
-use Rattle.spec_terms.specs.Literals.{Clause}
+use Rattle.spec_numbers.specs.Fractions.{Fraction}
+use Rattle.spec_sorts.specs.Literals.{Clause}
 use Rattle.spec_proofs.specs.declared.Rule.{Rule}
-use Rattle.spec_proofs.specs.Rules.{IsRight}
-use Rattle.spec_search.specs.Derivations.{Derivation, conclusion, conclusion_at, no_inference, FollowsFrom, IsDerivation}
+use Rattle.spec_rules.specs.Rules.{IsRight, IsWide}
+use Rattle.spec_derivations.specs.Derivations.{Derivation, conclusion, conclusion_at, no_inference, FollowsFrom, IsDerivation}
 use Rattle.term_core.specs.declared.ids.TermId.{TermId}
-use Rattle.term_core.specs.Tables.{TableView, IsIn, AreIn, clause_at}
+use Rattle.term_core.specs.Tables.{TableView, AreIn, clause_at}
+use Rattle.rule_bool.specs.Arguments.{texts_of}
 use Rattle.proof_log.specs.declared.premises.StepId.{StepId}
-use Rattle.proof_log.specs.Logs.{Logged, assumed, stepped, named, no_logged, logged_at, AreOf, clauses_in, numbers_of, inference_of, derivation_in, IsLogOf}
-use Rattle.proof_log.proofs.Derivations.{front_right, right_push}
+use Rattle.proof_log.specs.Logs.{Logged, assumed, stepped, named, no_logged, logged_at, AreOf, clauses_in, numbers_of, inference_of, derivation_in, IsFormulaIn, AreFormulasIn, IsLogOf}
+use Rattle.proof_log.specs.Adding.{IsWideFrom}
+use Rattle.spec_derivations.proofs.Derivations.{right_push}
+use Rattle.proof_log.proofs.Derivations.{front_right}
 
 -- the clause that is stated
 pub conclusion_of : (t : TableView) (l : Logged) → conclusion (inference_of t l) ≡ clause_at t (named l)
 conclusion_of t (assumed id) = refl
-conclusion_of t (stepped r ps c) = refl
+conclusion_of t (stepped r ps qs c) = refl
 
 module _ (t : TableView) (log : List Logged) where
   -- the clause of a number
@@ -44,33 +48,43 @@ module _ (t : TableView) (log : List Logged) where
 
   -- the clauses are of the table's terms
   pub clauses_there : IsLogOf t log → (ps : List StepId) → AreOf log ps → All (AreIn t) (clauses_in log ps)
-  clauses_there h ps there = All-map (AreIn t) (λ s. named (logged_at log s)) ps (λ k d lt. h.there (get_or ps k d).0 no_logged (there k d lt))
+  clauses_there h ps there = All-map (AreIn t) (λ s. named (logged_at log s)) ps (λ k d lt j e lt_j. (h.formulas (get_or ps k d).0 no_logged (there k d lt) j e lt_j).0)
 
   -- a step that is right by its rule follows
-  pub follows_there : (r : Rule) (ps : List StepId) (c : List TermId) → AreOf log ps → IsRight r (map (clause_at t) (clauses_in log ps)) (clause_at t c)
-      → FollowsFrom (derivation_in t log) (inference_of t (stepped r ps c))
-  follows_there r ps c there right = (numbers_there ps there, subst (λ (cs : List Clause). IsRight r cs (clause_at t c)) (sym (premises_there ps there)) right)
+  pub follows_there : (r : Rule) (ps : List StepId) (qs : List Fraction) (c : List TermId) → AreOf log ps → IsRight r (map (clause_at t) (clauses_in log ps)) (texts_of qs) (clause_at t c)
+      → FollowsFrom (derivation_in t log) (inference_of t (stepped r ps qs c))
+  follows_there r ps qs c there right = (numbers_there ps there, subst (λ (cs : List Clause). IsRight r cs (texts_of qs) (clause_at t c)) (sym (premises_there ps there)) right)
 
   -- a step that follows is right by its rule
-  pub follows_back : (r : Rule) (ps : List StepId) (c : List TermId) → AreOf log ps → FollowsFrom (derivation_in t log) (inference_of t (stepped r ps c))
-      → IsRight r (map (clause_at t) (clauses_in log ps)) (clause_at t c)
-  follows_back r ps c there h = subst (λ (cs : List Clause). IsRight r cs (clause_at t c)) (premises_there ps there) h.1
+  pub follows_back : (r : Rule) (ps : List StepId) (qs : List Fraction) (c : List TermId) → AreOf log ps → FollowsFrom (derivation_in t log) (inference_of t (stepped r ps qs c))
+      → IsRight r (map (clause_at t) (clauses_in log ps)) (texts_of qs) (clause_at t c)
+  follows_back r ps qs c there h = subst (λ (cs : List Clause). IsRight r cs (texts_of qs) (clause_at t c)) (premises_there ps there) h.1
+
+  -- a step that is wide by its rule is wide
+  pub wide_there : (r : Rule) (ps : List StepId) (qs : List Fraction) (c : List TermId) → AreOf log ps → IsWide r (map (clause_at t) (clauses_in log ps)) (texts_of qs) (clause_at t c)
+      → IsWideFrom (derivation_in t log) (inference_of t (stepped r ps qs c))
+  wide_there r ps qs c there wide = (numbers_there ps there, subst (λ (cs : List Clause). IsWide r cs (texts_of qs) (clause_at t c)) (sym (premises_there ps there)) wide)
+
+  -- and the other way round
+  pub wide_back : (r : Rule) (ps : List StepId) (qs : List Fraction) (c : List TermId) → AreOf log ps → IsWideFrom (derivation_in t log) (inference_of t (stepped r ps qs c))
+      → IsWide r (map (clause_at t) (clauses_in log ps)) (texts_of qs) (clause_at t c)
+  wide_back r ps qs c there h = subst (λ (cs : List Clause). IsWide r cs (texts_of qs) (clause_at t c)) (premises_there ps there) h.1
 
   -- the first clauses are a log
   pub log_front : (n : ℕ) → IsLogOf t log → IsLogOf t (take n log)
   log_front n h = record {
-    there = All-take (λ l. AreIn t (named l)) n log h.there;
+    formulas = All-take (λ l. AreFormulasIn t (named l)) n log h.formulas;
     right = front_right (derivation_in t (take n log)) (derivation_in t (drop n log))
         (subst (λ (d : Derivation). IsDerivation d) (ap (derivation_in t) (sym (take-append-drop n log)) ∙ map-append (inference_of t) (take n log) (drop n log)) h.right);
   }
 
   -- with a clause more that follows, it is a log
-  pub log_push : (l : Logged) → IsLogOf t log → AreIn t (named l) → FollowsFrom (derivation_in t log) (inference_of t l) → IsLogOf t (log ++ l ∷ [])
+  pub log_push : (l : Logged) → IsLogOf t log → AreFormulasIn t (named l) → FollowsFrom (derivation_in t log) (inference_of t l) → IsLogOf t (log ++ l ∷ [])
   log_push l h here follows = record {
-    there = All-push (λ x. AreIn t (named x)) log l h.there here;
+    formulas = All-push (λ x. AreFormulasIn t (named x)) log l h.formulas here;
     right = subst (λ (d : Derivation). IsDerivation d) (sym (map-append (inference_of t) log (l ∷ []))) (right_push (derivation_in t log) (inference_of t l) h.right follows);
   }
 
--- one term alone is of the table's
-pub one_there : (t : TableView) (id : TermId) → IsIn t id → AreIn t (id ∷ [])
-one_there t id here = All-push (λ x. IsIn t x) [] id (λ k d lt. absurd (omega (arith, lt))) here
+-- one formula alone is of the table's
+pub one_there : (t : TableView) (id : TermId) → IsFormulaIn t id → AreFormulasIn t (id ∷ [])
+one_there t id here = All-push (IsFormulaIn t) [] id (λ k d lt. absurd (omega (arith, lt))) here

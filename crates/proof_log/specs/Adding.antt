@@ -1,14 +1,15 @@
 -- What comes of adding to a log.
-use Rattle.std.specs.Prelude.{◌≡◌, List, [], ◌∷◌, ◌++◌, length, Vec, Result, Ok, Err}
+use Rattle.std.specs.Prelude.{◌≡◌, ◌<◌, List, [], ◌∷◌, ◌++◌, length, map, All, Vec, Result, Ok, Err}
 use Rattle.std.specs.declared.alloc.Global.{Global}
 use Rattle.world_io.specs.declared.bytes.NoMemory.{NoMemory}
-use Rattle.spec_search.specs.Derivations.{FollowsFrom}
+use Rattle.spec_rules.specs.Rules.{IsWide}
+use Rattle.spec_derivations.specs.Derivations.{Derivation, Inference, «assumption», by_rule, conclusion_at, FollowsFrom}
 use Rattle.term_core.specs.declared.ids.TermId.{TermId}
-use Rattle.term_core.specs.Tables.{TableView, IsIn}
+use Rattle.term_core.specs.Tables.{TableView}
 use Rattle.proof_log.specs.declared.premises.StepId.{StepId}
 use Rattle.proof_log.specs.declared.log_fault.LogFault.{LogFault}
-use Rattle.proof_log.specs.declared.log_fault.LogFault.TheVariants.{RuleFails, Memory}
-use Rattle.proof_log.specs.Logs.{Logged, assumed, AreOf, clauses_in, inference_of, derivation_in, IsLogOf}
+use Rattle.proof_log.specs.declared.log_fault.LogFault.TheVariants.{RuleFails, Wide, Memory}
+use Rattle.proof_log.specs.Logs.{Logged, assumed, AreOf, clauses_in, inference_of, derivation_in, IsFormulaIn, IsLogOf}
 
 -- A term is assumed last, under the next number.
 pub record IsAssumedLast (old : List Logged) (t : TermId) (id : StepId) (new : List Logged) : Type 0 where
@@ -16,8 +17,8 @@ pub record IsAssumedLast (old : List Logged) (t : TermId) (id : StepId) (new : L
   pub number : id.0 ≡ length old
   -- it stands last
   pub last : new ≡ old ++ assumed t ∷ []
-  -- over each table that has the term, the log is right as before
-  pub right : (u : TableView) → IsLogOf u old → IsIn u t → IsLogOf u new
+  -- over each table where the term is a formula, the log is right as before
+  pub right : (u : TableView) → IsLogOf u old → IsFormulaIn u t → IsLogOf u new
 
 -- a term is assumed, or nothing is changed
 abbrev pub Assumes : List Logged → TermId → Result StepId NoMemory → List Logged → Type 0
@@ -35,20 +36,30 @@ pub record IsAdded (t : TableView) (old : List Logged) (l : Logged) (id : StepId
   -- with it, the log is right over the table
   pub right : IsLogOf t new
 
--- what comes of adding a clause: it is right and stands last, or it isn't and nothing is changed, or memory runs out and nothing is changed
+-- whether the step follows from those before it cannot be told within the bound on numbers
+abbrev pub IsWideFrom : Derivation → Inference → Type 0
+IsWideFrom earlier («assumption» t) = ⊥
+IsWideFrom earlier (by_rule r ps arguments c) = All (λ n. n < length earlier) ps × IsWide r (map (conclusion_at earlier) ps) arguments c
+
+-- what a fault says of a clause: it neither follows nor is wide; it is wide; out of memory tells nothing
+abbrev pub Faults : Derivation → Inference → LogFault → Type 0
+Faults earlier x RuleFails = (FollowsFrom earlier x → ⊥) × (IsWideFrom earlier x → ⊥)
+Faults earlier x Wide = IsWideFrom earlier x
+Faults earlier x Memory = Unit {0}
+
+-- what comes of adding a clause: it is right and stands last, or there is a fault and nothing is changed
 abbrev pub Adds : TableView → List Logged → Logged → Result StepId LogFault → List Logged → Type 0
 Adds t old l (Ok id) new = IsAdded t old l id new
-Adds t old l (Err RuleFails) new = (FollowsFrom (derivation_in t old) (inference_of t l) → ⊥) × (new ≡ old)
-Adds t old l (Err Memory) new = new ≡ old
+Adds t old l (Err f) new = Faults (derivation_in t old) (inference_of t l) f × (new ≡ old)
 
--- a clause follows from those before it, or it doesn't; out of memory tells nothing
+-- a clause follows from those before it, or there is a fault
 abbrev pub Judges : TableView → List Logged → Logged → Result (Unit {0}) LogFault → Type 0
 Judges t log l (Ok _) = FollowsFrom (derivation_in t log) (inference_of t l)
-Judges t log l (Err RuleFails) = FollowsFrom (derivation_in t log) (inference_of t l) → ⊥
-Judges t log l (Err Memory) = Unit {0}
+Judges t log l (Err f) = Faults (derivation_in t log) (inference_of t l) f
 
 -- the clauses of numbers, where these are of the log's; that they aren't; or out of memory, which tells nothing
 abbrev pub Collects : List Logged → List StepId → Result (Vec (List TermId) Global) LogFault → Type 0
 Collects log ss (Ok cs) = AreOf log ss × (cs.items ≡ clauses_in log ss)
 Collects log ss (Err RuleFails) = AreOf log ss → ⊥
+Collects log ss (Err Wide) = ⊥
 Collects log ss (Err Memory) = Unit {0}

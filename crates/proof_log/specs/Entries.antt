@@ -7,7 +7,7 @@ use Rattle.proof_log.specs.Logs.{Logged, assumed, stepped}
 -- the clause of an entry
 abbrev pub logged_of : Entry → Logged
 logged_of (Assumed id) = assumed id
-logged_of (Stepped s) = stepped s.rule s.premises s.clause
+logged_of (Stepped s) = stepped s.rule s.premises s.arguments s.clause
 
 -- the clauses of entries, in order
 abbrev pub log_of : List Entry → List Logged

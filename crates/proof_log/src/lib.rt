@@ -1,16 +1,20 @@
-//! A log of clauses, each assumed or right by a rule from earlier ones, so that what is claimed of any of them can be shown.
+//! A log of clauses of formulas, each assumed or right by a rule from earlier ones, so that what is claimed of any of them can be shown.
+//! Its terms are of every sort.
 #![tactic(auto)]
 
 mod entry;
 pub mod laws;
 mod log;
 mod log_fault;
+mod numbers;
 mod premises;
 mod step;
 
 pub use log::ProofLog;
 pub use log_fault::LogFault;
+pub use numbers::Numbers;
 pub use premises::{StepId, StepIds};
+pub use ratio128::Ratio;
 pub use spec_proofs::Rule;
 pub use step::Step;
 pub use term_core::{Clause, TermId};

@@ -1,15 +1,15 @@
 //! The log: clauses in the order in which they came.
 
 ghost use Rattle.std.specs.Prelude.{◌≡◌, ◌<◌, [], length, take, MatchOption};
-ghost use Rattle.term_core.specs.Tables.{TableView, AreIn};
-ghost use Rattle.proof_log.specs.Logs.{IsLogOf, named, stepped, logged_at, IsAssumed, AreEarlier};
+ghost use Rattle.term_core.specs.Tables.{TableView};
+ghost use Rattle.proof_log.specs.Logs.{AreFormulasIn, IsLogOf, named, stepped, logged_at, IsAssumed, AreEarlier};
 ghost use Rattle.proof_log.specs.Adding.{Assumes, Adds, Judges, Collects};
 
 use crate::entry::Entry;
 use crate::log_fault::LogFault;
 use crate::premises::StepId;
 use crate::step::Step;
-use rule_bool::judge;
+use rule_bool::{ArgumentTexts, judge};
 use std::alloc::Global;
 use std::marker::Model;
 use std::slice;
@@ -71,7 +71,7 @@ impl ProofLog {
     /// memory.
     pub fn step(&self, step: StepId) -> Option<&Step>
         ensures { MatchOption result (IsAssumed (logged_at self.now step))
-            (λ s. logged_at self.now step ≡ stepped s.now.rule s.now.premises s.now.clause) }
+            (λ s. logged_at self.now step ≡ stepped s.now.rule s.now.premises s.now.arguments s.now.clause) }
     {
         if step.0 >= self.len() {
             return None;
@@ -82,7 +82,8 @@ impl ProofLog {
         }
     }
 
-    /// Assumes a term: puts it last, as a clause of its own, and says its number, which is the next.
+    /// Assumes a term: puts it last, as a clause of its own, and says its number, which is the next. The log stays one over a table where
+    /// the term is a formula.
     ///
     /// `NoMemory` comes where its place finds no memory; then the log is as it was.
     /// Source: Alethe specification, the command `assume`.
@@ -94,18 +95,20 @@ impl ProofLog {
         Ok(id)
     }
 
-    /// Puts a step last, if it is right by its rule over a table, and says its number, which is the next.
+    /// Puts a step last, if it is right by its rule over a table, and says its number, which is the next. Its clause must be one of
+    /// formulas.
     ///
     /// The clauses of the premises are copied for the rule, which takes time and memory in proportion to them; where there are none,
     /// nothing is copied.
     ///
-    /// `RuleFails` comes exactly where the clause does not follow from the premises, or one of these is not there; `Memory` where
-    /// memory runs out before the step is there, which tells nothing of it. After both the log is as it was.
-    /// Source: Alethe specification, the command `step`.
+    /// `RuleFails` comes exactly where the clause does not follow from the premises, or one of these is not there, and no operation
+    /// leaves the bound on numbers; `Wide` exactly where the premises are there and one does; `Memory` where memory runs out before
+    /// the step is there, which tells nothing of it. After each the log is as it was.
+    /// Source: Alethe specification, the command `step`; the bound on numbers is own.
     pub fn add(&mut self, table: &TermTable, step: Step) -> Result<StepId, LogFault>
         requires log { IsLogOf table.now self.old }
-        requires clause { AreIn table.now step.clause }
-        ensures { Adds table.now self.old (stepped step.rule step.premises step.clause) result self.new }
+        requires clause { AreFormulasIn table.now step.clause }
+        ensures { Adds table.now self.old (stepped step.rule step.premises step.arguments step.clause) result self.new }
     {
         self.follows(table, &step)?;
         let id = StepId(self.len());
@@ -116,8 +119,9 @@ impl ProofLog {
     /// Judges whether a step follows from the clauses up to here.
     fn follows(&self, table: &TermTable, step: &Step) -> Result<(), LogFault>
         requires log { IsLogOf table.now self.now }
-        requires clause { AreIn table.now step.now.clause }
-        ensures { Judges table.now self.now (stepped step.now.rule step.now.premises step.now.clause) result }
+        requires clause { AreFormulasIn table.now step.now.clause }
+        ensures { Judges table.now self.now
+            (stepped step.now.rule step.now.premises step.now.arguments step.now.clause) result }
     {
         let premises = self.clauses_of(step.premises.as_slice())?;
         judge(
@@ -125,6 +129,7 @@ impl ProofLog {
             table,
             step.rule,
             &premises,
+            ArgumentTexts::Numbers(step.arguments.as_slice()),
             step.clause.as_slice(),
         )?;
         Ok(())

@@ -9,12 +9,15 @@ use thiserror::Error;
 
 /// Says why a step is not logged.
 ///
-/// Source: Alethe specification, the list of rules; out of memory is own.
+/// Source: Alethe specification, the list of rules; the bound on numbers and out of memory are own.
 #[derive(Clone, Copy, Debug, PartialEq, Eq, Error)]
 pub enum LogFault {
     /// The clause does not follow by the rule from the premises, or one of these is not there.
     #[error("the step is not right by its rule")]
     RuleFails,
+    /// An operation by which the step is tested leaves the bound on numbers.
+    #[error("the step leaves the bound on numbers")]
+    Wide,
     /// Memory ran out before the step was logged.
     #[error("out of memory")]
     Memory,
@@ -46,6 +49,7 @@ impl From<RuleStop> for LogFault {
     fn from(stop: RuleStop) -> LogFault {
         match stop {
             RuleStop::Fails => LogFault::RuleFails,
+            RuleStop::Wide => LogFault::Wide,
             RuleStop::Memory => LogFault::Memory,
         }
     }

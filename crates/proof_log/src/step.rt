@@ -1,10 +1,11 @@
 //! Steps of a proof.
 
+use crate::numbers::Numbers;
 use crate::premises::StepIds;
 use spec_proofs::Rule;
 use term_core::Clause;
 
-/// Says that a clause follows by a rule from premises.
+/// Says that a clause follows by a rule from premises, with arguments.
 ///
 /// Source: Alethe specification, the command `step`.
 #[derive(Drop)]
@@ -13,6 +14,8 @@ pub struct Step {
     pub rule: Rule,
     /// The premises, in the rule's order, by their numbers in the log.
     pub premises: StepIds,
+    /// The rule's arguments; no rule asks for any for now.
+    pub arguments: Numbers,
     /// The clause, whose terms are of a table.
     pub clause: Clause,
 }

@@ -4,10 +4,10 @@ use Rattle.std.specs.Prelude.{MatchBool}
 use Rattle.std.proofs.lemmas.List.{map_more, map-append, get_or-map, length-map}
 use Rattle.std.proofs.lemmas.List.Elements.{All-contains}
 use Rattle.spec_text.proofs.Members.{to_image, from_image, only}
-use Rattle.spec_terms.specs.Terms.{Term}
-use Rattle.spec_terms.specs.Theory.{no_term}
-use Rattle.spec_terms.specs.Literals.{Clause}
-use Rattle.spec_proofs.specs.Schemes.{signed}
+use Rattle.spec_sorts.specs.Terms.{Term}
+use Rattle.spec_sorts.specs.Terms.{no_term}
+use Rattle.spec_sorts.specs.Literals.{Clause}
+use Rattle.spec_rules.specs.Schemes.{signed}
 use Rattle.term_core.specs.declared.ids.TermId.{TermId}
 use Rattle.term_core.specs.Tables.{TableView, term_at, IsIn, AreIn, AreDifferent, clause_at}
 use Rattle.rule_bool.specs.Schemes.{IsSigned, HasNoSign}

@@ -14,4 +14,5 @@ pub mod Transport
 pub mod Resolvents
 pub mod OnePremise
 pub mod Behind
+pub mod Arities
 pub mod Given

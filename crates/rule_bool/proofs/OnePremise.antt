@@ -3,11 +3,11 @@ use Rattle.std.proofs.Common.{◌≡◌, ℕ, ◌+◌, ◌<◌, List, [], ◌∷
 use Rattle.std.proofs.lemmas.List.{take_more}
 use Rattle.std.proofs.lemmas.List.Elements.{All-contains, Contains-push_cases}
 use Rattle.spec_text.proofs.Members.{to_image, from_image}
-use Rattle.spec_terms.specs.Terms.{Term}
-use Rattle.spec_terms.specs.Literals.{Clause}
-use Rattle.spec_terms.proofs.General.{list_of-terms_of}
+use Rattle.spec_sorts.specs.Terms.{Term}
+use Rattle.spec_sorts.specs.Literals.{Clause}
+use Rattle.spec_sorts.proofs.General.{list_of-terms_of}
 use Rattle.spec_proofs.specs.Resolution.{IsWithin}
-use Rattle.spec_proofs.specs.Rules.{IsOr, IsWeakening}
+use Rattle.spec_rules.specs.Rules.{IsOr, IsWeakening}
 use Rattle.term_core.specs.declared.ids.TermId.{TermId}
 use Rattle.term_core.specs.Tables.{TableView, term_at, IsIn, AreIn, AreDifferent, clause_at}
 use Rattle.rule_bool.specs.Premises.{IsDisjunctionAlone}

@@ -4,14 +4,14 @@ use Rattle.std.specs.Prelude.{Vec}
 use Rattle.std.specs.declared.alloc.Global.{Global}
 use Rattle.std.proofs.lemmas.List.{map-append, map_more}
 use Rattle.std.proofs.lemmas.List.Elements.{All-contains, All-push}
-use Rattle.spec_terms.specs.Literals.{Clause, Literal, complement, literal_of, literals_of}
+use Rattle.spec_sorts.specs.Literals.{Clause, Literal, complement, literal_of, literals_of}
 use Rattle.spec_proofs.specs.Resolution.{Resolves}
-use Rattle.spec_proofs.specs.Clauses.{IsResolvent}
+use Rattle.spec_rules.specs.Clauses.{IsResolvent}
 use Rattle.term_core.specs.declared.ids.TermId.{TermId}
 use Rattle.term_core.specs.declared.ids.Lit.{Lit}
 use Rattle.term_core.specs.Tables.{TableView, term_at, IsIn, AreDifferent, literal_at, clause_at}
-use Rattle.rule_bool.specs.Literals.{lit_complement, lists}
-use Rattle.rule_bool.specs.Resolvents.{AreOf, Means, MeansEach}
+use Rattle.rule_bool.specs.Literals.{lit_complement, lists, AreOf, Means}
+use Rattle.rule_bool.specs.Resolvents.{MeansEach}
 use Rattle.rule_bool.proofs.Transport.{resolves_there, resolves_back}
 
 -- different literals of the table mean different ones

@@ -1,4 +1,4 @@
--- Literals, what propagation finds under those that hold, and how it goes on; what premises are as terms of the table; what terms give.
+-- Literals, what propagation finds under those that hold, and how it goes on; what premises are as terms of the table; what terms give, and the texts of arguments.
 pub mod Literals
 pub mod Statuses
 pub mod Occurring
@@ -6,4 +6,5 @@ pub mod Propagation
 pub mod Scanning
 pub mod Resolvents
 pub mod Premises
+pub mod Arguments
 pub mod Schemes

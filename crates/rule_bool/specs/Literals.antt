@@ -1,8 +1,10 @@
--- Literals: their complements, and sets of them.
-use Rattle.std.specs.Prelude.{◌≡◌, ◌⊎◌, ◌↔◌, ⊤, nat_eq, Bool, not, ◌&&◌, if◌then◌else◌, List, [], ◌∷◌, ◌++◌, Contains, Vec, map}
+-- Literals: their complements, sets of them, and those of a clause of the table of terms.
+use Rattle.std.specs.Prelude.{◌≡◌, ◌⊎◌, ◌↔◌, ⊤, nat_eq, Bool, not, ◌&&◌, if◌then◌else◌, List, [], ◌∷◌, ◌++◌, Contains, Vec, map, All}
 use Rattle.std.specs.declared.alloc.Global.{Global}
 use Rattle.std.specs.List.{list_any}
+use Rattle.spec_sorts.specs.Literals.{Clause, literals_of}
 use Rattle.term_core.specs.declared.ids.Lit.{Lit}
+use Rattle.term_core.specs.Tables.{TableView, IsIn, literal_at}
 
 -- the literal with the other sign
 abbrev pub lit_complement : Lit → Lit
@@ -45,3 +47,14 @@ AddsLast old l new = (Contains old l × (new ≡ old)) ⊎ ((Contains old l → 
 -- no literal is held with its complement
 abbrev pub IsConsistent : List Lit → Type 0
 IsConsistent held = (l : Lit) → Contains held l → Contains held (lit_complement l) → ⊥
+
+-- each literal's term is one of the table's
+abbrev pub AreOf : TableView → List Lit → Type 0
+AreOf table ls = All (λ l. IsIn table l.term) ls
+
+-- The literals are those of the clause.
+pub record Means (table : TableView) (literals : List Lit) (clause : Clause) : Type 0 where
+  -- they are the same in their order
+  pub same : map (literal_at table) literals ≡ literals_of clause
+  -- their terms are of the table
+  pub there : AreOf table literals

@@ -1,8 +1,8 @@
 -- The premises of rules that take one.
 use Rattle.std.specs.Prelude.{◌≡◌, List, [], ◌∷◌, map}
-use Rattle.spec_terms.specs.Terms.{Or, of}
-use Rattle.spec_terms.specs.Literals.{Clause}
-use Rattle.spec_proofs.specs.Rules.{IsOr}
+use Rattle.spec_sorts.specs.Terms.{Or, of}
+use Rattle.spec_sorts.specs.Literals.{Clause}
+use Rattle.spec_rules.specs.Rules.{IsOr}
 use Rattle.term_core.specs.declared.ids.TermId.{TermId}
 use Rattle.term_core.specs.Tables.{TableView, AreIn, clause_at}
 

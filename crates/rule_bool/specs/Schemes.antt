@@ -1,13 +1,14 @@
 -- What a term gives by a scheme, over numbers of the table.
 use Rattle.std.specs.Prelude.{◌≡◌, ◌<◌, ℕ, Bool, true, List, map, Contains, Result, MatchBool, MatchResult}
-use Rattle.spec_terms.specs.Terms.{Symbol, Head, Term, negated}
-use Rattle.spec_terms.specs.Subsets.{arguments_of}
-use Rattle.spec_terms.specs.Literals.{Clause}
+use Rattle.spec_text.specs.Trees.{Trees}
+use Rattle.spec_sorts.specs.Terms.{Head, Term, negated}
+use Rattle.spec_sorts.specs.Subsets.{arguments_of}
+use Rattle.spec_sorts.specs.Literals.{Clause}
 use Rattle.spec_proofs.specs.declared.Rule.{Rule}
 use Rattle.spec_proofs.specs.declared.Rest.{Rest}
 use Rattle.spec_proofs.specs.declared.Rest.TheVariants.{One, Two}
-use Rattle.spec_proofs.specs.Schemes.{Scheme, Kind, states, turns, signed, rests_of, is_formula_of, kind_of}
-use Rattle.spec_proofs.specs.Rules.{flipped, IsRight}
+use Rattle.spec_rules.specs.Schemes.{Scheme, Kind, states, turns, signed, rests_of, is_formula_of, kind_of}
+use Rattle.spec_rules.specs.Rules.{flipped, IsRight, IsWide}
 use Rattle.term_core.specs.declared.ids.TermId.{TermId}
 use Rattle.term_core.specs.declared.nodes.Head.{Head as NodeHead}
 use Rattle.term_core.specs.declared.nodes.Head.TheVariants as heads
@@ -17,13 +18,13 @@ use Rattle.rule_bool.specs.declared.rule_stop.RuleStop.{RuleStop}
 use Rattle.rule_bool.specs.declared.scheme_table.Scheme.{Scheme as CodeScheme}
 use Rattle.rule_bool.specs.Resolvents.{Stops}
 
--- the scheme that the code's words mean under these symbols
-abbrev pub scheme_meant : List Symbol → NodeHead → Bool → Rest → Scheme
-scheme_meant symbols head positive rest = record { head = head_meant symbols head; positive = positive; rest = rest }
+-- the scheme that the code's words mean in a table
+abbrev pub scheme_meant : TableView → NodeHead → Bool → Rest → Scheme
+scheme_meant table head positive rest = record { head = head_meant table head; positive = positive; rest = rest }
 
--- the scheme that the code's means under these symbols
-abbrev pub scheme_seen : List Symbol → CodeScheme → Scheme
-scheme_seen symbols s = scheme_meant symbols s.head s.positive s.rest
+-- the scheme that the code's means in a table
+abbrev pub scheme_seen : TableView → CodeScheme → Scheme
+scheme_seen table s = scheme_meant table s.head s.positive s.rest
 
 -- The term is that of a number, as it stands or negated.
 pub record IsSigned (table : TableView) (positive : Bool) (t : Term) (id : TermId) : Type 0 where
@@ -55,10 +56,18 @@ HasPlaces n (One x) = x.place < n
 HasPlaces n (Two x y) = (x.place < n) × (y.place < n)
 HasPlaces n r = Unit {0}
 
--- the head is no symbol's, and takes the arguments that are meant
+-- the head is one of theory Core, and takes the arguments that are meant
 abbrev pub IsStating : NodeHead → Rest → Type 0
-IsStating (heads.Apply s) r = ⊥
-IsStating h r = HasPlaces (arity h) r
+IsStating heads.True r = HasPlaces (arity heads.True) r
+IsStating heads.False r = HasPlaces (arity heads.False) r
+IsStating heads.Not r = HasPlaces (arity heads.Not) r
+IsStating heads.And r = HasPlaces (arity heads.And) r
+IsStating heads.Or r = HasPlaces (arity heads.Or) r
+IsStating heads.Xor r = HasPlaces (arity heads.Xor) r
+IsStating heads.Implies r = HasPlaces (arity heads.Implies) r
+IsStating heads.Equal r = HasPlaces (arity heads.Equal) r
+IsStating heads.Ite r = HasPlaces (arity heads.Ite) r
+IsStating h r = ⊥
 
 -- the same, and the head is not that of negations
 abbrev pub IsTurning : NodeHead → Rest → Type 0
@@ -85,16 +94,22 @@ abbrev pub IsExact : Type 0 → Result (Unit {0}) RuleFails → Type 0
 IsExact P result = MatchResult result (λ _. P) (λ _. P → ⊥)
 
 -- a step of the rule, by the table's numbers, is right
-abbrev pub IsRightIn : TableView → Rule → List (List TermId) → List TermId → Type 0
-IsRightIn table rule premises clause = IsRight rule (map (clause_at table) premises) (clause_at table clause)
+abbrev pub IsRightIn : TableView → Rule → List (List TermId) → Trees → List TermId → Type 0
+IsRightIn table rule premises arguments clause = IsRight rule (map (clause_at table) premises) arguments (clause_at table clause)
 
--- a success exactly where the step is right
+-- whether it is cannot be told within the bound on numbers
+abbrev pub IsWideIn : TableView → Rule → List (List TermId) → Trees → List TermId → Type 0
+IsWideIn table rule premises arguments clause = IsWide rule (map (clause_at table) premises) arguments (clause_at table clause)
+
+-- a success exactly where the step is right, whatever its arguments are
 abbrev pub Judges : TableView → Rule → List (List TermId) → List TermId → Result (Unit {0}) RuleFails → Type 0
-Judges table rule premises clause result = IsExact (IsRightIn table rule premises clause) result
+Judges table rule premises clause result = (arguments : Trees) → IsExact (IsRightIn table rule premises arguments clause) result
 
--- a success only where the step is right, and a failure only where it isn't; out of memory tells nothing
-abbrev pub JudgesOrStops : TableView → Rule → List (List TermId) → List TermId → Result (Unit {0}) RuleStop → Type 0
-JudgesOrStops table rule premises clause result = MatchResult result (λ _. IsRightIn table rule premises clause) (λ stop. Stops stop (IsRightIn table rule premises clause))
+-- a success only where the step is right; it fails where it is not, and is wide where this cannot be told
+abbrev pub JudgesOrStops : TableView → Rule → List (List TermId) → Trees → List TermId → Result (Unit {0}) RuleStop → Type 0
+JudgesOrStops table rule premises arguments clause result =
+    MatchResult result (λ _. IsRightIn table rule premises arguments clause)
+    (λ stop. Stops stop (IsRightIn table rule premises arguments clause) (IsWideIn table rule premises arguments clause))
 
 -- the rules of that kind state no scheme's clauses
 abbrev pub states_nothing : Kind → Type 0
@@ -126,14 +141,14 @@ HasScheme rule = has_scheme (kind_of rule)
 
 -- The rule states the clauses of the scheme.
 pub record States (rule : Rule) (s : CodeScheme) : Type 0 where
-  -- the definitions say so, whatever symbols there are
-  pub same : (symbols : List Symbol) → kind_of rule ≡ states (scheme_seen symbols s)
+  -- the definitions say so, whatever table there is
+  pub same : (table : TableView) → kind_of rule ≡ states (scheme_seen table s)
   -- the head takes the arguments that are meant
   pub form : IsStating s.head s.rest
 
 -- The rule turns the terms of the scheme.
 pub record Turns (rule : Rule) (s : CodeScheme) : Type 0 where
-  -- the definitions say so, whatever symbols there are
-  pub same : (symbols : List Symbol) → kind_of rule ≡ turns (scheme_seen symbols s)
+  -- the definitions say so, whatever table there is
+  pub same : (table : TableView) → kind_of rule ≡ turns (scheme_seen table s)
   -- the head takes the arguments that are meant, and is not that of negations
   pub form : IsTurning s.head s.rest

@@ -4,8 +4,10 @@ ghost use Rattle.std.specs.Prelude.{◌≢◌, All, Err};
 ghost use Rattle.spec_proofs.specs.declared.Rule.TheVariants as rules;
 ghost use Rattle.term_core.specs.Tables.{AreIn};
 ghost use Rattle.rule_bool.specs.declared.rule_stop.RuleStop.TheVariants as stops;
+ghost use Rattle.rule_bool.specs.Arguments.{texts_meant};
 ghost use Rattle.rule_bool.specs.Schemes.{Judges, JudgesOrStops};
 
+use crate::arguments::ArgumentTexts;
 use crate::resolvent::resolution;
 use crate::rule_stop::RuleStop;
 use crate::rules::{rule_contraction, rule_or, rule_reordering, rule_weakening};
@@ -38,22 +40,25 @@ fn judge_alone(
 
 /// Judges a step by its rule, whichever that is.
 ///
-/// What premises and conclusion a rule asks for says its own function (`resolution`, or `rule_` with the rule's name).
+/// What premises and conclusion a rule asks for says its own function (`resolution`, or `rule_` with the rule's name). `arguments` are
+/// the texts of the step's `:args`, which no rule reads for now.
 ///
 /// The two rules of resolution take memory from `alloc`; no other does.
 ///
-/// `Fails` comes exactly where the step is not right; `Memory` where one of these two runs out of memory, which tells nothing of the
-/// step, and with no other rule. Nothing is changed. Source: Alethe specification, the list of rules.
+/// `Fails` comes exactly where the step is not right, and no operation leaves the bound on numbers; `Wide` exactly where one does, and so
+/// with no rule for now; `Memory` where one of the two runs out of memory, which tells nothing of the step, and with no other rule.
+/// Nothing is changed. Source: Alethe specification, the list of rules; the bound on numbers is own.
 pub fn judge(
     alloc: Global,
     table: &TermTable,
     rule: Rule,
     premises: &[Clause],
+    arguments: ArgumentTexts<'_>,
     clause: &[TermId],
 ) -> Result<(), RuleStop>
     requires premises { All (AreIn table.now) premises.now }
     requires clause { AreIn table.now clause.now }
-    ensures exact { JudgesOrStops table.now rule premises.now clause.now result }
+    ensures exact { JudgesOrStops table.now rule premises.now (texts_meant arguments.entry) clause.now result }
     ensures alone { rule ≢ rules.Resolution → rule ≢ rules.ThResolution → result ≢ Err stops.Memory }
 {
     match rule {

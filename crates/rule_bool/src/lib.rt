@@ -1,14 +1,16 @@
-//! Rules of Alethe on clauses of the table of terms.
+//! Rules of Alethe on clauses of the table of terms of every sort.
 //!
-//! There is a call for each rule, and `judge` judges by the rule that is named. Premises and clause give their terms by their numbers
-//! in the table, and terms are compared as they are read. `RuleFails` comes exactly where the step is not right. But for resolution
-//! no rule takes memory, and where a rule's comment says nothing of time, it takes the same time for all terms.
+//! There is a call for each rule, and `judge` judges by the rule that is named, with the texts of the step's arguments. Premises and
+//! clause give their terms by their numbers in the table, and terms are compared as they are read. `RuleFails` comes exactly where the
+//! step is not right. But for resolution no rule takes memory, and where a rule's comment says nothing of time, it takes the same time
+//! for all terms.
 //!
-//! Which clauses a rule states of a term says one table, `scheme_of`; by the same schemes go the rules that turn the first term
-//! into a premise. `resolution` makes literals of the terms, over which `resolves` propagates units in time in proportion to them.
+//! Which clauses a rule states of a term says one table, `scheme_of`: the term has the scheme's head before arguments of sort Bool. By
+//! the same schemes go the rules that turn the first term into a premise. `resolution` makes literals of the terms, over which `resolves` propagates units in time in proportion to them.
 #![tactic(auto)]
 
 mod and_or_rules;
+mod arguments;
 mod assignment;
 mod by_rule;
 mod distinct;
@@ -34,6 +36,7 @@ mod xor_rules;
 pub use and_or_rules::{
     rule_and, rule_and_neg, rule_and_pos, rule_not_and, rule_not_or, rule_or_neg, rule_or_pos,
 };
+pub use arguments::ArgumentTexts;
 pub use assignment::Assignment;
 pub use by_rule::judge;
 pub use equiv_rules::{
@@ -48,12 +51,13 @@ pub use ite_rules::{
     rule_ite_neg1, rule_ite_neg2, rule_ite_pos1, rule_ite_pos2, rule_ite1, rule_ite2,
     rule_not_ite1, rule_not_ite2,
 };
-pub use literals::{negated, same};
+pub use literals::{literals_of, negated, same};
 pub use propagation::resolves;
-pub use resolvent::{literals_of, resolution};
+pub use resolvent::resolution;
 pub use rule_stop::RuleStop;
 pub use rules::{rule_contraction, rule_or, rule_reordering, rule_weakening};
 pub use scheme_table::{Scheme, scheme_of};
+pub use schemes::are_formulas;
 pub use status::{ClauseStatus, clause_status};
 pub use term_core::{Lit, TermId};
 pub use truth_rules::{rule_false, rule_not_not, rule_true};

@@ -1,7 +1,7 @@
 //! Terms as they stand, and what negations negate.
 
 ghost use Rattle.std.specs.Prelude.{MatchOption, false};
-ghost use Rattle.spec_proofs.specs.Rules.{flipped};
+ghost use Rattle.spec_rules.specs.Rules.{flipped};
 ghost use Rattle.term_core.specs.Tables.{IsIn, term_at};
 ghost use Rattle.rule_bool.specs.Schemes.{IsSigned, HasNoSign, HasNoTurn};
 

@@ -1,34 +1,16 @@
 //! Resolution of clauses of the table of terms.
 
 ghost use Rattle.std.specs.Prelude.{map, IfOk, All, MatchResult};
-ghost use Rattle.spec_proofs.specs.Clauses.{IsResolvent};
+ghost use Rattle.spec_rules.specs.Clauses.{IsResolvent};
 ghost use Rattle.term_core.specs.Tables.{AreIn, clause_at};
 ghost use Rattle.rule_bool.specs.Literals.{lists};
-ghost use Rattle.rule_bool.specs.Resolvents.{Means, MeansEach, Stops};
+ghost use Rattle.rule_bool.specs.Resolvents.{MeansEach, Stops};
 
+use crate::literals::literals_of;
 use crate::propagation::resolves;
 use crate::rule_stop::RuleStop;
 use std::alloc::{AllocError, Global};
 use term_core::{Clause, Lit, TermId, TermTable};
-
-/// Gives the literal of each term of a clause, in their order: the term without its leading negations, with the parity of their
-/// number.
-///
-/// `AllocError` comes where the list finds no memory. Source: Alethe specification, the rule `resolution`.
-pub fn literals_of(
-    alloc: Global,
-    table: &TermTable,
-    clause: &[TermId],
-) -> Result<Vec<Lit>, AllocError>
-    requires { AreIn table.now clause.now }
-    ensures { IfOk result (λ v. Means table.now v.items (clause_at table.now clause.now)) }
-{
-    let mut literals = Vec::new(alloc);
-    for id in clause {
-        literals.push(table.literal(*id))?;
-    }
-    Ok(literals)
-}
 
 /// Gives the literals of each premise.
 fn premises_of(
@@ -70,7 +52,7 @@ pub fn resolution(
     requires clause { AreIn table.now clause.now }
     ensures { MatchResult result
         (λ _. IsResolvent (map (clause_at table.now) premises.now) (clause_at table.now clause.now))
-        (λ stop. Stops stop (IsResolvent (map (clause_at table.now) premises.now) (clause_at table.now clause.now))) }
+        (λ stop. Stops stop (IsResolvent (map (clause_at table.now) premises.now) (clause_at table.now clause.now)) ⊥) }
 {
     let found = premises_of(alloc, table, premises)?;
     let wanted = literals_of(alloc, table, clause)?;

@@ -1,7 +1,7 @@
 //! The literals that may come after a term, by its arguments.
 
 ghost use Rattle.std.specs.Prelude.{◌≡◌, ◌<◌, length};
-ghost use Rattle.spec_proofs.specs.Schemes.{side_of};
+ghost use Rattle.spec_rules.specs.Schemes.{side_of};
 ghost use Rattle.spec_proofs.specs.declared.Rest.TheVariants as rests;
 ghost use Rattle.term_core.specs.Tables.{IsIn, AreIn, term_at, clause_at};
 ghost use Rattle.rule_bool.specs.Schemes.{HasPlaces, HasRest, Tests};

@@ -8,12 +8,15 @@ use thiserror::Error;
 
 /// Says why a step of a proof is not taken.
 ///
-/// Source: Alethe specification, the list of rules; out of memory is own.
+/// Source: Alethe specification, the list of rules; the bound on numbers and out of memory are own.
 #[derive(Clone, Copy, Debug, PartialEq, Eq, Error)]
 pub enum RuleStop {
     /// The clause does not follow by the rule from the premises.
     #[error("the step is not right by its rule")]
     Fails,
+    /// An operation by which the step is tested leaves the bound on numbers.
+    #[error("the step leaves the bound on numbers")]
+    Wide,
     /// Memory ran out before that was known.
     #[error("out of memory")]
     Memory,

@@ -2,7 +2,7 @@
 
 ghost use Rattle.std.specs.Prelude.{map, All, MatchOption};
 ghost use Rattle.spec_proofs.specs.declared.Rule.TheVariants as rules;
-ghost use Rattle.spec_proofs.specs.Rules.{IsWeakening};
+ghost use Rattle.spec_rules.specs.Rules.{IsWeakening};
 ghost use Rattle.term_core.specs.Tables.{AreIn, clause_at};
 ghost use Rattle.rule_bool.specs.Premises.{IsDisjunctionAlone, HasNoDisjunctionAlone};
 ghost use Rattle.rule_bool.specs.Schemes.{IsExact, Judges};

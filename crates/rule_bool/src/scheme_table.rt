@@ -6,7 +6,7 @@ ghost use Rattle.rule_bool.specs.Schemes.{StatesNothing, States, TurnsNothing, T
 use spec_proofs::{Rest, Rule, Side};
 use term_core::Head;
 
-/// Says which clauses a term gives: its head, how it stands in front, and what stands after it.
+/// Says which clauses a term gives: its head, how it stands in front, and what stands after it. The term's arguments have the sort Bool.
 ///
 /// Source: Alethe specification, rules.
 #[derive(Clone, Copy, Debug, PartialEq, Eq)]

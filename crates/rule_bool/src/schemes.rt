@@ -1,7 +1,8 @@
 //! Steps by which a clause is stated, and those that turn the first term into a premise.
 
 ghost use Rattle.std.specs.Prelude.{◌≡◌, ◌≢◌, [], ◌∷◌, map, All, MatchBool, MatchOption};
-ghost use Rattle.spec_proofs.specs.Rules.{IsStated, IsTurned};
+ghost use Rattle.spec_sorts.specs.Terms.{Truth, sort_of, all_same};
+ghost use Rattle.spec_rules.specs.Rules.{IsStated, IsTurned};
 ghost use Rattle.term_core.specs.declared.ids.TermId.{TermId as Number};
 ghost use Rattle.term_core.specs.Tables.{IsIn, AreIn, term_at, clause_at, head_meant};
 ghost use Rattle.rule_bool.specs.Schemes.{scheme_seen, IsStating, IsTurning, GivesRest, HasScheme, IsExact, Judges, Tests};
@@ -11,29 +12,47 @@ use crate::rests::has_rest;
 use crate::scheme_table::{Scheme, scheme_of, turned_scheme_of};
 use crate::within::alone;
 use spec_proofs::{Rest, Rule};
-use term_core::{Clause, Head, RuleFails, TermId, TermTable};
+use term_core::{Clause, Head, Node, RuleFails, Sort, TermId, TermTable};
 
-/// Tells whether two heads are one.
-fn same_head(a: Head, b: Head) -> bool
-    ensures { MatchBool result (a ≡ b) (a ≢ b) }
+/// Tells whether a node has a head.
+fn has_head(node: &Node, head: Head) -> bool
+    ensures { MatchBool result (node.now.head ≡ head) (node.now.head ≢ head) }
 {
-    a == b
+    node.head == head
 }
 
-/// Tells whether a term has a head, and terms may come after it.
+/// Tells whether each term has the sort Bool. It takes no memory, and time in proportion to their number.
+///
+/// Source: SMT-LIB 2.6, section 5.2.
+pub fn are_formulas(table: &TermTable, ids: &[TermId]) -> bool
+    requires { AreIn table.now ids.now }
+    ensures { result ≡ all_same Truth (map sort_of (clause_at table.now ids.now)) }
+{
+    'terms: for id in ids.iter() {
+        if table.sort(*id) != Sort::Bool {
+            return false;
+        }
+    }
+    true
+}
+
+/// Tells whether a term has a head before arguments of sort Bool, and terms may come after it.
 fn gives_rest(table: &TermTable, head: Head, rest: Rest, id: TermId, behind: &[TermId]) -> bool
     requires form { IsStating head rest }
     requires id { IsIn table.now id }
     requires behind { AreIn table.now behind.now }
-    ensures { Tests (GivesRest (head_meant table.now.symbols head) rest (term_at table.now id)
+    ensures { Tests (GivesRest (head_meant table.now head) rest (term_at table.now id)
         (clause_at table.now behind.now)) result }
 {
-    table.all_terms_are_bool();
     let node = table.node(id);
-    if !same_head(node.head, head) {
+    if !has_head(node, head) {
         return false;
     }
-    has_rest(table, rest, node.arguments.as_slice(), behind)
+    let arguments = node.arguments.as_slice();
+    if !are_formulas(table, arguments) {
+        return false;
+    }
+    has_rest(table, rest, arguments, behind)
 }
 
 /// Judges a step without premises, whose clause a term of the head gives.
@@ -45,7 +64,7 @@ pub(crate) fn stated(
 ) -> Result<(), RuleFails>
     requires form { IsStating scheme.head scheme.rest }
     requires clause { AreIn table.now clause.now }
-    ensures { IsExact (IsStated (scheme_seen table.now.symbols scheme) (map (clause_at table.now) premises.now)
+    ensures { IsExact (IsStated (scheme_seen table.now scheme) (map (clause_at table.now) premises.now)
         (clause_at table.now clause.now)) result }
 {
     if !premises.is_empty() {
@@ -83,7 +102,7 @@ pub(crate) fn turned(
     requires form { IsTurning scheme.head scheme.rest }
     requires premises { All (AreIn table.now) premises.now }
     requires clause { AreIn table.now clause.now }
-    ensures { IsExact (IsTurned (scheme_seen table.now.symbols scheme) (map (clause_at table.now) premises.now)
+    ensures { IsExact (IsTurned (scheme_seen table.now scheme) (map (clause_at table.now) premises.now)
         (clause_at table.now clause.now)) result }
 {
     let Some(front) = term_alone(premises) else {

@@ -43,7 +43,7 @@ sat
 
 (push 1)
 (get-model)
-(echo \"a\")
+(reset)
 (check-sat)
 ----
 (error \"3:2: UnknownCommand\")
@@ -203,7 +203,7 @@ sat
 (assert (not 5))
 (check-sat)
 ----
-(error \"2:14: UnknownSymbol\")
+(error \"2:9: WrongSort\")
 sat
 ====
 1 smt_cli|solve
@@ -302,7 +302,7 @@ sat
 1 smt_cli|solve
 ----
 (set-option :print-success false)
-(assert (let ((x true)) x))
+(assert (forall ((x Bool)) x))
 (check-sat)
 ----
 (error \"2:10: Reserved\")
@@ -311,7 +311,7 @@ sat
 1 smt_cli|solve
 ----
 (set-option :print-success false)
-(assert (! true :named n))
+(assert (exists x))
 (check-sat)
 ----
 (error \"2:10: Reserved\")

@@ -6,13 +6,20 @@
 //! how many of eight bytes are left unread. Rows are one constant, since a table of them takes many times as long to prove.
 
 use crate::argument_rows::{ARGUMENTS, PROVED};
+use crate::command_rows::COMMANDS;
+use crate::evidence_rows::EVIDENCE;
+use crate::judgement_rows::JUDGEMENTS;
+use crate::language_rows::{LANGUAGE, LOGICS};
 use crate::limit_rows::LIMITS;
 use crate::model_rows::MODELS;
+use crate::name_rows::{NAMES, ROOMS};
 use crate::reading_rows::READS;
 use crate::refusal_rows::REFUSED;
+use crate::row_support::{AMPLE, ROOMY, Run, Way, number_of, outcome_of};
 use crate::script_rows::{AGAIN, BUDGETS, TRANSCRIPTS, WRITTEN};
 use crate::session_rows::{HANDED, SESSIONS};
-use crate::test_support::{AMPLE, ROOMY, Run, Way, number_of, outcome_of};
+use crate::shape_rows::SHAPES;
+use crate::term_rows::TERMS;
 use crate::verdict_rows::{BROKEN, VERDICTS};
 use std::alloc::Global;
 use std::test::Fail;
@@ -133,6 +140,15 @@ fn first_of_all(alloc: Global) -> Result<Option<&'static str>, NoMemory> {
         HANDED,
         ARGUMENTS,
         READS,
+        COMMANDS,
+        TERMS,
+        NAMES,
+        ROOMS,
+        LOGICS,
+        LANGUAGE,
+        EVIDENCE,
+        SHAPES,
+        JUDGEMENTS,
     ] {
         if let Some(line) = first_other(alloc, rows, &EACH_WAY)? {
             return Ok(Some(line));
@@ -209,7 +225,7 @@ fn only_run(text: &str) -> Option<Run<'_>> {
 
 /// Gives the first row whose run is not cut short at each of its bytes, if there is one.
 fn first_uncut(alloc: Global) -> Result<Option<&'static str>, NoMemory> {
-    for rows in [WRITTEN, VERDICTS, SESSIONS, HANDED] {
+    for rows in [WRITTEN, VERDICTS, SESSIONS, HANDED, EVIDENCE] {
         for text in rows.split("====\n") {
             let Some(run) = only_run(text) else {
                 return Ok(Some(text));

@@ -131,7 +131,6 @@ sat
 (set-option :print-success false)(set-option :produce-models true)(set-option :verbosity (a \"b\"))(check-sat)
 ----
 unsupported
-unsupported
 sat
 ====
 0 smt_cli|solve

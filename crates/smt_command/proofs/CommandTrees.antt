@@ -1,6 +1,6 @@
 -- The commands of trees, by what the trees are.
 use Rattle.std.proofs.Common.{◌≡◌, ◌<◌, ◌≤◌, ℕ, List, length, sym, ap, ◌∙◌, refl}
-use Rattle.std.specs.Prelude.{Ok, Err}
+use Rattle.std.specs.Prelude.{Err}
 use Rattle.spec_text.specs.declared.Fault.{Fault}
 use Rattle.spec_text.specs.declared.Place.{Place}
 use Rattle.spec_text.specs.declared.Kind.{Kind}
@@ -9,11 +9,11 @@ use Rattle.spec_text.specs.Faults.{Located}
 use Rattle.spec_text.specs.Offsets.{AllOffsets, HasOffset, at_offset}
 use Rattle.spec_text.specs.Trees.{Tree, Trees, atom, list, none, more, offset_of}
 use Rattle.spec_text.specs.Answers.{refused, ◌>>=◌}
-use Rattle.spec_scripts.specs.Commands.{command_of}
-use Rattle.spec_scripts.specs.Stack.{Stack, Taken, empty_stack, performed, effect_of, step}
+use Rattle.spec_commands.specs.Commands.{command_of}
+use Rattle.spec_commands.specs.Stack.{Stack, empty_stack, performed, step}
 use Rattle.smt_sexpr.specs.declared.sexpr.Sexpr.{Sexpr}
 use Rattle.smt_sexpr.specs.Items.{text_of, start_of, tree_of}
-use Rattle.smt_command.specs.Commands.{listed, word_offset, first_offset}
+use Rattle.smt_command.specs.Commands.{listed}
 
 -- an atom is none
 pub atom_command : (t : Tree) (at : ℕ) (k : Kind) (n : List ℕ) → atom at k n ≡ t → command_of t ≡ refused at BadShape
@@ -29,14 +29,10 @@ listed_is at (more head us) end = refl
 pub list_command : (t : Tree) (at : ℕ) (ts : Trees) (end : ℕ) → list at ts end ≡ t → command_of t ≡ listed at ts
 list_command t at ts end e = ap command_of (sym e) ∙ listed_is at ts end
 
--- where the word of a list is
-pub list_word : (t : Tree) (at : ℕ) (ts : Trees) (end : ℕ) → list at ts end ≡ t → first_offset ts ≡ word_offset t
-list_word t at ts end e = ap word_offset e
-
 -- what is no command cannot be taken
 not_taken : (t : Tree) (f : Located) → command_of t ≡ Err f → step 0 empty_stack t ≡ Err f
 unfolding step ◌>>=◌
-not_taken t f e = ap (λ a. a >>= λ c. performed 0 (offset_of t) empty_stack c >>= λ next. Ok (let d : Taken = record { effect = effect_of c; stack = next } in d)) e
+not_taken t f e = ap (λ a. a >>= λ c. performed 0 (offset_of t) empty_stack c) e
 
 -- a fault of a command stands in its s-expression, so the place that was made of its offset has that offset
 pub placed_fault : (x : Sexpr) (n : ℕ) (f : Fault) (p : Place) → command_of (tree_of x) ≡ Err (record { offset = n; fault = f })

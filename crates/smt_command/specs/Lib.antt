@@ -1,2 +1,3 @@
--- What reading a command gives.
+-- What reading a command gives, and what the names of settings mean.
 pub mod Commands
+pub mod Settings

@@ -1,12 +1,12 @@
 //! An s-expression read as a command, or its fault with its place.
 
-ghost use Rattle.std.specs.Prelude.{◌≡◌, ◌≤◌, ◌<◌, length, IfOk};
+ghost use Rattle.std.specs.Prelude.{◌≡◌, ◌≤◌, ◌<◌, length};
 ghost use Rattle.spec_text.specs.declared.Fault.TheVariants as faults;
 ghost use Rattle.spec_text.specs.Places.{IsPlaceOf};
 ghost use Rattle.spec_text.specs.Trees.{offset_of};
-ghost use Rattle.spec_scripts.specs.Commands.{command_as, command_of, verb_of};
+ghost use Rattle.spec_commands.specs.Commands.{command_as, command_of, verb_of};
 ghost use Rattle.smt_sexpr.specs.Items.{trees_meant, tree_meant, text_of, start_of};
-ghost use Rattle.smt_command.specs.Commands.{command_view, listed, Gives, ChecksAt, first_offset, word_offset, Reads};
+ghost use Rattle.smt_command.specs.Commands.{command_view, listed, Gives, Reads};
 
 use crate::commands::{Command, verb_of};
 use crate::shapes::by_verb;
@@ -34,9 +34,8 @@ fn misshapen(at: u64) -> CommandFault
 
 /// Reads the command of a list at an offset, by the first of its trees, and the others.
 fn command_as<'a>(at: u64, head: Trees<'a>, rest: Trees<'a>) -> Result<Command<'a>, CommandFault>
-    ensures gives { Gives command_view result
+    ensures { Gives command_view result
         (command_as at (offset_of (tree_meant head.entry)) (verb_of (tree_meant head.entry)) (trees_meant rest.entry)) }
-    ensures check { IfOk result (ChecksAt (offset_of (tree_meant head.entry))) }
 {
     let place = offset(head);
     let Some(verb) = verb_of(head) else {
@@ -53,8 +52,7 @@ fn command_as<'a>(at: u64, head: Trees<'a>, rest: Trees<'a>) -> Result<Command<'
 
 /// Reads the command of a list at an offset.
 fn in_list(at: u64, trees: Trees<'_>) -> Result<Command<'_>, CommandFault>
-    ensures gives { Gives command_view result (listed at (trees_meant trees.entry)) }
-    ensures check { IfOk result (ChecksAt (first_offset (trees_meant trees.entry))) }
+    ensures { Gives command_view result (listed at (trees_meant trees.entry)) }
 {
     match split(trees) {
         None => Err(misshapen(at)),
@@ -64,8 +62,7 @@ fn in_list(at: u64, trees: Trees<'_>) -> Result<Command<'_>, CommandFault>
 
 /// Reads the command that the first tree is.
 fn first_command(trees: Trees<'_>) -> Result<Command<'_>, CommandFault>
-    ensures gives { Gives command_view result (command_of (tree_meant trees.entry)) }
-    ensures check { IfOk result (ChecksAt (word_offset (tree_meant trees.entry))) }
+    ensures { Gives command_view result (command_of (tree_meant trees.entry)) }
 {
     match look(trees) {
         View::Atom(at, _, _) => Err(misshapen(u64::from(at))),
@@ -74,7 +71,7 @@ fn first_command(trees: Trees<'_>) -> Result<Command<'_>, CommandFault>
 }
 
 /// Gives the place of an offset that stands in an s-expression; of any other offset, where the s-expression begins.
-pub fn place_in(sexpr: &Sexpr<'_>, offset: u64) -> Place
+fn place_in(sexpr: &Sexpr<'_>, offset: u64) -> Place
     ensures place { IsPlaceOf (text_of sexpr.now) result }
     ensures offset { start_of sexpr.now ≤ offset → offset < length (text_of sexpr.now) → result.offset ≡ offset }
 {
@@ -93,7 +90,7 @@ pub fn place_in(sexpr: &Sexpr<'_>, offset: u64) -> Place
 pub fn command<'a>(sexpr: &'a Sexpr<'_>) -> Result<Command<'a>, Refused>
     ensures { Reads sexpr.now result }
 {
-    spec_scripts::laws::faults_stand_in_their_command();
+    spec_commands::faults_stand_in_their_command();
     sexpr.offsets_have_places();
     match first_command(sexpr.trees()) {
         Ok(command) => Ok(command),

@@ -1,6 +1,6 @@
 -- Lemmas on sessions and runs.
 pub mod Delivering
-pub mod Showing
 pub mod Taking
+pub mod Answering
 pub mod TextRuns
 pub mod Saying

@@ -1,10 +1,10 @@
 -- From what was written for a text to what its answers say.
 use Rattle.std.proofs.Common.{ℕ, Bool, List}
 use Rattle.world_io.specs.Writing.{SinkView}
-use Rattle.spec_runs.specs.Evidence.{Limits}
-use Rattle.spec_runs.specs.Responses.{Mode}
-use Rattle.spec_runs.specs.Transcripts.{IsTranscript, IsBegun, checks_in}
-use Rattle.spec_runs.specs.Meaning.{AllSay}
+use Rattle.spec_sessions.specs.Evidence.{Limits}
+use Rattle.spec_sessions.specs.Responses.{Mode}
+use Rattle.spec_sessions.specs.Transcripts.{IsTranscript, IsBegun, checks_in}
+use Rattle.spec_sessions.specs.Meaning.{AllSay}
 use Rattle.smt_session.specs.declared.status.Status.{Status}
 use Rattle.smt_session.specs.declared.status.Status.TheVariants.{Done, Refused, Words, Memory, ReadFault, WriteFault}
 use Rattle.smt_session.specs.Runs.{RunsText, EndsText}

@@ -10,22 +10,23 @@ use Rattle.spec_text.specs.Places.{IsPlaceOf, column_of, name_of}
 use Rattle.spec_text.specs.Lexemes.{lexemes_from}
 use Rattle.spec_text.specs.Readings.{Stops, kept, is_long, limited}
 use Rattle.spec_replies.specs.Lines.{error_text}
-use Rattle.spec_scripts.specs.Stack.{Stack, empty_stack}
-use Rattle.spec_runs.specs.Evidence.{Limits}
-use Rattle.spec_runs.specs.Responses.{Mode, Response, success, not_supported, answered, ended, rejected, Answered, Answers, response_text, is_rejected, is_end}
-use Rattle.spec_runs.specs.Transcripts.{answers_text, closing_text, is_fault, IsTranscript}
-use Rattle.spec_runs.proofs.Running.{answers_more, Going, going_begins, answered_on, EachIsRead, told_more, ends_more, begun_here, text_ends, line_begun, begun_next, script_ends}
+use Rattle.spec_commands.specs.Stack.{Stack, empty_stack}
+use Rattle.spec_sessions.specs.Evidence.{Limits}
+use Rattle.spec_sessions.specs.Responses.{Mode, Response, success, not_supported, answered, said, ended, rejected, Answered, Answers, response_text, is_rejected, is_end}
+use Rattle.spec_sessions.specs.Transcripts.{answers_text, closing_text, is_fault, IsTranscript}
+use Rattle.spec_sessions.proofs.Running.{answers_more, Going, going_begins, answered_on, EachIsRead, told_more, ends_more, begun_here, text_ends, line_begun, begun_next, script_ends}
 use Rattle.smt_lexer.specs.declared.Refusal.{Refusal}
 use Rattle.smt_sexpr.specs.declared.sexpr.Sexpr.{Sexpr}
 use Rattle.smt_sexpr.specs.Items.{text_of, tree_of}
 use Rattle.smt_sexpr.specs.Reads.{Reads}
 use Rattle.smt_sexpr.specs.Limited.{refusal_meant, IsStopped}
 use Rattle.smt_sexpr.proofs.Limits.{stops_in}
+use Rattle.check_evidence.specs.Evidence.{limits_meant}
 use Rattle.smt_session.specs.declared.session.After.{After}
 use Rattle.smt_session.specs.declared.session.After.TheVariants as afters
 use Rattle.smt_session.specs.declared.status.Status.{Status}
 use Rattle.smt_session.specs.declared.status.Status.TheVariants as statuses
-use Rattle.smt_session.specs.Sessions.{limits_meant, mode_meant, SessionView, IsSession, IsAnswered, written_for, after_meant}
+use Rattle.smt_session.specs.Sessions.{mode_meant, SessionView, IsSession, IsAnswered, written_for, after_meant}
 use Rattle.smt_session.specs.Runs.{Delivered, HasStopped, RunsText, is_last, is_refusal, ended_by, line_of_refusal, Ended}
 
 -- what a response says of what comes after it
@@ -33,6 +34,7 @@ pub after_is : (r : Response) (a : After) → a ≡ after_meant r → (is_end r 
 after_is success a e = (ap is_last (sym e), ap is_refusal (sym e))
 after_is not_supported a e = (ap is_last (sym e), ap is_refusal (sym e))
 after_is (answered f) a e = (ap is_last (sym e), ap is_refusal (sym e))
+after_is (said s) a e = (ap is_last (sym e), ap is_refusal (sym e))
 after_is ended a e = (ap is_last (sym e), ap is_refusal (sym e))
 after_is (rejected f) a e = (ap is_last (sym e), ap is_refusal (sym e))
 

@@ -3,10 +3,10 @@ use Rattle.std.specs.Prelude.{◌≡◌, ℕ, Bool, true, false, List, [], Ok}
 use Rattle.world_io.specs.Writing.{SinkView, Sent, NotSent}
 use Rattle.spec_text.specs.Places.{name_of}
 use Rattle.spec_replies.specs.Lines.{error_text}
-use Rattle.spec_runs.specs.Evidence.{Limits}
-use Rattle.spec_runs.specs.Responses.{Mode, Answered}
-use Rattle.spec_runs.specs.Transcripts.{IsTranscript, IsBegun, checks_in}
-use Rattle.spec_runs.specs.Meaning.{AllSay}
+use Rattle.spec_sessions.specs.Evidence.{Limits}
+use Rattle.spec_sessions.specs.Responses.{Mode}
+use Rattle.spec_sessions.specs.Transcripts.{IsTranscript, IsBegun}
+use Rattle.spec_sessions.specs.Statements.{OnTranscript, OnBegun}
 use Rattle.smt_lexer.specs.declared.Refusal.{Refusal}
 use Rattle.smt_session.specs.declared.session.After.{After}
 use Rattle.smt_session.specs.declared.session.After.TheVariants as afters
@@ -49,19 +49,6 @@ RunsText limits mode text statuses.Refused old new = HasRun limits mode text tru
 RunsText limits mode text statuses.Memory old new = HasStopped limits mode text old new
 RunsText limits mode text statuses.WriteFault old new = HasBegun limits mode text old new
 RunsText limits mode text _ old new = ⊥
-
--- what answers say of the checks of a text is so
-abbrev pub AnswersSay : Limits → List ℕ → List Answered → Type 0
-AnswersSay limits text answers = AllSay limits text 0 (checks_in answers)
-
--- P is true of a transcript of the text, and what its answers say is so; whether something is refused in it
-abbrev pub OnTranscript : Limits → Mode → List ℕ → Bool → (List ℕ → Type 0) → Type 0
-OnTranscript limits mode text refused P =
-    (all : List ℕ) × (t : IsTranscript limits mode text all refused) × AnswersSay limits text t.answers × P all
-
--- P is true of what is to be written for the first of the text's commands, any number of them, and what these answers say is so
-abbrev pub OnBegun : Limits → Mode → List ℕ → (List ℕ → Type 0) → Type 0
-OnBegun limits mode text P = (begun : List ℕ) × (t : IsBegun limits mode text begun) × AnswersSay limits text t.answers × P begun
 
 -- how the run of a text ends, by its status: a transcript was written; or what is to be written for the commands that were run, where memory
 -- ran out; or a prefix of that, where the sink failed and had no room for it

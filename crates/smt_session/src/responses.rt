@@ -2,35 +2,36 @@
 
 ghost use Rattle.std.specs.Prelude.{◌≡◌, ◌++◌, ℕ, List};
 ghost use Rattle.world_io.specs.Writing.{Sends};
-ghost use Rattle.spec_scripts.specs.Stack.{Stack};
-ghost use Rattle.spec_replies.specs.Lines.{word_line};
-ghost use Rattle.spec_runs.specs.Evidence.{Found};
-ghost use Rattle.spec_runs.specs.Responses.{Response as SpokenResponse, Answered, answer_text, evidence_text, shown_text, success_by, response_text};
+ghost use Rattle.spec_sorts.specs.Signatures.{symbols_in};
+ghost use Rattle.spec_commands.specs.Stack.{Stack as ScriptStack, signature_of};
+ghost use Rattle.spec_sessions.specs.Evidence.{Checked};
+ghost use Rattle.spec_sessions.specs.Responses.{Response as SpokenResponse, Answered, answer_text, shown_text, success_by, string_line, response_text};
 ghost use Rattle.sat_budget.specs.Budgets.{BudgetView};
 ghost use Rattle.term_core.specs.Tables.{TableView};
-ghost use Rattle.smt_session.specs.Sessions.{mode_meant, IsEvidence, IsResponse, IsResponseOf, IsSomeResponse, after_meant, Delivers};
+ghost use Rattle.assertion_stack.specs.Stacks.{standing};
+ghost use Rattle.check_evidence.specs.Evidence.{check_on, IsEvidence, IsSomeEvidence};
+ghost use Rattle.smt_session.specs.Sessions.{mode_meant, IsResponse, IsResponseOf, IsSomeResponse, after_meant, Delivers};
 
-use crate::evidence::Evidence;
 use crate::mode::Mode;
 use crate::session::After;
-use alethe_writer::send as send_proof;
-use assertion_stack::Script;
-use model_text::send as send_model;
-use reply_text::{error, reason_line, word};
+use assertion_stack::Stack;
+use check_evidence::{Evidence, send_answer, send_evidence};
+use reply_text::{Word, error, word};
 use smt_lexer::Refusal;
-use spec_replies::Word;
 use term_core::TermTable;
-use world_io::{Failed, Sink};
+use world_io::{Failed, Sink, write_pieces};
 
 /// What a command is answered.
 #[derive(Drop)]
-pub(crate) enum Response {
+pub(crate) enum Response<'a> {
     /// It was done.
     Success,
     /// Its option is not known.
     Unsupported,
     /// This was found at its check.
     Answered(Evidence),
+    /// Its text is written, which stands between its quotes.
+    Said(&'a [u8]),
     /// It was done, and the script ends.
     Ended,
     /// It was refused.
@@ -38,60 +39,42 @@ pub(crate) enum Response {
 }
 
 /// Tells what comes after a command that is answered so.
-pub(crate) fn after_of(response: &Response) -> After
+pub(crate) fn after_of(response: &Response<'_>) -> After
     ensures { (t : TableView) (text : List ℕ) (budget : BudgetView) (r : SpokenResponse)
         → IsResponse t text budget response.now r → result ≡ after_meant r }
 {
     match response {
-        Response::Success | Response::Unsupported | Response::Answered(_) => After::Went,
+        Response::Success | Response::Unsupported | Response::Answered(_) | Response::Said(_) =>
+            After::Went,
         Response::Ended => After::Ended,
         Response::Rejected(_) => After::Refused,
     }
 }
 
-/// The word that answers a check.
-fn word_of(evidence: &Evidence) -> Word
-    ensures { (t : TableView) (budget : BudgetView) (f : Found) → IsEvidence t budget evidence.now f
-        → answer_text f ≡ word_line result }
-{
-    match evidence {
-        Evidence::Model(_) => Word::Sat,
-        Evidence::Proof(_, _) => Word::Unsat,
-        Evidence::Spent(_) => Word::Unknown,
-    }
-}
-
-/// Writes what shows that the answer of a check is right.
-fn send_evidence<K: Sink>(table: &TermTable, evidence: &Evidence, out: &mut K) -> Result<(), Failed>
-    requires { (budget : BudgetView) × (f : Found) × IsEvidence table.now budget evidence.now f }
-    ensures { (budget : BudgetView) (s : Stack) (f : Found) → s.symbols ≡ table.now.symbols
-        → IsEvidence table.now budget evidence.now f
-        → Sends (evidence_text s f) result (K.state out.old) (K.state out.new) }
-{
-    match evidence {
-        Evidence::Model(interp) => send_model(interp, table.symbols(), out),
-        Evidence::Proof(log, plan) => send_proof(plan, log, table, out),
-        Evidence::Spent(why) => reason_line(why, out),
-    }
-}
-
 /// Writes the answer of a check, and what shows it where that is wanted.
-fn send_answer<K: Sink>(
+fn send_check<K: Sink>(
     mode: Mode,
     table: &TermTable,
     evidence: &Evidence,
     out: &mut K,
 ) -> Result<(), Failed>
-    requires { (budget : BudgetView) × (f : Found) × IsEvidence table.now budget evidence.now f }
-    ensures { (budget : BudgetView) (s : Stack) (f : Found) → s.symbols ≡ table.now.symbols
-        → IsEvidence table.now budget evidence.now f
-        → Sends (answer_text f ++ shown_text (mode_meant mode) s f) result (K.state out.old) (K.state out.new) }
+    requires { IsSomeEvidence table.now evidence.now }
+    ensures { (budget : BudgetView) (s : ScriptStack) (c : Checked) → symbols_in (signature_of s) ≡ table.now.symbols
+        → c.check ≡ check_on s → IsEvidence table.now budget evidence.now c.found
+        → Sends (answer_text c.found ++ shown_text (mode_meant mode) c) result (K.state out.old) (K.state out.new) }
 {
-    word(word_of(evidence), out)?;
+    send_answer(evidence, out)?;
     match mode {
         Mode::Solve => Ok(()),
         Mode::Certify => send_evidence(table, evidence, out),
     }
+}
+
+/// Writes a string as it stands in a script, on a line.
+fn send_string<K: Sink>(text: &[u8], out: &mut K) -> Result<(), Failed>
+    ensures { Sends (string_line text.now) result (K.state out.old) (K.state out.new) }
+{
+    write_pieces(out, &[b"\"", text, b"\"\n"])
 }
 
 /// Writes `success`, where that is printed.
@@ -107,18 +90,21 @@ fn send_success<K: Sink>(print: bool, out: &mut K) -> Result<(), Failed>
 /// Writes a response, of which bytes may wait in a buffer then.
 fn write_response<K: Sink>(
     mode: Mode,
-    script: &Script,
-    response: &Response,
+    table: &TermTable,
+    stack: &Stack,
+    response: &Response<'_>,
     out: &mut K,
 ) -> Result<(), Failed>
-    requires { IsSomeResponse script.now.table response.now }
-    ensures { (text : List ℕ) (budget : BudgetView) (a : Answered) → IsResponseOf script.now text budget response.now a
+    requires { IsSomeResponse table.now response.now }
+    ensures { (text : List ℕ) (budget : BudgetView) (a : Answered)
+        → IsResponseOf (standing table.now stack.now) text budget response.now a
         → Sends (response_text (mode_meant mode) text a) result (K.state out.old) (K.state out.new) }
 {
     match response {
-        Response::Success | Response::Ended => send_success(script.print_success, out),
+        Response::Success | Response::Ended => send_success(stack.options.print_success, out),
         Response::Unsupported => word(Word::Unsupported, out),
-        Response::Answered(evidence) => send_answer(mode, &script.table, evidence, out),
+        Response::Answered(evidence) => send_check(mode, table, evidence, out),
+        Response::Said(text) => send_string(text, out),
         Response::Rejected(refusal) => error(refusal.place, refusal.fault.name().as_bytes(), out),
     }
 }
@@ -126,14 +112,16 @@ fn write_response<K: Sink>(
 /// Writes a response, and passes on what waits of it: then nothing waits in a buffer.
 pub(crate) fn send_response<K: Sink>(
     mode: Mode,
-    script: &Script,
-    response: &Response,
+    table: &TermTable,
+    stack: &Stack,
+    response: &Response<'_>,
     out: &mut K,
 ) -> Result<(), Failed>
-    requires { IsSomeResponse script.now.table response.now }
-    ensures { (text : List ℕ) (budget : BudgetView) (a : Answered) → IsResponseOf script.now text budget response.now a
+    requires { IsSomeResponse table.now response.now }
+    ensures { (text : List ℕ) (budget : BudgetView) (a : Answered)
+        → IsResponseOf (standing table.now stack.now) text budget response.now a
         → Delivers (response_text (mode_meant mode) text a) result (K.state out.old) (K.state out.new) }
 {
-    write_response(mode, script, response, out)?;
+    write_response(mode, table, stack, response, out)?;
     out.flush()
 }

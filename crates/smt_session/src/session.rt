@@ -2,21 +2,24 @@
 
 ghost use Rattle.std.specs.Prelude.{◌≡◌, ◌≤◌, [], IfOk, OnErr, IsErrOf};
 ghost use Rattle.world_io.specs.Outside.{Rose};
-ghost use Rattle.spec_scripts.specs.Stack.{Stack, empty_stack};
-ghost use Rattle.smt_session.specs.Sessions.{limits_meant, IsHeld, IsSession, Takes, KeepsBudget, Rejects, Stepped};
+ghost use Rattle.spec_commands.specs.Stack.{Stack as ScriptStack, empty_stack};
+ghost use Rattle.assertion_stack.specs.Stacks.{standing};
+ghost use Rattle.check_evidence.specs.Evidence.{limits_meant, IsHeld, HoldsSome};
+ghost use Rattle.smt_session.specs.Sessions.{IsSession, Takes, KeepsBudget, Rejects, Stepped};
 
-use crate::evidence::check;
 use crate::mode::Mode;
 use crate::responses::{Response, after_of, send_response};
-use assertion_stack::{Effect, Script};
+use assertion_stack::{Effect, Stack};
+use check_evidence::check;
 use sat_budget::{Budget, Limits};
 use smt_lexer::Refused;
 use smt_sexpr::Sexpr;
-use spec_printing::laws::commands_keep_names_that_can_be_written;
-use spec_runs::laws::what_is_shown_is_so;
-use spec_scripts::laws::commands_keep_stacks;
+use spec_commands::commands_keep_stacks;
+use spec_proof_texts::laws::commands_leave_script_names;
+use spec_sessions::laws::what_is_shown_is_so;
 use std::alloc::Global;
 use std::marker::Model;
+use term_core::TermTable;
 use world_io::{Failed, NoMemory, Sink};
 
 /// Tells what comes after a command.
@@ -55,7 +58,8 @@ impl From<NoMemory> for Halt {
 #[derive(Drop)]
 pub struct Session {
     alloc: Global,
-    script: Script,
+    table: TermTable,
+    stack: Stack,
     limits: Limits,
     mode: Mode,
     budget: Budget,
@@ -63,35 +67,37 @@ pub struct Session {
 
 impl Model for Session {
     ghost use Rattle.std.specs.Prelude.{◌≡◌};
-    ghost use Rattle.spec_scripts.specs.Stack.{Stack};
     ghost use Rattle.std.specs.Coded.{codes};
     ghost use Rattle.term_core.specs.Tables.{table_code};
-    ghost use Rattle.smt_session.specs.Sessions.{SessionView, IsHeld};
+    ghost use Rattle.assertion_stack.specs.Stacks.{standing};
+    ghost use Rattle.check_evidence.specs.Evidence.{HoldsSome};
+    ghost use Rattle.smt_session.specs.Sessions.{SessionView};
 
     ghost Value = { SessionView };
 
     ghost coded = { Prim.hlevel (codes, table_code) };
 
-    ghost view = { λ x. record { script = x.script; limits = x.limits; mode = x.mode; budget = x.budget } };
+    ghost view = { λ x. record { table = x.table; stack = x.stack; limits = x.limits; mode = x.mode; budget = x.budget } };
 
-    ghost invariant = { λ x. ((s : Stack) × IsHeld x.limits.terms x.script s) × (x.budget.limit ≡ x.limits.conflicts) };
+    ghost invariant = { λ x. HoldsSome x.limits.terms (standing x.table x.stack) × (x.budget.limit ≡ x.limits.conflicts) };
 }
 
 impl Session {
     /// Makes a session that has stated nothing.
     ///
-    /// `limits` are those of each check, but `terms`: how many constants may be declared, and how many different subterms
-    /// a command may have. `NoMemory` comes where memory ran out.
+    /// `limits` are those of each check, but `terms`: how many names there may be, and how many different subterms
+    /// the terms of a command may have. `NoMemory` comes where memory ran out.
     pub fn new(alloc: Global, limits: &Limits, mode: Mode) -> Result<Session, NoMemory>
         ensures begun { IfOk result (λ x. IsSession x empty_stack × (x.limits ≡ limits.now) × (x.mode ≡ mode)) }
         ensures budget { IfOk result (λ x. (x.budget.learned ≡ []) × (x.budget.limit ≡ limits.now.conflicts)) }
     {
         commands_keep_stacks();
-        commands_keep_names_that_can_be_written();
+        commands_leave_script_names();
         let budget = Budget::new(alloc, limits)?;
         Ok(Session {
             alloc,
-            script: Script::new(alloc),
+            table: TermTable::new(alloc),
+            stack: Stack::new(alloc, limits.terms),
             limits: *limits,
             mode,
             budget,
@@ -125,12 +131,13 @@ impl Session {
         what_is_shown_is_so();
         let response = take(
             self.alloc,
-            &mut self.script,
+            &mut self.table,
+            &mut self.stack,
             &mut self.budget,
             &self.limits,
             command,
         )?;
-        match send_response(self.mode, &self.script, &response, out) {
+        match send_response(self.mode, &self.table, &self.stack, &response, out) {
             Ok(()) => Ok(after_of(&response)),
             Err(Failed) => Err(Halt::Sink),
         }
@@ -138,36 +145,43 @@ impl Session {
 }
 
 /// Takes a command: all that it changes, but nothing is written. Where memory runs out nothing is changed.
-fn take(
+fn take<'a>(
     alloc: Global,
-    script: &mut Script,
+    table: &mut TermTable,
+    stack: &mut Stack,
     budget: &mut Budget,
     limits: &Limits,
-    command: &Sexpr<'_>,
-) -> Result<Response, NoMemory>
-    requires { (s : Stack) × IsHeld limits.now.terms script.old s }
-    ensures takes { (s : Stack) → IsHeld limits.now.terms script.old s
-        → Takes (limits_meant limits.now) s command.now result script.new budget.new }
-    ensures script { OnErr result (script.new ≡ script.old) }
+    command: &'a Sexpr<'_>,
+) -> Result<Response<'a>, NoMemory>
+    requires { HoldsSome limits.now.terms (standing table.old stack.old) }
+    ensures takes { (s : ScriptStack) → IsHeld limits.now.terms (standing table.old stack.old) s
+        → Takes (limits_meant limits.now) s command.now result (standing table.new stack.new) budget.new }
+    ensures table { OnErr result (table.new ≡ table.old) }
+    ensures stack { OnErr result (stack.new ≡ stack.old) }
     ensures budget { KeepsBudget result budget.old budget.new }
     ensures limit { budget.old.limit ≡ limits.now.conflicts → budget.new.limit ≡ limits.now.conflicts }
 {
     commands_keep_stacks();
-    commands_keep_names_that_can_be_written();
-    match script.command(alloc, command, limits.terms) {
+    commands_leave_script_names();
+    let started = stack.started;
+    match stack.command(alloc, table, command) {
         Ok(Effect::Done) => Ok(Response::Success),
         Ok(Effect::Unsupported) => Ok(Response::Unsupported),
-        Ok(Effect::Check) => match check(alloc, script, budget, limits) {
+        Ok(Effect::Check) => match check(alloc, table, stack, budget, limits) {
             Ok(evidence) => Ok(Response::Answered(evidence)),
-            Err(NoMemory) => Err(NoMemory),
+            Err(NoMemory) => {
+                stack.started = started;
+                Err(NoMemory)
+            }
         },
+        Ok(Effect::Say(text)) => Ok(Response::Said(text)),
         Ok(Effect::Exit) => Ok(Response::Ended),
         Err(stop) => rejected(stop),
     }
 }
 
 /// What a command is answered that was not taken.
-fn rejected(stop: Refused) -> Result<Response, NoMemory>
+fn rejected<'a>(stop: Refused) -> Result<Response<'a>, NoMemory>
     ensures { Rejects stop result }
 {
     match stop {

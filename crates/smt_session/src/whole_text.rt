@@ -1,7 +1,9 @@
 //! The run of a script's text.
 
 ghost use Rattle.std.specs.Prelude.{◌≡◌};
-ghost use Rattle.smt_session.specs.Sessions.{limits_meant, mode_meant, Delivers};
+ghost use Rattle.spec_commands.specs.Stack.{empty_stack};
+ghost use Rattle.check_evidence.specs.Evidence.{limits_meant};
+ghost use Rattle.smt_session.specs.Sessions.{mode_meant, IsSession, Delivers};
 ghost use Rattle.smt_session.specs.Runs.{RunsText, EndsText, is_last, is_refusal, ended_by, line_of_refusal, Ended};
 
 use crate::mode::Mode;
@@ -84,12 +86,12 @@ pub fn run_text<K: Sink>(
 ) -> Status
     ensures { EndsText (limits_meant limits.now) (mode_meant mode) bytes.now result (K.state out.old) (K.state out.new) }
 {
-    spec_runs::laws::answers_say_what_is_so();
-    run_commands(alloc, bytes, limits, mode, out)
+    spec_sessions::laws::answers_say_what_is_so();
+    run_session(alloc, bytes, limits, mode, out)
 }
 
-/// Takes the commands of a text one after the other, and writes what each is answered.
-fn run_commands<K: Sink>(
+/// Makes a session, and runs a text in it.
+fn run_session<K: Sink>(
     alloc: Global,
     bytes: &[u8],
     limits: &Limits,
@@ -102,6 +104,17 @@ fn run_commands<K: Sink>(
     let Ok(mut session) = Session::new(alloc, limits, mode) else {
         return Status::Memory;
     };
+    run_commands(alloc, bytes, &mut session, out)
+}
+
+/// Takes the commands of a text one after the other in a session that has stated nothing, and writes what each is answered. The session
+/// is lent, so that no way out of the loop drops it.
+fn run_commands<K: Sink>(alloc: Global, bytes: &[u8], session: &mut Session, out: &mut K) -> Status
+    requires { IsSession session.old empty_stack }
+    ensures { RunsText (limits_meant session.old.limits) (mode_meant session.old.mode) bytes.now result
+        (K.state out.old) (K.state out.new) }
+{
+    spec_text::laws::each_text_is_read();
     let text = LimitedText::new(bytes);
     let mut place = text.start();
     let mut refused = false;

@@ -4,14 +4,15 @@ use Rattle.std.specs.Prelude.{Ok}
 use Rattle.std.proofs.lemmas.Bool.{false≢true}
 use Rattle.world_io.specs.Writing.{SinkView, HasRoom, Sent, NotSent, Flushed, NotFlushed}
 use Rattle.world_io.proofs.Sending.{room_for_less}
-use Rattle.spec_runs.specs.Evidence.{Limits}
-use Rattle.spec_runs.specs.Responses.{Mode}
-use Rattle.spec_runs.proofs.Running.{begins_all}
-use Rattle.spec_scripts.specs.Stack.{empty_stack}
+use Rattle.spec_sessions.specs.Evidence.{Limits}
+use Rattle.spec_sessions.specs.Responses.{Mode}
+use Rattle.spec_sessions.proofs.Running.{begins_all}
+use Rattle.spec_commands.specs.Stack.{empty_stack}
 use Rattle.smt_session.specs.declared.status.Status.{Status}
 use Rattle.smt_session.specs.declared.status.Status.TheVariants.{Done, Refused, Words, Memory, ReadFault, WriteFault}
 use Rattle.smt_session.specs.Sessions.{Delivers}
-use Rattle.smt_session.specs.Runs.{Delivered, OnTranscript, OnBegun}
+use Rattle.spec_sessions.specs.Statements.{OnTranscript, OnBegun}
+use Rattle.smt_session.specs.Runs.{Delivered}
 use Rattle.smt_session.proofs.Delivering.{flushed, not_flushed}
 use Rattle.smt_top.specs.Arguments.{Asked, runs, checks, limits_by}
 use Rattle.smt_top.specs.Output.{longest_line}

@@ -2,12 +2,13 @@
 use Rattle.std.proofs.Common.{◌≡◌, inl, ℕ, Bool, List, IfSome}
 use Rattle.world_io.specs.Writing.{SinkView}
 use Rattle.spec_text.specs.Readings.{front}
-use Rattle.spec_runs.specs.Evidence.{Limits}
-use Rattle.spec_runs.specs.Responses.{Mode}
-use Rattle.spec_runs.specs.Transcripts.{IsTranscript, IsBegun}
+use Rattle.spec_sessions.specs.Evidence.{Limits}
+use Rattle.spec_sessions.specs.Responses.{Mode}
+use Rattle.spec_sessions.specs.Transcripts.{IsTranscript, IsBegun}
 use Rattle.smt_session.specs.declared.status.Status.{Status}
 use Rattle.smt_session.specs.declared.status.Status.TheVariants.{Done, Refused, Words, Memory, ReadFault, WriteFault}
-use Rattle.smt_session.specs.Runs.{EndsText, OnTranscript, OnBegun}
+use Rattle.spec_sessions.specs.Statements.{OnTranscript, OnBegun}
+use Rattle.smt_session.specs.Runs.{EndsText}
 use Rattle.smt_session.proofs.Saying.{WholeSays, BegunSays}
 use Rattle.smt_top.specs.Ends.{Holdings, ScriptEnds}
 

@@ -5,9 +5,9 @@ use Rattle.std.proofs.lemmas.List.{take-take}
 use Rattle.spec_text.specs.declared.Place.{Place}
 use Rattle.spec_text.specs.Places.{since_break, IsPlaceOf}
 use Rattle.spec_text.specs.Readings.{text_limit, front}
-use Rattle.spec_scripts.specs.Stack.{HasNoModel, term_limit}
+use Rattle.spec_commands.specs.Checks.{HasNoModel, term_limit}
 use Rattle.spec_proofs.specs.Faults.{Fault}
-use Rattle.spec_proofs.specs.Accepted.{IsAccepted, IsVerdict}
+use Rattle.spec_checking.specs.Accepted.{IsAccepted, IsVerdict}
 use Rattle.alethe_check.specs.declared.ProofStop.{ProofStop}
 use Rattle.alethe_check.specs.declared.ProofStop.TheVariants as stops
 use Rattle.alethe_check.specs.Verdicts.{Answers, fault_view}

@@ -4,9 +4,9 @@ use Rattle.std.specs.Str.{bytes_eq}
 use Rattle.std.specs.Str.Parse.{digits_value}
 use Rattle.std.specs.declared.alloc.Global.{Global}
 use Rattle.clap.specs.Words.{App, Row, Rule, Text, Kinds, fault_of, first_of, new_app, new_rule, subcommand_of, with_rule, with_subcommand}
-use Rattle.spec_scripts.specs.Stack.{term_limit}
-use Rattle.spec_runs.specs.Evidence.{Limits}
-use Rattle.spec_runs.specs.Responses.{Mode, solve, certify}
+use Rattle.spec_commands.specs.Checks.{term_limit}
+use Rattle.spec_sessions.specs.Evidence.{Limits}
+use Rattle.spec_sessions.specs.Responses.{Mode, solve, certify}
 
 -- The names of a script and of a proof, and the check that is meant.
 pub record Names : Type 0 where

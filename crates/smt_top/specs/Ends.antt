@@ -3,15 +3,16 @@ use Rattle.std.specs.Prelude.{◌≡◌, ◌+◌, ◌^◌, ◌≤◌, ℕ, Bool,
 use Rattle.world_io.specs.Writing.{SinkView, HasRoom, NotSent}
 use Rattle.world_io.specs.Buffering.{sink_of, pending_in, buffered}
 use Rattle.world_io.specs.declared.buffered_sink.BufferedSink.{BufferedSink}
-use Rattle.spec_scripts.specs.Stack.{HasNoModel, term_limit}
+use Rattle.spec_commands.specs.Checks.{HasNoModel, term_limit}
 use Rattle.spec_proofs.specs.Faults.{Fault}
-use Rattle.spec_proofs.specs.Accepted.{IsAccepted, IsVerdict}
+use Rattle.spec_checking.specs.Accepted.{IsAccepted, IsVerdict}
 use Rattle.smt_session.specs.declared.status.Status.{Status}
 use Rattle.smt_session.specs.declared.status.Status.TheVariants.{Done, Refused, Words, Memory, ReadFault, WriteFault}
-use Rattle.spec_runs.specs.Evidence.{Limits}
-use Rattle.spec_runs.specs.Responses.{Mode}
+use Rattle.spec_sessions.specs.Evidence.{Limits}
+use Rattle.spec_sessions.specs.Responses.{Mode}
 use Rattle.smt_session.specs.Sessions.{Delivers}
-use Rattle.smt_session.specs.Runs.{Delivered, OnTranscript, OnBegun}
+use Rattle.spec_sessions.specs.Statements.{OnTranscript, OnBegun}
+use Rattle.smt_session.specs.Runs.{Delivered}
 use Rattle.smt_top.specs.Arguments.{Names, Asked, runs, checks, limits_by}
 use Rattle.smt_top.specs.Output.{usage, valid, error_line, output_of, longest_line}
 

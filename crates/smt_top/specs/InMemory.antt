@@ -2,10 +2,10 @@
 use Rattle.std.specs.Prelude.{◌≡◌, ℕ, ◌<◌, ◌≤◌, true, false, List, [], ◌++◌, length, take, Option, Some, None, ◌⊎◌}
 use Rattle.world_io.specs.Memory.{Text, text_named, SinkState}
 use Rattle.spec_proofs.specs.Faults.{Fault}
-use Rattle.spec_proofs.specs.Accepted.{IsVerdict}
+use Rattle.spec_checking.specs.Accepted.{IsVerdict}
 use Rattle.smt_session.specs.declared.status.Status.{Status}
 use Rattle.smt_session.specs.declared.status.Status.TheVariants.{Done, Refused, Words, Memory, ReadFault, WriteFault}
-use Rattle.smt_session.specs.Runs.{OnTranscript, OnBegun}
+use Rattle.spec_sessions.specs.Statements.{OnTranscript, OnBegun}
 use Rattle.smt_top.specs.Arguments.{Names, Asked, runs, checks, limits_by}
 use Rattle.smt_top.specs.Ends.{IsValid, ScriptRun}
 use Rattle.smt_top.specs.Output.{usage, valid, error_line, output_of, longest_line}

@@ -1,4 +1,4 @@
-//! One run: it reads the arguments, and runs a script, or judges a proof against one.
+//! One run over the whole language: it reads the arguments, and runs a script, or judges a proof against one.
 #![tactic(auto)]
 
 mod arguments;

@@ -18,9 +18,9 @@ pub(crate) fn judge(alloc: Global, texts: &Texts, at: u64) -> Result<(), ProofSt
     ensures { (script proof : List ℕ) → texts.now.script ≡ front script → texts.now.proof ≡ front proof
         → Judges script at proof result }
 {
-    spec_proofs::laws::verdicts_need_a_front_alone();
-    spec_proofs::laws::accepted_proofs_have_no_fault();
-    spec_proofs::laws::acceptance_is_sound();
+    spec_checking::laws::verdicts_need_a_front_alone();
+    spec_checking::laws::accepted_proofs_have_no_fault();
+    spec_checking::laws::acceptance_is_sound();
     check(alloc, texts.script.as_slice(), at, texts.proof.as_slice())
 }
 

@@ -9,6 +9,7 @@ pub mod SearchReady
 pub mod SearchNew
 pub mod SearchLogs
 pub mod SearchAtoms
+pub mod SearchDecided
 pub mod SearchConflicts
 pub mod SearchShows
 pub mod SearchBegins

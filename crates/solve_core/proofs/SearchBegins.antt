@@ -1,26 +1,29 @@
 -- What a search begins with.
-use Rattle.std.proofs.Common.{◌≡◌, ℕ, ◌+◌, ◌<◌, List, [], ◌∷◌, ◌++◌, length, get_or, take, map, All, Contains, refl, sym, ap, ◌∙◌, subst, arith}
+use Rattle.std.proofs.Common.{◌≡◌, ℕ, ◌+◌, ◌<◌, List, [], ◌∷◌, ◌++◌, length, get_or, map, All, Contains, refl, sym, ap, ◌∙◌, subst, arith}
 use Rattle.std.proofs.lemmas.List.{get_or_default, get_or-map, append-nil, length-map}
 use Rattle.std.proofs.lemmas.List.FromFn.{get_or-range_with_len}
 use Rattle.std.proofs.lemmas.List.Elements.{All-nil, All-map, All-contains, Contains-append_left, Contains-get_or}
-use Rattle.std.proofs.Math.Seq.{take-append_seam}
 use Rattle.spec_text.proofs.Members.{to_image, from_image}
-use Rattle.spec_terms.specs.Terms.{Term}
-use Rattle.spec_terms.specs.Literals.{Clause, Literal, literals_of}
-use Rattle.spec_terms.specs.Subterms.{subterms_of}
+use Rattle.spec_sorts.specs.Terms.{Term}
+use Rattle.spec_sorts.specs.Literals.{Clause, Literal, literals_of}
 use Rattle.spec_proofs.specs.Resolution.{IsWithin}
-use Rattle.spec_search.specs.Derivations.{AssumesAmong, conclusion, conclusion_at, inference_at, no_inference}
-use Rattle.spec_search.specs.Base.{base_clauses}
-use Rattle.spec_search.specs.Spent.{IsLearnedFrom, IsAtomOf}
+use Rattle.spec_derivations.specs.Problems.{Problem, terms_of_problem, subterms_in}
+use Rattle.spec_derivations.specs.Examples.{asserting}
+use Rattle.spec_derivations.specs.Models.{AreInReach}
+use Rattle.spec_derivations.specs.Derivations.{AssumesAmong, conclusion, conclusion_at, inference_at, no_inference}
+use Rattle.spec_derivations.specs.Base.{base_clauses}
+use Rattle.spec_derivations.specs.Spent.{IsLearnedFrom, IsOverAtoms}
 use Rattle.term_core.specs.declared.ids.TermId.{TermId}
 use Rattle.term_core.specs.declared.ids.Lit.{Lit}
-use Rattle.term_core.specs.Tables.{TableView, AreIn, Extends, term_at, literal_at, clause_at}
-use Rattle.term_core.proofs.TermsExtend.{AreIn-kept, clause_at-kept}
-use Rattle.rule_bool.specs.Resolvents.{AreOf}
+use Rattle.term_core.specs.Tables.{TableView, term_at, literal_at, clause_at}
+use Rattle.term_core.proofs.TermsExtend.{clause_at-kept}
+use Rattle.rule_bool.specs.Literals.{AreOf}
 use Rattle.proof_log.specs.declared.premises.StepId.{StepId}
 use Rattle.proof_log.specs.Logs.{Logged, assumed, stepped, inference_of, derivation_in}
 use Rattle.proof_log.proofs.Logged.{conclusion_there}
-use Rattle.clausify.specs.Clausified.{stated, HasClauses, AssumesOneOf, Grows, AreAllMade}
+use Rattle.proof_log.specs.Logs.{stated, AreFormulasIn}
+use Rattle.clausify.proofs.Parts.{formula_kept}
+use Rattle.clausify.specs.HavingClauses.{HasClauses, AssumesOneOf, Grows, AreAllMade}
 use Rattle.clause_store.specs.Stores.{StoreView, no_step, empty, AreKnown, IsAdded}
 use Rattle.solve_core.specs.declared.search.Search.{Search}
 use Rattle.solve_core.specs.Search.{images, Derives, IsStoreOf}
@@ -49,21 +52,21 @@ store_known t log s vars h e k d lt j x small =
 -- what is assumed is one of the terms
 among_roots : (t : TableView) (roots : List TermId) (l : Logged) → AssumesOneOf roots l → AssumesAmong (clause_at t roots) (inference_of t l)
 among_roots t roots (assumed id) i = to_image (term_at t) roots id i
-among_roots t roots (stepped r ps c) h = tt
+among_roots t roots (stepped r ps qs c) h = tt
 
-module _ (t u : TableView) (roots : List TermId) (roots_in : AreIn t roots) (log old : List Logged) (none : old ≡ []) (steps : List StepId) (g : Grows roots t u old log) (h : HasClauses u log (clause_at t roots) steps) (m : AreAllMade old log steps)
+module _ (t u : TableView) (roots : List TermId) (roots_in : AreFormulasIn t roots) (reached : AreInReach (clause_at t roots)) (log old : List Logged) (none : old ≡ []) (steps : List StepId) (g : Grows roots t u old log) (h : HasClauses u log (clause_at t roots) steps) (m : AreAllMade old log steps)
     (store : StoreView) (s : IsStoreOf u log steps store)
-    (law : (terms : List Term) (c : Clause) (l : Literal) → Contains (base_clauses terms) c → Contains (literals_of c) l → Contains (subterms_of terms) l.atom) where
-  terms : List Term
-  terms = clause_at t roots
+    (law : (p : Problem) (c : Clause) (l : Literal) → Contains (base_clauses p) c → Contains (literals_of c) l → Contains (subterms_in p) l.atom) where
+  abbrev problem : Problem
+  problem = asserting (clause_at t roots)
 
   meant : clause_at u roots ≡ clause_at t roots
-  meant = clause_at-kept t u g.table roots roots_in
+  meant = clause_at-kept t u g.table roots (λ k d lt. (roots_in k d lt).0)
 
   log_is : log ≡ g.more
   log_is = g.log ∙ ap (λ (xs : List Logged). xs ++ g.more) none
 
-  as_many : length log ≡ length (base_clauses (clause_at t roots))
+  as_many : length log ≡ length (base_clauses problem)
   as_many = omega (arith, m.count, ap length none, h.count)
 
   -- each number of the log is one of the steps
@@ -75,22 +78,25 @@ module _ (t u : TableView) (roots : List TermId) (roots_in : AreIn t roots) (log
       (get_or steps k no_step, Contains-get_or steps k no_step short, sym (get_or-map (λ (x : StepId). x.0) steps k no_step 0 short) ∙ order)
 
   -- each inference states a base clause
-  states : All (λ x. Contains (base_clauses (clause_at t roots)) (conclusion x)) (derivation_in u log)
+  states : All (λ x. Contains (base_clauses problem) (conclusion x)) (derivation_in u log)
   states k d lt =
       let x = numbered k (rw length-map at lt) in
       let same : stated u log x.0 ≡ conclusion (get_or (derivation_in u log) k d) = ap (conclusion_at (derivation_in u log)) x.2 ∙ ap conclusion (get_or_default (derivation_in u log) k no_inference d lt) in
-      subst (Contains (base_clauses (clause_at t roots))) same (h.only (stated u log x.0) (to_image (stated u log) steps x.0 x.1))
+      subst (Contains (base_clauses problem)) same (h.only (stated u log x.0) (to_image (stated u log) steps x.0 x.1))
 
   -- and each base clause is stated
-  each : IsWithin (base_clauses (clause_at t roots)) (map conclusion (derivation_in u log))
+  each : IsWithin (base_clauses problem) (map conclusion (derivation_in u log))
   each c i =
       let x = from_image (stated u log) steps c (h.base c i) in
       let lt : x.0.0 < length (derivation_in u log) = rw length-map (All-contains (λ (y : StepId). y.0 < length log) steps x.0 h.there x.1) in
       subst (Contains (map conclusion (derivation_in u log))) x.2 (to_image conclusion (derivation_in u log) (inference_at (derivation_in u log) x.0.0) (Contains-get_or (derivation_in u log) x.0.0 no_inference lt))
 
-  assumes : All (λ l. AssumesAmong (clause_at t roots) (inference_of u l)) log
-  assumes = subst (λ (xs : List Logged). All (λ l. AssumesAmong (clause_at t roots) (inference_of u l)) xs) (sym log_is)
+  assumes_roots : All (λ l. AssumesAmong (clause_at t roots) (inference_of u l)) log
+  assumes_roots = subst (λ (xs : List Logged). All (λ l. AssumesAmong (clause_at t roots) (inference_of u l)) xs) (sym log_is)
       (λ k d lt. subst (λ (us : List Term). AssumesAmong us (inference_of u (get_or g.more k d))) meant (among_roots u roots (get_or g.more k d) (g.assumes k d lt)))
+
+  assumes : All (λ l. AssumesAmong (terms_of_problem problem) (inference_of u l)) log
+  assumes = subst (λ (us : List Term). All (λ l. AssumesAmong us (inference_of u l)) log) (sym (append-nil (clause_at t roots))) assumes_roots
 
   -- the clause of a number
   in_steps : (k : ℕ) → k < length store.clauses → Contains steps (get_or store.steps k no_step)
@@ -101,7 +107,7 @@ module _ (t u : TableView) (roots : List TermId) (roots_in : AreIn t roots) (log
   image_is : (k : ℕ) → k < length store.clauses → map (literal_at u) (get_or store.clauses k []) ≡ literals_of (stated u log (get_or store.steps k no_step))
   image_is k lt = (s.derives.same k lt).same ∙ ap literals_of (sym (conclusion_there u log (get_or store.steps k no_step) (s.derives.there k lt)))
 
-  is_base : (k : ℕ) → k < length store.clauses → Contains (base_clauses (clause_at t roots)) (stated u log (get_or store.steps k no_step))
+  is_base : (k : ℕ) → k < length store.clauses → Contains (base_clauses problem) (stated u log (get_or store.steps k no_step))
   is_base k lt = h.only (stated u log (get_or store.steps k no_step)) (to_image (stated u log) steps (get_or store.steps k no_step) (in_steps k lt))
 
   -- each clause is of a number
@@ -113,7 +119,7 @@ module _ (t u : TableView) (roots : List TermId) (roots_in : AreIn t roots) (log
       (k, d.1.1, sym (image_is k d.1.1) ∙ ap (map (literal_at u)) same ∙ d.2)
 
   -- each base clause is in the store
-  base : (c : Clause) → Contains (base_clauses (clause_at t roots)) c → Contains (images u store.clauses) (literals_of c)
+  base : (c : Clause) → Contains (base_clauses problem) c → Contains (images u store.clauses) (literals_of c)
   base c i =
       let x = from_image (stated u log) steps c (h.base c i) in
       let j = subst (λ (xs : List StepId). Contains xs x.0) (sym s.by) x.1 in
@@ -122,46 +128,38 @@ module _ (t u : TableView) (roots : List TermId) (roots_in : AreIn t roots) (log
       subst (Contains (images u store.clauses)) (image_is j.0 lt ∙ ap (λ (y : StepId). literals_of (stated u log y)) same ∙ ap literals_of x.2)
       (to_image (map (literal_at u)) store.clauses (get_or store.clauses j.0 []) (Contains-get_or store.clauses j.0 [] lt))
 
-  subterms : (c : List Literal) (l : Literal) → Contains (images u store.clauses) c → Contains c l → Contains (subterms_of (clause_at t roots)) l.atom
+  subterms : (c : List Literal) (l : Literal) → Contains (images u store.clauses) c → Contains c l → Contains (subterms_in problem) l.atom
   subterms c l i j =
       let k = place c i in
-      law (clause_at t roots) (stated u log (get_or store.steps k.0 no_step)) l (is_base k.0 k.1) (subst (λ (ls : List Literal). Contains ls l) (sym k.2) j)
+      law problem (stated u log (get_or store.steps k.0 no_step)) l (is_base k.0 k.1) (subst (λ (ls : List Literal). Contains ls l) (sym k.2) j)
 
-  only : IsWithin (images u store.clauses) (map literals_of (base_clauses (clause_at t roots)) ++ [])
+  only : IsWithin (images u store.clauses) (map literals_of (base_clauses problem) ++ [])
   only c i =
       let k = place c i in
-      Contains-append_left (map literals_of (base_clauses (clause_at t roots))) [] c
-      (subst (Contains (map literals_of (base_clauses (clause_at t roots)))) k.2 (to_image literals_of (base_clauses (clause_at t roots)) (stated u log (get_or store.steps k.0 no_step)) (is_base k.0 k.1)))
+      Contains-append_left (map literals_of (base_clauses problem)) [] c
+      (subst (Contains (map literals_of (base_clauses problem))) k.2 (to_image literals_of (base_clauses problem) (stated u log (get_or store.steps k.0 no_step)) (is_base k.0 k.1)))
 
-  begun : HasDerived (clause_at t roots) (derivation_in u log) (images u store.clauses) []
+  begun : HasDerived problem (derivation_in u log) (images u store.clauses) []
   begun = record {
-    assumes = All-map (AssumesAmong (clause_at t roots)) (inference_of u) log assumes;
+    assumes = All-map (AssumesAmong (terms_of_problem problem)) (inference_of u) log assumes;
     base = base;
     only = only;
     subterms = subterms;
     kept = λ c i. absurd (omega (arith, i.1));
-    derived = All-nil (IsLearnedFrom (clause_at t roots) (derivation_in u log));
-    atoms = All-nil (λ c. All (λ (l : Literal). IsAtomOf (clause_at t roots) l.atom) c);
+    derived = All-nil (IsLearnedFrom problem (derivation_in u log));
+    atoms = All-nil (IsOverAtoms problem);
     new = tt;
-    steps_made = steps_start (clause_at t roots) (derivation_in u log) (rw length-map as_many) states each;
+    steps_made = steps_start problem (derivation_in u log) (rw length-map as_many) states each;
   }
 
   -- so the search begins
-  pub search_begins : (x : Search) → x.log ≡ log → x.store ≡ store → x.budget.learned ≡ [] → IsSearch u (clause_at t roots) x
+  pub search_begins : (x : Search) → x.log ≡ log → x.store ≡ store → x.budget.learned ≡ [] → IsSearch u problem x
   search_begins x log_same store_same learned = record {
     roots = roots;
-    roots_in = AreIn-kept t u g.table roots roots_in;
-    meant = meant;
-    derived = subst (λ (xs : List Logged). HasDerived (clause_at t roots) (derivation_in u xs) (images u x.store.clauses) (images u x.budget.learned)) (sym log_same)
-        (subst (λ (y : StoreView). HasDerived (clause_at t roots) (derivation_in u log) (images u y.clauses) (images u x.budget.learned)) (sym store_same)
-        (subst (λ (ls : List (List Lit)). HasDerived (clause_at t roots) (derivation_in u log) (images u store.clauses) (images u ls)) (sym learned) begun));
+    roots_in = λ k d lt. formula_kept t u (record { terms = g.table; declared = g.declared }) (get_or roots k d) (roots_in k d lt);
+    reached = subst AreInReach (sym meant) reached;
+    meant = ap asserting meant;
+    derived = subst (λ (xs : List Logged). HasDerived problem (derivation_in u xs) (images u x.store.clauses) (images u x.budget.learned)) (sym log_same)
+        (subst (λ (y : StoreView). HasDerived problem (derivation_in u log) (images u y.clauses) (images u x.budget.learned)) (sym store_same)
+        (subst (λ (ls : List (List Lit)). HasDerived problem (derivation_in u log) (images u store.clauses) (images u ls)) (sym learned) begun));
   }
-
--- a table that is cut back has all that it had
-pub extends_cut : (t u v : TableView) (n : ℕ) → n ≡ length t.terms → Extends t u → u.symbols ≡ t.symbols → v.terms ≡ take n u.terms → v.symbols ≡ u.symbols → Extends t v
-extends_cut t u v n len g symbols cut kept = record {
-  more_symbols = [];
-  symbols = kept ∙ symbols ∙ sym (append-nil t.symbols);
-  more_terms = [];
-  terms = cut ∙ ap (λ (k : ℕ). take k u.terms) len ∙ ap (take (length t.terms)) g.terms ∙ take-append_seam t.terms g.more_terms ∙ sym (append-nil t.terms);
-}

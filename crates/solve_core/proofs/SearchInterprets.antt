@@ -7,12 +7,13 @@ use Rattle.std.proofs.lemmas.Bool.{false≢true}
 use Rattle.std.proofs.lemmas.List.{length-map, get_or-map}
 use Rattle.std.proofs.lemmas.Slice.Eq.{bytes_eq-Decides}
 use Rattle.spec_text.specs.Bytes.{Name}
-use Rattle.spec_terms.specs.Terms.{Symbol}
-use Rattle.spec_terms.specs.Values.{Interpretation}
-use Rattle.term_core.specs.declared.values.Interp.{Interp}
+use Rattle.spec_sorts.specs.Terms.{Symbol}
+use Rattle.spec_sorts.specs.Values.{Interpretation}
+use Rattle.term_walks.specs.declared.values.Interp.{Interp}
 use Rattle.term_core.specs.NameLists.{HaveNoTwice}
-use Rattle.term_core.specs.Tables.{no_symbol, names_of}
-use Rattle.term_core.specs.Valuations.{Stands, tables_meant, no_table}
+use Rattle.term_core.specs.Symbols.{no_symbol, names_of}
+use Rattle.term_core.specs.Tables.{TableView}
+use Rattle.term_walks.specs.Valuations.{Stands, tables_meant, no_table}
 
 -- the number of the first symbol of a name
 abbrev number_of : List Symbol → Name → ℕ
@@ -35,16 +36,18 @@ found (s ∷ ss) n k lt e = go (bytes_eq s.name n) (bytes_eq-Decides s.name n) (
     go false d more (suc k) lt e = let h = more k (omega (arith, lt)) e in record { there = omega (arith, h.there); named = h.named }
 
 -- the interpretation that has these tables
-abbrev interpreted : List Symbol → Interp → Interpretation
-interpreted ss interp = record { table = λ n. slice_index_or (tables_meant interp) (number_of ss n) no_table }
+abbrev interpreted : TableView → Interp → Interpretation
+interpreted t interp = record { table = λ n. slice_index_or (tables_meant t.sorts interp) (number_of t.symbols n) no_table }
 
-pub interpretation : (ss : List Symbol) (interp : Interp) → HaveNoTwice (names_of ss) → (i : Interpretation) × Stands ss interp i
-interpretation ss interp apart = (
-  interpreted ss interp,
-  λ k lt.
+pub interpretation : (t : TableView) (interp : Interp) → HaveNoTwice (names_of t.symbols) → (i : Interpretation) × Stands t interp i
+interpretation t interp apart = (
+  interpreted t interp,
+  λ s lt.
+      let ss = t.symbols in
+      let k = s.0 in
       let n = (get_or ss k no_symbol).name in
       let h = found ss n k lt refl in
       let name : (j : ℕ) → j < length ss → get_or (names_of ss) j [] ≡ (get_or ss j no_symbol).name = λ j l. get_or-map (λ (s : Symbol). s.name) ss j no_symbol [] l in
       let same : number_of ss n ≡ k = apart (number_of ss n) k (rw length-map h.there) (rw length-map lt) (name (number_of ss n) h.there ∙ h.named ∙ sym (name k lt)) in
-      ap (λ (m : ℕ). slice_index_or (tables_meant interp) m no_table) same,
+      ap (λ (m : ℕ). slice_index_or (tables_meant t.sorts interp) m no_table) same,
 )

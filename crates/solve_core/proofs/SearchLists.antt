@@ -2,11 +2,11 @@
 use Rattle.std.proofs.Common.{◌≡◌, ℕ, ◌<◌, ◌≤◌, List, [], ◌∷◌, length, get_or, take, map, Contains, refl, sym, ap, ◌∙◌, arith, suc}
 use Rattle.std.specs.Prelude.{drop}
 use Rattle.std.proofs.lemmas.List.{get_or-take, length-take-le, get_or_default}
-use Rattle.spec_terms.specs.Literals.{Clause, Literal}
+use Rattle.spec_sorts.specs.Literals.{Clause, Literal}
 use Rattle.term_core.specs.declared.ids.Lit.{Lit}
 use Rattle.term_core.specs.Tables.{TableView, AreDifferent, Extends, literal_at}
 use Rattle.term_core.proofs.TermsExtend.{IsIn-kept, literal_at-kept}
-use Rattle.rule_bool.specs.Resolvents.{AreOf, Means}
+use Rattle.rule_bool.specs.Literals.{AreOf, Means}
 use Rattle.rule_bool.proofs.Resolvents.{literals_apart}
 use Rattle.sat_trail.specs.Trails.{no_lit}
 use Rattle.solve_core.specs.Search.{images, AreAllOf}

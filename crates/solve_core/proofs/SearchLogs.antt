@@ -1,97 +1,99 @@
 -- What a derivation says with one inference more.
 use Rattle.std.proofs.Common.{◌≡◌, ℕ, ◌<◌, List, [], ◌∷◌, ◌++◌, length, get_or, map, All, Contains, sym, ap, ◌∙◌, subst, arith, refl, append_assoc}
 use Rattle.std.proofs.lemmas.List.{append-nil, length-append, length-map, map-append, get_or-map, get_or_append_left}
-use Rattle.std.proofs.lemmas.List.Elements.{All-nil, All-push, All-contains, Contains-append_left, Contains-push_cases, Contains-push, Contains-append_cases, Contains-append_right}
+use Rattle.std.proofs.lemmas.List.Elements.{All-nil, All-push, Contains-append_left, Contains-push_cases, Contains-push, Contains-append_cases, Contains-append_right}
 use Rattle.std.proofs.Math.Seq.{get_or-append_seam}
 use Rattle.std.proofs.Common.{inl, inr}
-use Rattle.spec_terms.specs.Terms.{Term}
-use Rattle.spec_terms.specs.Literals.{Clause, Literal, literals_of}
-use Rattle.spec_search.specs.Derivations.{Inference, by_rule, Derivation, no_inference, conclusion, conclusion_at, IsDerivation, AssumesAmong, IsDerivedFrom}
+use Rattle.spec_text.specs.Trees.{none as no_texts}
+use Rattle.spec_sorts.specs.Literals.{Clause, Literal, literals_of}
+use Rattle.spec_derivations.specs.Problems.{Problem, terms_of_problem, subterms_in}
+use Rattle.spec_derivations.specs.Derivations.{Inference, by_rule, Derivation, no_inference, conclusion, conclusion_at, IsDerivation, AssumesAmong, IsDerivedFrom}
 use Rattle.spec_proofs.specs.Resolution.{IsWithin}
 use Rattle.spec_proofs.specs.declared.Rule.TheVariants.{Resolution}
-use Rattle.spec_search.specs.Base.{base_clauses}
-use Rattle.spec_search.specs.Learned.{IsNew}
-use Rattle.spec_search.specs.Spent.{IsLearnedFrom, IsAtomOf}
-use Rattle.spec_search.proofs.Spending.{rests_there}
+use Rattle.spec_derivations.specs.Base.{base_clauses}
+use Rattle.spec_derivations.specs.Learned.{IsNew}
+use Rattle.spec_derivations.specs.Spent.{IsLearnedFrom, IsOverAtoms}
+use Rattle.spec_derivations.proofs.Spending.{rests_there}
 use Rattle.solve_core.specs.Rounds.{IsByResolution, HasSteps, HasDerived}
 use Rattle.solve_core.proofs.SearchNew.{new_more}
 
 -- a derivation whose assumptions are all among terms
-module _ (terms : List Term) (d : Derivation) (right : IsDerivation d) (among : All (AssumesAmong terms) d) where
+module _ (problem : Problem) (d : Derivation) (right : IsDerivation d) (among : All (AssumesAmong (terms_of_problem problem)) d) where
   -- each of its numbers is derived from the terms
-  pub derived_from : (n : ℕ) → n < length d → IsDerivedFrom terms d n
+  pub derived_from : (n : ℕ) → n < length d → IsDerivedFrom (terms_of_problem problem) d n
   derived_from n lt = record { there = lt; assumptions = λ m rests. among m no_inference (rests_there d right n m lt rests) }
 
   -- what was learned before is derived from the terms still
   module _ (earlier : Derivation) (x : Inference) (is : d ≡ earlier ++ x ∷ []) where
-    pub learned_kept : (c : List Literal) → IsLearnedFrom terms earlier c → IsLearnedFrom terms d c
+    pub learned_kept : (c : List Literal) → IsLearnedFrom problem earlier c → IsLearnedFrom problem d c
     learned_kept c h =
         let lt : h.number < length d = omega (arith, h.derived.there, ap length is, length-append earlier (x ∷ [])) in
         let same : conclusion_at d h.number ≡ conclusion_at earlier h.number = ap (λ (e : Derivation). conclusion_at e h.number) is ∙ ap conclusion (get_or_append_left earlier (x ∷ []) no_inference h.number h.derived.there) in
         record { number = h.number; derived = derived_from h.number lt; same = ap literals_of same ∙ h.same }
 
 -- one clause more comes by resolution
-pub steps_more : (terms : List Term) (d : Derivation) (clauses : List (List Literal)) (ps : List ℕ) (c : Clause) → HasSteps terms d clauses → HasSteps terms (d ++ by_rule Resolution ps c ∷ []) (clauses ++ literals_of c ∷ [])
-steps_more terms d clauses ps c h = record {
+pub steps_more : (problem : Problem) (d : Derivation) (clauses : List (List Literal)) (ps : List ℕ) (c : Clause) → HasSteps problem d clauses → HasSteps problem (d ++ by_rule Resolution ps no_texts c ∷ []) (clauses ++ literals_of c ∷ [])
+steps_more problem d clauses ps c h = record {
   base = h.base;
-  more = h.more ++ by_rule Resolution ps c ∷ [];
-  all = ap (λ (e : Derivation). e ++ by_rule Resolution ps c ∷ []) h.all ∙ append_assoc h.base h.more (by_rule Resolution ps c ∷ []);
+  more = h.more ++ by_rule Resolution ps no_texts c ∷ [];
+  all = ap (λ (e : Derivation). e ++ by_rule Resolution ps no_texts c ∷ []) h.all ∙ append_assoc h.base h.more (by_rule Resolution ps no_texts c ∷ []);
   count = h.count;
   stated = h.stated;
   each = h.each;
-  resolved = All-push IsByResolution h.more (by_rule Resolution ps c) h.resolved refl;
-  same = map-append (λ (x : Inference). literals_of (conclusion x)) h.more (by_rule Resolution ps c ∷ []) ∙ ap (λ (cs : List (List Literal)). cs ++ literals_of c ∷ []) h.same;
+  resolved = All-push IsByResolution h.more (by_rule Resolution ps no_texts c) h.resolved refl;
+  same = map-append (λ (x : Inference). literals_of (conclusion x)) h.more (by_rule Resolution ps no_texts c ∷ []) ∙ ap (λ (cs : List (List Literal)). cs ++ literals_of c ∷ []) h.same;
 }
 
 -- at the start there are the base clauses alone
-pub steps_start : (terms : List Term) (d : Derivation) → length d ≡ length (base_clauses terms) → All (λ x. Contains (base_clauses terms) (conclusion x)) d → IsWithin (base_clauses terms) (map conclusion d) → HasSteps terms d []
-steps_start terms d count stated each = record { base = d; more = []; all = sym (append-nil d); count = count; stated = stated; each = each; resolved = All-nil IsByResolution; same = refl }
+pub steps_start : (problem : Problem) (d : Derivation) → length d ≡ length (base_clauses problem) → All (λ x. Contains (base_clauses problem) (conclusion x)) d → IsWithin (base_clauses problem) (map conclusion d) → HasSteps problem d []
+steps_start problem d count stated each = record { base = d; more = []; all = sym (append-nil d); count = count; stated = stated; each = each; resolved = All-nil IsByResolution; same = refl }
 
 -- what holds of all images holds of the images of all
 pub all_back : {A B : Type 0} (f : A → B) (P : B → Type 0) (xs : List A) → All P (map f xs) → All (λ x. P (f x)) xs
 all_back f P xs h k d lt = subst P (get_or-map f xs k d (f d) lt) (h k (f d) (rw length-map lt))
 
 -- a clause more comes by resolution
-module _ (terms : List Term) (d : Derivation) (cs ls : List (List Literal)) (h : HasDerived terms d cs ls) (ps : List ℕ) (clause : Clause) (right : IsDerivation (d ++ by_rule Resolution ps clause ∷ [])) where
-  pub among_more : All (AssumesAmong terms) (d ++ by_rule Resolution ps clause ∷ [])
-  among_more = All-push (AssumesAmong terms) d (by_rule Resolution ps clause) h.assumes tt
+module _ (problem : Problem) (d : Derivation) (cs ls : List (List Literal)) (h : HasDerived problem d cs ls) (ps : List ℕ) (clause : Clause) (right : IsDerivation (d ++ by_rule Resolution ps no_texts clause ∷ [])) where
+  pub among_more : All (AssumesAmong (terms_of_problem problem)) (d ++ by_rule Resolution ps no_texts clause ∷ [])
+  among_more = All-push (AssumesAmong (terms_of_problem problem)) d (by_rule Resolution ps no_texts clause) h.assumes tt
 
-  pub last_derived : IsDerivedFrom terms (d ++ by_rule Resolution ps clause ∷ []) (length d)
-  last_derived = derived_from terms (d ++ by_rule Resolution ps clause ∷ []) right among_more (length d) (omega (arith, length-append d (by_rule Resolution ps clause ∷ [])))
+  pub last_derived : IsDerivedFrom (terms_of_problem problem) (d ++ by_rule Resolution ps no_texts clause ∷ []) (length d)
+  last_derived = derived_from problem (d ++ by_rule Resolution ps no_texts clause ∷ []) right among_more (length d) (omega (arith, length-append d (by_rule Resolution ps no_texts clause ∷ [])))
 
-  pub last_concludes : conclusion_at (d ++ by_rule Resolution ps clause ∷ []) (length d) ≡ clause
-  last_concludes = ap conclusion (get_or-append_seam d (by_rule Resolution ps clause) [] no_inference)
+  pub last_concludes : conclusion_at (d ++ by_rule Resolution ps no_texts clause ∷ []) (length d) ≡ clause
+  last_concludes = ap conclusion (get_or-append_seam d (by_rule Resolution ps no_texts clause) [] no_inference)
 
-  pub derived_kept : All (IsLearnedFrom terms (d ++ by_rule Resolution ps clause ∷ [])) ls
-  derived_kept k e lt = learned_kept terms (d ++ by_rule Resolution ps clause ∷ []) right among_more d (by_rule Resolution ps clause) refl (get_or ls k e) (h.derived k e lt)
+  pub derived_kept : All (IsLearnedFrom problem (d ++ by_rule Resolution ps no_texts clause ∷ [])) ls
+  derived_kept k e lt = learned_kept problem (d ++ by_rule Resolution ps no_texts clause ∷ []) right among_more d (by_rule Resolution ps no_texts clause) refl (get_or ls k e) (h.derived k e lt)
 
   -- one that was new, over atoms
-  module _ (new : IsNew (map literals_of (base_clauses terms) ++ ls) (literals_of clause)) (atoms : All (λ (l : Literal). IsAtomOf terms l.atom) (literals_of clause)) where
-    within : IsWithin (cs ++ literals_of clause ∷ []) (map literals_of (base_clauses terms) ++ (ls ++ literals_of clause ∷ []))
+  module _ (new : IsNew (map literals_of (base_clauses problem) ++ ls) (literals_of clause)) (atoms : IsOverAtoms problem (literals_of clause))
+      (subterms : (l : Literal) → Contains (literals_of clause) l → Contains (subterms_in problem) l.atom) where
+    within : IsWithin (cs ++ literals_of clause ∷ []) (map literals_of (base_clauses problem) ++ (ls ++ literals_of clause ∷ []))
     within c i = elim (Contains-push_cases cs (literals_of clause) c i) [
-      | inl was ↦ elim (Contains-append_cases (map literals_of (base_clauses terms)) ls c (h.only c was)) [
-        | inl b ↦ Contains-append_left (map literals_of (base_clauses terms)) (ls ++ literals_of clause ∷ []) c b
-        | inr l ↦ Contains-append_right (map literals_of (base_clauses terms)) (ls ++ literals_of clause ∷ []) c (Contains-append_left ls (literals_of clause ∷ []) c l)
+      | inl was ↦ elim (Contains-append_cases (map literals_of (base_clauses problem)) ls c (h.only c was)) [
+        | inl b ↦ Contains-append_left (map literals_of (base_clauses problem)) (ls ++ literals_of clause ∷ []) c b
+        | inr l ↦ Contains-append_right (map literals_of (base_clauses problem)) (ls ++ literals_of clause ∷ []) c (Contains-append_left ls (literals_of clause ∷ []) c l)
       ]
-      | inr is ↦ subst (Contains (map literals_of (base_clauses terms) ++ (ls ++ literals_of clause ∷ []))) is
-          (Contains-append_right (map literals_of (base_clauses terms)) (ls ++ literals_of clause ∷ []) (literals_of clause) (Contains-push ls (literals_of clause)))
+      | inr is ↦ subst (Contains (map literals_of (base_clauses problem) ++ (ls ++ literals_of clause ∷ []))) is
+          (Contains-append_right (map literals_of (base_clauses problem)) (ls ++ literals_of clause ∷ []) (literals_of clause) (Contains-push ls (literals_of clause)))
     ]
 
-    pub derived_more : HasDerived terms (d ++ by_rule Resolution ps clause ∷ []) (cs ++ literals_of clause ∷ []) (ls ++ literals_of clause ∷ [])
+    pub derived_more : HasDerived problem (d ++ by_rule Resolution ps no_texts clause ∷ []) (cs ++ literals_of clause ∷ []) (ls ++ literals_of clause ∷ [])
     derived_more = record {
       assumes = among_more;
       base = λ c i. Contains-append_left cs (literals_of clause ∷ []) (literals_of c) (h.base c i);
       only = within;
       subterms = λ c l i j. elim (Contains-push_cases cs (literals_of clause) c i) [
         | inl was ↦ h.subterms c l was j
-        | inr is ↦ (All-contains (λ (z : Literal). IsAtomOf terms z.atom) (literals_of clause) l atoms (subst (λ (z : List Literal). Contains z l) (sym is) j)).subterm
+        | inr is ↦ subterms l (subst (λ (z : List Literal). Contains z l) (sym is) j)
       ];
       kept = λ c i. elim (Contains-push_cases ls (literals_of clause) c i) [
         | inl was ↦ Contains-append_left cs (literals_of clause ∷ []) c (h.kept c was)
         | inr is ↦ subst (Contains (cs ++ literals_of clause ∷ [])) is (Contains-push cs (literals_of clause))
       ];
-      derived = All-push (IsLearnedFrom terms (d ++ by_rule Resolution ps clause ∷ [])) ls (literals_of clause) derived_kept (record { number = length d; derived = last_derived; same = ap literals_of last_concludes });
-      atoms = All-push (λ (c : List Literal). All (λ (l : Literal). IsAtomOf terms l.atom) c) ls (literals_of clause) h.atoms atoms;
-      new = new_more (map literals_of (base_clauses terms)) ls (literals_of clause) h.new new;
-      steps_made = steps_more terms d ls ps clause h.steps_made;
+      derived = All-push (IsLearnedFrom problem (d ++ by_rule Resolution ps no_texts clause ∷ [])) ls (literals_of clause) derived_kept (record { number = length d; derived = last_derived; same = ap literals_of last_concludes });
+      atoms = All-push (IsOverAtoms problem) ls (literals_of clause) h.atoms atoms;
+      new = new_more (map literals_of (base_clauses problem)) ls (literals_of clause) h.new new;
+      steps_made = steps_more problem d ls ps clause h.steps_made;
     }

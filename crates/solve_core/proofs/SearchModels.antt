@@ -1,39 +1,37 @@
 -- The truths of the literals that hold meet the clauses, and an interpretation by them makes the terms true.
-use Rattle.std.proofs.Common.{◌≡◌, Bool, true, false, not, List, [], get_or, map, All, Contains, refl, sym, ap, ◌∙◌, subst, arith, if◌then◌else◌}
+use Rattle.std.proofs.Common.{◌≡◌, Bool, true, false, not, List, [], ◌++◌, get_or, All, Contains, refl, sym, ap, ◌∙◌, subst, arith, if◌then◌else◌}
 use Rattle.std.specs.List.{list_any}
 use Rattle.std.specs.Cmp.Derive.{both_true}
-use Rattle.std.proofs.lemmas.Bool.{false≢true, and_parts}
-use Rattle.std.proofs.lemmas.List.{get_or_default}
-use Rattle.std.proofs.lemmas.List.Elements.{All-contains, Contains-get_or}
+use Rattle.std.proofs.lemmas.Bool.{and_parts}
+use Rattle.std.proofs.lemmas.List.{append-nil, get_or_default}
+use Rattle.std.proofs.lemmas.List.Elements.{All-nil, All-map, All-contains, Contains-get_or}
 use Rattle.std.proofs.lemmas.List.Folds.{Any-from_list_any, list_any_at}
 use Rattle.spec_text.proofs.Members.{to_image, from_image}
-use Rattle.spec_terms.specs.Terms.{Truth, Symbol, Head, Apply, Term, Terms, app, nil, cons, list_of, sort_of, same_term, same_sort, same_sorts, head_takes, constant_term}
-use Rattle.spec_terms.specs.Values.{Table, truth, Interpretation, first_fit, Interprets, IsTableOf}
-use Rattle.spec_terms.specs.Agreement.{value_at, values_at}
-use Rattle.spec_terms.specs.Literals.{Clause, literal_of}
-use Rattle.spec_terms.specs.Subterms.{subterms_of}
-use Rattle.spec_terms.specs.Subsets.{AreAmong, IsClosed}
-use Rattle.spec_terms.proofs.SameTerms.{terms_decide}
-use Rattle.spec_terms.proofs.LeastSubterms.{least_of}
-use Rattle.spec_terms.proofs.General.{all_truths}
-use Rattle.spec_proofs.specs.Truths.{Truths, literal_true, term_true_by}
-use Rattle.spec_search.specs.Base.{base_clauses}
-use Rattle.spec_search.specs.Models.{Meets, is_formula, AreFormulas, Realizes}
+use Rattle.spec_numbers.proofs.Field.{zero-reduced}
+use Rattle.spec_sorts.specs.Terms.{Sort, Truth, Number, Declared, Symbol, Term, same_term, constant_term}
+use Rattle.spec_sorts.specs.Values.{Table, HasSort, truth, Interpretation, first_fit, Interprets, IsTableOf, table_value}
+use Rattle.spec_sorts.specs.TermValues.{value_at}
+use Rattle.spec_sorts.specs.WellSorted.{IsFormulaOver}
+use Rattle.spec_sorts.specs.Literals.{Clause, literal_of}
+use Rattle.spec_sorts.proofs.SameTerms.{terms_decide}
+use Rattle.spec_rules.specs.Truths.{Truths, literal_true, term_true_by}
+use Rattle.spec_derivations.specs.Problems.{Problem, terms_of_problem}
+use Rattle.spec_derivations.specs.Examples.{asserting}
+use Rattle.spec_derivations.specs.Base.{base_clauses}
+use Rattle.spec_derivations.specs.Models.{Meets, AreInReach, Realizes}
 use Rattle.term_core.specs.declared.ids.TermId.{TermId}
 use Rattle.term_core.specs.declared.ids.Lit.{Lit}
-use Rattle.term_core.specs.declared.values.Interp.{Interp}
-use Rattle.term_core.specs.Tables.{TableView, no_symbol, no_term, term_at, IsIn, AreIn, clause_at, literal_at, AreDifferent, truth_symbol, AreDeclared}
-use Rattle.term_core.specs.Valuations.{Stands}
-use Rattle.term_core.proofs.TermsCounted.{clause_there}
-use Rattle.rule_bool.specs.Literals.{lit_complement, IsConsistent}
+use Rattle.term_core.specs.NameLists.{HaveNoTwice}
+use Rattle.term_core.specs.Symbols.{no_symbol, names_of}
+use Rattle.term_core.specs.Tables.{TableView, term_at, IsIn, clause_at, literal_at, AreDifferent}
+use Rattle.term_walks.specs.declared.values.Interp.{Interp}
+use Rattle.term_walks.specs.Valuations.{Stands}
+use Rattle.rule_bool.specs.Literals.{lit_complement, IsConsistent, AreOf, Means}
 use Rattle.rule_bool.specs.Statuses.{IsSatisfied}
-use Rattle.rule_bool.specs.Resolvents.{AreOf, Means}
 use Rattle.rule_bool.proofs.Behind.{same_numbers}
-use Rattle.solve_core.specs.SearchModels.{affirms, truths_of, constant_table, IsModelOf}
-
--- a term of the table has a number
-numbered : (t : TableView) (u : Term) → Contains t.terms u → (id : TermId) × IsIn t id × (term_at t id ≡ u)
-numbered t u c = (record { 0 = c.0 }, c.1, sym (get_or_default t.terms c.0 u no_term c.1) ∙ c.2)
+use Rattle.proof_log.specs.Logs.{AreFormulasIn}
+use Rattle.solve_core.specs.SearchModels.{affirms, truths_of, value_of_sort, constant_table, IsModelOf, IsModel}
+use Rattle.solve_core.proofs.SearchInterprets.{interpretation}
 
 module _ (t : TableView) (held : List Lit) (different : AreDifferent t.terms) (there : AreOf t held) (consistent : IsConsistent held) where
   -- the truths of what holds
@@ -85,72 +83,53 @@ module _ (t : TableView) (held : List Lit) (different : AreDifferent t.terms) (t
       let b = base (get_or cs k e) (Contains-get_or cs k e lt) in
       clause_met (get_or cs k e) b.0 b.2 (touched b.0 b.1)
 
-module _ (t : TableView) (roots : List TermId) (closed : IsClosed t.terms) (sorts : (id : TermId) → IsIn t id → sort_of (term_at t id) ≡ Truth)
-    (takes : (h : Head) (ts : Terms) → Contains t.terms (app h ts) → head_takes h (map sort_of (list_of ts)) ≡ true) (there : AreIn t roots) where
-  -- the subterms are of the table
-  pub subterm_there : AreAmong (subterms_of (clause_at t roots)) t.terms
-  subterm_there = (least_of (clause_at t roots)).least t.terms (clause_there t roots there) closed
+-- the value of a sort has it
+has_sort : (b : Bool) (s : Sort) → HasSort s (value_of_sort b s)
+has_sort b Truth = tt
+has_sort b Number = zero-reduced
+has_sort b (Declared n) = refl
 
-  sort_there : (u : Term) → Contains t.terms u → sort_of u ≡ Truth
-  sort_there u c = let n = numbered t u c in ap sort_of (sym n.2) ∙ sorts n.0 n.1
+-- the table of such a value is one of its symbol
+table_fits : (s : Symbol) (x : Table) (b : Bool) → x ≡ constant_table b s.result → IsTableOf s x
+table_fits s x b e = subst (IsTableOf s) (sym e) (record { default = has_sort b s.result; rows = λ k d lt. absurd (omega (arith, lt)); bare = λ p. refl })
 
-  formula : (u : Term) → Contains t.terms u → is_formula u ≡ true
-  formula (app h ts) c = both_true (takes h ts c) (all_truths (list_of ts) (λ u a. sort_there u (closed (app h ts) c u a)))
-
-  pub are_formulas : AreFormulas (subterms_of (clause_at t roots))
-  are_formulas k d lt = formula (get_or (subterms_of (clause_at t roots)) k d) (subterm_there (get_or (subterms_of (clause_at t roots)) k d) (Contains-get_or (subterms_of (clause_at t roots)) k d lt))
-
--- a symbol that takes no arguments has none
-pub no_arguments : (s : Symbol) (ts : Terms) → s.parameters ≡ [] → head_takes (Apply s) (map sort_of (list_of ts)) ≡ true → ts ≡ nil
-no_arguments s nil bare e = refl
-no_arguments s (cons u us) bare e = absurd (false≢true (sym (ap (λ ps. same_sorts ps (map sort_of (list_of (cons u us)))) bare) ∙ e))
-
--- the value of a constant is that of its table
-constant_value : (i : Interpretation) (s : Symbol) (b : Bool) → i.table s.name ≡ constant_table b → value_at i (constant_term s) ≡ truth b
-unfolding value_at values_at
-constant_value i s b e = ap (λ (x : Table). first_fit x.rows x.default []) e
-
--- that table is one of a constant of sort Bool
-table_fits : (s : Symbol) (x : Table) (b : Bool) → s ≡ truth_symbol s.name → x ≡ constant_table b → IsTableOf s x
-table_fits s x b is e = subst (IsTableOf s) (sym e) (record {
-  default = ap (λ (y : Symbol). same_sort y.result Truth) is;
-  rows = λ k d lt. absurd (omega (arith, lt));
-  bare = λ p. refl;
-})
-
-module _ (t : TableView) (held : List Lit) (interp : Interp) (i : Interpretation) (declared : AreDeclared t.symbols) (model : IsModelOf t held interp) (stands : Stands t.symbols interp i) where
+module _ (t : TableView) (held : List Lit) (interp : Interp) (model : IsModelOf t held interp) (i : Interpretation) (stands : Stands t interp i) where
   -- the table of a symbol
-  table_of : (s : Symbol) → Contains t.symbols s → i.table s.name ≡ constant_table (truths_of t held (constant_term s))
-  table_of s c = subst (λ (x : Symbol). i.table x.name ≡ constant_table (truths_of t held (constant_term x))) (sym (get_or_default t.symbols c.0 s no_symbol c.1) ∙ c.2) (stands c.0 c.1 ∙ model.each c.0 c.1)
+  table_of : (s : Symbol) → Contains t.symbols s → i.table s.name ≡ constant_table (truths_of t held (constant_term s)) s.result
+  table_of s c = subst (λ (x : Symbol). i.table x.name ≡ constant_table (truths_of t held (constant_term x)) x.result) (sym (get_or_default t.symbols c.0 s no_symbol c.1) ∙ c.2)
+      (stands (record { 0 = c.0 }) c.1 ∙ model.each c.0 c.1)
 
-  pub interprets : Interprets i t.symbols
-  interprets k d lt =
-      let s = get_or t.symbols k d in
-      table_fits s (i.table s.name) (truths_of t held (constant_term s)) (declared.truths k d lt) (table_of s (Contains-get_or t.symbols k d lt))
+  interprets : Interprets i t.symbols
+  interprets k d lt = let s = get_or t.symbols k d in table_fits s (i.table s.name) (truths_of t held (constant_term s)) (table_of s (Contains-get_or t.symbols k d lt))
 
-  pub realizes : (roots : List TermId) → AreAmong (subterms_of (clause_at t roots)) t.terms
-      → ((s : Symbol) (ts : Terms) → Contains t.terms (app (Apply s) ts) → head_takes (Apply s) (map sort_of (list_of ts)) ≡ true)
-      → ((s : Symbol) (ts : Terms) → Contains t.terms (app (Apply s) ts) → Contains t.symbols s) → Realizes i (truths_of t held) (clause_at t roots)
-  realizes roots inside takes symbols s ts c =
-      let c_in = inside (app (Apply s) ts) c in
-      let s_in = symbols s ts c_in in
-      let bare : s.parameters ≡ [] = ap (λ (y : Symbol). y.parameters) (All-contains (λ (x : Symbol). x ≡ truth_symbol x.name) t.symbols s declared.truths s_in) in
-      subst (λ us. value_at i (app (Apply s) us) ≡ truth (truths_of t held (app (Apply s) us))) (sym (no_arguments s ts bare (takes s ts c_in))) (constant_value i s (truths_of t held (constant_term s)) (table_of s s_in))
+  -- a constant of sort Bool has its truth
+  constant_value : (s : Symbol) → Contains t.symbols s → s.parameters ≡ [] → s.result ≡ Truth → table_value i s.name [] ≡ truth (truths_of t held (constant_term s))
+  constant_value s c bare sort = ap (λ (x : Table). first_fit x.rows x.default []) (table_of s c) ∙ ap (value_of_sort (truths_of t held (constant_term s))) sort
 
--- Where a literal of each clause holds, and the clauses have the base clauses of terms, the terms are true under the interpretation that the literals give.
-pub model_is_true : (t : TableView) (roots : List TermId) (clauses : List (List Lit)) (held : List Lit) (interp : Interp) (i : Interpretation)
-    → AreDifferent t.terms → IsClosed t.terms → ((id : TermId) → IsIn t id → sort_of (term_at t id) ≡ Truth)
-    → ((h : Head) (ts : Terms) → Contains t.terms (app h ts) → head_takes h (map sort_of (list_of ts)) ≡ true)
-    → ((s : Symbol) (ts : Terms) → Contains t.terms (app (Apply s) ts) → Contains t.symbols s)
-    → AreDeclared t.symbols → AreIn t roots → AreOf t held → IsConsistent held
+-- Where a literal of each clause holds, and the clauses have the base clauses of terms in reach, the terms are true under the interpretation that the literals give.
+pub model_is_true : (t : TableView) (roots : List TermId) (clauses : List (List Lit)) (held : List Lit) (interp : Interp)
+    → AreDifferent t.terms → HaveNoTwice (names_of t.symbols) → AreFormulasIn t roots → AreInReach (clause_at t roots) → AreOf t held → IsConsistent held
     → ((c : List Lit) → Contains clauses c → IsSatisfied held c)
-    → ((c : Clause) → Contains (base_clauses (clause_at t roots)) c → (d : List Lit) × Contains clauses d × Means t d c)
-    → IsModelOf t held interp → Stands t.symbols interp i
-    → ((terms : List Term) (v : Truths) (j : Interpretation) → AreFormulas (subterms_of terms) → Realizes j v terms → Meets v (base_clauses terms) → All (λ u. value_at j u ≡ truth true) terms)
-    → Interprets i t.symbols × All (λ u. value_at i u ≡ truth true) (clause_at t roots)
-model_is_true t roots clauses held interp i different closed sorts takes symbols declared roots_in held_in consistent touched base model stands law = (
-  interprets t held interp i declared model stands,
-  law (clause_at t roots) (truths_of t held) i (are_formulas t roots closed sorts takes roots_in)
-      (realizes t held interp i declared model stands roots (subterm_there t roots closed sorts takes roots_in) (λ s ts. takes (Apply s) ts) symbols)
-      (all_met t held different held_in consistent (base_clauses (clause_at t roots)) clauses touched base),
-)
+    → ((c : Clause) → Contains (base_clauses (asserting (clause_at t roots))) c → (d : List Lit) × Contains clauses d × Means t d c)
+    → IsModelOf t held interp
+    → ((symbols : List Symbol) (p : Problem) (v : Truths) (i : Interpretation) → All (IsFormulaOver symbols) (terms_of_problem p) → AreInReach (terms_of_problem p)
+    → Realizes i v (terms_of_problem p) → Meets v (base_clauses p) → All (λ u. term_true_by v u ≡ true) p.assumed → All (λ u. value_at i [] u ≡ truth true) (terms_of_problem p))
+    → ((symbols : List Symbol) (terms : List Term) (v : Truths) (i : Interpretation) → All (IsFormulaOver symbols) terms → AreInReach terms
+    → ((f : Symbol) → Contains symbols f → f.parameters ≡ [] → f.result ≡ Truth → table_value i f.name [] ≡ truth (v (constant_term f))) → Realizes i v terms)
+    → IsModel t (terms_of_problem (asserting (clause_at t roots))) interp
+model_is_true t roots clauses held interp different apart roots_in reached held_in consistent touched base model law realized = record {
+  tables = model.tables;
+  named = model.named;
+  interpretation = interpretation t interp apart;
+  interprets = interprets t held interp model;
+  holds = λ i stands. law t.symbols (asserting (clause_at t roots)) (truths_of t held) i formulas reach
+      (realized t.symbols (terms_of_problem (asserting (clause_at t roots))) (truths_of t held) i formulas reach (constant_value t held interp model i stands))
+      (all_met t held different held_in consistent (base_clauses (asserting (clause_at t roots))) clauses touched base)
+      (All-nil (λ u. term_true_by (truths_of t held) u ≡ true));
+}
+  where
+    formulas : All (IsFormulaOver t.symbols) (clause_at t roots ++ [])
+    formulas = subst (All (IsFormulaOver t.symbols)) (sym (append-nil (clause_at t roots))) (All-map (IsFormulaOver t.symbols) (term_at t) roots (λ k d lt. (roots_in k d lt).1))
+
+    reach : AreInReach (clause_at t roots ++ [])
+    reach = subst AreInReach (sym (append-nil (clause_at t roots))) reached

@@ -2,10 +2,11 @@
 use Rattle.std.proofs.Common.{◌≡◌, ◌≢◌, List, [], ◌∷◌, ◌++◌, map, Contains, inl, inr, refl, sym, ap, ◌∙◌, subst}
 use Rattle.std.proofs.lemmas.List.{append_assoc}
 use Rattle.spec_text.proofs.Members.{to_image, from_image}
-use Rattle.spec_terms.specs.Literals.{Literal, complement}
+use Rattle.spec_sorts.specs.Literals.{Literal, complement}
 use Rattle.spec_proofs.specs.Resolution.{Derives, given, unit, Conflicts, false_clause, both_ways}
-use Rattle.spec_search.specs.Learned.{IsNew, AreNew, IsSettled, IsQuiet, IsConsistent}
-use Rattle.spec_search.proofs.Learned.{quiet_is_new}
+use Rattle.spec_derivations.specs.Learned.{IsNew, AreNew}
+use Rattle.spec_derivations.specs.Quiet.{IsSettled, IsQuiet, IsConsistent}
+use Rattle.spec_derivations.proofs.Learned.{quiet_is_new}
 use Rattle.term_core.specs.declared.ids.Lit.{Lit}
 use Rattle.term_core.specs.Tables.{TableView, IsIn, AreDifferent, literal_at}
 use Rattle.rule_bool.specs.Literals.{lit_complement}

@@ -3,21 +3,25 @@ use Rattle.std.proofs.Common.{◌≡◌, ℕ, ◌<◌, List, [], ◌∷◌, ◌+
 use Rattle.std.specs.Prelude.{Option, Some, None}
 use Rattle.std.proofs.lemmas.List.Elements.{All-push, All-contains, Contains-get_or}
 use Rattle.std.proofs.lemmas.List.{get_or_default}
+use Rattle.spec_text.proofs.Members.{to_image}
+use Rattle.spec_sorts.specs.Terms.{Truth, sort_of}
+use Rattle.spec_sorts.specs.Literals.{Literal, literal_of}
 use Rattle.spec_proofs.specs.declared.Rule.TheVariants.{Resolution}
 use Rattle.term_core.specs.declared.ids.TermId.{TermId}
 use Rattle.term_core.specs.declared.ids.Lit.{Lit}
-use Rattle.term_core.specs.Tables.{TableView, IsIn, AreDifferent, Extends, clause_at}
-use Rattle.rule_bool.specs.Resolvents.{AreOf, Means}
+use Rattle.term_core.specs.Tables.{TableView, IsIn, AreDifferent, Extends, term_at, clause_at, literal_at, positive_literal}
+use Rattle.rule_bool.specs.Literals.{AreOf, Means}
 use Rattle.proof_log.specs.declared.premises.StepId.{StepId}
-use Rattle.proof_log.specs.Logs.{Logged, stepped, named, IsLogOf}
+use Rattle.proof_log.specs.Logs.{Logged, stepped, named, no_logged, logged_at, IsLogOf}
 use Rattle.sat_budget.specs.Budgets.{BudgetView}
 use Rattle.sat_trail.specs.Trails.{TrailView, no_lit, AreApart, IsLeveled, IsPushed, IsCutTo}
-use Rattle.clause_store.specs.Stores.{HasSeen, HasSameClauses, IsAdded}
+use Rattle.clause_store.specs.Stores.{no_step, HasSeen, HasSameClauses, IsAdded}
 use Rattle.clause_store.specs.Propagating.{Adds, AreImplied, IsQuiet}
 use Rattle.conflict_learn.specs.Conflicts.{IsFalseAt}
 use Rattle.conflict_learn.specs.Learned.{IsLearned}
 use Rattle.conflict_learn.specs.declared.learned.Learned.{Learned}
 use Rattle.conflict_learn.proofs.Places.{same_or}
+use Rattle.conflict_learn.proofs.Meanings.{bare_in}
 use Rattle.solve_core.specs.declared.search.Search.{Search}
 use Rattle.solve_core.specs.Search.{IsMentioned, AreAllOf, Derives, AreDecided, IsReady, conflict_of}
 use Rattle.solve_core.specs.Rounds.{IsNoted}
@@ -70,6 +74,18 @@ clauses_in t x r c l i j =
 pub mentioned_in : (t : TableView) (x : Search) → IsReady t x → (id : TermId) → IsMentioned x.store.clauses id → IsIn t id
 mentioned_in t x r id m = subst (IsIn t) m.4 (clauses_in t x r m.0 m.1 m.2 m.3)
 
+-- their terms are formulas and no negations
+pub bare_of : (t : TableView) (x : Search) → IsReady t x → (id : TermId) → IsMentioned x.store.clauses id → (sort_of (term_at t id) ≡ Truth) × (literal_of (term_at t id) ≡ positive_literal (term_at t id))
+bare_of t x r id m =
+    let k = m.2.0 in
+    let s = get_or x.store.steps k no_step in
+    let ids = named (logged_at x.log s) in
+    let same : get_or x.store.clauses k [] ≡ m.0 = get_or_default x.store.clauses k [] m.0 m.2.1 ∙ m.2.2 in
+    let image = to_image (literal_at t) (get_or x.store.clauses k []) m.1 (subst (λ (d : List Lit). Contains d m.1) (sym same) m.3) in
+    let formulas = r.right.formulas s.0 no_logged (r.derives.there k m.2.1) in
+    let bare = bare_in t ids formulas m.1 (clauses_in t x r m.0 m.1 m.2 m.3) (subst (λ (ls : List Literal). Contains ls (literal_at t m.1)) (r.derives.same k m.2.1).same image) in
+    subst (λ (i : TermId). (sort_of (term_at t i) ≡ Truth) × (literal_of (term_at t i) ≡ positive_literal (term_at t i))) m.4 (bare.formula.sort, bare.bare)
+
 -- and so is what holds
 pub held_in : (t : TableView) (x : Search) → IsReady t x → (l : Lit) → Contains x.trail.literals l → IsIn t l.term
 held_in t x r l i =
@@ -95,7 +111,7 @@ module _ (t u : TableView) (g : Extends t u) (differ : AreDifferent u.terms) (x 
   -- the store has it as it was learned
   pub clause_is : a.clause ≡ d.clause
   clause_is =
-      let x_is = last_is t u g x.log y.log (stepped Resolution l.logged.premises l.logged.terms) l.logged.last d.step l.logged.number in
+      let x_is = last_is t u g x.log y.log (stepped Resolution l.logged.premises [] l.logged.terms) l.logged.last d.step l.logged.number in
       means_one u differ a.clause d.clause (clause_at u l.logged.terms) (subst (λ (z : Logged). Means u a.clause (clause_at u (named z))) x_is a.means) l.logged.means
 
   known_of : All (λ (m : Lit). m.term.0 < x.trail.vars) d.clause
@@ -110,8 +126,8 @@ module _ (t u : TableView) (g : Extends t u) (differ : AreDifferent u.terms) (x 
   ready_learned once leveled seen implied = record {
     right = l.logged.right;
     derives = derives_with u y.log d.step x.store y.store
-        (derives_kept t u g x.log y.log (stepped Resolution l.logged.premises l.logged.terms) l.logged.last x.store r.right r.derives) a
-        (omega (arith, l.logged.number, longer t u g x.log y.log (stepped Resolution l.logged.premises l.logged.terms) l.logged.last));
+        (derives_kept t u g x.log y.log (stepped Resolution l.logged.premises [] l.logged.terms) l.logged.last x.store r.right r.derives) a
+        (omega (arith, l.logged.number, longer t u g x.log y.log (stepped Resolution l.logged.premises [] l.logged.terms) l.logged.last));
     known = subst (λ (cs : List (List Lit)). All (All (λ (z : Lit). z.term.0 < y.trail.vars)) cs) (sym more_clauses)
         (subst (λ (n : ℕ). All (All (λ (z : Lit). z.term.0 < n)) (x.store.clauses ++ d.clause ∷ [])) (sym cut.vars)
         (All-push (All (λ (z : Lit). z.term.0 < x.trail.vars)) x.store.clauses d.clause r.known known_of));

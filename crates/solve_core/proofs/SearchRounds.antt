@@ -18,16 +18,17 @@ use Rattle.solve_core.specs.Rounds.{HasDerived, Continues, Shows}
 pub continues_same : (t : TableView) (x y : Search) → y.log ≡ x.log → y.store.clauses ≡ x.store.clauses → y.budget ≡ x.budget → y.trail.vars ≡ x.trail.vars → Continues t t x y
 continues_same t x y log clauses budget vars = record {
   table = Extends-self t;
-  symbols = refl;
+  declared = refl;
   limit = ap (λ (b : BudgetView). b.limit) budget;
   vars = vars;
-  search = λ terms s. record {
+  search = λ problem s. record {
     roots = s.roots;
     roots_in = s.roots_in;
+    reached = s.reached;
     meant = s.meant;
-    derived = subst (λ (l : List Logged). HasDerived terms (derivation_in t l) (images t y.store.clauses) (images t y.budget.learned)) (sym log)
-        (subst (λ (cs : List (List Lit)). HasDerived terms (derivation_in t x.log) (images t cs) (images t y.budget.learned)) (sym clauses)
-        (subst (λ (b : BudgetView). HasDerived terms (derivation_in t x.log) (images t x.store.clauses) (images t b.learned)) (sym budget) s.derived));
+    derived = subst (λ (l : List Logged). HasDerived problem (derivation_in t l) (images t y.store.clauses) (images t y.budget.learned)) (sym log)
+        (subst (λ (cs : List (List Lit)). HasDerived problem (derivation_in t x.log) (images t cs) (images t y.budget.learned)) (sym clauses)
+        (subst (λ (b : BudgetView). HasDerived problem (derivation_in t x.log) (images t x.store.clauses) (images t b.learned)) (sym budget) s.derived));
   };
 }
 
@@ -35,10 +36,10 @@ continues_same t x y log clauses budget vars = record {
 pub continues_on : (s t u : TableView) (a b c : Search) → Continues s t a b → Continues t u b c → Continues s u a c
 continues_on s t u a b c h k = record {
   table = Extends-trans s t u h.table k.table;
-  symbols = k.symbols ∙ h.symbols;
+  declared = k.declared ∙ h.declared;
   limit = k.limit ∙ h.limit;
   vars = k.vars ∙ h.vars;
-  search = λ terms x. k.search terms (h.search terms x);
+  search = λ problem x. k.search problem (h.search problem x);
 }
 
 -- propagation went on
@@ -54,7 +55,7 @@ module _ (t u : TableView) (a x : Search) (s : StoreView) (v : TrailView) (h : C
 
 -- what an answer shows later on, it shows of the beginning
 pub shows_on : (s t u : TableView) (a b c : Search) (x : Answer) → Continues s t a b → Shows t u b c x → Shows s u a c x
-shows_on s t u a b c x h shows terms z = shows terms (h.search terms z)
+shows_on s t u a b c x h shows problem z = shows problem (h.search problem z)
 
 -- a round that learns a clause leaves less
 pub less_learned : (limit later_limit n vars len later before after : ℕ) → later_limit ≡ limit → vars ≡ n → len < limit → later ≡ len + 1 → after ≤ n

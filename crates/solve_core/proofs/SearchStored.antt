@@ -4,13 +4,13 @@ use Rattle.std.specs.Prelude.{Some}
 use Rattle.std.proofs.lemmas.Bool.{cases_lt}
 use Rattle.std.proofs.lemmas.List.{length-append, get_or_append_left}
 use Rattle.std.proofs.Math.Seq.{get_or-append_seam}
-use Rattle.spec_terms.specs.Literals.{literals_of}
+use Rattle.spec_sorts.specs.Literals.{literals_of}
 use Rattle.term_core.specs.declared.ids.TermId.{TermId}
 use Rattle.term_core.specs.declared.ids.Lit.{Lit}
 use Rattle.term_core.specs.Tables.{TableView, AreIn, Extends, clause_at}
 use Rattle.term_core.proofs.TermsExtend.{clause_at-kept}
 use Rattle.rule_bool.specs.Statuses.{IsFalsified}
-use Rattle.rule_bool.specs.Resolvents.{Means}
+use Rattle.rule_bool.specs.Literals.{Means}
 use Rattle.proof_log.specs.declared.premises.StepId.{StepId}
 use Rattle.proof_log.specs.Logs.{Logged, named, logged_at, no_logged, IsLogOf}
 use Rattle.clause_store.specs.Stores.{StoreView, no_step, HasSameClauses, IsAdded}
@@ -110,5 +110,5 @@ module _ (t u : TableView) (g : Extends t u) (log new : List Logged) (x : Logged
         let small = h.there k lt in
         let early : logged_at new s ≡ logged_at log s = ap (λ (xs : List Logged). get_or xs s.0 no_logged) last ∙ get_or_append_left log (x ∷ []) no_logged s.0 small in
         subst (λ (l : Logged). Means u (get_or a.clauses k []) (clause_at u (named l))) (sym early)
-        (means_kept t u g (get_or a.clauses k []) (named (logged_at log s)) (right.there s.0 no_logged small) (h.same k lt));
+        (means_kept t u g (get_or a.clauses k []) (named (logged_at log s)) (λ j e lt_j. (right.formulas s.0 no_logged small j e lt_j).0) (h.same k lt));
   }

@@ -1,23 +1,20 @@
 -- What the rounds of a search keep, and what its answers show.
-use Rattle.std.specs.Prelude.{◌≡◌, ◌+◌, ℕ, true, List, [], ◌∷◌, ◌++◌, length, map, All, Contains}
-use Rattle.spec_terms.specs.Terms.{Term}
-use Rattle.spec_terms.specs.Values.{Interpretation, Interprets, truth}
-use Rattle.spec_terms.specs.Agreement.{value_at}
-use Rattle.spec_terms.specs.Literals.{Clause, Literal, literals_of}
-use Rattle.spec_terms.specs.Subterms.{subterms_of}
+use Rattle.std.specs.Prelude.{◌≡◌, ◌+◌, ℕ, List, [], ◌∷◌, ◌++◌, length, map, All, Contains}
+use Rattle.spec_sorts.specs.Literals.{Clause, Literal, literals_of}
 use Rattle.spec_proofs.specs.Resolution.{IsWithin}
 use Rattle.spec_proofs.specs.declared.Rule.TheVariants.{Resolution}
-use Rattle.spec_search.specs.Derivations.{Inference, «assumption», by_rule, Derivation, conclusion, AssumesAmong, IsDerivedFrom}
-use Rattle.spec_search.specs.Base.{base_clauses}
-use Rattle.spec_search.specs.Learned.{AreNew}
-use Rattle.spec_search.specs.Spent.{IsLearnedFrom, IsAtomOf, AreLearned, IsConflictBudgetSpent, IsConflict}
+use Rattle.spec_derivations.specs.Problems.{Problem, terms_of_problem, subterms_in}
+use Rattle.spec_derivations.specs.Examples.{asserting}
+use Rattle.spec_derivations.specs.Models.{AreInReach}
+use Rattle.spec_derivations.specs.Derivations.{Inference, «assumption», by_rule, Derivation, conclusion, AssumesAmong, IsDerivedFrom}
+use Rattle.spec_derivations.specs.Base.{base_clauses}
+use Rattle.spec_derivations.specs.Learned.{AreNew}
+use Rattle.spec_derivations.specs.Spent.{IsLearnedFrom, IsOverAtoms, AreLearned, IsConflictBudgetSpent, IsConflict}
 use Rattle.term_core.specs.declared.ids.TermId.{TermId}
 use Rattle.term_core.specs.declared.ids.Lit.{Lit}
-use Rattle.term_core.specs.Tables.{TableView, clause_at, literal_at, AreIn, Extends}
-use Rattle.term_core.specs.Valuations.{Stands}
+use Rattle.term_core.specs.Tables.{TableView, declared_in, clause_at, literal_at, Extends}
 use Rattle.proof_log.specs.declared.premises.StepId.{StepId}
-use Rattle.proof_log.specs.Logs.{Logged, inference_of, derivation_in}
-use Rattle.clausify.specs.Clausified.{stated}
+use Rattle.proof_log.specs.Logs.{Logged, inference_of, derivation_in, stated, AreFormulasIn}
 use Rattle.sat_budget.specs.Budgets.{BudgetView}
 use Rattle.sat_budget.specs.declared.limits.Reason.TheVariants.{Conflicts}
 use Rattle.conflict_learn.specs.Conflicts.{Conflict}
@@ -27,67 +24,71 @@ use Rattle.solve_core.specs.declared.search.Search.{Search}
 use Rattle.solve_core.specs.declared.cdcl.Answer.{Answer}
 use Rattle.solve_core.specs.declared.cdcl.Answer.TheVariants.{Sat, Unsat, Unknown}
 use Rattle.solve_core.specs.Search.{images, IsReady}
+use Rattle.solve_core.specs.SearchModels.{IsModel}
 
 -- it follows from other clauses by resolution
 abbrev pub IsByResolution : Inference → Type 0
 IsByResolution («assumption» u) = ⊥
-IsByResolution (by_rule r ps c) = r ≡ Resolution
+IsByResolution (by_rule r ps arguments c) = r ≡ Resolution
 
--- The derivation states the base clauses of the terms, all of them and no others, in as many inferences; and after them each of
+-- The derivation states the base clauses of a problem, all of them and no others, in as many inferences; and after them each of
 -- these clauses, in order, by resolution.
-pub record HasSteps (terms : List Term) (d : Derivation) (clauses : List (List Literal)) : Type 0 where
+pub record HasSteps (p : Problem) (d : Derivation) (clauses : List (List Literal)) : Type 0 where
   -- the inferences of the base clauses, and those after them
   pub base : Derivation
   pub more : Derivation
   -- these are all
   pub all : d ≡ base ++ more
   -- there are as many as base clauses
-  pub count : length base ≡ length (base_clauses terms)
+  pub count : length base ≡ length (base_clauses p)
   -- each states a base clause
-  pub stated : All (λ x. Contains (base_clauses terms) (conclusion x)) base
+  pub stated : All (λ x. Contains (base_clauses p) (conclusion x)) base
   -- each base clause is stated
-  pub each : IsWithin (base_clauses terms) (map conclusion base)
+  pub each : IsWithin (base_clauses p) (map conclusion base)
   -- and those after them are by resolution
   pub resolved : All IsByResolution more
   -- and state these clauses
   pub same : map (λ x. literals_of (conclusion x)) more ≡ clauses
 
--- What a search for terms has derived: the clauses by their literals, and those that it learned.
-pub record HasDerived (terms : List Term) (d : Derivation) (clauses learned : List (List Literal)) : Type 0 where
-  -- the derivation assumes the terms alone
-  pub assumes : All (AssumesAmong terms) d
+-- What a search has derived of a problem: the clauses by their literals, and those that it learned.
+pub record HasDerived (p : Problem) (d : Derivation) (clauses learned : List (List Literal)) : Type 0 where
+  -- the derivation assumes the problem's terms alone
+  pub assumes : All (AssumesAmong (terms_of_problem p)) d
   -- each base clause is one of the clauses
-  pub base : (c : Clause) → Contains (base_clauses terms) c → Contains clauses (literals_of c)
+  pub base : (c : Clause) → Contains (base_clauses p) c → Contains clauses (literals_of c)
   -- each clause is a base clause or was learned
-  pub only : IsWithin clauses (map literals_of (base_clauses terms) ++ learned)
+  pub only : IsWithin clauses (map literals_of (base_clauses p) ++ learned)
   -- the clauses are over subterms
-  pub subterms : (c : List Literal) (l : Literal) → Contains clauses c → Contains c l → Contains (subterms_of terms) l.atom
+  pub subterms : (c : List Literal) (l : Literal) → Contains clauses c → Contains c l → Contains (subterms_in p) l.atom
   -- what was learned is among the clauses
   pub kept : IsWithin learned clauses
-  -- each learned clause is derived from the terms
-  pub derived : All (IsLearnedFrom terms d) learned
-  -- it is over atoms of the terms
-  pub atoms : All (λ c. All (λ (l : Literal). IsAtomOf terms l.atom) c) learned
+  -- each learned clause is derived from the problem's terms
+  pub derived : All (IsLearnedFrom p d) learned
+  -- it is over its atoms
+  pub atoms : All (IsOverAtoms p) learned
   -- and was new
-  pub new : AreNew (map literals_of (base_clauses terms)) learned
+  pub new : AreNew (map literals_of (base_clauses p)) learned
   -- the derivation has the base clauses, and after them what was learned
-  pub steps_made : HasSteps terms d learned
+  pub steps_made : HasSteps p d learned
 
--- What is in hand is that of a search for the terms.
-pub record IsSearch (t : TableView) (terms : List Term) (x : Search) : Type 0 where
-  -- the terms are the table's, by their numbers
+-- What is in hand is that of a search that is asked a problem.
+pub record IsSearch (t : TableView) (p : Problem) (x : Search) : Type 0 where
+  -- its terms are formulas of the table, by their numbers
   pub roots : List TermId
-  pub roots_in : AreIn t roots
-  pub meant : clause_at t roots ≡ terms
-  -- so much is derived from them
-  pub derived : HasDerived terms (derivation_in t x.log) (images t x.store.clauses) (images t x.budget.learned)
+  pub roots_in : AreFormulasIn t roots
+  -- the search reaches them
+  pub reached : AreInReach (clause_at t roots)
+  -- they are asserted, and nothing else is asked
+  pub meant : asserting (clause_at t roots) ≡ p
+  -- so much is derived of it
+  pub derived : HasDerived p (derivation_in t x.log) (images t x.store.clauses) (images t x.budget.learned)
 
--- A search for terms begins, under this limit on conflicts.
-pub record Begins (t : TableView) (terms : List Term) (limit : ℕ) (x : Search) : Type 0 where
+-- A search that is asked a problem begins, under this limit on conflicts.
+pub record Begins (t : TableView) (p : Problem) (limit : ℕ) (x : Search) : Type 0 where
   -- it fits together
   pub ready : IsReady t x
-  -- it is for the terms
-  pub search : IsSearch t terms x
+  -- it is asked the problem
+  pub search : IsSearch t p x
   -- the budget has the limit
   pub limit_is : x.budget.limit ≡ limit
 
@@ -97,20 +98,20 @@ added_by (Unsat step) learned = learned ++ [] ∷ []
 added_by (Sat interp) learned = learned
 added_by (Unknown reason) learned = learned
 
--- what an answer shows of terms: tables under which they are true; a clause without literals that is derived from them; or that the budget is spent at a further conflict
-abbrev pub HasEvidence : TableView → List Term → List Logged → BudgetView → Answer → Type 0
-HasEvidence t terms log budget (Sat interp) = (length interp.tables.items ≡ length t.symbols) × ((i : Interpretation) × Stands t.symbols interp i) × ((i : Interpretation) → Stands t.symbols interp i → Interprets i t.symbols × All (λ u. value_at i u ≡ truth true) terms)
-HasEvidence t terms log budget (Unsat step) = (stated t log step ≡ []) × IsDerivedFrom terms (derivation_in t log) step.0
-HasEvidence t terms log budget (Unknown (Conflicts n)) = IsConflictBudgetSpent terms (derivation_in t log) budget.limit n (map (map (literal_at t)) budget.learned) × IsConflict terms (map (map (literal_at t)) budget.learned)
+-- what an answer shows of a problem: tables under which its terms are true; a clause without literals that is derived from them; or that the budget is spent at a further conflict
+abbrev pub HasEvidence : TableView → Problem → List Logged → BudgetView → Answer → Type 0
+HasEvidence t p log budget (Sat interp) = IsModel t (terms_of_problem p) interp
+HasEvidence t p log budget (Unsat step) = (stated t log step ≡ []) × IsDerivedFrom (terms_of_problem p) (derivation_in t log) step.0
+HasEvidence t p log budget (Unknown (Conflicts n)) = IsConflictBudgetSpent p (derivation_in t log) budget.limit n (map (map (literal_at t)) budget.learned) × IsConflict p (derivation_in t log) (map (map (literal_at t)) budget.learned)
 
--- What stands beside each answer: the log assumes the terms alone, what was learned may be, and is what the search added to the log.
-pub record IsLearning (t : TableView) (terms : List Term) (log : List Logged) (a : Answer) (learned : List (List Lit)) : Type 0 where
-  -- the log assumes the terms alone
-  pub assumes : All (λ l. AssumesAmong terms (inference_of t l)) log
+-- What stands beside each answer: the log assumes the problem's terms alone, what was learned may be, and is what the search added to the log.
+pub record IsLearning (t : TableView) (p : Problem) (log : List Logged) (a : Answer) (learned : List (List Lit)) : Type 0 where
+  -- the log assumes the problem's terms alone
+  pub assumes : All (λ l. AssumesAmong (terms_of_problem p) (inference_of t l)) log
   -- the clauses may be learned
-  pub learns : AreLearned terms (derivation_in t log) (map (map (literal_at t)) learned)
+  pub learns : AreLearned p (derivation_in t log) (map (map (literal_at t)) learned)
   -- they are what came into the log after the base clauses, but for the answer's own
-  pub logged : HasSteps terms (derivation_in t log) (added_by a (map (map (literal_at t)) learned))
+  pub logged : HasSteps p (derivation_in t log) (added_by a (map (map (literal_at t)) learned))
 
 -- the clause is learned last
 abbrev pub IsNoted : List Lit → BudgetView → BudgetView → Type 0
@@ -124,29 +125,29 @@ IsStep c u log = (d : Learned) × IsLearned c u log d
 abbrev pub IsRefuted : Conflict → List Logged → Answer → Type 0
 IsRefuted c log a = (id : StepId) × (a ≡ Unsat id) × IsLogged c c.table log [] id
 
--- A search went on: what it has is of the same terms, over a table that has all that it had.
+-- A search went on: what it has is of the same problem, over a table that has all that it had.
 pub record Continues (t u : TableView) (old new : Search) : Type 0 where
   -- the table has all that it had
   pub table : Extends t u
-  -- the symbols are the same
-  pub symbols : u.symbols ≡ t.symbols
+  -- the sorts and symbols are the same
+  pub declared : declared_in u ≡ declared_in t
   -- the limit is the same
   pub limit : new.budget.limit ≡ old.budget.limit
   -- there are as many variables
   pub vars : new.trail.vars ≡ old.trail.vars
-  -- it is a search for the same terms
-  pub search : (terms : List Term) → IsSearch t terms old → IsSearch u terms new
+  -- it is asked the same
+  pub search : (p : Problem) → IsSearch t p old → IsSearch u p new
 
 -- A clause was learned, and the search goes on.
 pub record HasLearned (t u : TableView) (old new : Search) : Type 0 where
   -- it fits together
   pub ready : IsReady u new
-  -- it is a search for the same terms
+  -- it is asked the same
   pub continues : Continues t u old new
   -- a clause more is learned
   pub learned : length new.budget.learned ≡ length old.budget.learned + 1
 
--- the answer shows what it should of the terms of the search
+-- the answer shows what it should of the problem that the search is asked
 abbrev pub Shows : TableView → TableView → Search → Search → Answer → Type 0
-Shows t u old new a = (terms : List Term) → IsSearch t terms old
-    → HasEvidence u terms new.log new.budget a × IsLearning u terms new.log a new.budget.learned
+Shows t u old new a = (p : Problem) → IsSearch t p old
+    → HasEvidence u p new.log new.budget a × IsLearning u p new.log a new.budget.learned

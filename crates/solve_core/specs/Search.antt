@@ -1,11 +1,11 @@
 -- What a search keeps: clauses by their steps, and literals that hold with the reasons why.
 use Rattle.std.specs.Prelude.{◌≡◌, ◌<◌, ℕ, List, [], length, take, get_or, map, All, Contains, None}
-use Rattle.spec_terms.specs.Literals.{Literal}
+use Rattle.spec_sorts.specs.Literals.{Literal}
 use Rattle.term_core.specs.declared.ids.TermId.{TermId}
 use Rattle.term_core.specs.declared.ids.Lit.{Lit}
 use Rattle.term_core.specs.Tables.{TableView, clause_at, literal_at}
 use Rattle.rule_bool.specs.Statuses.{IsSatisfied}
-use Rattle.rule_bool.specs.Resolvents.{AreOf, Means}
+use Rattle.rule_bool.specs.Literals.{AreOf, Means}
 use Rattle.proof_log.specs.declared.premises.StepId.{StepId}
 use Rattle.proof_log.specs.Logs.{Logged, named, logged_at, IsLogOf}
 use Rattle.sat_trail.specs.Trails.{TrailView, no_lit, IsUnassigned, HasSame, empty as no_trail}

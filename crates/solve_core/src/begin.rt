@@ -1,8 +1,10 @@
 //! What a search begins with.
 
 ghost use Rattle.std.specs.Prelude.{◌≡◌, IfOk};
-ghost use Rattle.term_core.specs.Tables.{AreIn, Extends, clause_at};
-ghost use Rattle.proof_log.specs.Logs.{IsLogOf, AreOf};
+ghost use Rattle.spec_derivations.specs.Examples.{asserting};
+ghost use Rattle.spec_derivations.specs.Models.{AreInReach};
+ghost use Rattle.term_core.specs.Tables.{declared_in, Extends, clause_at};
+ghost use Rattle.proof_log.specs.Logs.{IsLogOf, AreOf, AreFormulasIn};
 ghost use Rattle.solve_core.specs.Search.{IsStoreOf, IsBegun};
 ghost use Rattle.solve_core.specs.Rounds.{Begins};
 
@@ -14,7 +16,7 @@ use proof_log::laws::empty_logs_are_right;
 use proof_log::{ProofLog, StepId};
 use sat_budget::{Budget, Limits};
 use sat_trail::SatTrail;
-use spec_search::laws::base_clauses_are_over_subterms;
+use spec_derivations::laws::base_clauses_are_over_subterms;
 use std::alloc::Global;
 use term_core::{TermId, TermTable};
 use world_io::NoMemory;
@@ -57,10 +59,11 @@ pub(crate) fn begin(
     roots: &[TermId],
     limits: &Limits,
 ) -> Result<Search, NoMemory>
-    requires roots { AreIn table.old roots.now }
+    requires roots { AreFormulasIn table.old roots.now }
+    requires reach { AreInReach (clause_at table.old roots.now) }
     ensures grown { Extends table.old table.new }
-    ensures symbols { table.new.symbols ≡ table.old.symbols }
-    ensures begins { IfOk result (Begins table.new (clause_at table.old roots.now) limits.now.conflicts) }
+    ensures declared { declared_in table.new ≡ declared_in table.old }
+    ensures begins { IfOk result (Begins table.new (asserting (clause_at table.old roots.now)) limits.now.conflicts) }
 {
     base_clauses_are_over_subterms();
     empty_logs_are_right();

@@ -1,7 +1,7 @@
 //! The search loop: propagate, decide, learn, go back. Source: Marques Silva and Sakallah 1999.
 
 ghost use Rattle.std.specs.Prelude.{◌≡◌, IfOk};
-ghost use Rattle.term_core.specs.Tables.{Extends};
+ghost use Rattle.term_core.specs.Tables.{declared_in, Extends};
 ghost use Rattle.proof_log.specs.Logs.{IsLogOf};
 ghost use Rattle.solve_core.specs.Search.{IsReady};
 ghost use Rattle.solve_core.specs.Rounds.{Shows};
@@ -13,7 +13,8 @@ use clause_store::laws::{reasons_stay_right, what_is_marked_was_seen};
 use conflict_learn::conflict_level;
 use proof_log::StepId;
 use sat_budget::Reason;
-use term_core::{Interp, Lit, TermTable};
+use term_core::{Lit, TermTable};
+use term_walks::Interp;
 use world_io::NoMemory;
 
 /// What a check is answered, with the evidence for it.
@@ -35,7 +36,7 @@ impl Search {
     pub(crate) fn run(&mut self, table: &mut TermTable) -> Result<Answer, NoMemory>
         requires ready { IsReady table.old self.old }
         ensures grown { Extends table.old table.new }
-        ensures symbols { table.new.symbols ≡ table.old.symbols }
+        ensures declared { declared_in table.new ≡ declared_in table.old }
         ensures right { IfOk result (λ _. IsLogOf table.new self.new.log) }
         ensures limit { IfOk result (λ _. self.new.budget.limit ≡ self.old.budget.limit) }
         ensures evidence { IfOk result (Shows table.old table.new self.old self.new) }

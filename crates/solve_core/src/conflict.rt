@@ -1,7 +1,7 @@
 //! What comes of a conflict, and of none.
 
 ghost use Rattle.std.specs.Prelude.{◌≡◌, ◌<◌, length, IfOk, OnOk};
-ghost use Rattle.term_core.specs.Tables.{Extends};
+ghost use Rattle.term_core.specs.Tables.{declared_in, Extends};
 ghost use Rattle.proof_log.specs.Logs.{IsLogOf};
 ghost use Rattle.clause_store.specs.Propagating.{IsClash};
 ghost use Rattle.conflict_learn.specs.Conflicts.{IsOfZero, IsAboveZero};
@@ -16,7 +16,7 @@ use conflict_learn::{learn, refute};
 use proof_log::StepId;
 use proof_log::laws::logs_stand_in_grown_tables;
 use sat_budget::{Budget, BudgetStop};
-use spec_search::laws::base_clauses_define_their_terms;
+use spec_derivations::laws::{base_clauses_define_their_terms, terms_in_reach_join_formulas};
 use term_core::{Lit, TermTable};
 use world_io::NoMemory;
 
@@ -40,12 +40,9 @@ impl Search {
         ensures { IfOk result (Shows table.now table.now self.now self.now) }
     {
         table.ids_are_unique();
-        table.terms_are_closed();
-        table.all_terms_are_bool();
-        table.heads_take_their_arguments();
-        table.heads_are_declared();
         table.symbols().are_declared();
         base_clauses_define_their_terms();
+        terms_in_reach_join_formulas();
         self.trail.is_sound();
         let model = model_of(self.alloc, table, &self.trail)?;
         Ok(Answer::Sat(model))
@@ -80,7 +77,7 @@ impl Search {
         requires above { IsAboveZero (conflict_of table.old self.old clash) }
         requires room { length self.old.budget.learned < self.old.budget.limit }
         ensures grown { Extends table.old table.new }
-        ensures symbols { table.new.symbols ≡ table.old.symbols }
+        ensures declared { declared_in table.new ≡ declared_in table.old }
         ensures step { OnOk result (IsStep (conflict_of table.old self.old clash) table.new self.new.log) }
         ensures learned { OnOk result (HasLearned table.old table.new self.old self.new) }
     {
@@ -88,7 +85,6 @@ impl Search {
         reasons_stay_right();
         logs_stand_in_grown_tables();
         table.ids_are_unique();
-        table.all_terms_are_bool();
         self.trail.is_sound();
         self.store.steps_are_paired();
         let learned = learn(self.alloc, table, &self.trail, &mut self.log, clash)?;

@@ -1,14 +1,18 @@
 //! The model of a search that ends with literals that meet all clauses.
 
-ghost use Rattle.std.specs.Prelude.{◌≡◌, ◌++◌, ◌∷◌, [], map, length, All, List, IfOk};
+ghost use Rattle.std.specs.Prelude.{◌≡◌, ◌++◌, ◌∷◌, [], length, All, List, IfOk};
+ghost use Rattle.spec_text.specs.Bytes.{Name};
 ghost use Rattle.term_core.specs.declared.ids.Lit.{Lit as Literal};
+ghost use Rattle.term_core.specs.Symbols.{HasSortIn, sort_meant, symbol_at, IsSymbol};
 ghost use Rattle.term_core.specs.Tables.{IsIn};
-ghost use Rattle.term_core.specs.Valuations.{tables_meant};
-ghost use Rattle.solve_core.specs.SearchModels.{constant_table, IsModelOf, IsApplied, AffirmsSymbol, AreTruthsOf};
+ghost use Rattle.term_walks.specs.Valuations.{value_meant, table_meant, IsNamed, IsTableNamed};
+ghost use Rattle.solve_core.specs.SearchModels.{value_of_sort, constant_table, IsModelOf, IsApplied, AffirmsSymbol, AreTruthsOf, AreTablesOf};
 
+use ratio128::Ratio;
 use sat_trail::SatTrail;
 use std::alloc::{AllocError, Global};
-use term_core::{Head, Interp, Lit, SymbolId, Table, TermTable, Value};
+use term_core::{Head, Lit, Sort, SymbolId, TermTable};
+use term_walks::{Interp, Table, Value};
 
 /// Gives the symbol that a head is; nothing where it is none.
 fn applied(head: Head) -> Option<SymbolId>
@@ -28,8 +32,11 @@ fn symbol_of(table: &TermTable, l: Lit) -> Option<SymbolId>
     if !l.positive {
         return None;
     }
-    table.symbols().are_declared();
-    applied(table.node(l.term).head)
+    let node = table.node(l.term);
+    if node.arguments.len() != 0 {
+        return None;
+    }
+    applied(node.head)
 }
 
 /// Makes the symbol true whose constant the literal is, as it stands.
@@ -45,7 +52,7 @@ fn note(table: &TermTable, l: Lit, truths: &mut Vec<bool>)
     }
 }
 
-/// Gives the truth value of each symbol, by its number: true where its constant holds as it stands, else false.
+/// Gives a truth value of each symbol, by its number: true where its constant holds as it stands, else false.
 fn truths_by_symbol(
     alloc: Global,
     table: &TermTable,
@@ -61,21 +68,44 @@ fn truths_by_symbol(
     Ok(truths)
 }
 
-/// Gives the interpretation of constants that have these truth values, by their numbers.
-fn interp_of(alloc: Global, truths: &[bool]) -> Result<Interp, AllocError>
-    ensures { IfOk result (λ interp. tables_meant interp ≡ map constant_table truths.now) }
+/// Gives a value of a sort: of sort Bool this truth value, else 0 or the first element.
+fn value_of(sort: Sort, truth: bool) -> Value
+    ensures means { (sorts : List Name) → value_meant sorts result ≡ value_of_sort truth (sort_meant sorts sort) }
+    ensures named { (sorts : List Name) → HasSortIn sorts sort → IsNamed sorts result }
+{
+    match sort {
+        Sort::Bool => Value::Bool(truth),
+        Sort::Real => Value::Number(Ratio::of(0, 1)),
+        Sort::Declared(id) => Value::Element(id, 0),
+    }
+}
+
+/// Gives the table of a symbol that has such a value everywhere.
+fn table_of(alloc: Global, table: &TermTable, symbol: SymbolId, truth: bool) -> Table
+    requires { IsSymbol table.now.symbols symbol }
+    ensures means { table_meant table.now.sorts result ≡ constant_table truth (symbol_at table.now.symbols symbol).result }
+    ensures named { IsTableNamed table.now.sorts result }
+{
+    Table {
+        rows: Vec::new(alloc),
+        default: value_of(table.symbols().result(symbol), truth),
+    }
+}
+
+/// Gives tables of such values, by the symbols' numbers, for these truth values.
+fn interp_of(alloc: Global, table: &TermTable, truths: &[bool]) -> Result<Interp, AllocError>
+    requires { length truths.now ≡ length table.now.symbols }
+    ensures { IfOk result (λ interp. AreTablesOf table.now truths.now (length truths.now) interp.tables.items) }
 {
     let mut tables = Vec::new(alloc);
-    for truth in truths {
-        tables.push(Table {
-            rows: Vec::new(alloc),
-            default: Value::Bool(*truth),
-        })?;
+    'symbols: for at in 0..truths.len() {
+        tables.push(table_of(alloc, table, SymbolId(at as u64), truths[at]))?;
     }
     Ok(Interp { tables })
 }
 
-/// Gives the interpretation under which a symbol is true where its constant is among the literals that hold, as it stands.
+/// Gives the interpretation under which a constant of sort Bool is true where it is among the literals that hold, as it stands. All
+/// other symbols have one value of their sort everywhere: false, 0, or the first element.
 ///
 /// It takes time in proportion to the symbols and the literals. `AllocError` comes where its tables find no memory.
 pub(crate) fn model_of(
@@ -87,5 +117,5 @@ pub(crate) fn model_of(
     ensures { IfOk result (IsModelOf table.now trail.now.literals) }
 {
     let truths = truths_by_symbol(alloc, table, trail)?;
-    interp_of(alloc, &truths)
+    interp_of(alloc, table, &truths)
 }

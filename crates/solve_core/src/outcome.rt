@@ -1,7 +1,10 @@
 //! The answer of a check.
 
 ghost use Rattle.std.specs.Prelude.{◌≡◌, IfOk, OnErr};
-ghost use Rattle.term_core.specs.Tables.{AreIn, Extends, clause_at};
+ghost use Rattle.spec_derivations.specs.Examples.{asserting};
+ghost use Rattle.spec_derivations.specs.Models.{AreInReach};
+ghost use Rattle.term_core.specs.Tables.{declared_in, Extends, clause_at};
+ghost use Rattle.proof_log.specs.Logs.{AreFormulasIn};
 ghost use Rattle.solve_core.specs.Decisions.{IsJustified};
 
 use crate::begin::begin;
@@ -24,7 +27,8 @@ pub struct Outcome {
     pub budget: Budget,
 }
 
-/// Decides whether some interpretation makes all of the terms true, or says why it was not found out.
+/// Decides whether some interpretation makes all of the terms true, or says why it was not found out. They must be formulas that the
+/// search reaches.
 ///
 /// The table grows by the terms of the clauses that define them, and stays as it was where memory runs out, the one failure.
 pub fn decide(
@@ -33,10 +37,11 @@ pub fn decide(
     roots: &[TermId],
     limits: &Limits,
 ) -> Result<Outcome, NoMemory>
-    requires roots { AreIn table.old roots.now }
+    requires roots { AreFormulasIn table.old roots.now }
+    requires reach { AreInReach (clause_at table.old roots.now) }
     ensures grown { Extends table.old table.new }
-    ensures symbols { table.new.symbols ≡ table.old.symbols }
-    ensures decided { IfOk result (IsJustified table.new (clause_at table.old roots.now) limits.now.conflicts) }
+    ensures declared { declared_in table.new ≡ declared_in table.old }
+    ensures decided { IfOk result (IsJustified table.new (asserting (clause_at table.old roots.now)) limits.now.conflicts) }
     ensures same { OnErr result (table.new ≡ table.old) }
 {
     let len = table.len();
@@ -56,10 +61,11 @@ fn decided(
     roots: &[TermId],
     limits: &Limits,
 ) -> Result<Outcome, NoMemory>
-    requires roots { AreIn table.old roots.now }
+    requires roots { AreFormulasIn table.old roots.now }
+    requires reach { AreInReach (clause_at table.old roots.now) }
     ensures grown { Extends table.old table.new }
-    ensures symbols { table.new.symbols ≡ table.old.symbols }
-    ensures decided { IfOk result (IsJustified table.new (clause_at table.old roots.now) limits.now.conflicts) }
+    ensures declared { declared_in table.new ≡ declared_in table.old }
+    ensures decided { IfOk result (IsJustified table.new (asserting (clause_at table.old roots.now)) limits.now.conflicts) }
 {
     let mut search = begin(alloc, table, roots, limits)?;
     let answer = search.run(table)?;

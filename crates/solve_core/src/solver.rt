@@ -1,7 +1,10 @@
 //! The solver, with what shows its last answer.
 
 ghost use Rattle.std.specs.Prelude.{◌≡◌, [], IfOk, OnErr, MatchResult};
-ghost use Rattle.term_core.specs.Tables.{AreIn, Extends, clause_at};
+ghost use Rattle.spec_derivations.specs.Examples.{asserting};
+ghost use Rattle.spec_derivations.specs.Models.{AreInReach};
+ghost use Rattle.term_core.specs.Tables.{declared_in, Extends, clause_at};
+ghost use Rattle.proof_log.specs.Logs.{AreFormulasIn};
 ghost use Rattle.solve_core.specs.Decisions.{SolverView, IsShownBy};
 
 use crate::cdcl::Answer;
@@ -47,7 +50,8 @@ impl Solver {
         })
     }
 
-    /// Decides whether some interpretation makes all of the terms true, or says why it was not found out.
+    /// Decides whether some interpretation makes all of the terms true, or says why it was not found out. They must be formulas that the
+    /// search reaches.
     ///
     /// Each decision begins anew, under these limits. The table grows by the terms of the clauses that define the terms, and of what
     /// is learned. `NoMemory` comes where memory runs out, the one failure; table and solver are then as they were.
@@ -57,11 +61,12 @@ impl Solver {
         roots: &[TermId],
         limits: &Limits,
     ) -> Result<Answer, NoMemory>
-        requires roots { AreIn table.old roots.now }
+        requires roots { AreFormulasIn table.old roots.now }
+        requires reach { AreInReach (clause_at table.old roots.now) }
         ensures grown { Extends table.old table.new }
-        ensures symbols { table.new.symbols ≡ table.old.symbols }
+        ensures declared { declared_in table.new ≡ declared_in table.old }
         ensures decided { IfOk result
-            (IsShownBy table.new (clause_at table.old roots.now) limits.now.conflicts self.new) }
+            (IsShownBy table.new (asserting (clause_at table.old roots.now)) limits.now.conflicts self.new) }
         ensures same { OnErr result (table.new ≡ table.old) }
         ensures kept { OnErr result (self.new ≡ self.old) }
     {

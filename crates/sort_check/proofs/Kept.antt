@@ -1,141 +1,70 @@
--- The arguments of a function are subterms of its term.
-use Rattle.std.proofs.Common.{◌≡◌, ◌<◌, Bool, true, false, Option, Some, None, cond, List, [], ◌∷◌, ◌++◌, length, map, get_or, Contains, refl, subst, sym, arith}
-use Rattle.std.specs.Str.{bytes_eq}
-use Rattle.std.proofs.lemmas.Bool.Decides.{nat_tests}
+-- What numbers mean while the table grows.
+use Rattle.std.proofs.Common.{◌≡◌, ℕ, ◌<◌, List, [], ◌∷◌, ◌++◌, length, map, take, drop, get_or, refl, ap, sym, ◌∙◌, arith}
+use Rattle.std.proofs.lemmas.List.{map-append, take-map, take_at, drop-map, drop_at, length-map, length-append, get_or-map}
+use Rattle.std.proofs.Math.Seq.{get_or-append_seam}
+use Rattle.std.proofs.lemmas.List.Elements.{All-head, All-tail, All-push, All-take, All-drop}
 use Rattle.spec_text.specs.Bytes.{Name}
-use Rattle.spec_text.proofs.Members.{first, later, none, only, each_of}
-use Rattle.spec_terms.specs.Terms.{Head, True, False, Not, And, Or, Xor, Implies, Equal, Ite, Term, of, terms_of}
-use Rattle.spec_terms.specs.Lists.{left, right, neighbours, all_pairs}
-use Rattle.spec_terms.specs.Theory.{Rule, takes, look_up, theory, pair, unequal, conjunction, no_term}
-use Rattle.spec_terms.proofs.General.{list_of-terms_of}
-use Rattle.term_core.specs.Tables.{TableView, term_at}
-use Rattle.sort_check.specs.declared.functions.Function.{Function}
-use Rattle.sort_check.specs.declared.functions.Function.TheVariants.{Core, Declared, Defined}
-use Rattle.term_core.specs.Heads.{rule_there, core_name, rule_of}
-use Rattle.sort_check.specs.Functions.{function_term, Takes}
-use Rattle.sort_check.proofs.Subterms.{AreSubterms, self_subterms, argument_subterm, subterms_along, member_subterms, subterms_cons, subterms_behind, subterms_first}
+use Rattle.spec_sorts.specs.Terms.{Term, no_term}
+use Rattle.term_core.specs.declared.ids.TermId.{TermId}
+use Rattle.term_core.specs.Tables.{TableView, term_at, IsIn, AreIn}
+use Rattle.term_core.proofs.TermsExtend.{term_at-kept, AreIn-kept, clause_at-kept}
+use Rattle.term_reader.specs.NameStacks.{newest}
+use Rattle.term_reader.specs.Building.{Keeps}
+use Rattle.sort_check.specs.Bindings.{BindingsView, with_term, bound_at, paired, waiting_at}
+use Rattle.sort_check.specs.Walks.{AllMean}
 
-pub of_keeps : (h : Head) (ts : List Term) → AreSubterms ts (of h ts ∷ [])
-of_keeps h ts t part = argument_subterm (of h ts ∷ []) h (terms_of ts) t (self_subterms (of h ts ∷ []) (of h ts) (first (of h ts) [])) (subst (λ us. Contains us t) (sym (list_of-terms_of ts)) part)
+module _ (old new : TableView) (keeps : Keeps old new) where
+  pub mean_kept : (ids : List TermId) (ts : List Term) → AllMean old ids ts → AllMean new ids ts
+  mean_kept ids ts h = (AreIn-kept old new keeps.extends ids h.0, clause_at-kept old new keeps.extends ids h.0 ∙ h.1)
 
--- two terms are subterms of what is made of them
-abbrev pub KeepsBoth : (Term → Term → Term) → Type 0
-KeepsBoth f = (t u : Term) → AreSubterms (t ∷ u ∷ []) (f t u ∷ [])
+  pub in_kept : (ids : List TermId) → AreIn old ids → AreIn new ids
+  in_kept ids h = AreIn-kept old new keeps.extends ids h
 
-pub pair_keeps : (h : Head) → KeepsBoth (pair h)
-pair_keeps h t u = of_keeps h (t ∷ u ∷ [])
+  newest_kept : (ns : List Name) (ids : List TermId) → AreIn old ids → map (with_term new) (newest ns ids) ≡ map (with_term old) (newest ns ids)
+  newest_kept [] ids h = refl
+  newest_kept (n ∷ ns) [] h = refl
+  newest_kept (n ∷ ns) (id ∷ ids) h =
+      let one : term_at new id ≡ term_at old id = term_at-kept old new keeps.extends id (All-head (λ i. IsIn old i) id ids h) in
+      let rest = newest_kept ns ids (All-tail (λ i. IsIn old i) id ids h) in
+      map-append (with_term new) (newest ns ids) ((n, id) ∷ []) ∙ (λ i. rest i ++ (n, one i) ∷ []) ∙ sym (map-append (with_term old) (newest ns ids) ((n, id) ∷ []))
 
-pub unequal_keeps : KeepsBoth unequal
-unequal_keeps t u = subterms_along (t ∷ u ∷ []) (pair Equal t u ∷ []) (unequal t u ∷ []) (pair_keeps Equal t u) (of_keeps Not (pair Equal t u ∷ []))
+  pub bound_kept : (v : BindingsView) → AreIn old v.terms → bound_at new v ≡ bound_at old v
+  bound_kept v h = newest_kept v.names v.terms h
 
-pub nothing_kept : (us : List Term) → AreSubterms [] us
-nothing_kept us t part = absurd (none t part)
+  paired_kept : (ns : List Name) (ids : List TermId) → AreIn old ids → map (with_term new) (paired ns ids) ≡ map (with_term old) (paired ns ids)
+  paired_kept [] ids h = refl
+  paired_kept (n ∷ ns) [] h = refl
+  paired_kept (n ∷ ns) (id ∷ ids) h =
+      let one : term_at new id ≡ term_at old id = term_at-kept old new keeps.extends id (All-head (λ i. IsIn old i) id ids h) in
+      let rest = paired_kept ns ids (All-tail (λ i. IsIn old i) id ids h) in
+      λ i. (n, one i) ∷ rest i
 
-module _ (d : Term) (f : Term → Term → Term) (both : KeepsBoth f) where
-  first_two : (t u : Term) (us : List Term) → AreSubterms (t ∷ u ∷ us) (f t u ∷ us)
-  first_two t u us =
-      let two = both t u in
-      subterms_cons t (u ∷ us) (f t u ∷ us) (subterms_first (f t u) (t ∷ u ∷ []) us two t (first t (u ∷ [])))
-      (subterms_cons u us (f t u ∷ us) (subterms_first (f t u) (t ∷ u ∷ []) us two u (later t (u ∷ []) u (first u [])))
-      (member_subterms us (f t u ∷ us) (λ v part. later (f t u) us v part)))
+  pub waiting_kept : (v : BindingsView) → AreIn old v.terms → waiting_at new v ≡ waiting_at old v
+  waiting_kept v h = paired_kept v.names v.terms h
 
-  pub left_keeps : (ts : List Term) → AreSubterms ts (left d f ts ∷ [])
-  left_keeps [] = nothing_kept (d ∷ [])
-  left_keeps (t ∷ []) = self_subterms (t ∷ [])
-  left_keeps (t ∷ u ∷ us) = subterms_along (t ∷ u ∷ us) (f t u ∷ us) (left d f (f t u ∷ us) ∷ []) (first_two t u us) (left_keeps (f t u ∷ us))
+module _ (t : TableView) where
+  pub in_push : (ids : List TermId) (id : TermId) → AreIn t ids → IsIn t id → AreIn t (ids ++ id ∷ [])
+  in_push ids id h one = All-push (λ i. IsIn t i) ids id h one
 
-  pub right_keeps : (ts : List Term) → AreSubterms ts (right d f ts ∷ [])
-  right_keeps [] = nothing_kept (d ∷ [])
-  right_keeps (t ∷ []) = self_subterms (t ∷ [])
-  right_keeps (t ∷ u ∷ us) =
-      let rest : Term = right d f (u ∷ us) in
-      let two = both t rest in
-      subterms_cons t (u ∷ us) (f t rest ∷ []) (two t (first t (rest ∷ [])))
-      (subterms_along (u ∷ us) (rest ∷ []) (f t rest ∷ []) (right_keeps (u ∷ us)) (λ v part. two v (later t (rest ∷ []) v part)))
+  pub mean_push : (ids : List TermId) (id : TermId) (ts : List Term) (u : Term) → AllMean t ids ts → IsIn t id → term_at t id ≡ u → AllMean t (ids ++ id ∷ []) (ts ++ u ∷ [])
+  mean_push ids id ts u h one is = (in_push ids id h.0 one, map-append (term_at t) ids (id ∷ []) ∙ (λ i. h.1 i ++ is i ∷ []))
 
-  -- a term for each pair of neighbours
-  neighbours_keep : (t u : Term) (us : List Term) → AreSubterms (t ∷ u ∷ us) (map (λ p. f p.0 p.1) (neighbours (t ∷ u ∷ us)))
-  neighbours_keep t u [] = both t u
-  neighbours_keep t u (v ∷ vs) =
-      let others : List Term = map (λ p. f p.0 p.1) (neighbours (u ∷ v ∷ vs)) in
-      subterms_cons t (u ∷ v ∷ vs) (f t u ∷ others) (subterms_first (f t u) (t ∷ u ∷ []) others (both t u) t (first t (u ∷ [])))
-      (subterms_behind (f t u) (u ∷ v ∷ vs) others (neighbours_keep u v vs))
+  -- as many numbers as terms
+  pub mean_long : (ids : List TermId) (ts : List Term) → AllMean t ids ts → length ids ≡ length ts
+  mean_long ids ts h = sym (length-map ids (term_at t)) ∙ ap length h.1
 
-  -- a term for each pair with a first one
-  each_with : (t : Term) (us : List Term) (rest : List (Term × Term)) (v : Term) → Contains us v → Contains (map (λ p. f p.0 p.1) (map (λ u. (t, u)) us ++ rest)) (f t v)
-  each_with t [] rest v h = absurd (none v h)
-  each_with t (u ∷ us) rest w h = each_of (λ v. Contains (map (λ p. f p.0 p.1) (map (λ u. (t, u)) (u ∷ us) ++ rest)) (f t v)) u us
-      (first (f t u) (map (λ p. f p.0 p.1) (map (λ u. (t, u)) us ++ rest)))
-      (λ v part. later (f t u) (map (λ p. f p.0 p.1) (map (λ u. (t, u)) us ++ rest)) (f t v) (each_with t us rest v part)) w h
+  -- the first of them
+  pub mean_front : (ids : List TermId) (front back : List Term) (n : ℕ) → n ≡ length front → AllMean t ids (front ++ back) → AllMean t (take n ids) front
+  mean_front ids front back n e h =
+      (All-take (λ i. IsIn t i) n ids h.0, sym (take-map (term_at t) n ids) ∙ ap (take n) h.1 ∙ take_at front back n (sym e))
 
-  all_pairs_keep : (t u : Term) (us : List Term) → AreSubterms (t ∷ u ∷ us) (map (λ p. f p.0 p.1) (all_pairs (t ∷ u ∷ us)))
-  all_pairs_keep t u us =
-      let all : List Term = map (λ p. f p.0 p.1) (all_pairs (t ∷ u ∷ us)) in
-      let with_first : (v : Term) → Contains (u ∷ us) v → AreSubterms (t ∷ v ∷ []) all = λ v part.
-      subterms_along (t ∷ v ∷ []) (f t v ∷ []) all (both t v) (member_subterms (f t v ∷ []) all (λ w one. subst (λ x. Contains all x) (only (f t v) w one) (each_with t (u ∷ us) (all_pairs (u ∷ us)) v part))) in
-      subterms_cons t (u ∷ us) all (with_first u (first u us) t (first t (u ∷ []))) (λ v part. with_first v part v (later t (v ∷ []) v (first v [])))
+  -- the one after them
+  pub mean_at : (ids : List TermId) (front : List Term) (u : Term) (n : ℕ) (d : TermId) → n ≡ length front → AllMean t ids (front ++ u ∷ []) → (n < length ids) × (IsIn t (get_or ids n d) × (term_at t (get_or ids n d) ≡ u))
+  mean_at ids front u n d e h =
+      let lt : n < length ids = omega (arith, e, mean_long ids (front ++ u ∷ []) h, length-append front (u ∷ [])) in
+      (lt, (h.0 n d lt, sym (get_or-map (term_at t) ids n d no_term lt) ∙ ap (λ ts. get_or ts n no_term) h.1 ∙ ap (λ k. get_or (front ++ u ∷ []) k no_term) e ∙ get_or-append_seam front u [] no_term))
 
-pub conjunction_keeps : (ts : List Term) → AreSubterms ts (conjunction ts ∷ [])
-conjunction_keeps [] = nothing_kept (of And [] ∷ [])
-conjunction_keeps (t ∷ []) = self_subterms (t ∷ [])
-conjunction_keeps (t ∷ u ∷ us) = of_keeps And (t ∷ u ∷ us)
-
--- the arguments are subterms, where there are so many as the rule takes
-abbrev pub KeepsArguments : Rule → Type 0
-KeepsArguments r = (ts : List Term) → takes r (length ts) ≡ true → AreSubterms ts (r.reads ts ∷ [])
-
-equality_keeps : (ts : List Term) → 1 < length ts → AreSubterms ts (conjunction (map (λ p. pair Equal p.0 p.1) (neighbours ts)) ∷ [])
-equality_keeps [] many = absurd (omega (arith, many))
-equality_keeps (t ∷ []) many = absurd (omega (arith, many))
-equality_keeps (t ∷ u ∷ us) many =
-    let parts : List Term = map (λ p. pair Equal p.0 p.1) (neighbours (t ∷ u ∷ us)) in
-    subterms_along (t ∷ u ∷ us) parts (conjunction parts ∷ []) (neighbours_keep no_term (pair Equal) (pair_keeps Equal) t u us) (conjunction_keeps parts)
-
-distinct_keeps : (ts : List Term) → 1 < length ts → AreSubterms ts (conjunction (map (λ p. unequal p.0 p.1) (all_pairs ts)) ∷ [])
-distinct_keeps [] many = absurd (omega (arith, many))
-distinct_keeps (t ∷ []) many = absurd (omega (arith, many))
-distinct_keeps (t ∷ u ∷ us) many =
-    let parts : List Term = map (λ p. unequal p.0 p.1) (all_pairs (t ∷ u ∷ us)) in
-    subterms_along (t ∷ u ∷ us) parts (conjunction parts ∷ []) (all_pairs_keep no_term unequal unequal_keeps t u us) (conjunction_keeps parts)
-
--- each rule keeps its arguments
-abbrev AllKeep : List (Name × Rule) → Type 0
-AllKeep [] = Unit {0}
-AllKeep (r ∷ rs) = KeepsArguments r.1 × AllKeep rs
-
-theory_keeps : AllKeep theory
-theory_keeps = (λ ts h. of_keeps True ts, (λ ts h. of_keeps False ts, (λ ts h. of_keeps Not ts, (λ ts h. of_keeps And ts, (λ ts h. of_keeps Or ts, (λ ts h. left_keeps no_term (pair Xor) (pair_keeps Xor) ts, (λ ts h. right_keeps no_term (pair Implies) (pair_keeps Implies) ts, (λ ts h. equality_keeps ts (grind (arith, nat_tests, h)), (λ ts h. distinct_keeps ts (grind (arith, nat_tests, h)), (λ ts h. of_keeps Ite ts, tt))))))))))
-
-abbrev KeepsAt : Option Rule → Type 0
-KeepsAt (Some r) = KeepsArguments r
-KeepsAt None = Unit {0}
-
-keeps_at : (rs : List (Name × Rule)) (n : Name) → AllKeep rs → KeepsAt (look_up rs n)
-keeps_at [] n h = tt
-keeps_at (r ∷ rs) n h = go (bytes_eq r.0 n) (keeps_at rs n h.1)
-  where
-    go : (c : Bool) → KeepsAt (look_up rs n) → KeepsAt (cond c (Some r.1) (look_up rs n))
-    go true k = h.0
-    go false k = k
-
-rule_keeps : (o : Option Rule) → KeepsAt o → KeepsArguments (rule_there o)
-rule_keeps (Some r) h ts few = h ts few
-rule_keeps None h [] few = nothing_kept (no_term ∷ [])
-rule_keeps None h (t ∷ ts) few = absurd (grind (arith, nat_tests, few))
-
-pub function_keeps : (table : TableView) (f : Function) (ts : List Term) → Takes table f (length ts) → AreSubterms ts (function_term table f ts ∷ [])
-unfolding rule_of
-function_keeps table (Core h) ts few = rule_keeps (look_up theory (core_name h)) (keeps_at theory (core_name h) theory_keeps) ts few
-function_keeps table (Declared s) ts few = of_keeps _ ts
-function_keeps table (Defined id) [] few = nothing_kept (term_at table id ∷ [])
-function_keeps table (Defined id) (t ∷ ts) few = absurd (omega (arith, few.1))
-
-pub conjunction_one : (ts : List Term) (d : Term) → length ts ≡ 1 → conjunction ts ≡ get_or ts 0 d
-conjunction_one [] d e = absurd (omega (arith, e))
-conjunction_one (t ∷ []) d e = refl
-conjunction_one (t ∷ u ∷ us) d e = absurd (omega (arith, e))
-
-pub conjunction_more : (ts : List Term) → (length ts ≡ 1 → ⊥) → conjunction ts ≡ of And ts
-conjunction_more [] more = refl
-conjunction_more (t ∷ []) more = absurd (more refl)
-conjunction_more (t ∷ u ∷ us) more = refl
+  -- those after them
+  pub mean_back : (ids : List TermId) (front back : List Term) (n : ℕ) → n ≡ length front → AllMean t ids (front ++ back) → AllMean t (drop n ids) back
+  mean_back ids front back n e h =
+      (All-drop (λ i. IsIn t i) n ids h.0, sym (drop-map (term_at t) n ids) ∙ ap (drop n) h.1 ∙ drop_at front back n (sym e))

@@ -1,8 +1,10 @@
--- What reading terms comes to, step by step.
-pub mod Definitions
-pub mod Functions
-pub mod Building
-pub mod Resuming
-pub mod Frames
-pub mod Stacks
+pub mod Bindings
+pub mod Splitting
+pub mod Applied
 pub mod Reads
+pub mod Walks
+pub mod Naming
+pub mod Steps
+pub mod Rows
+pub mod Defining
+pub mod Mentions

@@ -1,21 +1,20 @@
-//! Reads the texts of terms into the table of terms: the terms as they are defined, or their first fault.
+//! Reads the texts of terms and definitions into a table of terms and a scope: what they are read as by the definitions,
+//! or their first fault.
 //!
-//! A list is read from left to right, and its own name and number of arguments are judged after its arguments. Nothing
-//! recurses: open lists stand in a row. Whether the terms have more different subterms than the limit says counts only
-//! where there is no other fault.
+//! A text is read from left to right. Nothing recurses: open lists stand in a row.
 #![tactic(auto)]
 
-mod build;
-mod chains;
-mod definitions;
-mod faults;
+mod applied;
+mod bindings;
+mod defining;
 mod frames;
-mod functions;
-mod limit;
-mod read;
-mod values;
+mod mentions;
+mod naming;
+mod reads;
+mod sorted;
+mod splitting;
+#[cfg(test)]
+mod tests;
+mod walk;
 
-pub use definitions::Definitions;
-pub use faults::{ReadError, TermFault};
-pub use limit::{terms, terms_under};
-pub use spec_text::Fault;
+pub use reads::{Parts, Room, define, term, terms};

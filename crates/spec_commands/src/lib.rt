@@ -1,5 +1,5 @@
 //! Definitions about scripts of the whole language: the commands by their shape, what stands after them, their first
-//! faults, and what is current at a check. The program does not use them yet.
+//! faults, and what is current at a check.
 //!
 //! Nothing here runs. The functions with empty bodies are laws: what they ensure is proved of the definitions in
 //! `specs/`.

@@ -9,7 +9,7 @@ use Rattle.spec_sorts.specs.Terms.{same_term, sort_of, second_sort}
 use Rattle.spec_sorts.specs.Literals.{Literal, complement, literals_of, literal_of}
 use Rattle.spec_sorts.specs.Subterms.{with_subterms, with_all_subterms}
 use Rattle.spec_derivations.specs.Base.{base_clauses}
-use Rattle.spec_search.specs.Learned.{IsSettled, IsQuiet, IsConsistent}
+use Rattle.spec_derivations.specs.Quiet.{IsSettled, IsQuiet, IsConsistent}
 use Rattle.spec_derivations.specs.Learned.{same_literal, IsNew}
 use Rattle.spec_rules.specs.Examples.{p, q}
 use Rattle.spec_derivations.specs.Examples.{asserting, eight, not_both}

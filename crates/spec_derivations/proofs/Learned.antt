@@ -11,8 +11,8 @@ use Rattle.spec_sorts.specs.Terms.{same_term}
 use Rattle.spec_sorts.specs.Literals.{Literal, complement}
 use Rattle.spec_sorts.proofs.SameTerms.{terms_decide}
 use Rattle.spec_proofs.specs.Resolution.{given, unit, false_clause}
-use Rattle.spec_search.specs.Learned.{IsQuiet, IsConsistent, OthersFail}
-use Rattle.spec_search.proofs.Learned.{derived_holds, none_conflicts}
+use Rattle.spec_derivations.specs.Quiet.{IsQuiet, IsConsistent, OthersFail}
+use Rattle.spec_derivations.proofs.Quiet.{derived_holds, none_conflicts}
 use Rattle.spec_derivations.specs.Learned.{same_literal, others, IsOpenIn, IsNew}
 
 -- the test of literals tells whether they are one

@@ -1,4 +1,5 @@
 -- The lemmas of this crate.
+pub mod Quiet
 pub mod Learned
 pub mod Saying
 pub mod Eight

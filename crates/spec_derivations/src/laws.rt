@@ -8,7 +8,7 @@ ghost use Rattle.spec_sorts.specs.WellSorted.{IsFormulaOver};
 ghost use Rattle.spec_sorts.specs.Subterms.{subterms_of};
 ghost use Rattle.spec_sorts.specs.Literals.{Clause, Literal, complement, literals_of};
 ghost use Rattle.spec_proofs.specs.Resolution.{IsWithin, Resolves};
-ghost use Rattle.spec_search.specs.Learned.{IsQuiet, IsConsistent, OthersFail};
+ghost use Rattle.spec_derivations.specs.Quiet.{IsQuiet, IsConsistent, OthersFail};
 ghost use Rattle.spec_rules.specs.Clauses.{term_true, clause_true};
 ghost use Rattle.spec_rules.specs.Truths.{Truths, term_true_by};
 ghost use Rattle.spec_derivations.specs.Problems.{Problem, terms_of_problem, subterms_in};

@@ -1,5 +1,5 @@
 //! Definitions about searches over the whole language: derivations, the clauses that a search begins with, learned
-//! clauses, spent budgets and models. The program does not use them yet.
+//! clauses, spent budgets and models.
 //!
 //! Nothing here runs. The functions with empty bodies are laws and examples: what they ensure is proved of the
 //! definitions in `specs/`.

@@ -1,5 +1,5 @@
 //! Definitions about models of the whole language: the texts of values, of tables and of models, and the values of such
-//! texts. The program does not use them yet.
+//! texts.
 //!
 //! Nothing here runs. The functions with empty bodies are laws: what they ensure is proved of the definitions in
 //! `specs/`.

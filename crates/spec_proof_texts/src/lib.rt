@@ -1,5 +1,5 @@
 //! Definitions about printed proofs over the whole language: the lines of a proof, their text, what they mean, and
-//! which lines a derivation has. The program does not use them yet.
+//! which lines a derivation has.
 //!
 //! Nothing here runs. The functions with empty bodies are laws: what they ensure is proved of the definitions in
 //! `specs/`.

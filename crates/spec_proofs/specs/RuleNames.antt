@@ -1,7 +1,7 @@
 -- The names of the rules, in printed proofs and in those that are read. Source: Alethe specification, rules.
 use Rattle.std.specs.Prelude.{List, [], ◌∷◌, Option, map, codes}
 use Rattle.spec_text.specs.Bytes.{Name}
-use Rattle.spec_terms.specs.Theory.{look_up}
+use Rattle.spec_sorts.specs.Theory.{look_up}
 use Rattle.spec_proofs.specs.declared.Rule.{Rule}
 use Rattle.spec_proofs.specs.declared.Rule.TheVariants as rules
 

@@ -1,4 +1,4 @@
-//! Definitions about proofs: clauses, rules, right steps, accepted proofs and the first fault.
+//! Definitions about proofs that stand below terms: the names of rules, resolution, the texts of proofs, and faults.
 #![tactic(auto)]
 
 ghost use Rattle.std.specs.Prelude.{◌≡◌};
@@ -6,13 +6,11 @@ ghost use Rattle.spec_proofs.specs.Faults.{fault_name, fault_number};
 
 use spec_text::Fault;
 
-pub mod examples;
 pub mod laws;
-pub mod rule_examples;
 mod rule_names;
 
 /// Names a rule by which a step follows from earlier clauses. Which steps it takes says the table `kind_of` of
-/// `specs/Schemes.antt`. Source: Alethe specification, rules.
+/// `spec_rules`. Source: Alethe specification, rules.
 #[derive(Clone, Copy, Debug, PartialEq, Eq)]
 pub enum Rule {
     /// `or`: a disjunction is opened into its arguments.

@@ -1,7 +1,7 @@
 //! The names of the rules, and the rules by their names.
 
 ghost use Rattle.std.specs.Prelude.{◌≡◌};
-ghost use Rattle.spec_terms.specs.Theory.{look_up};
+ghost use Rattle.spec_sorts.specs.Theory.{look_up};
 ghost use Rattle.std.specs.Str.{bytes_eq};
 ghost use Rattle.spec_proofs.specs.RuleNames.{rule_name, named_rows, rule_named};
 

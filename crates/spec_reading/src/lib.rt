@@ -1,5 +1,5 @@
 //! Definitions about reading: the sort of a text, the term that a text is read as, the names that it makes, or its first
-//! fault with its place. The program does not use them yet.
+//! fault with its place.
 //!
 //! Nothing here runs. The functions with empty bodies are laws: what they ensure is proved of the definitions in
 //! `specs/`.

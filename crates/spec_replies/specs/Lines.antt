@@ -5,7 +5,7 @@ use Rattle.spec_text.specs.Trees.{Tree}
 use Rattle.spec_text.specs.Printed.{printed}
 use Rattle.spec_replies.specs.declared.Word.{Word}
 use Rattle.spec_replies.specs.declared.Word.TheVariants.{Success, Unsupported, Sat, Unsat, Unknown}
-use Rattle.spec_replies.specs.Values.{in_list, word_tree, numeral_tree}
+use Rattle.spec_models.specs.Values.{in_list, word_tree, numeral_tree}
 
 -- an error with its line and column, both from 1, and its name
 abbrev pub error_text : ℕ → ℕ → List ℕ → List ℕ

@@ -1,10 +1,5 @@
-//! Definitions about responses: the texts of errors, names, values, reasons and models.
-//!
-//! Nothing here runs. The functions with empty bodies are laws: what they ensure is proved of the definitions in
-//! `specs/`.
+//! Definitions about responses: the lines of errors, words and reasons.
 #![tactic(auto)]
-
-pub mod laws;
 
 /// A response that is one word. Source: SMT-LIB 2.6, sections 3.9 and 4.1.8.
 #[derive(Clone, Copy, Debug, PartialEq, Eq)]

@@ -1,5 +1,5 @@
 //! Definitions about the whole language: sorts, fractions, terms as read, signatures, values, interpretations, and the
-//! value of a text. The program does not use them yet.
+//! value of a text.
 //!
 //! Nothing here runs. The functions with empty bodies are laws: what they ensure is proved of the definitions in
 //! `specs/`.

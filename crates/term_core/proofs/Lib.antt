@@ -1,16 +1,17 @@
 -- The lemmas of this crate.
 pub mod NamesApart
-pub mod SymbolsNamed
 pub mod TermsExtend
+pub mod SymbolsNamed
 pub mod ShapesGrown
 pub mod NodesSame
 pub mod NodesPut
 pub mod TermsApart
 pub mod TermsPut
 pub mod TermsLiteral
-pub mod TermsSorted
-pub mod ValueRows
-pub mod ValuesTaken
 pub mod TermsClosed
-pub mod NumbersAdded
-pub mod TermsCounted
+pub mod FactsKept
+pub mod FactsOfNodes
+pub mod SortsTaken
+pub mod TermsDeclared
+pub mod TablePut
+pub mod TermsWellSorted

@@ -1,5 +1,5 @@
 -- What an insert leaves of the nodes.
-use Rattle.std.proofs.Common.{◌≡◌, ℕ, ◌<◌, ◌≤◌, Bool, true, false, ◌⊎◌, inl, inr, List, [], ◌∷◌, ◌++◌, length, get_or, slice_get, Some, refl, sym, ◌∙◌, ap, subst, arith, true≢false, if◌then◌else◌, length-append}
+use Rattle.std.proofs.Common.{◌≡◌, ℕ, ◌<◌, ◌≤◌, Bool, true, false, ◌⊎◌, inl, inr, List, [], ◌∷◌, ◌++◌, length, get_or, slice_get, Some, refl, sym, ◌∙◌, ap, subst, arith, true≢false, not, if◌then◌else◌, length-append}
 use Rattle.std.specs.List.{list_any}
 use Rattle.std.proofs.lemmas.List.Folds.{list_any_at}
 use Rattle.std.proofs.lemmas.Option.{slice_get_within, get_or_from_slice_get}
@@ -42,3 +42,23 @@ puts old new node at keys stored = go (list_any (ghosts.eq node) old) refl
         ∙ ap (λ l. get_or (shapes_of l) at no_shape) (sym last) ∙ found in
         let high : length old ≤ at = grind (arith, none at, before) in
         inr (last, omega (arith, high, low, length-append old (node ∷ [])), none)
+
+-- what `insert` says of a number
+abbrev pub IsStored : List Node → Node → ℕ → Type 0
+IsStored new node at = (k : Node) × (slice_get new at ≡ Some k) × (ghosts.eq node k ≡ true)
+
+-- what was not there stands last
+pub put_new : (old new : List Node) (node : Node) (is_new : Bool) → new ≡ insert_key ghosts.eq old node → is_new ≡ not (list_any (ghosts.eq node) old) → is_new ≡ true → new ≡ old ++ node ∷ []
+put_new old new node is_new keys e told = keys ∙ go (list_any (ghosts.eq node) old) (sym e ∙ told)
+  where
+    go : (any : Bool) → not any ≡ true → (if any then old else old ++ node ∷ []) ≡ old ++ node ∷ []
+    go false h = refl
+    go true h = absurd (true≢false (sym h))
+
+-- what was there changes nothing
+pub put_old : (old new : List Node) (node : Node) (is_new : Bool) → new ≡ insert_key ghosts.eq old node → is_new ≡ not (list_any (ghosts.eq node) old) → is_new ≡ false → new ≡ old
+put_old old new node is_new keys e told = keys ∙ go (list_any (ghosts.eq node) old) (sym e ∙ told)
+  where
+    go : (any : Bool) → not any ≡ false → (if any then old else old ++ node ∷ []) ≡ old
+    go true h = refl
+    go false h = absurd (true≢false h)

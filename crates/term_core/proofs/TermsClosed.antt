@@ -4,15 +4,17 @@ use Rattle.std.proofs.Math.Seq.{get_or-append_seam, take-append_seam}
 use Rattle.std.proofs.lemmas.List.{get_or_default}
 use Rattle.std.proofs.lemmas.List.Elements.{All-contains, Contains-get_or}
 use Rattle.spec_text.proofs.Members.{to_image, from_image}
-use Rattle.spec_terms.specs.Terms.{Symbol, Head, Apply, Term, Terms, app, list_of, sort_of, head_takes}
-use Rattle.spec_terms.specs.Subsets.{arguments_of, AreAmong, IsClosed}
-use Rattle.spec_terms.proofs.General.{list_of-terms_of}
+use Rattle.spec_sorts.specs.Terms.{Symbol, Head, Term, Terms, no_term, app, list_of, sort_of}
+use Rattle.spec_sorts.specs.WellSorted.{IsHeadOver}
+use Rattle.spec_sorts.specs.Subsets.{arguments_of, AreAmong, IsClosed}
+use Rattle.spec_sorts.proofs.General.{list_of-terms_of}
 use Rattle.term_core.specs.declared.ids.TermId.{TermId}
 use Rattle.term_core.specs.declared.nodes.Head.{Head as NodeHead}
 use Rattle.term_core.specs.declared.nodes.Head.TheVariants as heads
 use Rattle.term_core.specs.declared.nodes.Node.{Node}
-use Rattle.term_core.specs.Tables.{TableView, no_symbol, no_term, term_at, IsIn, HasHead, head_meant, clause_at, Shape, shapes_of, no_shape, shape_term, Fits, grown, IsWhole}
-use Rattle.term_core.proofs.ShapesGrown.{view, at-term, at-fits}
+use Rattle.term_core.specs.Symbols.{SymbolsView, no_symbol}
+use Rattle.term_core.specs.Tables.{TableView, view, term_at, IsIn, head_over, IsOver, head_meant, takes, clause_at, Shape, shapes_of, no_shape, shape_term, Fits, grown, IsWhole}
+use Rattle.term_core.proofs.ShapesGrown.{at-term, at-fits}
 use Rattle.term_core.proofs.TermsApart.{at}
 
 -- an argument of what is written has a number among those that are written
@@ -28,64 +30,68 @@ pub term_there : (t : TableView) (id : TermId) → IsIn t id → Contains t.term
 term_there t id lt = (id.0, lt, get_or_default t.terms id.0 (term_at t id) no_term lt)
 
 -- a term of the table is written at its number
-is_written : (symbols : List Symbol) (nodes : List Node) → IsWhole symbols nodes → (t : Term) → Contains (grown symbols [] (shapes_of nodes)) t
-    → (s : Shape) × Fits (view symbols (grown symbols [] (shapes_of nodes))) s × (t ≡ shape_term (view symbols (grown symbols [] (shapes_of nodes))) s)
-is_written symbols nodes whole t c =
-    let terms = grown symbols [] (shapes_of nodes) in
+is_written : (d : SymbolsView) (nodes : List Node) → IsWhole d nodes → (t : Term) → Contains (grown d [] (shapes_of nodes)) t
+    → (s : Shape) × Fits (view d (grown d [] (shapes_of nodes))) s × (t ≡ shape_term (view d (grown d [] (shapes_of nodes))) s)
+is_written d nodes whole t c =
+    let terms = grown d [] (shapes_of nodes) in
     let s : Shape = get_or (shapes_of nodes) c.0 no_shape in
-    let here = at symbols nodes whole c.0 c.1 in
-    (s, at-fits symbols terms s c.0 here, sym c.2 ∙ get_or_default terms c.0 t no_term c.1 ∙ at-term symbols terms s c.0 here)
+    let here = at d nodes whole c.0 c.1 in
+    (s, at-fits d terms s c.0 here, sym c.2 ∙ get_or_default terms c.0 t no_term c.1 ∙ at-term d terms s c.0 here)
 
-pub closed_terms : (symbols : List Symbol) (nodes : List Node) → IsWhole symbols nodes → IsClosed (grown symbols [] (shapes_of nodes))
-closed_terms symbols nodes whole t c u a =
-    let tv : TableView = view symbols (grown symbols [] (shapes_of nodes)) in
-    let w = is_written symbols nodes whole t c in
+pub closed_terms : (d : SymbolsView) (nodes : List Node) → IsWhole d nodes → IsClosed (grown d [] (shapes_of nodes))
+closed_terms d nodes whole t c u a =
+    let tv : TableView = view d (grown d [] (shapes_of nodes)) in
+    let w = is_written d nodes whole t c in
     let arg = argument_of tv w.0 u (subst (λ x. Contains (arguments_of x) u) w.2 a) in
     let within : IsIn tv arg.0 = All-contains (λ id. IsIn tv id) w.0.arguments arg.0 w.1.arguments arg.1 in
     subst (Contains tv.terms) arg.2 (term_there tv arg.0 within)
 
 -- the head takes arguments of the sorts of the term's own
 abbrev TakesItsOwn : Term → Type 0
-TakesItsOwn (app h ts) = head_takes h (map sort_of (list_of ts)) ≡ true
+TakesItsOwn (app h ts) = takes h (map sort_of (list_of ts)) ≡ true
 
-pub heads_take : (symbols : List Symbol) (nodes : List Node) → IsWhole symbols nodes → (h : Head) (ts : Terms) → Contains (grown symbols [] (shapes_of nodes)) (app h ts) → head_takes h (map sort_of (list_of ts)) ≡ true
-heads_take symbols nodes whole h ts c =
-    let tv : TableView = view symbols (grown symbols [] (shapes_of nodes)) in
-    let w = is_written symbols nodes whole (app h ts) c in
-    subst TakesItsOwn (sym w.2) (subst (λ us. head_takes (head_meant symbols w.0.head) (map sort_of us) ≡ true) (sym (list_of-terms_of (clause_at tv w.0.arguments))) w.1.sorts)
+pub heads_take : (d : SymbolsView) (nodes : List Node) → IsWhole d nodes → (h : Head) (ts : Terms) → Contains (grown d [] (shapes_of nodes)) (app h ts) → takes h (map sort_of (list_of ts)) ≡ true
+heads_take d nodes whole h ts c =
+    let tv : TableView = view d (grown d [] (shapes_of nodes)) in
+    let w = is_written d nodes whole (app h ts) c in
+    subst TakesItsOwn (sym w.2) (subst (λ us. takes (head_meant tv w.0.head) (map sort_of us) ≡ true) (sym (list_of-terms_of (clause_at tv w.0.arguments))) w.1.sorts)
 
--- the first symbol, if there is one, is among these
-abbrev IsDeclared : List Symbol → Head → Type 0
-IsDeclared symbols (Apply s) = Contains symbols s
-IsDeclared symbols h = Unit {0}
+-- the head is over these symbols
+abbrev HeadIsOver : List Symbol → Term → Type 0
+HeadIsOver symbols (app h ts) = IsHeadOver symbols h
 
-abbrev HeadIsDeclared : List Symbol → Term → Type 0
-HeadIsDeclared symbols (app h ts) = IsDeclared symbols h
+meant_over : (d : SymbolsView) (h : NodeHead) → IsOver d.sorts d.symbols h → IsHeadOver d.symbols (head_over d.sorts d.symbols h)
+meant_over d (heads.Apply s) there = Contains-get_or d.symbols s.0 no_symbol there
+meant_over d (heads.Literal q) there = record { positive = q.parts.positive; coprime = q.parts.coprime }
+meant_over d heads.True there = tt
+meant_over d heads.False there = tt
+meant_over d heads.Not there = tt
+meant_over d heads.And there = tt
+meant_over d heads.Or there = tt
+meant_over d heads.Xor there = tt
+meant_over d heads.Implies there = tt
+meant_over d heads.Equal there = tt
+meant_over d heads.Ite there = tt
+meant_over d heads.Minus there = tt
+meant_over d heads.Plus there = tt
+meant_over d heads.Times there = tt
+meant_over d heads.Divide there = tt
+meant_over d heads.Less there = tt
+meant_over d heads.AtMost there = tt
+meant_over d (heads.Parameter k s) there = tt
 
-meant_declared : (symbols : List Symbol) (h : NodeHead) → HasHead symbols h → IsDeclared symbols (head_meant symbols h)
-meant_declared symbols (heads.Apply s) there = Contains-get_or symbols s.0 no_symbol there
-meant_declared symbols heads.True there = tt
-meant_declared symbols heads.False there = tt
-meant_declared symbols heads.Not there = tt
-meant_declared symbols heads.And there = tt
-meant_declared symbols heads.Or there = tt
-meant_declared symbols heads.Xor there = tt
-meant_declared symbols heads.Implies there = tt
-meant_declared symbols heads.Equal there = tt
-meant_declared symbols heads.Ite there = tt
-
-pub heads_declared : (symbols : List Symbol) (nodes : List Node) → IsWhole symbols nodes → (s : Symbol) (ts : Terms) → Contains (grown symbols [] (shapes_of nodes)) (app (Apply s) ts) → Contains symbols s
-heads_declared symbols nodes whole s ts c =
-    let w = is_written symbols nodes whole (app (Apply s) ts) c in
-    subst (HeadIsDeclared symbols) (sym w.2) (meant_declared symbols w.0.head w.1.head)
+pub heads_over : (d : SymbolsView) (nodes : List Node) → IsWhole d nodes → (h : Head) (ts : Terms) → Contains (grown d [] (shapes_of nodes)) (app h ts) → IsHeadOver d.symbols h
+heads_over d nodes whole h ts c =
+    let w = is_written d nodes whole (app h ts) c in
+    subst (HeadIsOver d.symbols) (sym w.2) (meant_over d w.0.head w.1.head)
 
 -- the arguments of a term stand before it
-pub first_arguments : (symbols : List Symbol) (nodes : List Node) → IsWhole symbols nodes → (before after : List Term) (t : Term) → grown symbols [] (shapes_of nodes) ≡ before ++ t ∷ after → AreAmong (arguments_of t) before
-first_arguments symbols nodes whole before after t e u a =
+pub first_arguments : (d : SymbolsView) (nodes : List Node) → IsWhole d nodes → (before after : List Term) (t : Term) → grown d [] (shapes_of nodes) ≡ before ++ t ∷ after → AreAmong (arguments_of t) before
+first_arguments d nodes whole before after t e u a =
     let s : Shape = get_or (shapes_of nodes) (length before) no_shape in
-    let here = at symbols nodes whole (length before) (omega (arith, ap length e, length-append before (t ∷ after))) in
+    let here = at d nodes whole (length before) (omega (arith, ap length e, length-append before (t ∷ after))) in
     let front = here.front in
-    let tv : TableView = view symbols front in
+    let tv : TableView = view d front in
     let both : before ++ t ∷ after ≡ front ++ shape_term tv s ∷ here.more = sym e ∙ here.whole in
     let same : before ≡ front = sym (take-append_seam before (t ∷ after)) ∙ ap (take (length before)) both ∙ ap (λ k. take k (front ++ shape_term tv s ∷ here.more)) (sym here.long) ∙ take-append_seam front (shape_term tv s ∷ here.more) in
     let is : t ≡ shape_term tv s = sym (get_or-append_seam before t after no_term) ∙ ap (λ l. get_or l (length before) no_term) both ∙ ap (λ k. get_or (front ++ shape_term tv s ∷ here.more) k no_term) (sym here.long) ∙ get_or-append_seam front (shape_term tv s) here.more no_term in

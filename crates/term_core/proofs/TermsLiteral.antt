@@ -1,8 +1,8 @@
 -- The literal of a term.
 use Rattle.std.proofs.Common.{◌≡◌, Bool, true, false, List, not, if◌then◌else◌, refl, ap, sym, ◌∙◌}
-use Rattle.spec_terms.specs.Terms.{Term, of, negated}
-use Rattle.spec_terms.specs.Literals.{Literal, complement, literal_of}
-use Rattle.spec_terms.proofs.General.{complement-twice}
+use Rattle.spec_sorts.specs.Terms.{Term, of, negated}
+use Rattle.spec_sorts.specs.Literals.{Literal, complement, literal_of}
+use Rattle.spec_sorts.proofs.General.{complement-twice}
 use Rattle.term_core.specs.declared.nodes.Head.{Head as NodeHead}
 use Rattle.term_core.specs.declared.nodes.Head.TheVariants as heads
 use Rattle.term_core.specs.Tables.{TableView, head_meant, clause_at, positive_literal}
@@ -22,7 +22,7 @@ less true t u l e h = sym (literal_of-negated u) ∙ ap literal_of (sym e) ∙ h
 less false t u l e h = sym (complement-twice (literal_of u)) ∙ ap complement (sym (literal_of-negated u) ∙ ap literal_of (sym e)) ∙ h
 
 -- what has another head in front is no negation
-pub own : (t : TableView) (h : NodeHead) (ids : List TermId) → (h ≡ heads.Not → ⊥) → literal_of (of (head_meant t.symbols h) (clause_at t ids)) ≡ positive_literal (of (head_meant t.symbols h) (clause_at t ids))
+pub own : (t : TableView) (h : NodeHead) (ids : List TermId) → (h ≡ heads.Not → ⊥) → literal_of (of (head_meant t h) (clause_at t ids)) ≡ positive_literal (of (head_meant t h) (clause_at t ids))
 unfolding literal_of
 own t heads.Not ids other = absurd (other refl)
 own t _ ids other = refl

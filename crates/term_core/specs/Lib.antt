@@ -1,6 +1,6 @@
--- What a table of terms holds, and the values of its terms.
+-- What a table of terms holds.
 pub mod NameLists
-pub mod Heads
+pub mod Symbols
 pub mod Tables
-pub mod Valuations
-pub mod Counting
+pub mod Facts
+pub mod TheoryHeads

@@ -1,4 +1,4 @@
-//! Numbers of terms and symbols, and literals.
+//! Numbers of terms, symbols and sorts, and literals.
 
 /// Names a term of a table by its number, from 0.
 #[derive(Clone, Copy, Debug, Default, PartialEq, Eq, Hash)]
@@ -7,6 +7,10 @@ pub struct TermId(pub u64);
 /// Names a declared symbol of a table by its number, from 0.
 #[derive(Clone, Copy, Debug, Default, PartialEq, Eq, Hash)]
 pub struct SymbolId(pub u64);
+
+/// Names a declared sort of a table by its number, from 0.
+#[derive(Clone, Copy, Debug, Default, PartialEq, Eq, Hash)]
+pub struct SortId(pub u64);
 
 /// Means a term as it stands, or its negation.
 #[derive(Clone, Copy, Debug, Default, PartialEq, Eq, Hash)]

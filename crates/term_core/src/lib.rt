@@ -1,28 +1,28 @@
-//! The terms of a script or a proof: each term once, by its number, with its sort, its literal and its value.
+//! The terms of a script or a proof over theories Core and Reals: each term once, by its number, with its sort and its
+//! literal.
 #![tactic(auto)]
 
 mod clauses;
-mod core_heads;
-mod count;
+mod facts;
 mod ids;
 mod name_table;
 mod nodes;
 mod rule_fails;
 mod sorts;
 mod symbols;
+mod taking;
 mod terms;
-mod valuation;
-mod values;
+#[cfg(test)]
+mod tests;
+mod theory_heads;
 
 pub use clauses::Clause;
-pub use core_heads::{CoreHead, head_name};
-pub use count::fit_in;
-pub use ids::{Lit, SymbolId, TermId};
+pub use ids::{Lit, SortId, SymbolId, TermId};
 pub use name_table::NameTable;
 pub use nodes::{Arguments, Head, Node};
+pub use ratio128::Ratio;
 pub use rule_fails::RuleFails;
-pub use sorts::Sort;
+pub use sorts::{Rank, Sort};
 pub use symbols::Symbols;
 pub use terms::TermTable;
-pub use valuation::value;
-pub use values::{Interp, Row, Table, Value, ValueStop};
+pub use theory_heads::{TheoryHead, head_name};

@@ -1,16 +1,17 @@
 //! Terms by their heads and the numbers of their arguments.
 
 ghost use Rattle.std.specs.Prelude.{◌≡◌, IfOk};
-ghost use Rattle.term_core.specs.Tables.{takes_so_many};
 
 use crate::ids::{SymbolId, TermId};
+use crate::sorts::Sort;
+use ratio128::Ratio;
 use smallvec::SmallVec;
 use std::alloc::Global;
 use world_io::NoMemory;
 
 /// Stands before the arguments of a term.
 ///
-/// Source: SMT-LIB 2.6, section 3.6 and theory Core; `distinct` and chains are read as terms of these.
+/// Source: SMT-LIB 2.6, section 3.6, theories Core and Reals. Chains, `distinct`, `>` and `>=` are read as terms of these.
 #[derive(Clone, Copy, Debug, PartialEq, Eq, Hash)]
 pub enum Head {
     /// The truth value true, which takes no argument.
@@ -31,30 +32,24 @@ pub enum Head {
     Equal,
     /// The second of its three arguments where the first is true, else the third.
     Ite,
+    /// The negative of its one argument, or the difference of its two.
+    Minus,
+    /// The sum of its arguments, of which there is one at least.
+    Plus,
+    /// The product of its arguments, of which there is one at least.
+    Times,
+    /// The quotient of its two arguments.
+    Divide,
+    /// That the first of its two arguments is less than the second.
+    Less,
+    /// That the first of its two arguments is at most the second.
+    AtMost,
+    /// A number, which takes no argument.
+    Literal(Ratio),
     /// The declared symbol of that number, which takes arguments of the sorts that it is declared with.
     Apply(SymbolId),
-}
-
-impl Head {
-    /// Tells whether the head takes so many arguments, as long as each symbol is a constant.
-    ///
-    /// Source: SMT-LIB 2.6, theory Core.
-    pub fn takes_so_many(self, arguments: &[TermId]) -> bool
-        ensures { result ≡ takes_so_many self arguments.now }
-    {
-        match self {
-            Head::And => !arguments.is_empty(),
-            Head::Or => !arguments.is_empty(),
-            Head::True => arguments.is_empty(),
-            Head::False => arguments.is_empty(),
-            Head::Apply(_) => arguments.is_empty(),
-            Head::Not => arguments.len() == 1,
-            Head::Xor => arguments.len() == 2,
-            Head::Implies => arguments.len() == 2,
-            Head::Equal => arguments.len() == 2,
-            Head::Ite => arguments.len() == 3,
-        }
-    }
+    /// The parameter of that number, from 0, and of that sort in the body of a definition. It takes no argument.
+    Parameter(u64, Sort),
 }
 
 /// Lists the arguments of a term by their numbers: up to two of them take no memory of their own.

@@ -1,33 +1,40 @@
 //! The table of terms: each term once, by its number.
 
 ghost use Rattle.std.specs.Prelude.{◌⊎◌, ◌≡◌, List, map, MatchBool, true, false, Contains, ◌<◌, [], ◌∷◌, ◌++◌, length, take, None, Some, IfOk, OnErr, OnOk, MatchOption};
-ghost use Rattle.spec_terms.specs.Terms.{Symbol, Head as TermHead, Apply, Term, Terms, app, list_of, Truth, sort_of, head_takes, negated};
-ghost use Rattle.spec_terms.specs.Reading.{symbol_named};
-ghost use Rattle.spec_terms.specs.Subsets.{arguments_of, AreAmong, IsClosed};
-ghost use Rattle.spec_terms.specs.Literals.{literal_of};
-ghost use Rattle.term_core.specs.Tables.{truth_symbol, term_at, IsIn, AreIn, HasHead, head_meant, clause_at, Shape, takes_so_many, literal_at, sort_meant, IsPlaced, node_term, NamesBelow, AreDifferent, Extends, positive_literal};
+ghost use Rattle.spec_text.specs.Bytes.{among};
+ghost use Rattle.spec_sorts.specs.Terms.{Sort as TermSort, Head as TermHead, Term, Terms, app, list_of, sort_of, negated};
+ghost use Rattle.spec_sorts.specs.WellSorted.{AllHeads, IsHeadOver, IsWellSorted};
+ghost use Rattle.spec_sorts.specs.Theory.{is_constant, is_divisor, is_zero_divisor};
+ghost use Rattle.spec_sorts.specs.Subsets.{arguments_of, AreAmong, IsClosed};
+ghost use Rattle.spec_sorts.specs.Literals.{literal_of};
+ghost use Rattle.term_core.specs.Symbols.{HasSortIn, HaveSortsIn, sort_meant, symbol_named, symbol_of};
+ghost use Rattle.term_core.specs.Tables.{declared_in, term_at, IsIn, AreIn, literal_at, takes, IsParameterAmong, IsPlaced, node_term, NamesBelow, AreDifferent, Extends, positive_literal};
 ghost use Rattle.term_core.specs.declared.ids.TermId.{TermId as Number};
 
-use crate::ids::{Lit, SymbolId, TermId};
+use crate::facts::{Facts, facts_of};
+use crate::ids::{Lit, SortId, SymbolId, TermId};
 use crate::nodes::{Head, Node};
 use crate::sorts::Sort;
 use crate::symbols::Symbols;
+use crate::taking::{has_head, takes_arguments};
 use indexmap::IndexSet;
 use std::alloc::Global;
 use std::marker::Model;
 use world_io::NoMemory;
 
-/// Holds the terms that were put, each once and after its arguments, and the symbols of which they are made.
+/// Holds the terms that were put, each once and after its arguments, and the sorts and symbols of which they are made.
 ///
-/// Terms and symbols keep their numbers while the table grows.
+/// Terms, sorts and symbols keep their numbers while the table grows.
 #[derive(Drop)]
 pub struct TermTable {
     symbols: Symbols,
     nodes: IndexSet<Node>,
+    facts: Vec<Facts>,
 }
 
 impl Model for TermTable {
-    ghost use Rattle.term_core.specs.Tables.{TableView, table_code, table_of, IsWhole};
+    ghost use Rattle.term_core.specs.Tables.{TableView, table_code, table_of};
+    ghost use Rattle.term_core.specs.Facts.{IsKept};
 
     ghost Value = { TableView };
 
@@ -35,17 +42,18 @@ impl Model for TermTable {
 
     ghost view = { λ t. table_of t.symbols t.nodes.keys };
 
-    ghost invariant = { λ t. IsWhole t.symbols t.nodes.keys };
+    ghost invariant = { λ t. IsKept t.symbols t.nodes.keys t.facts.items };
 }
 
 impl TermTable {
-    /// Makes a table without symbols and terms, which takes no memory before the first of them.
+    /// Makes a table without sorts, symbols and terms, which takes no memory before the first of them.
     pub fn new(alloc: Global) -> TermTable
-        ensures { result ≡ record { symbols = []; terms = [] } }
+        ensures { result ≡ record { sorts = []; symbols = []; terms = [] } }
     {
         TermTable {
             symbols: Symbols::new(alloc),
             nodes: IndexSet::new(alloc),
+            facts: Vec::new(alloc),
         }
     }
 
@@ -56,35 +64,58 @@ impl TermTable {
         self.nodes.len() as u64
     }
 
-    /// Lends the declared symbols.
+    /// Lends the declared sorts and symbols.
     pub fn symbols(&self) -> &Symbols
-        ensures { result.now ≡ self.now.symbols }
+        ensures { result.now ≡ declared_in self.now }
     {
         &self.symbols
     }
 
-    /// Declares a constant of sort Bool, whose name must be new, and says its number, which is the next.
+    /// Declares a sort, whose name must be new among sorts, and says its number, which is the next.
     ///
     /// `NoMemory` comes where the name finds no memory; then the table is as it was.
     /// Source: SMT-LIB 2.6, section 4.2.3.
-    pub fn declare(&mut self, name: &[u8]) -> Result<SymbolId, NoMemory>
-        requires { symbol_named self.old.symbols name.now ≡ None }
+    pub fn declare_sort(&mut self, name: &[u8]) -> Result<SortId, NoMemory>
+        requires { among self.old.sorts name.now ≡ false }
         ensures declared { OnOk result
-            ((self.new.symbols ≡ self.old.symbols ++ truth_symbol name.now ∷ []) × (self.new.terms ≡ self.old.terms)) }
+            ((self.new.sorts ≡ self.old.sorts ++ name.now ∷ [])
+            × (self.new.symbols ≡ self.old.symbols) × (self.new.terms ≡ self.old.terms)) }
+        ensures number { IfOk result (λ s. s.0 ≡ length self.old.sorts) }
+        ensures same { OnErr result (self.new ≡ self.old) }
+    {
+        self.symbols.add_sort(name)
+    }
+
+    /// Declares a symbol, whose name must be new among symbols and whose sorts must be there. It says its number, which is
+    /// the next. `gives` is the sort that the symbol gives.
+    ///
+    /// `NoMemory` comes where name or sorts find no memory; then the table is as it was.
+    /// Source: SMT-LIB 2.6, section 4.2.3.
+    pub fn declare(
+        &mut self,
+        name: &[u8],
+        parameters: &[Sort],
+        gives: Sort,
+    ) -> Result<SymbolId, NoMemory>
+        requires new { symbol_named self.old.symbols name.now ≡ None }
+        requires sorts { HaveSortsIn self.old.sorts parameters.now × HasSortIn self.old.sorts gives }
+        ensures declared { OnOk result
+            ((self.new.symbols ≡ self.old.symbols ++ symbol_of self.old.sorts name.now parameters.now gives ∷ [])
+            × (self.new.sorts ≡ self.old.sorts) × (self.new.terms ≡ self.old.terms)) }
         ensures number { IfOk result (λ s. s.0 ≡ length self.old.symbols) }
         ensures same { OnErr result (self.new ≡ self.old) }
     {
-        self.symbols.add(name)
+        self.symbols.add(name, parameters, gives)
     }
 
     /// Puts a term by its node and says its number: the one that it has, or else the next.
     ///
-    /// What the node names must be there, and of sorts that its head takes.
-    /// `NoMemory` comes where a new node finds no memory; then the table is as it was.
+    /// What the node names must be there, and of sorts that its head takes. A parameter may have any number.
+    /// `NoMemory` comes where the term finds no memory; then the table is as it was.
     pub fn put(&mut self, node: Node) -> Result<TermId, NoMemory>
         requires { IsPlaced self.old node }
         ensures there { IfOk result (λ id. IsIn self.new id × (term_at self.new id ≡ node_term self.old node)) }
-        ensures kept { Extends self.old self.new × (self.new.symbols ≡ self.old.symbols) }
+        ensures kept { Extends self.old self.new × (declared_in self.new ≡ declared_in self.old) }
         ensures once { IfOk result (λ id. IsIn self.old id → self.new ≡ self.old) }
         ensures known { (id : Number) → IsIn self.old id → term_at self.old id ≡ node_term self.old node
             → self.new ≡ self.old }
@@ -92,11 +123,17 @@ impl TermTable {
             ((self.new ≡ self.old) ⊎ (self.new.terms ≡ self.old.terms ++ node_term self.old node ∷ [])) }
         ensures same { OnErr result (self.new ≡ self.old) }
     {
-        let (at, _) = self.nodes.insert_full(node)?;
+        let facts = facts_of(self, &node);
+        self.facts.reserve(1)?;
+        let (at, is_new) = self.nodes.insert_full(node)?;
+        if !is_new {
+            return Ok(TermId(at as u64));
+        }
+        self.facts.push_reserved(facts);
         Ok(TermId(at as u64))
     }
 
-    /// Says a term by its node, whose arguments have smaller numbers. It takes no memory.
+    /// Lends a term's node, whose arguments have smaller numbers. It takes no memory.
     pub fn node(&self, id: TermId) -> &Node
         requires { IsIn self.now id }
         ensures means { term_at self.now id ≡ node_term self.now result.now }
@@ -108,21 +145,47 @@ impl TermTable {
 
     /// Says a term's sort. It takes no memory.
     ///
-    /// Source: SMT-LIB 2.6, section 3.6.
+    /// Source: SMT-LIB 2.6, section 5.2.
     pub fn sort(&self, id: TermId) -> Sort
         requires { IsIn self.now id }
-        ensures { sort_meant result ≡ sort_of (term_at self.now id) }
+        ensures means { sort_meant self.now.sorts result ≡ sort_of (term_at self.now id) }
+        ensures there { HasSortIn self.now.sorts result }
     {
-        self.all_terms_are_bool();
-        Sort::Bool
+        self.facts[id.0 as usize].sort
     }
 
-    /// Takes away all terms after the first `len`, none where there are no more, and keeps the symbols. It takes no memory.
+    /// Tells whether a term is a literal, or `-`, `+`, `*` or `/` before constant terms. It takes no memory.
+    pub fn is_constant(&self, id: TermId) -> bool
+        requires { IsIn self.now id }
+        ensures { result ≡ is_constant (term_at self.now id) }
+    {
+        self.facts[id.0 as usize].constant
+    }
+
+    /// Tells whether a term may stand as a divisor: a literal, `(- d)` or `(/ d e)` of divisors. It takes no memory.
+    pub fn is_divisor(&self, id: TermId) -> bool
+        requires { IsIn self.now id }
+        ensures { result ≡ is_divisor (term_at self.now id) }
+    {
+        self.facts[id.0 as usize].divisor
+    }
+
+    /// Tells whether a divisor is zero: a literal 0, or what `-` or `/` has first is zero. It takes no memory.
+    pub fn is_zero_divisor(&self, id: TermId) -> bool
+        requires { IsIn self.now id }
+        ensures { result ≡ is_zero_divisor (term_at self.now id) }
+    {
+        self.facts[id.0 as usize].zero
+    }
+
+    /// Takes away all terms after the first `len`, none where there are no more, and keeps the sorts and symbols. It takes
+    /// no memory.
     pub fn cut(&mut self, len: u64)
         ensures terms { self.new.terms ≡ take len self.old.terms }
-        ensures symbols { self.new.symbols ≡ self.old.symbols }
+        ensures declared { declared_in self.new ≡ declared_in self.old }
     {
         self.nodes.truncate(len as usize);
+        self.facts.truncate(len as usize);
     }
 
     /// Takes the negations off a term: what is left, and whether their number is even. It takes no memory.
@@ -156,6 +219,32 @@ impl TermTable {
         }
     }
 
+    /// Tells whether what a node names is there, and of sorts that its head takes. It takes no memory.
+    pub fn takes(&self, node: &Node) -> bool
+        ensures { MatchBool result (IsPlaced self.now node.now) (IsPlaced self.now node.now → ⊥) }
+    {
+        let arguments = node.arguments.as_slice();
+        if !has_head(self, node.head) {
+            return false;
+        }
+        if !self.has_terms(arguments) {
+            return false;
+        }
+        takes_arguments(self, node.head, arguments)
+    }
+
+    /// Tells whether each number is one of the table's. It takes no memory.
+    pub fn has_terms(&self, ids: &[TermId]) -> bool
+        ensures { MatchBool result (AreIn self.now ids.now) (AreIn self.now ids.now → ⊥) }
+    {
+        'terms: for id in ids.iter() {
+            if id.0 >= self.len() {
+                return false;
+            }
+        }
+        true
+    }
+
     /// States that different numbers mean different terms.
     pub fn ids_are_unique(&self)
         ensures { AreDifferent self.now.terms }
@@ -178,76 +267,33 @@ impl TermTable {
         let _ = &self.symbols;
     }
 
-    /// States that each term has the sort Bool, as long as each symbol has.
-    pub fn all_terms_are_bool(&self)
-        ensures { (id : Number) → IsIn self.now id → sort_of (term_at self.now id) ≡ Truth }
-    {
-        let _ = &self.symbols;
-    }
-
     /// States that the head of each of the table's terms takes arguments of the sorts of its own.
     ///
-    /// Source: SMT-LIB 2.6, section 3.6.
+    /// Source: SMT-LIB 2.6, section 5.2.
     pub fn heads_take_their_arguments(&self)
         ensures { (h : TermHead) (ts : Terms) → Contains self.now.terms (app h ts)
-            → head_takes h (map sort_of (list_of ts)) ≡ true }
+            → takes h (map sort_of (list_of ts)) ≡ true }
     {
         let _ = &self.symbols;
     }
 
-    /// States that the symbol that heads a term of the table, if one does, is declared.
+    /// States that the symbol that heads a term of the table, if one does, is declared, and that each number is in lowest
+    /// terms.
     ///
-    /// Source: SMT-LIB 2.6, section 3.6.
+    /// Source: SMT-LIB 2.6, section 5.2.
     pub fn heads_are_declared(&self)
-        ensures { (s : Symbol) (ts : Terms) → Contains self.now.terms (app (Apply s) ts) → Contains self.now.symbols s }
+        ensures { (h : TermHead) (ts : Terms) → Contains self.now.terms (app h ts) → IsHeadOver self.now.symbols h }
     {
         let _ = &self.symbols;
     }
 
-    /// States that the number of arguments alone decides whether a head takes them, as long as each symbol has the sort Bool.
-    pub fn arity_suffices(&self)
-        ensures { (s : Shape) → HasHead self.now.symbols s.head → AreIn self.now s.arguments
-            → head_takes (head_meant self.now.symbols s.head) (map sort_of (clause_at self.now s.arguments))
-            ≡ takes_so_many s.head s.arguments }
+    /// States that each of the table's terms is well sorted, where its parameters have the sorts of their numbers.
+    ///
+    /// Source: SMT-LIB 2.6, section 5.2.
+    pub fn terms_are_well_sorted(&self)
+        ensures { (parameters : List TermSort) (t : Term) → Contains self.now.terms t
+            → AllHeads (IsParameterAmong parameters) t → IsWellSorted self.now.symbols parameters t }
     {
-        self.all_terms_are_bool();
-        self.symbols.are_declared();
-    }
-
-    /// Tells whether what a node names is there, and of sorts that its head takes. It takes no memory.
-    pub fn takes(&self, node: &Node) -> bool
-        ensures { MatchBool result (IsPlaced self.now node.now) (IsPlaced self.now node.now → ⊥) }
-    {
-        self.arity_suffices();
-        let arguments = node.arguments.as_slice();
-        if !self.has_head(node.head) {
-            return false;
-        }
-        if !self.has_terms(arguments) {
-            return false;
-        }
-        node.head.takes_so_many(arguments)
-    }
-
-    /// Tells whether the symbol of a head, if it has one, is declared.
-    fn has_head(&self, head: Head) -> bool
-        ensures { MatchBool result (HasHead self.now.symbols head) (HasHead self.now.symbols head → ⊥) }
-    {
-        match head {
-            Head::Apply(symbol) => symbol.0 < self.symbols.len(),
-            _ => true,
-        }
-    }
-
-    /// Tells whether each number is one of the table's. It takes no memory.
-    pub fn has_terms(&self, ids: &[TermId]) -> bool
-        ensures { MatchBool result (AreIn self.now ids.now) (AreIn self.now ids.now → ⊥) }
-    {
-        'terms: for id in ids.iter() {
-            if id.0 >= self.len() {
-                return false;
-            }
-        }
-        true
+        let _ = &self.symbols;
     }
 }

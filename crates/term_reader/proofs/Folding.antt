@@ -4,14 +4,14 @@ use Rattle.std.proofs.lemmas.List.{map-append, take_at, take_all, take_more}
 use Rattle.std.proofs.lemmas.List.Elements.{All-head, All-tail, All-take, All-contains, Contains-push}
 use Rattle.spec_sorts.specs.Terms.{Head, Sort, Term, no_term, pair, sort_of}
 use Rattle.spec_sorts.specs.Lists.{left, right}
-use Rattle.term_table.specs.declared.ids.TermId.{TermId}
-use Rattle.term_table.specs.Tables.{TableView, term_at, clause_at}
+use Rattle.term_core.specs.declared.ids.TermId.{TermId}
+use Rattle.term_core.specs.Tables.{TableView, term_at, clause_at}
 use Rattle.term_reader.specs.declared.building.Binary.{Binary}
 use Rattle.term_reader.specs.declared.building.Binary.TheVariants as binaries
 use Rattle.term_reader.specs.Building.{Keeps, Means, IsOf, AreOf, BinarySort, TakesBoth, binary_head}
 use Rattle.term_reader.specs.Chains.{FoldSort, Folds}
 use Rattle.term_reader.proofs.Tables.{keeps_same, keeps_along, of_kept}
-use Rattle.term_table.proofs.TermsExtend.{term_at-kept}
+use Rattle.term_core.proofs.TermsExtend.{term_at-kept}
 
 -- the term of one that is there and of others that come
 abbrev Fold : Type 0

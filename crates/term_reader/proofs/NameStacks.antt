@@ -8,8 +8,8 @@ use Rattle.std.proofs.lemmas.Bool.Decides.{eqb_tells}
 use Rattle.std.specs.Str.{bytes_eq}
 use Rattle.spec_text.specs.Bytes.{Name, among}
 use Rattle.spec_sorts.specs.Theory.{look_up}
-use Rattle.term_table.specs.NameLists.{HaveNoTwice}
-use Rattle.term_table.proofs.NamesApart.{bytes_same, same_bytes, not_there}
+use Rattle.term_core.specs.NameLists.{HaveNoTwice}
+use Rattle.term_core.proofs.NamesApart.{bytes_same, same_bytes, not_there}
 use Rattle.term_reader.specs.declared.name_stack.Place.{Place}
 use Rattle.term_reader.specs.NameStacks.{no_place, names_at, numbers_in, place_after, latest_of, IsStack, IsLatest, Meets, newest}
 

@@ -3,14 +3,14 @@ use Rattle.std.proofs.Common.{◌≡◌, List, [], ◌∷◌, ◌++◌, length, 
 use Rattle.std.proofs.lemmas.List.{map-append}
 use Rattle.std.proofs.lemmas.List.Elements.{All-head, All-tail, All-push, All-cons}
 use Rattle.spec_sorts.specs.Terms.{Term, Truth, no_term, sort_of}
-use Rattle.term_table.specs.declared.ids.TermId.{TermId}
-use Rattle.term_table.specs.Tables.{TableView, term_at, IsIn, AreIn, clause_at}
+use Rattle.term_core.specs.declared.ids.TermId.{TermId}
+use Rattle.term_core.specs.Tables.{TableView, term_at, IsIn, AreIn, clause_at}
 use Rattle.term_reader.specs.declared.building.Link.{Link}
 use Rattle.term_reader.specs.declared.building.Link.TheVariants as links
 use Rattle.term_reader.specs.Building.{Keeps, Means, IsOf, AreOf, HasPair, link_term}
 use Rattle.term_reader.specs.Chains.{AreLinked, linked_terms}
 use Rattle.term_reader.proofs.Tables.{keeps_same, keeps_along, of_kept}
-use Rattle.term_table.proofs.TermsExtend.{term_at-kept, clause_at-kept, AreIn-kept}
+use Rattle.term_core.proofs.TermsExtend.{term_at-kept, clause_at-kept, AreIn-kept}
 
 -- The terms of the first pairs are there, by their numbers, and the others come.
 pub record IsPut (link : Link) (old now : TableView) (all : List (TermId × TermId)) (parts : List TermId) (rest : List (TermId × TermId)) : Type 0 where

@@ -5,14 +5,14 @@ use Rattle.spec_text.specs.Bytes.{Name}
 use Rattle.spec_sorts.specs.Terms.{Sort}
 use Rattle.spec_sorts.specs.Signatures.{Known, declared, defined, of_sort, of_function, Signature, known_name, known_as, sort_as}
 use Rattle.spec_sorts.specs.Theory.{look_up}
-use Rattle.term_table.specs.declared.sorts.Sort.{Sort as TableSort}
-use Rattle.term_table.specs.Symbols.{HasSortIn, sort_meant, symbol_at, IsSymbol, sorts_meant, HaveSortsIn}
-use Rattle.term_table.specs.Tables.{TableView}
-use Rattle.term_table.proofs.TermsExtend.{IsIn-kept, term_at-kept}
+use Rattle.term_core.specs.declared.sorts.Sort.{Sort as TableSort}
+use Rattle.term_core.specs.Symbols.{HasSortIn, sort_meant, symbol_at, IsSymbol, sorts_meant, HaveSortsIn}
+use Rattle.term_core.specs.Tables.{TableView}
+use Rattle.term_core.proofs.TermsExtend.{IsIn-kept, term_at-kept}
 use Rattle.term_reader.specs.declared.scope.Function.{Function}
 use Rattle.term_reader.specs.declared.scope.Function.TheVariants.{Declared, Defined}
 use Rattle.term_reader.specs.Building.{Keeps}
-use Rattle.term_table.proofs.NamesApart.{same_bytes}
+use Rattle.term_core.proofs.NamesApart.{same_bytes}
 use Rattle.term_reader.proofs.NameStacks.{newest_push}
 use Rattle.term_reader.specs.Scopes.{ScopeView, SortStands, FunctionStands, function_under, Stands}
 

@@ -4,10 +4,10 @@ use Rattle.spec_sorts.proofs.WellSorted.{same_sort_itself}
 use Rattle.std.proofs.lemmas.List.Elements.{All-head, All-tail}
 use Rattle.spec_sorts.specs.Terms.{Sort, Truth, of, And, sort_of, all_same, same_sort}
 use Rattle.spec_sorts.specs.Theory.{conjunction}
-use Rattle.term_table.specs.declared.ids.TermId.{TermId}
-use Rattle.term_table.specs.declared.nodes.Head.TheVariants as heads
-use Rattle.term_table.specs.Tables.{TableView, term_at, AreIn, clause_at, Fits}
-use Rattle.term_table.proofs.TermsExtend.{Extends-self, Extends-trans, IsIn-kept, term_at-kept}
+use Rattle.term_core.specs.declared.ids.TermId.{TermId}
+use Rattle.term_core.specs.declared.nodes.Head.TheVariants as heads
+use Rattle.term_core.specs.Tables.{TableView, term_at, AreIn, clause_at, Fits}
+use Rattle.term_core.proofs.TermsExtend.{Extends-self, Extends-trans, IsIn-kept, term_at-kept}
 use Rattle.term_reader.specs.Building.{Keeps, IsOf, AreOf}
 
 pub keeps_same : (t : TableView) → Keeps t t

@@ -12,11 +12,11 @@ use Rattle.spec_sorts.specs.Lists.{neighbours, all_pairs}
 use Rattle.spec_sorts.specs.Theory.{Rule, takes_count, sorts_fit, alike, each_passes, count_of, is_constant}
 use Rattle.spec_sorts.proofs.WellSorted.{same_sort_is}
 use Rattle.spec_reading.specs.Reading.{by_rule, unless}
-use Rattle.term_table.specs.declared.ids.TermId.{TermId}
-use Rattle.term_table.specs.declared.nodes.Head.TheVariants as heads
-use Rattle.term_table.specs.Tables.{TableView, term_at, IsIn, AreIn, clause_at, Fits, takes}
-use Rattle.term_table.specs.declared.theory_heads.TheoryHead.TheVariants as theory_heads
-use Rattle.term_table.specs.TheoryHeads.{rule_of}
+use Rattle.term_core.specs.declared.ids.TermId.{TermId}
+use Rattle.term_core.specs.declared.nodes.Head.TheVariants as heads
+use Rattle.term_core.specs.Tables.{TableView, term_at, IsIn, AreIn, clause_at, Fits, takes}
+use Rattle.term_core.specs.declared.theory_heads.TheoryHead.TheVariants as theory_heads
+use Rattle.term_core.specs.TheoryHeads.{rule_of}
 use Rattle.term_reader.specs.declared.building.Binary.TheVariants as binaries
 use Rattle.term_reader.specs.declared.building.Link.{Link}
 use Rattle.term_reader.specs.declared.building.Link.TheVariants as links

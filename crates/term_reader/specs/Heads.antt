@@ -3,10 +3,10 @@ use Rattle.std.specs.Prelude.{◌≡◌, true, List, length, map, Result, Ok, Er
 use Rattle.spec_text.specs.Answers.{Answer}
 use Rattle.spec_sorts.specs.Terms.{Sort, Truth, Number, Term, sort_of}
 use Rattle.spec_sorts.specs.Theory.{Takes, each_of, alike, choice, sorts_fit, takes_count}
-use Rattle.term_table.specs.declared.ids.TermId.{TermId}
-use Rattle.term_table.specs.declared.theory_heads.TheoryHead.{TheoryHead}
-use Rattle.term_table.specs.TheoryHeads.{rule_of}
-use Rattle.term_table.specs.Tables.{TableView, term_at, IsIn, AreIn, clause_at}
+use Rattle.term_core.specs.declared.ids.TermId.{TermId}
+use Rattle.term_core.specs.declared.theory_heads.TheoryHead.{TheoryHead}
+use Rattle.term_core.specs.TheoryHeads.{rule_of}
+use Rattle.term_core.specs.Tables.{TableView, term_at, IsIn, AreIn, clause_at}
 use Rattle.term_reader.specs.declared.building.Link.{Link}
 use Rattle.term_reader.specs.declared.faults.ReadError.{ReadError}
 use Rattle.term_reader.specs.declared.faults.ReadError.TheVariants.{Fault, Memory}

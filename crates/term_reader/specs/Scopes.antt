@@ -6,9 +6,9 @@ use Rattle.spec_sorts.specs.Theory.{look_up}
 use Rattle.spec_sorts.specs.Signatures.{Definition, Known, declared, defined, Signature, known_as, sort_as}
 use Rattle.spec_reading.specs.Reading.{sorts_taken}
 use Rattle.spec_reading.specs.WellSorted.{AreWellSorted}
-use Rattle.term_table.specs.declared.sorts.Sort.{Sort as TableSort}
-use Rattle.term_table.specs.Symbols.{HasSortIn, HaveSortsIn, sort_meant, sorts_meant, symbol_at, IsSymbol}
-use Rattle.term_table.specs.Tables.{TableView, term_at, IsIn}
+use Rattle.term_core.specs.declared.sorts.Sort.{Sort as TableSort}
+use Rattle.term_core.specs.Symbols.{HasSortIn, HaveSortsIn, sort_meant, sorts_meant, symbol_at, IsSymbol}
+use Rattle.term_core.specs.Tables.{TableView, term_at, IsIn}
 use Rattle.term_reader.specs.NameStacks.{newest}
 use Rattle.term_reader.specs.declared.scope.Macro.{Macro}
 use Rattle.term_reader.specs.declared.scope.Function.{Function}

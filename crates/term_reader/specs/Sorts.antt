@@ -2,9 +2,9 @@
 use Rattle.std.specs.Prelude.{◌≡◌, Result, Ok, Err}
 use Rattle.spec_text.specs.Answers.{Answer}
 use Rattle.spec_sorts.specs.Terms.{Sort}
-use Rattle.term_table.specs.declared.sorts.Sort.{Sort as TableSort}
-use Rattle.term_table.specs.Symbols.{HasSortIn, sort_meant}
-use Rattle.term_table.specs.Tables.{TableView}
+use Rattle.term_core.specs.declared.sorts.Sort.{Sort as TableSort}
+use Rattle.term_core.specs.Symbols.{HasSortIn, sort_meant}
+use Rattle.term_core.specs.Tables.{TableView}
 use Rattle.term_reader.specs.declared.faults.TermFault.{TermFault}
 use Rattle.term_reader.specs.Names.{located_of}
 

@@ -3,12 +3,12 @@
 ghost use Rattle.std.specs.Prelude.{◌<◌, length};
 ghost use Rattle.spec_sorts.specs.Terms.{Truth, of, negated, pair};
 ghost use Rattle.spec_sorts.specs.Theory.{conjunction, unequal};
-ghost use Rattle.term_table.specs.Tables.{head_meant, term_at, clause_at, Fits};
+ghost use Rattle.term_core.specs.Tables.{head_meant, term_at, clause_at, Fits};
 ghost use Rattle.term_reader.specs.Building.{Builds, IsOf, AreOf, TakesBoth, HasPair, binary_head, link_term};
 ghost use Rattle.term_reader.specs.declared.building.Binary.TheVariants.{Equal as equals};
 
 use std::alloc::Global;
-use term_table::{Head, Node, TermId, TermTable};
+use term_core::{Head, Node, TermId, TermTable};
 use world_io::NoMemory;
 
 /// Takes two terms of one sort. Source: SMT-LIB 2.6, theories Core and Reals.

@@ -4,13 +4,13 @@ ghost use Rattle.std.specs.Prelude.{◌≡◌, ◌<◌, ◌++◌, length, map, I
 ghost use Rattle.spec_sorts.specs.Terms.{no_term, pair};
 ghost use Rattle.spec_sorts.specs.Lists.{left, right, neighbours, all_pairs};
 ghost use Rattle.spec_sorts.specs.Theory.{conjunction};
-ghost use Rattle.term_table.specs.Tables.{clause_at};
+ghost use Rattle.term_core.specs.Tables.{clause_at};
 ghost use Rattle.term_reader.specs.Building.{Builds, binary_head};
 ghost use Rattle.term_reader.specs.Chains.{AreLinked, linked_terms, PutsAll, Folds};
 
 use crate::building::{Binary, Link, conjoin, put_link, put_pair};
 use std::alloc::Global;
-use term_table::{TermId, TermTable};
+use term_core::{TermId, TermTable};
 use world_io::NoMemory;
 
 /// Pairs each with the next.

@@ -2,10 +2,10 @@
 
 ghost use Rattle.std.specs.Prelude.{◌≡◌, map};
 ghost use Rattle.spec_sorts.specs.Terms.{sort_of, all_same, same_sort, same_sorts};
-ghost use Rattle.term_table.specs.Symbols.{HasSortIn, HaveSortsIn, sort_meant, sorts_meant};
-ghost use Rattle.term_table.specs.Tables.{term_at, IsIn, AreIn, clause_at};
+ghost use Rattle.term_core.specs.Symbols.{HasSortIn, HaveSortsIn, sort_meant, sorts_meant};
+ghost use Rattle.term_core.specs.Tables.{term_at, IsIn, AreIn, clause_at};
 
-use term_table::{Sort, TermId, TermTable};
+use term_core::{Sort, TermId, TermTable};
 
 fn are_one(table: &TermTable, a: Sort, b: Sort) -> bool
     requires first { HasSortIn table.now.sorts a }

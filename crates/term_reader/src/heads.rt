@@ -5,8 +5,8 @@ ghost use Rattle.spec_sorts.specs.Terms.{sort_of};
 ghost use Rattle.spec_sorts.specs.Lists.{neighbours, all_pairs};
 ghost use Rattle.spec_sorts.specs.Theory.{alike, choice, sorts_fit, count_of, each_passes, is_constant, is_divisor, is_zero_divisor, product_fault, quotient_fault, conjunction, differences};
 ghost use Rattle.spec_reading.specs.Reading.{by_rule};
-ghost use Rattle.term_table.specs.Tables.{AreIn, clause_at};
-ghost use Rattle.term_table.specs.TheoryHeads.{rule_of};
+ghost use Rattle.term_core.specs.Tables.{AreIn, clause_at};
+ghost use Rattle.term_core.specs.TheoryHeads.{rule_of};
 ghost use Rattle.term_reader.specs.Building.{Builds, link_term};
 ghost use Rattle.term_reader.specs.Heads.{takes_meant, IsTaken, AreAlike, Answers, AreNumbers};
 ghost use Rattle.term_reader.specs.declared.building.Link.TheVariants.{Unequal as unequal_link};
@@ -17,7 +17,7 @@ use crate::comparing::{all_have, are_alike};
 use crate::faults::{ReadError, fault_at};
 use spec_text::Fault;
 use std::alloc::Global;
-use term_table::{Head, Sort, TermId, TermTable, TheoryHead};
+use term_core::{Head, Sort, TermId, TermTable, TheoryHead};
 use world_io::NoMemory;
 
 /// How many arguments of `distinct` have at most 2^26 pairs.
@@ -36,7 +36,7 @@ enum Takes {
     Choice,
 }
 
-#[tactic(auto, unfolding(term_table::specs::TheoryHeads::rule_of))]
+#[tactic(auto, unfolding(term_core::specs::TheoryHeads::rule_of))]
 fn takes_of(head: TheoryHead) -> Takes
     ensures { takes_meant result ≡ (rule_of head).takes }
 {
@@ -170,7 +170,7 @@ fn quotient_fault(table: &TermTable, ids: &[TermId]) -> Option<Fault>
     None
 }
 
-#[tactic(auto, unfolding(term_table::specs::TheoryHeads::rule_of))]
+#[tactic(auto, unfolding(term_core::specs::TheoryHeads::rule_of))]
 fn fault_of(table: &TermTable, head: TheoryHead, ids: &[TermId]) -> Option<Fault>
     requires { AreIn table.now ids.now }
     ensures { result ≡ (rule_of head).fault (clause_at table.now ids.now) }
@@ -229,7 +229,7 @@ fn put_differences(alloc: Global, table: &mut TermTable, ids: &[TermId]) -> Resu
 }
 
 // The term of a head of theory Core or Reals before arguments that it takes.
-#[tactic(auto, unfolding(term_table::specs::TheoryHeads::rule_of))]
+#[tactic(auto, unfolding(term_core::specs::TheoryHeads::rule_of))]
 fn build(
     alloc: Global,
     table: &mut TermTable,

@@ -1,7 +1,7 @@
 //! Reads the parts of sorts and terms of the whole language into the table of terms, or says their first fault.
 //!
 //! What a list is says its shape alone (`Form`). What names stand for says a `Scope`, by hash. Nothing here recurses: a
-//! loop goes along the items of a list. The program does not use it yet.
+//! loop goes along the items of a list.
 #![tactic(auto)]
 
 mod attributes;

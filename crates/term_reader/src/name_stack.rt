@@ -6,7 +6,7 @@ ghost use Rattle.term_reader.specs.NameStacks.{IsLatest, Meets};
 
 use std::alloc::Global;
 use std::marker::Model;
-use term_table::NameTable;
+use term_core::NameTable;
 use world_io::NoMemory;
 
 /// Holds one name of a stack: its number among all names that were met, and where it stood last before.

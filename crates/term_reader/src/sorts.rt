@@ -3,7 +3,7 @@
 ghost use Rattle.spec_reading.specs.Sorts.{sort_in, atom_sort, sort_named};
 ghost use Rattle.spec_sorts.specs.Signatures.{Signature};
 ghost use Rattle.smt_sexpr.specs.Items.{tree_meant};
-ghost use Rattle.term_table.specs.Tables.{TableView};
+ghost use Rattle.term_core.specs.Tables.{TableView};
 ghost use Rattle.term_reader.specs.Scopes.{Stands};
 ghost use Rattle.term_reader.specs.Sorts.{IsSortOf};
 
@@ -11,7 +11,7 @@ use crate::faults::{TermFault, fault_at};
 use crate::scope::Scope;
 use smt_sexpr::{Kind, Trees, View, look, same_bytes};
 use spec_text::Fault;
-use term_table::Sort;
+use term_core::Sort;
 
 fn sort_named(scope: &Scope, at: u64, name: &[u8]) -> Result<Sort, TermFault>
     ensures { (t : TableView) (s : Signature) → Stands t scope.now s → IsSortOf t (sort_named s at name.now) result }

@@ -4,8 +4,8 @@ ghost use Rattle.std.specs.Prelude.{◌≡◌, List, [], length};
 ghost use Rattle.spec_sorts.specs.Terms.{Term};
 ghost use Rattle.spec_sorts.specs.Signatures.{declared};
 ghost use Rattle.spec_reading.specs.Reading.{by_known, with_sorts};
-ghost use Rattle.term_table.specs.Symbols.{symbol_at, IsSymbol};
-ghost use Rattle.term_table.specs.Tables.{TableView, term_at, IsIn, AreIn, clause_at};
+ghost use Rattle.term_core.specs.Symbols.{symbol_at, IsSymbol};
+ghost use Rattle.term_core.specs.Tables.{TableView, term_at, IsIn, AreIn, clause_at};
 ghost use Rattle.term_reader.specs.Heads.{Answers, EndsReading};
 
 use crate::building::put;
@@ -13,7 +13,7 @@ use crate::comparing::have_sorts;
 use crate::faults::{ReadError, fault_at};
 use spec_text::Fault;
 use std::alloc::Global;
-use term_table::{Head, SymbolId, TermId, TermTable};
+use term_core::{Head, SymbolId, TermId, TermTable};
 
 /// Puts the term of a declared symbol before arguments, where the whole stands at an offset.
 ///

@@ -7,12 +7,12 @@ use Rattle.std.proofs.Math.Seq.{take-append_seam}
 use Rattle.spec_sorts.specs.Terms.{Parameter, Term, Terms, app, nil, cons, no_term, of, terms_of, sort_given, sort_of, second_sort, filled, filled_all}
 use Rattle.spec_sorts.specs.WellSorted.{AllHeads, AllHeadsIn}
 use Rattle.spec_sorts.specs.Subsets.{arguments_of}
-use Rattle.term_table.specs.declared.ids.TermId.{TermId}
-use Rattle.term_table.specs.declared.sorts.Sort.{Sort as TableSort}
-use Rattle.term_table.specs.declared.nodes.Head.TheVariants as heads
-use Rattle.term_table.specs.declared.nodes.Node.{Node}
-use Rattle.term_table.specs.Tables.{TableView, declared_in, IsIn, AreIn, term_at, clause_at, takes, head_meant, HasHead, node_term, IsPlaced, Extends}
-use Rattle.term_table.proofs.TermsExtend.{IsIn-kept, term_at-kept}
+use Rattle.term_core.specs.declared.ids.TermId.{TermId}
+use Rattle.term_core.specs.declared.sorts.Sort.{Sort as TableSort}
+use Rattle.term_core.specs.declared.nodes.Head.TheVariants as heads
+use Rattle.term_core.specs.declared.nodes.Node.{Node}
+use Rattle.term_core.specs.Tables.{TableView, declared_in, IsIn, AreIn, term_at, clause_at, takes, head_meant, HasHead, node_term, IsPlaced, Extends}
+use Rattle.term_core.proofs.TermsExtend.{IsIn-kept, term_at-kept}
 use Rattle.term_walks.specs.Filling.{Fills, FillsAll}
 use Rattle.term_walks.specs.FilledTerms.{IsFilled, AreFilled, refilled, IsParameter, IsNoParameter}
 use Rattle.term_walks.specs.Orders.{number_term, IsReady}

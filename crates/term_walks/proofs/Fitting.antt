@@ -7,10 +7,10 @@ use Rattle.spec_numbers.specs.Bounds.{Overflow}
 use Rattle.spec_text.specs.Bytes.{Name}
 use Rattle.spec_sorts.specs.Values.{Value, Table, Interpretation, same_value, same_values, first_fit, table_value}
 use Rattle.spec_sorts.specs.BoundedValues.{bounded_head}
-use Rattle.term_table.specs.declared.nodes.Head.{Head as NodeHead}
-use Rattle.term_table.specs.declared.ids.SymbolId.{SymbolId}
-use Rattle.term_table.specs.Symbols.{symbol_at, IsSymbol}
-use Rattle.term_table.specs.Tables.{TableView, head_meant}
+use Rattle.term_core.specs.declared.nodes.Head.{Head as NodeHead}
+use Rattle.term_core.specs.declared.ids.SymbolId.{SymbolId}
+use Rattle.term_core.specs.Symbols.{symbol_at, IsSymbol}
+use Rattle.term_core.specs.Tables.{TableView, head_meant}
 use Rattle.term_walks.specs.declared.values.Value.{Value as CodeValue}
 use Rattle.term_walks.specs.declared.values.Row.{Row as CodeRow}
 use Rattle.term_walks.specs.declared.values.Table.{Table as CodeTable}

@@ -5,7 +5,7 @@ use Rattle.std.specs.Cmp.{ranks}
 use Rattle.std.specs.BTreeMap.Range.{IsLtBy}
 use Rattle.spec_sorts.specs.Terms.{Term}
 use Rattle.spec_sorts.specs.Subsets.{arguments_of}
-use Rattle.term_table.specs.Tables.{TableView}
+use Rattle.term_core.specs.Tables.{TableView}
 use Rattle.term_walks.specs.Filling.{FillsAll}
 use Rattle.term_walks.specs.Orders.{number_term, In, Adds, Ascends, Names, IsOrder}
 use Rattle.term_walks.proofs.Among.{in_first, in_either, in_second, all_in}

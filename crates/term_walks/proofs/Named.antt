@@ -7,8 +7,8 @@ use Rattle.spec_sorts.specs.Terms.{Head, Term, of, terms_of}
 use Rattle.spec_sorts.specs.WellSorted.{AllHeads, AllHeadsIn}
 use Rattle.spec_sorts.specs.Subsets.{arguments_of}
 use Rattle.spec_sorts.proofs.General.{list_of-terms_of}
-use Rattle.term_table.specs.declared.ids.TermId.{TermId}
-use Rattle.term_table.specs.Tables.{TableView, term_at, clause_at}
+use Rattle.term_core.specs.declared.ids.TermId.{TermId}
+use Rattle.term_core.specs.Tables.{TableView, term_at, clause_at}
 use Rattle.term_walks.specs.Filling.{FillsAll, Fills}
 use Rattle.term_walks.specs.Orders.{numbers_of, number_term, In, Names}
 use Rattle.term_walks.proofs.Among.{in_place, at_in, in_all}

@@ -5,11 +5,11 @@ use Rattle.std.proofs.lemmas.List.{append-nil, take_more}
 use Rattle.std.proofs.lemmas.List.Elements.{Contains-append_left, Contains-push, Contains-push_cases, Contains-get_or}
 use Rattle.std.proofs.lemmas.Map.Made.{is_member-Decides}
 use Rattle.indexmap.specs.IndexSet.{insert_key}
-use Rattle.term_table.specs.declared.ids.TermId.{TermId}
-use Rattle.term_table.specs.contracts.ids.TermIdPartialEq.TheImpl.{ghosts}
+use Rattle.term_core.specs.declared.ids.TermId.{TermId}
+use Rattle.term_core.specs.contracts.ids.TermIdPartialEq.TheImpl.{ghosts}
 use Rattle.term_walks.specs.Counting.{no_number, AddsOnce}
-use Rattle.term_table.proofs.NamesApart.{AreApart-push}
-use Rattle.term_table.proofs.NodesSame.{ids_decide}
+use Rattle.term_core.proofs.NamesApart.{AreApart-push}
+use Rattle.term_core.proofs.NodesSame.{ids_decide}
 
 none : (id : TermId) → Contains [] id → ⊥
 none id c = omega (arith, c.1)

@@ -12,8 +12,8 @@ use Rattle.spec_sorts.specs.Terms.{Head, Parameter, Term, of, terms_of, sort_of}
 use Rattle.spec_sorts.specs.Values.{Value, Interpretation}
 use Rattle.spec_sorts.specs.BoundedValues.{bounded_head, bounded_value, bounded_values}
 use Rattle.spec_sorts.specs.Subsets.{arguments_of}
-use Rattle.term_table.specs.declared.ids.TermId.{TermId}
-use Rattle.term_table.specs.Tables.{TableView, AreIn, AreDifferent, term_at, clause_at, takes}
+use Rattle.term_core.specs.declared.ids.TermId.{TermId}
+use Rattle.term_core.specs.Tables.{TableView, AreIn, AreDifferent, term_at, clause_at, takes}
 use Rattle.term_walks.specs.declared.values.Value.{Value as CodeValue}
 use Rattle.term_walks.specs.declared.valuation.Known.{Known}
 use Rattle.term_walks.specs.Valuations.{value_meant, values_meant}

@@ -8,10 +8,10 @@ use Rattle.spec_text.proofs.Members.{to_image, from_image}
 use Rattle.spec_sorts.specs.Terms.{Term}
 use Rattle.spec_sorts.specs.Subterms.{subterms_of}
 use Rattle.spec_sorts.specs.Subsets.{arguments_of, AreAmong, IsClosed, AreOnce}
-use Rattle.term_table.specs.declared.ids.TermId.{TermId}
-use Rattle.term_table.specs.Tables.{TableView, term_at, IsIn, AreIn, clause_at, Shape, shape_term, Fits, AreDifferent}
+use Rattle.term_core.specs.declared.ids.TermId.{TermId}
+use Rattle.term_core.specs.Tables.{TableView, term_at, IsIn, AreIn, clause_at, Shape, shape_term, Fits, AreDifferent}
 use Rattle.term_walks.specs.Counting.{no_number, AreNumbersOnce, AddsOnce}
-use Rattle.term_table.proofs.TermsClosed.{argument_of, argument_in, term_there}
+use Rattle.term_core.proofs.TermsClosed.{argument_of, argument_in, term_there}
 
 -- The numbers seen: of the terms and some of their subterms, with the arguments of the first of them.
 pub record Counted (t : TableView) (ids seen : List TermId) (done : ℕ) : Type 0 where

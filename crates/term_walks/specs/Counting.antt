@@ -1,7 +1,7 @@
 -- Numbers that are counted.
 use Rattle.std.specs.Prelude.{◌≡◌, ◌⊎◌, ◌++◌, List, Contains}
-use Rattle.term_table.specs.declared.ids.TermId.{TermId}
-use Rattle.term_table.specs.NameLists.{AreApart}
+use Rattle.term_core.specs.declared.ids.TermId.{TermId}
+use Rattle.term_core.specs.NameLists.{AreApart}
 
 -- what no number of numbers means
 abbrev pub no_number : TermId

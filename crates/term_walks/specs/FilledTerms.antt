@@ -1,8 +1,8 @@
 -- Filled terms of a table.
 use Rattle.std.specs.Prelude.{◌≡◌, ℕ, ◌<◌, List, length, get_or, Option, Some, None}
 use Rattle.spec_sorts.specs.Terms.{Parameter, Term, app, filled, filled_all}
-use Rattle.term_table.specs.declared.ids.TermId.{TermId}
-use Rattle.term_table.specs.Tables.{TableView, term_at, IsIn}
+use Rattle.term_core.specs.declared.ids.TermId.{TermId}
+use Rattle.term_core.specs.Tables.{TableView, term_at, IsIn}
 use Rattle.term_walks.specs.Orders.{number_term}
 
 -- the term is the filled term of a number

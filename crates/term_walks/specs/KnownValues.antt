@@ -6,7 +6,7 @@ use Rattle.spec_sorts.specs.Values.{Value, Interpretation}
 use Rattle.spec_sorts.specs.BoundedValues.{bounded_value}
 use Rattle.ratio128.specs.declared.wide.Wide.{Wide}
 use Rattle.ratio128.specs.Meant.{overflow}
-use Rattle.term_table.specs.Tables.{TableView}
+use Rattle.term_core.specs.Tables.{TableView}
 use Rattle.term_walks.specs.declared.values.Value.{Value as CodeValue}
 use Rattle.term_walks.specs.declared.valuation.Known.{Known}
 use Rattle.term_walks.specs.declared.valuation.Known.TheVariants as known

@@ -2,8 +2,8 @@
 use Rattle.std.specs.Prelude.{◌≡◌, ℕ, ◌<◌, ◌⊎◌, List, [], ◌∷◌, map, length, get_or, slice_index_or, All, Contains}
 use Rattle.spec_sorts.specs.Terms.{Term, no_term}
 use Rattle.spec_sorts.specs.Subsets.{arguments_of}
-use Rattle.term_table.specs.declared.ids.TermId.{TermId}
-use Rattle.term_table.specs.Tables.{TableView}
+use Rattle.term_core.specs.declared.ids.TermId.{TermId}
+use Rattle.term_core.specs.Tables.{TableView}
 use Rattle.term_walks.specs.Filling.{FillsAll}
 
 -- numbers of the code, in order

@@ -5,12 +5,12 @@ use Rattle.spec_numbers.specs.Bounds.{Overflow}
 use Rattle.spec_sorts.specs.Values.{Value, truth, number, element, Row, Table, Interpretation}
 use Rattle.ratio128.specs.declared.wide.Wide.{Wide}
 use Rattle.ratio128.specs.Meant.{fraction, overflow}
-use Rattle.term_table.specs.declared.ids.SymbolId.{SymbolId}
-use Rattle.term_table.specs.declared.nodes.Head.{Head}
-use Rattle.term_table.specs.declared.nodes.Head.TheVariants as heads
-use Rattle.term_table.specs.NameLists.{HaveNoTwice}
-use Rattle.term_table.specs.Symbols.{sort_name, IsSort, symbol_at, IsSymbol}
-use Rattle.term_table.specs.Tables.{TableView}
+use Rattle.term_core.specs.declared.ids.SymbolId.{SymbolId}
+use Rattle.term_core.specs.declared.nodes.Head.{Head}
+use Rattle.term_core.specs.declared.nodes.Head.TheVariants as heads
+use Rattle.term_core.specs.NameLists.{HaveNoTwice}
+use Rattle.term_core.specs.Symbols.{sort_name, IsSort, symbol_at, IsSymbol}
+use Rattle.term_core.specs.Tables.{TableView}
 use Rattle.term_walks.specs.declared.values.Value.{Value as CodeValue}
 use Rattle.term_walks.specs.declared.values.Value.TheVariants as values
 use Rattle.term_walks.specs.declared.values.Row.{Row as CodeRow}

@@ -2,13 +2,13 @@
 
 ghost use Rattle.std.specs.Prelude.{◌≡◌, [], length, nat_le, IfOk, OnOk};
 ghost use Rattle.spec_sorts.specs.Subterms.{subterms_of};
-ghost use Rattle.term_table.specs.Tables.{AreIn, clause_at};
+ghost use Rattle.term_core.specs.Tables.{AreIn, clause_at};
 ghost use Rattle.term_walks.specs.Counting.{AddsOnce};
 
 use indexmap::IndexSet;
 use spec_sorts::subterms::{subterms_are_counted, subterms_are_least};
 use std::alloc::Global;
-use term_table::{TermId, TermTable};
+use term_core::{TermId, TermTable};
 use world_io::NoMemory;
 
 /// Tells whether terms have no more than `room` different subterms, all together.

@@ -8,8 +8,8 @@ ghost use Rattle.spec_sorts.specs.Values.{truth, Interpretation, all_true, any_t
 ghost use Rattle.spec_sorts.specs.TermValues.{less, head_value};
 ghost use Rattle.spec_sorts.specs.BoundedValues.{folded, bounded_head};
 ghost use Rattle.ratio128.specs.Meant.{fraction, outcome};
-ghost use Rattle.term_table.specs.NameLists.{HaveNoTwice};
-ghost use Rattle.term_table.specs.Tables.{TableView, head_meant, HasHead};
+ghost use Rattle.term_core.specs.NameLists.{HaveNoTwice};
+ghost use Rattle.term_core.specs.Tables.{TableView, head_meant, HasHead};
 ghost use Rattle.term_walks.specs.Valuations.{value_meant, values_meant, answer_meant, IsNamed, AreNamed, HasTable, HasTables, Tells};
 ghost use Rattle.term_walks.specs.Operations.{operated};
 
@@ -17,7 +17,7 @@ use crate::numbers::{one, zero};
 use crate::values::{Interp, Value};
 use ratio128::{Op, Ratio, Wide};
 use std::cmp::Ordering;
-use term_table::Head;
+use term_core::Head;
 
 /// Tells whether each value is true.
 fn all_true(values: &[Value]) -> bool

@@ -1,5 +1,4 @@
 //! Walks over the terms of a table: their values, what fills their parameters, and how many subterms they have.
-//! The program does not use it yet.
 #![tactic(auto)]
 
 mod count;

@@ -1,12 +1,12 @@
 //! The numbers of a term and all its subterms, in order.
 
 ghost use Rattle.std.specs.Prelude.{◌≡◌, ◌<◌, ℕ, List, length, get_or, IfOk, OnOk};
-ghost use Rattle.term_table.specs.Tables.{IsIn};
+ghost use Rattle.term_core.specs.Tables.{IsIn};
 ghost use Rattle.term_walks.specs.Orders.{numbers_of, In, Ascends, Adds, Names, IsOrder, StandsBefore};
 
 use std::alloc::Global;
 use std::collections::BTreeSet;
-use term_table::{TermId, TermTable};
+use term_core::{TermId, TermTable};
 use world_io::NoMemory;
 
 /// Lists a term and all its subterms, each once, arguments before their users.

@@ -2,14 +2,14 @@
 
 ghost use Rattle.std.specs.Prelude.{◌≡◌, ◌<◌, List, length, map, All, IfOk, IfSome, OnErr};
 ghost use Rattle.spec_sorts.specs.Terms.{Term, filled};
-ghost use Rattle.term_table.specs.Tables.{TableView, declared_in, term_at, IsIn, AreIn, clause_at, node_term, IsPlaced, Extends};
+ghost use Rattle.term_core.specs.Tables.{TableView, declared_in, term_at, IsIn, AreIn, clause_at, node_term, IsPlaced, Extends};
 ghost use Rattle.term_walks.specs.Filling.{FillsAll};
 ghost use Rattle.term_walks.specs.FilledTerms.{IsFilled, AreFilled, refilled, IsNoParameter, IsParameterOr};
 ghost use Rattle.term_walks.specs.Orders.{Ascends, IsOrder, StandsBefore, IsReady};
 
 use crate::order::{order_of, place_among};
 use std::alloc::Global;
-use term_table::{Head, Node, TermId, TermTable};
+use term_core::{Head, Node, TermId, TermTable};
 use world_io::NoMemory;
 
 /// Puts a term with arguments for its parameters, each by the parameter's number, and says its number.

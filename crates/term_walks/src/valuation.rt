@@ -5,7 +5,7 @@ ghost use Rattle.spec_text.specs.Bytes.{Name};
 ghost use Rattle.spec_sorts.specs.Terms.{terms_of};
 ghost use Rattle.spec_sorts.specs.Values.{Interpretation};
 ghost use Rattle.spec_sorts.specs.BoundedValues.{bounded_head, bounded_value, bounded_values};
-ghost use Rattle.term_table.specs.Tables.{TableView, IsIn, term_at, clause_at, head_meant, HasHead};
+ghost use Rattle.term_core.specs.Tables.{TableView, IsIn, term_at, clause_at, head_meant, HasHead};
 ghost use Rattle.term_walks.specs.Valuations.{values_meant, IsNamed, AreNamed, HasTable, HasTables, Stands, Tells, IsOutcome};
 ghost use Rattle.term_walks.specs.Orders.{number_term, Ascends, IsOrder, StandsBefore, IsReady};
 ghost use Rattle.term_walks.specs.KnownValues.{known_meant, taken_meant, IsKnownNamed, AreKnown};
@@ -15,7 +15,7 @@ use crate::order::{order_of, place_among};
 use crate::values::{Interp, Value, ValueStop};
 use ratio128::Wide;
 use std::alloc::Global;
-use term_table::{Head, TermId, TermTable};
+use term_core::{Head, TermId, TermTable};
 use world_io::NoMemory;
 
 /// Says what is known of a term: its value, or its first operation that leaves the bound on fractions.

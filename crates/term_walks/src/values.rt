@@ -4,13 +4,13 @@ ghost use Rattle.std.specs.Prelude.{◌≡◌, List};
 ghost use Rattle.spec_text.specs.Bytes.{Name};
 ghost use Rattle.spec_sorts.specs.Values.{is_true, number_in, same_value, same_values, first_fit};
 ghost use Rattle.ratio128.specs.Meant.{fraction};
-ghost use Rattle.term_table.specs.NameLists.{HaveNoTwice};
+ghost use Rattle.term_core.specs.NameLists.{HaveNoTwice};
 ghost use Rattle.term_walks.specs.Valuations.{value_meant, values_meant, table_meant, IsNamed, AreNamed, AreRowsNamed};
 
 use crate::numbers::zero;
 use ratio128::{Ratio, Wide};
 use std::alloc::{AllocError, AllocFailed};
-use term_table::SortId;
+use term_core::SortId;
 use world_io::NoMemory;
 
 /// Is what a term means.

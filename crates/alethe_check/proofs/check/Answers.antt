@@ -1,5 +1,5 @@
-use Rattle.spec_scripts.specs.Stack.{HasNoModel, term_limit}
-use Rattle.spec_proofs.specs.Accepted.{IsAccepted}
+use Rattle.spec_commands.specs.Checks.{HasNoModel, term_limit}
+use Rattle.spec_checking.specs.Accepted.{IsAccepted}
 use Rattle.alethe_check.proofs.Answering.{accepted_gives}
 use Rattle.alethe_check.proofs.check.Goals as goal
 

@@ -1,5 +1,5 @@
 use Rattle.std.proofs.Common.{◌≡◌, drop}
-use Rattle.alethe_check.specs.Holding.{some_empty}
+use Rattle.alethe_check.specs.Judging.{some_empty}
 use Rattle.alethe_check.proofs.judge.any_empty.Given as goal
 
 abbrev pub invariant-loop-clause : goal.invariant-loop-clause

@@ -1,7 +1,7 @@
 -- The clauses up to here.
 use Rattle.std.proofs.Common.{◌≡◌, All, map, take}
 use Rattle.term_core.specs.Tables.{AreIn, clause_at}
-use Rattle.alethe_check.specs.Holding.{clauses_numbered}
+use Rattle.alethe_reader.specs.Holding.{clauses_numbered}
 use Rattle.alethe_check.proofs.premises.clauses_of.Given as goal
 
 abbrev pub invariant-loop-number : goal.invariant-loop-number

@@ -1,6 +1,6 @@
 -- A term has the number of its place.
 use Rattle.std.proofs.Common.{Option, ℕ, sym, ap, ◌∙◌}
-use Rattle.spec_printing.specs.Plans.{argument_by}
+use Rattle.spec_proof_texts.specs.Plans.{argument_by}
 use Rattle.term_core.specs.Tables.{term_at}
 use Rattle.world_io.proofs.Sending.{sends_same}
 use Rattle.alethe_writer.specs.Printing.{spaced}

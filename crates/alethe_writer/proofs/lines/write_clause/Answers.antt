@@ -1,17 +1,17 @@
 -- The line of an assume, or of a step.
 use Rattle.std.proofs.Common.{subst, sym}
-use Rattle.std.proofs.lemmas.List.Elements.{All-get_or}
 use Rattle.term_core.specs.Tables.{AreIn}
-use Rattle.proof_log.specs.Logs.{named, no_logged, logged_at}
+use Rattle.proof_log.specs.Logs.{named, logged_at}
 use Rattle.world_io.proofs.Sending.{sends_same}
 use Rattle.alethe_writer.specs.Printing.{name_by, refer_by}
+use Rattle.alethe_writer.proofs.Logging.{entry_there}
 use Rattle.alethe_writer.proofs.Wholes.{assume_whole, step_whole}
 use Rattle.alethe_writer.proofs.lines.write_clause.Goals as goal
 
 pub write_step-requires : goal.write_step-requires
 write_step-requires g c =
     let t = c.args.table.now in
-    record { there = subst (λ l. AreIn t (named l)) c.in-Some.ensures (All-get_or (λ l. AreIn t (named l)) c.args.log.now c.args.id.0 no_logged c.requires.there c.requires.log.there) }
+    record { there = subst (λ l. AreIn t (named l)) c.in-Some.ensures (entry_there t c.args.log.now c.args.id.0 c.requires.there c.requires.log) }
 
 pub returns-in-None : goal.returns-in-None
 returns-in-None g c =
@@ -25,5 +25,5 @@ returns-in-Some g c =
     let t = c.args.table.now in
     let s = c.in-Some.step.now in
     let plan = c.args.plan.now in
-    let whole = step_whole t c.args.log.now (name_by t plan) plan.inferences c.args.number (logged_at c.args.log.now c.args.id) s.rule s.premises s.clause c.in-Some.ensures in
+    let whole = step_whole t c.args.log.now (name_by t plan) plan.inferences c.args.number (logged_at c.args.log.now c.args.id) s.rule s.premises s.arguments s.clause c.in-Some.ensures in
     sends_same _ _ c.write_step.result _ _ (sym whole) c.write_step.ensures

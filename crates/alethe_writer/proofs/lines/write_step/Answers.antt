@@ -37,6 +37,16 @@ returns-in_err-write_premises g c =
     let s4 = next s3 c.in_ok-write_rule.ensures in
     fails _ s4 (rw c.as_slice-2.ensures at c.in_err-write_premises.ensures) c.from_residual-in_err-write_premises.ensures.0
 
+pub returns-in_err-write_given : goal.returns-in_err-write_given
+returns-in_err-write_given g c =
+    let s0 = step_start c.args.table.now c.args.log.now c.args.plan.now c.args.step.now c.args.number _ in
+    let s1 = next s0 c.in_ok-write_number.ensures in
+    let s2 = next s1 c.in_ok-write_all.ensures in
+    let s3 = next s2 (rw c.as_slice.ensures at c.in_ok-write_arguments.ensures) in
+    let s4 = next s3 c.in_ok-write_rule.ensures in
+    let s5 = next s4 (rw c.as_slice-2.ensures at c.in_ok-write_premises.ensures) in
+    fails _ s5 (rw c.as_slice-3.ensures at c.in_err-write_given.ensures) c.from_residual-in_err-write_given.ensures.0
+
 pub returns : goal.returns
 returns g c =
     let s0 = step_start c.args.table.now c.args.log.now c.args.plan.now c.args.step.now c.args.number _ in
@@ -45,4 +55,5 @@ returns g c =
     let s3 = next s2 (rw c.as_slice.ensures at c.in_ok-write_arguments.ensures) in
     let s4 = next s3 c.in_ok-write_rule.ensures in
     let s5 = next s4 (rw c.as_slice-2.ensures at c.in_ok-write_premises.ensures) in
-    last _ _ s5 c.write_all-2.ensures
+    let s6 = next s5 (rw c.as_slice-3.ensures at c.in_ok-write_given.ensures) in
+    last _ _ s6 c.write_all-2.ensures

@@ -1,6 +1,6 @@
 -- The marks are handed back as they were made.
 use Rattle.std.proofs.Common.{sym, ◌∙◌, subst}
-use Rattle.spec_printing.specs.Plans.{ArePrinted}
+use Rattle.spec_proof_texts.specs.Plans.{ArePrinted}
 use Rattle.proof_log.specs.Logs.{derivation_in}
 use Rattle.alethe_writer.proofs.Closing.{written_back}
 use Rattle.alethe_writer.proofs.marks.printed_of.Goals as goal

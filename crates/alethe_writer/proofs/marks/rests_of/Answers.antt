@@ -1,6 +1,6 @@
 -- The marks are handed back as they were made.
 use Rattle.std.proofs.Common.{sym, subst, arith}
-use Rattle.spec_printing.specs.Plans.{AreRests}
+use Rattle.spec_proof_texts.specs.Plans.{AreRests}
 use Rattle.proof_log.specs.Logs.{derivation_in}
 use Rattle.alethe_writer.proofs.Closing.{written_back}
 use Rattle.alethe_writer.proofs.marks.rests_of.Goals as goal

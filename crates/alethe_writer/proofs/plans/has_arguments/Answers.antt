@@ -1,6 +1,6 @@
 -- A node has arguments where its term has.
 use Rattle.std.proofs.Common.{not, sym, ap, ◌∙◌}
-use Rattle.spec_printing.specs.Plans.{is_compound}
+use Rattle.spec_proof_texts.specs.Plans.{is_compound}
 use Rattle.term_core.specs.Tables.{shape_of}
 use Rattle.alethe_writer.proofs.TermNumbers.{compound_shape}
 use Rattle.alethe_writer.proofs.plans.has_arguments.Goals as goal

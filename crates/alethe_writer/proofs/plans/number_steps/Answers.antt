@@ -1,6 +1,6 @@
 -- One number more.
 use Rattle.std.proofs.Common.{◌+◌, ◌++◌, drop, ap, ◌∙◌, arith}
-use Rattle.spec_printing.specs.Plans.{counted_inferences}
+use Rattle.spec_proof_texts.specs.Plans.{counted_inferences}
 use Rattle.proof_log.specs.Logs.{derivation_in, logged_at}
 use Rattle.alethe_writer.proofs.Counted.{inferences_on, inferences_done, nexts_below}
 use Rattle.alethe_writer.proofs.plans.number_steps.Goals as goal

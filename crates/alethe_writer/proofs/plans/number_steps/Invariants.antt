@@ -1,6 +1,6 @@
 -- The numbers up to here, and those to come.
 use Rattle.std.proofs.Common.{◌≡◌, ◌+◌, ◌≤◌, ◌++◌, drop}
-use Rattle.spec_printing.specs.Plans.{counted_inferences}
+use Rattle.spec_proof_texts.specs.Plans.{counted_inferences}
 use Rattle.term_core.specs.Tables.{TableView}
 use Rattle.proof_log.specs.Logs.{derivation_in}
 use Rattle.alethe_writer.proofs.plans.number_steps.Given as goal

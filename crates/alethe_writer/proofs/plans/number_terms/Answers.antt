@@ -1,7 +1,7 @@
 -- One number more.
 use Rattle.std.proofs.Common.{◌≡◌, ◌+◌, ◌++◌, length, drop, sym, ap, ◌∙◌, arith}
-use Rattle.spec_printing.specs.Plans.{counted, compounds}
-use Rattle.spec_printing.proofs.Numbers.{compounds_length}
+use Rattle.spec_proof_texts.specs.Plans.{counted, compounds}
+use Rattle.spec_proof_texts.proofs.Numbers.{compounds_length}
 use Rattle.alethe_writer.proofs.Counted.{counted_on, counted_done, next_below}
 use Rattle.alethe_writer.proofs.plans.number_terms.Goals as goal
 

@@ -1,6 +1,6 @@
 -- The numbers up to here, and those to come.
 use Rattle.std.proofs.Common.{◌≡◌, ◌+◌, ◌≤◌, ◌++◌, drop}
-use Rattle.spec_printing.specs.Plans.{counted, compounds}
+use Rattle.spec_proof_texts.specs.Plans.{counted, compounds}
 use Rattle.alethe_writer.proofs.plans.number_terms.Given as goal
 
 abbrev pub invariant-terms : goal.invariant-terms

@@ -1,8 +1,8 @@
 -- The plan has the numbers of what is marked.
 use Rattle.std.proofs.Common.{◌≡◌, List, Bool, length, subst, ap, ◌∙◌, sym, refl, arith}
 use Rattle.std.proofs.lemmas.List.{length-map}
-use Rattle.spec_printing.specs.Plans.{AreRests, counted, compounds, counted_inferences}
-use Rattle.spec_printing.proofs.Numbers.{counted_length, compounds_length}
+use Rattle.spec_proof_texts.specs.Plans.{AreRests, counted, compounds, counted_inferences}
+use Rattle.spec_proof_texts.proofs.Numbers.{counted_length, compounds_length}
 use Rattle.proof_log.specs.Logs.{derivation_in}
 use Rattle.alethe_writer.proofs.Counted.{inferences_length}
 use Rattle.alethe_writer.proofs.plans.prepare.Goals as goal

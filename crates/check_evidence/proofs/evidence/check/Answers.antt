@@ -2,11 +2,11 @@
 use Rattle.std.proofs.Common.{sym, ap, ◌∙◌, subst}
 use Rattle.spec_derivations.specs.Examples.{asserting}
 use Rattle.spec_derivations.specs.Models.{AreInReach}
-use Rattle.term_table.specs.Tables.{clause_at}
-use Rattle.step_log.specs.Logs.{AreFormulasIn}
-use Rattle.script_stack.specs.Stacks.{standing}
-use Rattle.script_stack.proofs.Back.{table_back}
-use Rattle.search_loop.specs.Decisions.{IsJustified}
+use Rattle.term_core.specs.Tables.{clause_at}
+use Rattle.proof_log.specs.Logs.{AreFormulasIn}
+use Rattle.assertion_stack.specs.Stacks.{standing}
+use Rattle.assertion_stack.proofs.Back.{table_back}
+use Rattle.solve_core.specs.Decisions.{IsJustified}
 use Rattle.check_evidence.specs.Evidence.{limits_meant, IsHeld}
 use Rattle.check_evidence.proofs.Asking.{formulas_asked, reached_asked}
 use Rattle.check_evidence.proofs.evidence.check.Goals as goal

@@ -9,9 +9,9 @@ use Rattle.spec_proof_texts.specs.Lines.{proof_text}
 use Rattle.spec_proof_texts.specs.Plans.{lines_of, IsPrinted}
 use Rattle.spec_sessions.specs.Evidence.{proof}
 use Rattle.spec_sessions.specs.Refutations.{IsProofOf}
-use Rattle.term_table.specs.Tables.{literal_at}
-use Rattle.step_log.specs.Logs.{inference_of, derivation_in}
-use Rattle.search_loop.specs.Rounds.{added_by, HasSteps, HasEvidence}
+use Rattle.term_core.specs.Tables.{literal_at}
+use Rattle.proof_log.specs.Logs.{inference_of, derivation_in}
+use Rattle.solve_core.specs.Rounds.{added_by, HasSteps, HasEvidence}
 use Rattle.check_evidence.specs.Evidence.{check_on}
 use Rattle.check_evidence.proofs.Reached.{IsReached, asserted_reached, head_reached, printed_reached}
 use Rattle.check_evidence.proofs.Showing.{model_shown, any_reason_shown}

@@ -3,7 +3,7 @@ use Rattle.std.proofs.Common.{◌<◌, List, All, arith, subst}
 use Rattle.std.proofs.lemmas.List.{take_all}
 use Rattle.std.proofs.lemmas.List.Elements.{All-more}
 use Rattle.term_core.specs.declared.ids.TermId.{TermId}
-use Rattle.term_core.specs.Counting.{no_number}
+use Rattle.clausify.proofs.Arguments.{no_number}
 use Rattle.clausify.proofs.marks.bound_of.Goals as goal
 
 pub ids-preserved : goal.ids-preserved

@@ -1,10 +1,9 @@
 -- The arguments of one term more are marked, or it is not marked itself.
-use Rattle.std.proofs.Common.{◌≡◌, ℕ, suc, ◌-◌, List, subst, sym, ◌∙◌, arith}
+use Rattle.std.proofs.Common.{◌≡◌, suc, ◌-◌, List, subst, sym, ◌∙◌, arith}
 use Rattle.std.proofs.lemmas.Bool.{false≢true}
 use Rattle.term_core.specs.declared.ids.TermId.{TermId}
-use Rattle.term_core.specs.Tables.{term_at, clause_at, shape_of}
+use Rattle.term_core.specs.Tables.{clause_at, shape_of}
 use Rattle.clausify.specs.Marks.{Marks}
-use Rattle.clausify.proofs.Formulas.{head_formula}
 use Rattle.clausify.proofs.Marking.{IsMarkedFrom, marks_start, marks_more, marks_skip, marks_end}
 use Rattle.clausify.proofs.marks.mark_subterms.Goals as goal
 
@@ -22,12 +21,11 @@ terms-preserved-then-marks-number c =
     let roots = c.args.roots.now in
     let n = c.terms.number - 1 in
     let s = shape_of c.node.result.now in
-    let number : ℕ → TermId = λ k. record { 0 = k } in
     let next : c.terms.number ≡ suc n = omega (arith, c.terms-test.true) in
     let before : IsMarkedFrom t roots (suc n) c.terms.marks = subst (λ k. IsMarkedFrom t roots k c.terms.marks) next c.terms.invariant.so_far in
     let marks : Marks c.terms.marks s.arguments c.mark_each-then-marks-number.new.marks = subst (λ (ids : List TermId). Marks c.terms.marks ids c.mark_each-then-marks-number.new.marks) c.as_slice.ensures c.mark_each-then-marks-number.ensures in
     record {
-      so_far = marks_more t roots (c.subterms_are_least.ensures.there (clause_at t roots)) (c.subterms_are_least.ensures.closed (clause_at t roots)) n c.terms.marks c.mark_each-then-marks-number.new.marks s before c.if-marks-number.true c.node.ensures.means (head_formula t s (term_at t (number n)) c.node.ensures.means c.node.ensures.placed c.all_terms_are_bool.ensures) c.node.ensures.before marks;
+      so_far = marks_more t roots (c.subterms_are_least.ensures.there (clause_at t roots)) (c.subterms_are_least.ensures.closed (clause_at t roots)) n c.terms.marks c.mark_each-then-marks-number.new.marks s before c.if-marks-number.true c.node.ensures.means c.node.ensures.before marks;
     }
 
 pub terms-preserved : goal.terms-preserved

@@ -1,8 +1,8 @@
 -- The clauses of the marked terms up to here are stated.
 use Rattle.std.proofs.Common.{[], take}
 use Rattle.std.specs.Prelude.{flat_map}
-use Rattle.spec_search.specs.Base.{clauses_of}
-use Rattle.clausify.specs.Clausified.{Grows}
+use Rattle.spec_derivations.specs.Base.{clauses_of}
+use Rattle.clausify.specs.HavingClauses.{Grows}
 use Rattle.clausify.specs.Stating.{listed, Tells}
 use Rattle.clausify.specs.Marks.{marked}
 use Rattle.clausify.proofs.roots.state_marked.Given as goal

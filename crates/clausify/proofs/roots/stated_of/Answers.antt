@@ -1,9 +1,13 @@
 -- The terms are assumed, and the clauses of the marked ones stated.
-use Rattle.std.proofs.Common.{◌++◌, List, [], Bool, sym, subst}
-use Rattle.term_core.specs.Tables.{clause_at}
+use Rattle.std.proofs.Common.{◌++◌, List, [], Bool, All, sym, subst}
+use Rattle.std.proofs.lemmas.List.Elements.{All-map, Contains-get_or}
+use Rattle.spec_sorts.specs.WellSorted.{IsWellSorted}
+use Rattle.spec_derivations.proofs.Below.{subterms_have, argument_sorted}
+use Rattle.term_core.specs.Tables.{term_at, clause_at}
 use Rattle.proof_log.specs.declared.premises.StepId.{StepId}
-use Rattle.clausify.specs.Clausified.{HasClauses, Grows, AreAllMade}
+use Rattle.clausify.specs.HavingClauses.{HasClauses, Grows, AreAllMade}
 use Rattle.clausify.specs.Stating.{Says}
+use Rattle.clausify.specs.Marks.{marked}
 use Rattle.clausify.proofs.Growing.{Grows-self, Grows-trans, Grows-weaker}
 use Rattle.clausify.proofs.Bases.{alone, marked_clauses, has_clauses, Says-none}
 use Rattle.clausify.proofs.Making.{Makes-trans, all_made}
@@ -12,6 +16,19 @@ use Rattle.clausify.proofs.roots.stated_of.Goals.{After-state_marked}
 
 pub returns-in_err-marks-clause-grows : goal.returns-in_err-marks-clause-grows
 returns-in_err-marks-clause-grows c = Grows-self c.args.roots.now c.args.table.now c.args.log.now c.requires.log
+
+pub marks_of-requires : goal.marks_of-requires
+marks_of-requires c k d lt = (c.requires.roots k d lt).0
+
+pub state_marked-requires-clause-sorted : goal.state_marked-requires-clause-sorted
+state_marked-requires-clause-sorted c =
+    let t = c.args.table.now in
+    let roots = c.args.roots.now in
+    let m = c.in_ok-marks.ensures in
+    let each : All (IsWellSorted t.symbols []) (clause_at t roots) = All-map (IsWellSorted t.symbols []) (term_at t) roots (λ k d lt. (c.requires.roots k d lt).1.term) in
+    let all : All (IsWellSorted t.symbols []) (marked c.in_ok-marks.marks.items t.terms) =
+    λ k d lt. subterms_have (IsWellSorted t.symbols []) (argument_sorted t.symbols []) (clause_at t roots) each _ (m.only _ (Contains-get_or (marked c.in_ok-marks.marks.items t.terms) k d lt)) in
+    subst (λ (ms : List Bool). All (IsWellSorted t.symbols []) (marked ms t.terms)) (sym c.deref.ensures.value) all
 
 -- both together
 both_grow : (c : After-state_marked) → Grows c.args.roots.now c.args.table.now c.state_marked.new.table c.args.log.now c.state_marked.new.log

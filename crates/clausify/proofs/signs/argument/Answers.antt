@@ -1,10 +1,9 @@
 -- The node has the arguments.
 use Rattle.std.proofs.Common.{List, length, get_or, ap, ◌∙◌, arith}
-use Rattle.spec_terms.specs.Theory.{no_term}
+use Rattle.spec_sorts.specs.Terms.{no_term}
 use Rattle.term_core.specs.declared.ids.TermId.{TermId}
 use Rattle.term_core.specs.Tables.{term_at, shape_of}
-use Rattle.term_core.specs.Counting.{no_number}
-use Rattle.clausify.proofs.Arguments.{arguments_count, argument_at}
+use Rattle.clausify.proofs.Arguments.{no_number, arguments_count, argument_at}
 use Rattle.clausify.proofs.signs.argument.Goals as goal
 
 pub bounds-as_slice-place : goal.bounds-as_slice-place

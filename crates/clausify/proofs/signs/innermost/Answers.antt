@@ -1,8 +1,8 @@
 -- The arguments are one, and that is a negation, or not.
 use Rattle.std.proofs.Common.{◌≡◌, length, sym, ap, ◌∙◌, arith}
-use Rattle.spec_terms.specs.Terms.{negated}
-use Rattle.spec_terms.specs.Theory.{no_term}
-use Rattle.spec_terms.specs.Subsets.{arguments_of}
+use Rattle.spec_sorts.specs.Terms.{negated}
+use Rattle.spec_sorts.specs.Terms.{no_term}
+use Rattle.spec_sorts.specs.Subsets.{arguments_of}
 use Rattle.term_core.specs.Tables.{term_at, shape_of}
 use Rattle.clausify.proofs.Arguments.{innermost_there, negation_count, negation_of}
 use Rattle.clausify.proofs.signs.innermost.Goals as goal

@@ -1,7 +1,7 @@
 -- The clause has the arguments up to here.
 use Rattle.std.proofs.Common.{◌≡◌, ◌∷◌, map, take}
-use Rattle.spec_terms.specs.Subsets.{arguments_of}
-use Rattle.spec_proofs.specs.Schemes.{signed}
+use Rattle.spec_sorts.specs.Subsets.{arguments_of}
+use Rattle.spec_rules.specs.Schemes.{signed}
 use Rattle.term_core.specs.Tables.{AreIn, term_at, clause_at}
 use Rattle.clausify.specs.Stating.{Widens}
 use Rattle.clausify.proofs.signs.with_each.Given as goal

@@ -1,15 +1,16 @@
 -- One argument after the other has its clause.
 use Rattle.std.proofs.Common.{◌≡◌, ◌+◌, ◌++◌, ◌<◌, List, [], ◌∷◌, length, map, take, get_or, ap, ap₂, arith}
 use Rattle.std.proofs.lemmas.List.{take_all}
-use Rattle.spec_terms.specs.Terms.{Term}
-use Rattle.spec_terms.specs.Literals.{Clause}
-use Rattle.spec_terms.specs.Theory.{no_term}
-use Rattle.spec_terms.specs.Subsets.{arguments_of}
-use Rattle.spec_proofs.specs.Schemes.{signed}
+use Rattle.spec_sorts.specs.Terms.{Term}
+use Rattle.spec_sorts.specs.Literals.{Clause}
+use Rattle.spec_sorts.specs.Terms.{no_term}
+use Rattle.spec_sorts.specs.Subsets.{arguments_of}
+use Rattle.spec_rules.specs.Schemes.{signed}
 use Rattle.term_core.specs.Tables.{term_at}
 use Rattle.term_core.proofs.TermsExtend.{term_at-kept}
 use Rattle.clausify.specs.Stating.{listed, Tells, before}
 use Rattle.clausify.proofs.Growing.{Grows-self, Grows-trans, Tells-none, Tells-trans, Tells-same}
+use Rattle.clausify.proofs.Parts.{ComesBefore-kept}
 use Rattle.clausify.proofs.Stated.{clauses_more, right_same}
 use Rattle.clausify.proofs.statements.state_any.Goals as goal
 
@@ -19,6 +20,11 @@ places-init c = record {
   tells = Tells-none c.args.table.now c.args.log.now c.args.steps.now.items;
 }
 
+pub state_single-requires-clause-there : goal.state_single-requires-clause-there
+state_single-requires-clause-there c =
+    let g = c.places.invariant.grows in
+    ComesBefore-kept c.args.table.now c.places.table (record { terms = g.table; declared = g.declared }) c.args.id c.args.front c.requires.there
+
 pub state_single-requires-clause-right : goal.state_single-requires-clause-right
 state_single-requires-clause-right c =
     let t = c.args.table.now in
@@ -27,8 +33,8 @@ state_single-requires-clause-right c =
     let args = arguments_of (term_at t c.args.id) in
     let lt : c.places.place < length args = omega (arith, c.places-test.true, c.argument_count-count.ensures) in
     right_same c.args.rule (term_at t c.args.front) (term_at now c.args.front) args (arguments_of (term_at now c.args.id)) c.args.positive c.places.place
-    (term_at-kept t now grown c.args.front c.requires.there.1)
-    (ap arguments_of (term_at-kept t now grown c.args.id c.requires.there.0))
+    (term_at-kept t now grown c.args.front c.requires.there.first.0)
+    (ap arguments_of (term_at-kept t now grown c.args.id c.requires.there.there))
     lt c.requires.right
 
 pub returns-in_err-state_single-clause-grows : goal.returns-in_err-state_single-clause-grows
@@ -49,7 +55,7 @@ places-preserved c =
     let told = before front (map f (take k args)) in
     let clause = front ∷ f (get_or args k no_term) in
     let made : Clause = term_at now c.args.front ∷ signed p (get_or (arguments_of (term_at now c.args.id)) k no_term) ∷ [] in
-    let same : made ≡ clause = ap₂ (λ (x u : Term). x ∷ signed p (get_or (arguments_of u) k no_term) ∷ []) (term_at-kept t now h.grows.table c.args.front c.requires.there.1) (term_at-kept t now h.grows.table c.args.id c.requires.there.0) in
+    let same : made ≡ clause = ap₂ (λ (x u : Term). x ∷ signed p (get_or (arguments_of u) k no_term) ∷ []) (term_at-kept t now h.grows.table c.args.front c.requires.there.first.0) (term_at-kept t now h.grows.table c.args.id c.requires.there.there) in
     let one : Tells (listed now c.places.log c.places.steps.items) (listed new c.state_single.new.log c.state_single.new.steps.items) (clause ∷ []) = Tells-same now new c.places.log c.state_single.new.log c.places.steps.items c.state_single.new.steps.items (made ∷ []) (clause ∷ []) (ap (λ (ls : Clause). ls ∷ []) same) c.in_ok-state_single.ensures.tells in
     record {
       grows = Grows-trans [] t now new c.args.log.now c.places.log c.state_single.new.log h.grows c.state_single.ensures.grows;

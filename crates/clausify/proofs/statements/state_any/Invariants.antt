@@ -1,9 +1,9 @@
 -- The clauses of the arguments up to here are stated.
 use Rattle.std.proofs.Common.{[], ◌∷◌, map, take}
-use Rattle.spec_terms.specs.Subsets.{arguments_of}
-use Rattle.spec_proofs.specs.Schemes.{signed}
+use Rattle.spec_sorts.specs.Subsets.{arguments_of}
+use Rattle.spec_rules.specs.Schemes.{signed}
 use Rattle.term_core.specs.Tables.{term_at}
-use Rattle.clausify.specs.Clausified.{Grows}
+use Rattle.clausify.specs.HavingClauses.{Grows}
 use Rattle.clausify.specs.Stating.{listed, Tells, before}
 use Rattle.clausify.proofs.statements.state_any.Given as goal
 

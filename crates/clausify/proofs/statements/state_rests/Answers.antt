@@ -1,8 +1,8 @@
 -- A scheme with one clause.
 use Rattle.std.proofs.Common.{◌∷◌, []}
 use Rattle.std.proofs.lemmas.Result.{on_ok_weaker}
-use Rattle.spec_terms.specs.Subsets.{arguments_of}
-use Rattle.spec_proofs.specs.Schemes.{rests_of}
+use Rattle.spec_sorts.specs.Subsets.{arguments_of}
+use Rattle.spec_rules.specs.Schemes.{rests_of}
 use Rattle.term_core.specs.Tables.{term_at}
 use Rattle.clausify.specs.Stating.{single, before}
 use Rattle.clausify.proofs.Growing.{Tells-same}

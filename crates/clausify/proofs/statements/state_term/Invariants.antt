@@ -1,7 +1,7 @@
 -- The clauses of the rules up to here are stated.
 use Rattle.std.proofs.Common.{[], take}
 use Rattle.term_core.specs.Tables.{term_at}
-use Rattle.clausify.specs.Clausified.{Grows}
+use Rattle.clausify.specs.HavingClauses.{Grows}
 use Rattle.clausify.specs.Stating.{listed, Tells, clauses_in}
 use Rattle.clausify.proofs.statements.state_term.Given as goal
 

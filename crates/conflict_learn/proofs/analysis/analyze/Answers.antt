@@ -1,7 +1,7 @@
 -- That the conflict is followed back from the newest literal to the oldest.
 use Rattle.std.proofs.Common.{◌≡◌, ◌∙◌, ◌+◌, ◌-◌, ℕ, [], ◌∷◌, ◌++◌, Bool, false, List, length, replicate, sym, ap, subst, arith}
 use Rattle.std.proofs.lemmas.List.{length-replicate}
-use Rattle.spec_terms.specs.Literals.{literals_of}
+use Rattle.spec_sorts.specs.Literals.{literals_of}
 use Rattle.term_core.specs.declared.ids.TermId.{TermId}
 use Rattle.term_core.specs.Tables.{clause_at}
 use Rattle.proof_log.specs.declared.premises.StepId.{StepId}

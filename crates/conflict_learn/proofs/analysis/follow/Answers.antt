@@ -1,6 +1,6 @@
 -- That the conflict is followed back over one place.
 use Rattle.std.proofs.Common.{◌≡◌, ◌∙◌, ◌<◌, ℕ, Bool, false, List, length, get_or, Contains, None, Some, sym, ap, subst, arith, true≢false}
-use Rattle.spec_terms.specs.Literals.{literals_of}
+use Rattle.spec_sorts.specs.Literals.{literals_of}
 use Rattle.term_core.specs.declared.ids.TermId.{TermId}
 use Rattle.term_core.specs.declared.ids.Lit.{Lit}
 use Rattle.term_core.specs.Tables.{clause_at, literal_at}

@@ -4,7 +4,7 @@ use Rattle.term_core.specs.declared.ids.Lit.{Lit}
 use Rattle.term_core.specs.Tables.{literal_at, clause_at}
 use Rattle.term_core.proofs.TermsExtend.{Extends-self}
 use Rattle.rule_bool.specs.Literals.{lit_complement}
-use Rattle.rule_bool.specs.Resolvents.{Means}
+use Rattle.rule_bool.specs.Literals.{Means}
 use Rattle.rule_bool.proofs.LiteralLists.{negation_twice}
 use Rattle.conflict_learn.specs.Conflicts.{Conflict}
 use Rattle.conflict_learn.specs.Learned.{HasOneAt}
@@ -36,7 +36,7 @@ terms_of-requires c =
     let oldest = subst (λ (l : Lit). IsOldest v marks n l) (sym (negation_twice c.in-Some.oldest) ∙ ap lit_complement (sym c.negated.ensures)) (subst (λ (ms : List Bool). IsOldest v ms n c.in-Some.oldest) c.deref.ensures.value c.in-Some.ensures) in
     let drawn = subst (λ (ms : List Bool). let s : Source = record { trail = v; marks = ms; level = n; one = c.negated.result } in HasDrawn s 0 c.in_ok-drawn.drawn) c.deref-2.ensures.value c.in_ok-drawn.ensures in
     let bare = clause_bare x c.is_sound.ensures.once c.is_sound.ensures.leveled c.requires.clash c.requires.reasons marks c.in_ok-analysis.analysis.premises.items c.in_ok-analysis.ensures.found
-    n c.conflict_level-level.ensures c.negated.result oldest c.in_ok-drawn.drawn.literals.items c.in_ok-drawn.drawn.level drawn in
+    n c.conflict_level-level.ensures c.negated.result oldest c.in_ok-drawn.drawn.literals.items c.in_ok-drawn.drawn.level drawn c.requires.log in
     subst (λ (ls : List Lit). All (IsBare c.args.table.now) ls) (sym c.deref-3.ensures.value) bare
 
 pub log_step-requires-clause-log : goal.log_step-requires-clause-log
@@ -75,7 +75,7 @@ returns-clause-learned c =
     let oldest = subst (λ (l : Lit). IsOldest v marks n l) (sym (negation_twice c.in-Some.oldest) ∙ ap lit_complement (sym c.negated.ensures)) (subst (λ (ms : List Bool). IsOldest v ms n c.in-Some.oldest) c.deref.ensures.value c.in-Some.ensures) in
     let drawn = subst (λ (ms : List Bool). let s : Source = record { trail = v; marks = ms; level = n; one = c.negated.result } in HasDrawn s 0 c.in_ok-drawn.drawn) c.deref-2.ensures.value c.in_ok-drawn.ensures in
     let s : Source = record { trail = v; marks = marks; level = n; one = c.negated.result } in
-    let bare = clause_bare x once leveled c.requires.clash c.requires.reasons marks premises found n c.conflict_level-level.ensures c.negated.result oldest clause level drawn in
+    let bare = clause_bare x once leveled c.requires.clash c.requires.reasons marks premises found n c.conflict_level-level.ensures c.negated.result oldest clause level drawn c.requires.log in
     let states = subst (λ (ls : List Lit). StateAll u (map (literal_at c.args.table.now) ls) c.in_ok-terms.terms.items) c.deref-3.ensures.value c.in_ok-terms.ensures.states in
     let means = means_kept c.args.table.now u c.terms_of.ensures.grown clause bare c.in_ok-terms.terms.items states in
     let same = sym c.from.ensures in

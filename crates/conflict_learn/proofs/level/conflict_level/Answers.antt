@@ -1,7 +1,7 @@
 -- That the literals up to here have the level, and then all.
 use Rattle.std.proofs.Common.{◌∙◌, [], ◌∷◌, ◌++◌, List, take, Contains, sym, subst}
 use Rattle.std.proofs.lemmas.List.{take_all}
-use Rattle.spec_terms.specs.Literals.{Literal, literals_of}
+use Rattle.spec_sorts.specs.Literals.{Literal, literals_of}
 use Rattle.term_core.specs.declared.ids.TermId.{TermId}
 use Rattle.term_core.specs.Tables.{clause_at, literal_at}
 use Rattle.conflict_learn.specs.Analyses.{IsGreatestOf}

@@ -1,7 +1,7 @@
 -- One variable more is marked.
 use Rattle.std.proofs.Common.{[], ◌∷◌, ◌++◌, true, List, take, set, Contains, sym, subst, arith}
 use Rattle.std.proofs.lemmas.List.{take_all}
-use Rattle.spec_terms.specs.Literals.{Literal, literals_of}
+use Rattle.spec_sorts.specs.Literals.{Literal, literals_of}
 use Rattle.term_core.specs.Tables.{clause_at}
 use Rattle.conflict_learn.specs.Analyses.{Marks}
 use Rattle.conflict_learn.proofs.Meanings.{literals_more, literal_in}

@@ -1,6 +1,6 @@
 -- The literals up to here are marked.
 use Rattle.std.proofs.Common.{take}
-use Rattle.spec_terms.specs.Literals.{literals_of}
+use Rattle.spec_sorts.specs.Literals.{literals_of}
 use Rattle.term_core.specs.Tables.{clause_at}
 use Rattle.conflict_learn.specs.Analyses.{Marks}
 use Rattle.conflict_learn.proofs.marks.mark.Given as goal

@@ -10,4 +10,4 @@ returns-then-branch c =
 pub returns : goal.returns
 returns c =
     let wrong = rw (c.if-branch.false, c.deref.ensures.value, c.deref-2.ensures.value) at c.in_ok-resolves.ensures in
-    λ r. wrong (right_back _ c.ids_are_unique.ensures _ _ _ _ c.in_ok-found.ensures c.in_ok-wanted.ensures r)
+    (λ r. wrong (right_back _ c.ids_are_unique.ensures _ _ _ _ c.in_ok-found.ensures c.in_ok-wanted.ensures r), λ wide. wide)

@@ -1,6 +1,6 @@
 -- The terms up to here are the arguments up to here.
 use Rattle.std.proofs.Common.{◌≡◌, map, take}
-use Rattle.spec_proofs.specs.Schemes.{signed}
+use Rattle.spec_rules.specs.Schemes.{signed}
 use Rattle.term_core.specs.Tables.{clause_at}
 use Rattle.rule_bool.proofs.rests.are_each.Given as goal
 

@@ -1,5 +1,5 @@
 -- The response is passed on.
-use Rattle.spec_runs.specs.Responses.{response_text}
+use Rattle.spec_sessions.specs.Responses.{response_text}
 use Rattle.smt_session.specs.Sessions.{mode_meant}
 use Rattle.smt_session.proofs.Delivering.{delivered}
 use Rattle.smt_session.proofs.responses.send_response.Goals as goal

@@ -1,64 +1,97 @@
 -- By what the command came to.
-use Rattle.std.proofs.Common.{refl, sym, subst}
-use Rattle.spec_scripts.specs.Stack.{done, unsupported, check, leave}
-use Rattle.spec_runs.specs.Responses.{success, not_supported, answered, ended}
-use Rattle.smt_sexpr.specs.Items.{text_of, start_of, tree_of}
-use Rattle.smt_session.specs.Sessions.{limits_meant, IsHeld, IsEvidence}
-use Rattle.smt_session.proofs.Taking.{taken_as, check_keeps, refused_as, refused_keeps}
+use Rattle.std.proofs.Common.{[], refl, sym, ap, ◌∙◌, subst}
+use Rattle.spec_commands.specs.Stack.{done, unsupported, check, say, leave}
+use Rattle.spec_sessions.specs.Responses.{success, not_supported, answered, said, ended}
+use Rattle.smt_sexpr.specs.Items.{tree_of}
+use Rattle.assertion_stack.specs.Stacks.{Standing, standing}
+use Rattle.check_evidence.specs.Evidence.{limits_meant, checked_on, IsHeld, IsEvidence}
+use Rattle.smt_session.proofs.Taking.{kept_on, taken_as, reached, back, refused_as, refused_keeps}
 use Rattle.smt_session.proofs.session.take.Goals as goal
 
 pub returns-in-Ok-Done-clause-takes : goal.returns-in-Ok-Done-clause-takes
 returns-in-Ok-Done-clause-takes c = λ s h.
     let x = c.args.command.now in
     let l = limits_meant c.args.limits.now in
-    let d = rw c.in-Ok-Done.field-0-is at (c.in-Ok-Done.ensures.steps s h.script) in
-    let a = taken_as c.commands_keep_stacks.ensures.next l s (tree_of x) success done d.0 d.1 d.2 h.kept refl in
-    let names = c.commands_keep_names_that_can_be_written.ensures.next l.terms s (text_of x) (start_of x) (tree_of x) _ d.0 x.read.1 d.1 h.names in
-    record { a = record { response = success; stack = d.0.stack }; answers = a.0; is = refl; held = record { script = d.3; kept = a.1; names = names }; learned = tt }
+    let d = rw c.in-Ok-Done.field-0-is at (c.in-Ok-Done.ensures.steps l.terms s h.stack) in
+    let kept = kept_on c.commands_keep_stacks.ensures.next c.commands_leave_script_names.ensures.next l.terms s x d.0 d.1 h.kept in
+    record { a = record { response = success; stack = d.0.stack }; answers = taken_as l s (tree_of x) success done d.0 d.1 d.2 refl; is = refl; asked = tt; held = record { stack = d.3; kept = kept }; learned = tt }
 
 pub returns-in-Ok-Unsupported-clause-takes : goal.returns-in-Ok-Unsupported-clause-takes
 returns-in-Ok-Unsupported-clause-takes c = λ s h.
     let x = c.args.command.now in
     let l = limits_meant c.args.limits.now in
-    let d = rw c.in-Ok-Unsupported.field-0-is at (c.in-Ok-Unsupported.ensures.steps s h.script) in
-    let a = taken_as c.commands_keep_stacks.ensures.next l s (tree_of x) not_supported unsupported d.0 d.1 d.2 h.kept refl in
-    let names = c.commands_keep_names_that_can_be_written.ensures.next l.terms s (text_of x) (start_of x) (tree_of x) _ d.0 x.read.1 d.1 h.names in
-    record { a = record { response = not_supported; stack = d.0.stack }; answers = a.0; is = refl; held = record { script = d.3; kept = a.1; names = names }; learned = tt }
+    let d = rw c.in-Ok-Unsupported.field-0-is at (c.in-Ok-Unsupported.ensures.steps l.terms s h.stack) in
+    let kept = kept_on c.commands_keep_stacks.ensures.next c.commands_leave_script_names.ensures.next l.terms s x d.0 d.1 h.kept in
+    record { a = record { response = not_supported; stack = d.0.stack }; answers = taken_as l s (tree_of x) not_supported unsupported d.0 d.1 d.2 refl; is = refl; asked = tt; held = record { stack = d.3; kept = kept }; learned = tt }
+
+pub returns-in-Ok-Say-clause-takes : goal.returns-in-Ok-Say-clause-takes
+returns-in-Ok-Say-clause-takes c = λ s h.
+    let x = c.args.command.now in
+    let l = limits_meant c.args.limits.now in
+    let text = c.in-Ok-Say.text.now in
+    let d = rw c.in-Ok-Say.field-0-is at (c.in-Ok-Say.ensures.steps l.terms s h.stack) in
+    let kept = kept_on c.commands_keep_stacks.ensures.next c.commands_leave_script_names.ensures.next l.terms s x d.0 d.1 h.kept in
+    record { a = record { response = said text; stack = d.0.stack }; answers = taken_as l s (tree_of x) (said text) (say text) d.0 d.1 d.2 refl; is = refl; asked = tt; held = record { stack = d.3; kept = kept }; learned = tt }
 
 pub returns-in-Ok-Exit-clause-takes : goal.returns-in-Ok-Exit-clause-takes
 returns-in-Ok-Exit-clause-takes c = λ s h.
     let x = c.args.command.now in
     let l = limits_meant c.args.limits.now in
-    let d = rw c.in-Ok-Exit.field-0-is at (c.in-Ok-Exit.ensures.steps s h.script) in
-    let a = taken_as c.commands_keep_stacks.ensures.next l s (tree_of x) ended leave d.0 d.1 d.2 h.kept refl in
-    let names = c.commands_keep_names_that_can_be_written.ensures.next l.terms s (text_of x) (start_of x) (tree_of x) _ d.0 x.read.1 d.1 h.names in
-    record { a = record { response = ended; stack = d.0.stack }; answers = a.0; is = refl; held = record { script = d.3; kept = a.1; names = names }; learned = tt }
+    let d = rw c.in-Ok-Exit.field-0-is at (c.in-Ok-Exit.ensures.steps l.terms s h.stack) in
+    let kept = kept_on c.commands_keep_stacks.ensures.next c.commands_leave_script_names.ensures.next l.terms s x d.0 d.1 h.kept in
+    record { a = record { response = ended; stack = d.0.stack }; answers = taken_as l s (tree_of x) ended leave d.0 d.1 d.2 refl; is = refl; asked = tt; held = record { stack = d.3; kept = kept }; learned = tt }
+
+pub check-requires-clause-held : goal.check-requires-clause-held
+check-requires-clause-held c =
+    let x = c.args.command.now in
+    let terms = c.args.limits.now.terms in
+    let h = c.requires.1 in
+    let d = rw c.in-Ok-Check.field-0-is at (c.in-Ok-Check.ensures.steps terms c.requires.0 h.stack) in
+    (d.0.stack, record { stack = d.3; kept = kept_on c.commands_keep_stacks.ensures.next c.commands_leave_script_names.ensures.next terms c.requires.0 x d.0 d.1 h.kept })
+
+pub check-requires-clause-reach : goal.check-requires-clause-reach
+check-requires-clause-reach c =
+    let terms = c.args.limits.now.terms in
+    let d = rw c.in-Ok-Check.field-0-is at (c.in-Ok-Check.ensures.steps terms c.requires.0 c.requires.1.stack) in
+    reached terms c.requires.0 (tree_of c.args.command.now) d.0 (standing c.command.new.table c.command.new.self) d.1 d.2 d.3
 
 pub returns-in-Ok-clause-takes : goal.returns-in-Ok-clause-takes
 returns-in-Ok-clause-takes c = λ s h.
     let x = c.args.command.now in
     let l = limits_meant c.args.limits.now in
-    let d = rw c.in-Ok-Check.field-0-is at (c.in-Ok-Check.ensures.steps s h.script) in
-    let kept = c.commands_keep_stacks.ensures.next l.terms s (tree_of x) d.0 d.1 h.kept in
-    let names = c.commands_keep_names_that_can_be_written.ensures.next l.terms s (text_of x) (start_of x) (tree_of x) _ d.0 x.read.1 d.1 h.names in
-    let k = c.in-Ok.ensures.checks d.0.stack (record { script = d.3; kept = kept; names = names }) in
-    let f = k.shown.0 in
-    let a = taken_as c.commands_keep_stacks.ensures.next l s (tree_of x) (answered f) check d.0 d.1 d.2 h.kept (f, k.shown.1, refl {a = answered f}) in
-    let evidence = subst (λ b. IsEvidence c.check.new.script.table b c.in-Ok.evidence f) (sym k.budget_is) k.shown.2 in
-    record { a = record { response = answered f; stack = d.0.stack }; answers = a.0; is = (f, evidence, refl); held = k.held; learned = (k.outcome, k.justified, k.shown.3, k.budget_is) }
-
-pub returns-in-Err-check-clause-takes : goal.returns-in-Err-check-clause-takes
-returns-in-Err-check-clause-takes c = λ s h.
-    let x = c.args.command.now in
-    let l = limits_meant c.args.limits.now in
-    let d = rw c.in-Ok-Check.field-0-is at (c.in-Ok-Check.ensures.steps s h.script) in
-    let kept = c.commands_keep_stacks.ensures.next l.terms s (tree_of x) d.0 d.1 h.kept in
-    let names = c.commands_keep_names_that_can_be_written.ensures.next l.terms s (text_of x) (start_of x) (tree_of x) _ d.0 x.read.1 d.1 h.names in
-    let k = c.in-Err-check.ensures.checks d.0.stack (record { script = d.3; kept = kept; names = names }) in
-    subst (IsHeld l.terms c.check.new.script) (check_keeps l.terms s (tree_of x) d.0 d.1 d.2) k
+    let d = rw c.in-Ok-Check.field-0-is at (c.in-Ok-Check.ensures.steps l.terms s h.stack) in
+    let kept = kept_on c.commands_keep_stacks.ensures.next c.commands_leave_script_names.ensures.next l.terms s x d.0 d.1 h.kept in
+    let k = c.in-Ok.ensures.checks d.0.stack (record { stack = d.3; kept = kept }) in
+    let found = checked_on d.0.stack k.shown.0 in
+    let evidence = subst (λ b. IsEvidence c.check.new.table b c.in-Ok.evidence k.shown.0) (sym k.budget_is) k.shown.2 in
+    record {
+      a = record { response = answered found; stack = d.0.stack };
+      answers = taken_as l s (tree_of x) (answered found) (check []) d.0 d.1 d.2 (k.shown.0, k.shown.1, refl {a = answered found});
+      is = (found, evidence, refl {a = answered found});
+      asked = refl;
+      held = k.held;
+      learned = (k.outcome, k.decided, k.shown.3, k.budget_is);
+    }
 
 pub returns-in-Err-clause-takes : goal.returns-in-Err-clause-takes
-returns-in-Err-clause-takes c = λ s h. refused_as (limits_meant c.args.limits.now) s c.args.command.now c.in-Err.stop c.command.new.self c.args.budget.now c.rejected.result h.kept h.names (c.in-Err.ensures.steps s h.script) c.rejected.ensures
+returns-in-Err-clause-takes c = λ s h.
+    let same = c.in-Err.ensures.same in
+    let held = subst (λ (z : Standing). IsHeld c.args.limits.now.terms z s) (sym (λ i. standing (same.1 i) (same.0 i))) h in
+    refused_as (limits_meant c.args.limits.now) s c.args.command.now c.in-Err.stop (standing c.command.new.table c.command.new.self) c.args.budget.now c.rejected.result held (c.in-Err.ensures.steps c.args.limits.now.terms s h.stack) c.rejected.ensures
 
 pub returns-in-Err-clause-budget : goal.returns-in-Err-clause-budget
 returns-in-Err-clause-budget c = refused_keeps c.in-Err.stop c.args.budget.now c.rejected.result c.rejected.ensures
+
+pub returns-in-Err-check-clause-stack : goal.returns-in-Err-check-clause-stack
+returns-in-Err-check-clause-stack c =
+    let begun = rw c.in-Ok-Check.field-0-is at c.in-Ok-Check.ensures.check in
+    back c.args.table.now c.command.new.table c.command.new.self c.args.stack.now begun
+
+pub returns-in-Err-check-clause-table : goal.returns-in-Err-check-clause-table
+returns-in-Err-check-clause-table c =
+    let begun = rw c.in-Ok-Check.field-0-is at c.in-Ok-Check.ensures.check in
+    c.in-Err-check.ensures.table ∙ ap (λ (z : Standing). z.table) begun
+
+pub returns-in-Err-check-clause-takes : goal.returns-in-Err-check-clause-takes
+returns-in-Err-check-clause-takes c = λ s h.
+    subst (λ (z : Standing). IsHeld c.args.limits.now.terms z s) (sym (λ i. standing (returns-in-Err-check-clause-table c i) (returns-in-Err-check-clause-stack c i))) h

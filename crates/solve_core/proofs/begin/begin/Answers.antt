@@ -1,7 +1,7 @@
 -- That all fits together at the beginning.
 use Rattle.std.proofs.Common.{◌≡◌, List, [], sym, ap, refl, subst}
 use Rattle.std.proofs.lemmas.List.Elements.{All-nil}
-use Rattle.rule_bool.specs.Resolvents.{AreOf}
+use Rattle.rule_bool.specs.Literals.{AreOf}
 use Rattle.proof_log.specs.declared.premises.StepId.{StepId}
 use Rattle.sat_trail.specs.Trails.{empty}
 use Rattle.conflict_learn.proofs.Stating.{extends_back}
@@ -33,7 +33,7 @@ returns-clause-begins c =
         decided = decided_first store.clauses trail begun.same;
         learned = subst (AreAllOf u) (sym none) (All-nil (AreOf u));
       };
-      search = search_begins c.args.table.now u c.args.roots.now c.requires.roots log c.new-log.result c.new-log.ensures c.in_ok-list.list made.grown made.clauses made.made store stored c.base_clauses_are_over_subterms.ensures
+      search = search_begins c.args.table.now u c.args.roots.now c.requires.roots c.requires.reach log c.new-log.result c.new-log.ensures c.in_ok-list.list made.grown made.clauses made.made store stored c.base_clauses_are_over_subterms.ensures
           (record { alloc = c.args.alloc; log = log; store = store; trail = trail; budget = c.in_ok-budget.budget }) refl refl none;
       limit_is = ap (λ b. b.limit) c.in_ok-budget.ensures;
     }

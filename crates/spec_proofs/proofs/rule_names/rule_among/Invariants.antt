@@ -1,6 +1,6 @@
 -- The rule of the name is that which the rules that are left have for it.
 use Rattle.std.proofs.Common.{◌≡◌, drop}
-use Rattle.spec_terms.specs.Theory.{look_up}
+use Rattle.spec_sorts.specs.Theory.{look_up}
 use Rattle.spec_proofs.specs.RuleNames.{named_rows}
 use Rattle.spec_proofs.proofs.rule_names.rule_among.Given as goal
 

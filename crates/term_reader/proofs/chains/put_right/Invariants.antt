@@ -1,7 +1,7 @@
 use Rattle.std.proofs.Common.{length}
 use Rattle.spec_sorts.specs.Terms.{no_term, pair}
 use Rattle.spec_sorts.specs.Lists.{right}
-use Rattle.term_table.specs.Tables.{clause_at}
+use Rattle.term_core.specs.Tables.{clause_at}
 use Rattle.term_reader.specs.Building.{binary_head}
 use Rattle.term_reader.proofs.Folding.{IsFolded, to_right}
 use Rattle.term_reader.proofs.chains.put_right.Given as goal

@@ -1,8 +1,8 @@
 -- What is left of the terms answers for all.
 use Rattle.std.proofs.Common.{◌≡◌, drop, map}
 use Rattle.spec_sorts.specs.Terms.{sort_of, all_same}
-use Rattle.term_table.specs.Symbols.{sort_meant}
-use Rattle.term_table.specs.Tables.{clause_at}
+use Rattle.term_core.specs.Symbols.{sort_meant}
+use Rattle.term_core.specs.Tables.{clause_at}
 use Rattle.term_reader.proofs.comparing.all_have.Given as goal
 
 abbrev pub invariant-terms : goal.invariant-terms

@@ -2,9 +2,9 @@
 use Rattle.std.proofs.Common.{map, sym, ◌∙◌}
 use Rattle.std.proofs.lemmas.List.{length-map}
 use Rattle.spec_sorts.specs.Terms.{sort_of}
-use Rattle.term_table.specs.Symbols.{sort_meant, sorts_meant}
-use Rattle.term_table.specs.Tables.{term_at, clause_at}
-use Rattle.term_table.proofs.SortsTaken.{lengths_differ}
+use Rattle.term_core.specs.Symbols.{sort_meant, sorts_meant}
+use Rattle.term_core.specs.Tables.{term_at, clause_at}
+use Rattle.term_core.proofs.SortsTaken.{lengths_differ}
 use Rattle.term_reader.proofs.comparing.have_sorts.Goals as goal
 
 pub returns-then-sorts-ids : goal.returns-then-sorts-ids

@@ -1,8 +1,8 @@
 -- What is left of both lists answers for the whole.
 use Rattle.std.proofs.Common.{◌≡◌, length, drop, map}
 use Rattle.spec_sorts.specs.Terms.{sort_of, same_sorts}
-use Rattle.term_table.specs.Symbols.{sorts_meant}
-use Rattle.term_table.specs.Tables.{clause_at}
+use Rattle.term_core.specs.Symbols.{sorts_meant}
+use Rattle.term_core.specs.Tables.{clause_at}
 use Rattle.term_reader.proofs.comparing.have_sorts.Given as goal
 
 abbrev pub invariant-terms : goal.invariant-terms

@@ -1,6 +1,6 @@
 use Rattle.std.proofs.Common.{◌≡◌, length}
 use Rattle.spec_sorts.specs.Theory.{each_passes, is_divisor}
-use Rattle.term_table.specs.Tables.{AreIn, clause_at}
+use Rattle.term_core.specs.Tables.{AreIn, clause_at}
 use Rattle.term_reader.proofs.heads.are_divisors.Given as goal
 
 abbrev pub invariant-ids : goal.invariant-ids

@@ -1,7 +1,7 @@
 use Rattle.std.proofs.Common.{◌≡◌, ◌+◌, ◌≤◌, length}
 use Rattle.std.specs.Prelude.{not}
 use Rattle.spec_sorts.specs.Theory.{count_of, is_constant}
-use Rattle.term_table.specs.Tables.{AreIn, clause_at}
+use Rattle.term_core.specs.Tables.{AreIn, clause_at}
 use Rattle.term_reader.proofs.heads.count_variable.Given as goal
 
 abbrev pub invariant-ids : goal.invariant-ids

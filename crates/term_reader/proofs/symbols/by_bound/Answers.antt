@@ -1,5 +1,5 @@
 use Rattle.std.proofs.Common.{[], refl, ◌∙◌}
-use Rattle.term_table.specs.Tables.{term_at}
+use Rattle.term_core.specs.Tables.{term_at}
 use Rattle.term_reader.proofs.Applied.{other_count, those_sorts, other_length, same_length, no_sorts}
 use Rattle.term_reader.proofs.symbols.by_bound.Goals as goal
 

@@ -2,10 +2,10 @@ use Rattle.std.proofs.Common.{◌≡◌, length, map, List, sym, ap, ◌∙◌, 
 use Rattle.std.specs.Prelude.{Ok}
 use Rattle.std.proofs.lemmas.List.{length-map}
 use Rattle.spec_sorts.specs.Terms.{Apply, of, sort_of, same_sorts}
-use Rattle.term_table.specs.declared.sorts.Sort.{Sort as TableSort}
-use Rattle.term_table.specs.declared.ids.SymbolId.{SymbolId}
-use Rattle.term_table.specs.Symbols.{SymbolsView, symbol_at, sort_meant, sorts_meant}
-use Rattle.term_table.specs.Tables.{TableView, declared_in, term_at, clause_at}
+use Rattle.term_core.specs.declared.sorts.Sort.{Sort as TableSort}
+use Rattle.term_core.specs.declared.ids.SymbolId.{SymbolId}
+use Rattle.term_core.specs.Symbols.{SymbolsView, symbol_at, sort_meant, sorts_meant}
+use Rattle.term_core.specs.Tables.{TableView, declared_in, term_at, clause_at}
 use Rattle.term_reader.proofs.Tables.{keeps_same}
 use Rattle.term_reader.proofs.Applied.{other_count, other_sorts, those_sorts, other_length, same_length}
 use Rattle.term_reader.proofs.symbols.by_symbol.Goals as goal

@@ -1,7 +1,7 @@
 -- What is seen grows by the arguments of the next, until it is all, or too much.
 use Rattle.std.proofs.Common.{◌≡◌, ◌<◌, ◌≤◌, length, nat_le, get_or, ap, ◌∙◌, subst, arith}
 use Rattle.std.proofs.lemmas.List.{length-append}
-use Rattle.term_table.specs.Tables.{term_at, clause_at, shape_of, shape_term}
+use Rattle.term_core.specs.Tables.{term_at, clause_at, shape_of, shape_term}
 use Rattle.term_walks.specs.Counting.{no_number, AddsOnce}
 use Rattle.term_walks.proofs.TermsCounted.{counted_start, counted_more, too_many, all_counted}
 use Rattle.term_walks.proofs.count.count.Goals as goal

@@ -2,7 +2,7 @@
 use Rattle.std.proofs.Common.{ap}
 use Rattle.std.specs.Prelude.{not, Ok}
 use Rattle.spec_sorts.specs.Values.{truth}
-use Rattle.term_table.specs.declared.nodes.Head.TheVariants as heads
+use Rattle.term_core.specs.declared.nodes.Head.TheVariants as heads
 use Rattle.term_walks.specs.Valuations.{values_meant}
 use Rattle.term_walks.proofs.Fitting.{at_head}
 use Rattle.term_walks.proofs.heads.head_value.Goals as goal

@@ -1,7 +1,7 @@
 -- One number after the other comes.
 use Rattle.std.proofs.Common.{◌<◌, get_or, sym, subst}
 use Rattle.std.proofs.lemmas.List.{get_or-map, length-map}
-use Rattle.term_table.specs.declared.ids.TermId.{TermId}
+use Rattle.term_core.specs.declared.ids.TermId.{TermId}
 use Rattle.term_walks.specs.Orders.{numbers_of}
 use Rattle.term_walks.proofs.Among.{adds_none, adds_more}
 use Rattle.term_walks.proofs.order.add_all.Goals as goal

@@ -1,7 +1,7 @@
 -- The numbers of the node name the arguments.
 use Rattle.std.proofs.Common.{subst}
 use Rattle.std.proofs.lemmas.Result.{on_ok_weaker}
-use Rattle.term_table.specs.Tables.{head_meant}
+use Rattle.term_core.specs.Tables.{head_meant}
 use Rattle.term_walks.specs.Orders.{numbers_of, Adds}
 use Rattle.term_walks.proofs.Named.{named}
 use Rattle.term_walks.proofs.order.add_arguments.Goals as goal

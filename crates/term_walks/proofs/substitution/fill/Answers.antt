@@ -1,7 +1,7 @@
 -- What came is cut off again.
 use Rattle.std.proofs.Common.{ap, sym, subst}
-use Rattle.term_table.specs.Tables.{Extends, declared_in}
-use Rattle.term_table.proofs.TermsExtend.{Extends-self}
+use Rattle.term_core.specs.Tables.{Extends, declared_in}
+use Rattle.term_core.proofs.TermsExtend.{Extends-self}
 use Rattle.term_walks.proofs.Filled.{cut_back}
 use Rattle.term_walks.proofs.substitution.fill.Goals as goal
 

@@ -1,8 +1,8 @@
 -- The terms that are filled already give the next, and in the end the term.
 use Rattle.std.proofs.Common.{◌<◌, ℕ, length, get_or, sym, ap, refl, ◌∙◌, subst, rules, arith}
 use Rattle.spec_sorts.specs.Terms.{filled}
-use Rattle.term_table.specs.Tables.{clause_at}
-use Rattle.term_table.proofs.TermsExtend.{Extends-self, Extends-trans, IsIn-kept, clause_at-kept}
+use Rattle.term_core.specs.Tables.{clause_at}
+use Rattle.term_core.proofs.TermsExtend.{Extends-self, Extends-trans, IsIn-kept, clause_at-kept}
 use Rattle.term_walks.specs.Filling.{FillsAll}
 use Rattle.term_walks.specs.FilledTerms.{AreFilled}
 use Rattle.term_walks.specs.Orders.{number_term, IsReady}

@@ -1,6 +1,6 @@
 -- The terms of the order up to here are filled.
 use Rattle.std.proofs.Common.{◌≡◌, length}
-use Rattle.term_table.specs.Tables.{clause_at, declared_in, Extends}
+use Rattle.term_core.specs.Tables.{clause_at, declared_in, Extends}
 use Rattle.term_walks.specs.FilledTerms.{AreFilled}
 use Rattle.term_walks.proofs.substitution.fill_along.Given as goal
 

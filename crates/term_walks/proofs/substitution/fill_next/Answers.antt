@@ -1,7 +1,7 @@
 -- A parameter is its argument, which is there.
 use Rattle.std.proofs.Common.{refl}
-use Rattle.term_table.specs.Tables.{term_at}
-use Rattle.term_table.proofs.TermsExtend.{Extends-self}
+use Rattle.term_core.specs.Tables.{term_at}
+use Rattle.term_core.proofs.TermsExtend.{Extends-self}
 use Rattle.term_walks.proofs.Named.{no_number}
 use Rattle.term_walks.proofs.Filled.{argument_filled}
 use Rattle.term_walks.proofs.substitution.fill_next.Goals as goal

@@ -1,7 +1,7 @@
 -- The arguments up to here are filled.
 use Rattle.std.proofs.Common.{◌≡◌, List, take, map}
 use Rattle.spec_sorts.specs.Terms.{Term, filled}
-use Rattle.term_table.specs.Tables.{TableView, AreIn, clause_at}
+use Rattle.term_core.specs.Tables.{TableView, AreIn, clause_at}
 use Rattle.term_walks.specs.FilledTerms.{AreFilled}
 use Rattle.term_walks.proofs.substitution.filled_all.Given as goal
 

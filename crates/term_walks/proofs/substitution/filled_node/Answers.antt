@@ -2,8 +2,8 @@
 use Rattle.std.proofs.Common.{length, map, All, sym, ap, ◌∙◌, subst}
 use Rattle.std.proofs.lemmas.Result.{IfOk-weaker}
 use Rattle.spec_sorts.specs.Terms.{filled}
-use Rattle.term_table.specs.declared.ids.TermId.{TermId}
-use Rattle.term_table.specs.Tables.{head_meant, clause_at, term_at, AreIn}
+use Rattle.term_core.specs.declared.ids.TermId.{TermId}
+use Rattle.term_core.specs.Tables.{head_meant, clause_at, term_at, AreIn}
 use Rattle.term_walks.specs.Orders.{StandsBefore}
 use Rattle.term_walks.proofs.Taking.{stand}
 use Rattle.term_walks.proofs.Filled.{node_filled}

@@ -1,5 +1,5 @@
 -- There is an argument for the parameter.
-use Rattle.term_table.specs.Tables.{term_at}
+use Rattle.term_core.specs.Tables.{term_at}
 use Rattle.term_walks.proofs.Filled.{is_parameter, filled_parameter}
 use Rattle.term_walks.proofs.substitution.parameter_of.Goals as goal
 

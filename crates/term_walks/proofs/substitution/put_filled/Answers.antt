@@ -1,8 +1,8 @@
 -- The node that is made is put.
 use Rattle.std.proofs.Common.{refl, sym, ◌∙◌}
 use Rattle.std.proofs.lemmas.Result.{IfOk-weaker}
-use Rattle.term_table.specs.Tables.{clause_at, term_at}
-use Rattle.term_table.proofs.TermsExtend.{Extends-self}
+use Rattle.term_core.specs.Tables.{clause_at, term_at}
+use Rattle.term_core.proofs.TermsExtend.{Extends-self}
 use Rattle.term_walks.proofs.Filled.{filled_by}
 use Rattle.term_walks.proofs.substitution.put_filled.Goals as goal
 

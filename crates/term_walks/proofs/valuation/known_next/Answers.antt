@@ -2,8 +2,8 @@
 use Rattle.std.proofs.Common.{◌≡◌, length, All, sym, subst}
 use Rattle.ratio128.specs.Meant.{overflow}
 use Rattle.spec_sorts.specs.BoundedValues.{bounded_head}
-use Rattle.term_table.specs.declared.ids.TermId.{TermId}
-use Rattle.term_table.specs.Tables.{head_meant, clause_at, term_at}
+use Rattle.term_core.specs.declared.ids.TermId.{TermId}
+use Rattle.term_core.specs.Tables.{head_meant, clause_at, term_at}
 use Rattle.term_walks.specs.Valuations.{values_meant, AreNamed}
 use Rattle.term_walks.specs.Orders.{StandsBefore}
 use Rattle.term_walks.specs.KnownValues.{known_meant}

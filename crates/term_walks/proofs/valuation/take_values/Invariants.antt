@@ -4,7 +4,7 @@ use Rattle.spec_text.specs.Bytes.{Name}
 use Rattle.spec_sorts.specs.Terms.{terms_of}
 use Rattle.spec_sorts.specs.Values.{Interpretation}
 use Rattle.spec_sorts.specs.BoundedValues.{bounded_values}
-use Rattle.term_table.specs.Tables.{TableView, clause_at}
+use Rattle.term_core.specs.Tables.{TableView, clause_at}
 use Rattle.term_walks.specs.Valuations.{values_meant, AreNamed}
 use Rattle.term_walks.specs.KnownValues.{IsKnownNamed, AreKnown}
 use Rattle.term_walks.proofs.Taking.{with_front}

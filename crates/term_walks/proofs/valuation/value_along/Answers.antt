@@ -1,7 +1,7 @@
 -- What is known of the first terms gives the next, and in the end the value.
 use Rattle.std.proofs.Common.{length, get_or, All, sym, ap, ◌∙◌, subst, rules, arith}
-use Rattle.term_table.specs.NameLists.{HaveNoTwice}
-use Rattle.term_table.specs.Symbols.{SymbolsView}
+use Rattle.term_core.specs.NameLists.{HaveNoTwice}
+use Rattle.term_core.specs.Symbols.{SymbolsView}
 use Rattle.term_walks.specs.Valuations.{Tells}
 use Rattle.term_walks.specs.Orders.{IsReady}
 use Rattle.term_walks.specs.KnownValues.{IsKnownNamed, AreKnown}

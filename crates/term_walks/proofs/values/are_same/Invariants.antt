@@ -2,7 +2,7 @@
 use Rattle.std.proofs.Common.{◌≡◌, List, length, drop}
 use Rattle.spec_text.specs.Bytes.{Name}
 use Rattle.spec_sorts.specs.Values.{same_values}
-use Rattle.term_table.specs.NameLists.{HaveNoTwice}
+use Rattle.term_core.specs.NameLists.{HaveNoTwice}
 use Rattle.term_walks.specs.Valuations.{values_meant, AreNamed}
 use Rattle.term_walks.proofs.values.are_same.Given as goal
 

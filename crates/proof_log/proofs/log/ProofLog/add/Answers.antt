@@ -13,12 +13,12 @@ invariant_of-self-2 c =
     let entries = c.self.inside.entries.items in
     let s = c.args.step in
     let there : AreOf (log_of entries) s.premises = subst (λ l. AreOf l s.premises) (sym c.self.view_is) (numbers_back c.args.table.now c.args.self.now s.premises c.in_ok-follows.ensures.0) in
-    let last : log_of c.push.new.self.items ≡ log_of entries ++ stepped s.rule s.premises s.clause ∷ [] = ap log_of c.in_ok-push.ensures.items ∙ map-append logged_of entries _ in
-    subst (λ l. AreEarlier l) (sym last) (earlier_push (log_of entries) (stepped s.rule s.premises s.clause) c.self.invariant there)
+    let last : log_of c.push.new.self.items ≡ log_of entries ++ stepped s.rule s.premises s.arguments s.clause ∷ [] = ap log_of c.in_ok-push.ensures.items ∙ map-append logged_of entries _ in
+    subst (λ l. AreEarlier l) (sym last) (earlier_push (log_of entries) (stepped s.rule s.premises s.arguments s.clause) c.self.invariant there)
 
 pub returns : goal.returns
 returns c =
     let s = c.args.step in
-    let last : log_of c.push.new.self.items ≡ c.args.self.now ++ stepped s.rule s.premises s.clause ∷ [] =
-    ap log_of c.in_ok-push.ensures.items ∙ map-append logged_of c.self.inside.entries.items _ ∙ ap (λ l. l ++ stepped s.rule s.premises s.clause ∷ []) c.self.view_is in
-    added c.args.table.now c.args.self.now (stepped s.rule s.premises s.clause) (record { 0 = c.len.result }) _ c.requires.log c.requires.clause c.in_ok-follows.ensures c.len.ensures last
+    let last : log_of c.push.new.self.items ≡ c.args.self.now ++ stepped s.rule s.premises s.arguments s.clause ∷ [] =
+    ap log_of c.in_ok-push.ensures.items ∙ map-append logged_of c.self.inside.entries.items _ ∙ ap (λ l. l ++ stepped s.rule s.premises s.arguments s.clause ∷ []) c.self.view_is in
+    added c.args.table.now c.args.self.now (stepped s.rule s.premises s.arguments s.clause) (record { 0 = c.len.result }) _ c.requires.log c.requires.clause c.in_ok-follows.ensures c.len.ensures last

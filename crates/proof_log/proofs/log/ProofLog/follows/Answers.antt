@@ -1,9 +1,10 @@
 -- A step follows where its premises are there and its rule takes it.
 use Rattle.std.proofs.Common.{◌≡◌, List, map, All, sym, ap, ◌∙◌, subst, Err}
-use Rattle.spec_proofs.specs.Rules.{IsRight}
+use Rattle.spec_rules.specs.Rules.{IsRight, IsWide}
 use Rattle.term_core.specs.declared.ids.TermId.{TermId}
 use Rattle.term_core.specs.Tables.{AreIn, clause_at}
 use Rattle.rule_bool.specs.Resolvents.{Stops}
+use Rattle.rule_bool.specs.Arguments.{texts_of}
 use Rattle.proof_log.specs.Logs.{AreOf, clauses_in, stepped}
 use Rattle.proof_log.specs.Faults.{fault_of}
 use Rattle.proof_log.specs.Adding.{Collects}
@@ -17,8 +18,8 @@ returns-in_err-premises c =
     let log = c.args.self.now in
     let s = c.args.step.now in
     let f = c.in_err-premises.field-0.0 in
-    judged t log (stepped s.rule s.premises s.clause) c.from_residual.result f c.from_residual.ensures.1
-    (missing t log s.rule s.premises s.clause f (subst (λ ss. Collects log ss (Err f)) c.as_slice.ensures c.in_err-premises.ensures))
+    judged t log (stepped s.rule s.premises s.arguments s.clause) c.from_residual.result f c.from_residual.ensures.1
+    (missing t log s.rule s.premises s.arguments s.clause f (subst (λ ss. Collects log ss (Err f)) c.as_slice.ensures c.in_err-premises.ensures))
 
 pub judge-requires-clause-premises : goal.judge-requires-clause-premises
 judge-requires-clause-premises c =
@@ -36,9 +37,10 @@ returns-in_err-judge c =
     let stop = c.in_err-judge.field-0.0 in
     let there : AreOf log s.premises = subst (λ ss. AreOf log ss) c.as_slice.ensures c.in_ok-premises.ensures.0 in
     let copied : c.deref.result.now ≡ clauses_in log s.premises = c.deref.ensures.value ∙ c.in_ok-premises.ensures.1 ∙ ap (clauses_in log) c.as_slice.ensures in
-    let verdict : Stops stop (IsRight s.rule (map (clause_at t) (clauses_in log s.premises)) (clause_at t s.clause)) = rw (copied, c.as_slice-2.ensures) at c.in_err-judge.ensures.exact in
-    judged t log (stepped s.rule s.premises s.clause) c.from_residual-in_err-judge.result (fault_of stop) c.from_residual-in_err-judge.ensures.1
-    (refused t log s.rule s.premises s.clause stop there verdict)
+    let verdict : Stops stop (IsRight s.rule (map (clause_at t) (clauses_in log s.premises)) (texts_of s.arguments) (clause_at t s.clause)) (IsWide s.rule (map (clause_at t) (clauses_in log s.premises)) (texts_of s.arguments) (clause_at t s.clause)) =
+    rw (copied, c.as_slice-2.ensures, c.as_slice-3.ensures) at c.in_err-judge.ensures.exact in
+    judged t log (stepped s.rule s.premises s.arguments s.clause) c.from_residual-in_err-judge.result (fault_of stop) c.from_residual-in_err-judge.ensures.1
+    (refused t log s.rule s.premises s.arguments s.clause stop there verdict)
 
 pub returns : goal.returns
 returns c =
@@ -47,5 +49,5 @@ returns c =
     let s = c.args.step.now in
     let there : AreOf log s.premises = subst (λ ss. AreOf log ss) c.as_slice.ensures c.in_ok-premises.ensures.0 in
     let copied : c.deref.result.now ≡ clauses_in log s.premises = c.deref.ensures.value ∙ c.in_ok-premises.ensures.1 ∙ ap (clauses_in log) c.as_slice.ensures in
-    let right : IsRight s.rule (map (clause_at t) (clauses_in log s.premises)) (clause_at t s.clause) = rw (copied, c.as_slice-2.ensures) at c.in_ok-judge.ensures.exact in
-    follows_there t log s.rule s.premises s.clause there right
+    let right : IsRight s.rule (map (clause_at t) (clauses_in log s.premises)) (texts_of s.arguments) (clause_at t s.clause) = rw (copied, c.as_slice-2.ensures, c.as_slice-3.ensures) at c.in_ok-judge.ensures.exact in
+    follows_there t log s.rule s.premises s.arguments s.clause there right

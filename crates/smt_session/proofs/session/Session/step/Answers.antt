@@ -2,20 +2,23 @@
 use Rattle.std.proofs.Common.{refl, subst}
 use Rattle.world_io.specs.Writing.{Sent, NotSent}
 use Rattle.smt_sexpr.specs.Items.{text_of}
-use Rattle.smt_session.specs.Sessions.{IsHeld, SessionView, IsResponseOf, IsAnswered, written_for}
-use Rattle.smt_session.proofs.Taking.{is_answered}
+use Rattle.assertion_stack.specs.Stacks.{standing}
+use Rattle.check_evidence.specs.Evidence.{limits_meant, IsHeld}
+use Rattle.smt_session.specs.Sessions.{SessionView, IsAnswered, written_for}
+use Rattle.smt_session.proofs.Answering.{is_answered, is_response}
 use Rattle.smt_session.proofs.session.Session.step.Goals as goal
 
 pub returns-clause-stepped : goal.returns-clause-stepped
 returns-clause-stepped g c = λ s h.
     let x = c.args.command.now in
     let r = c.in_ok-response.response in
-    let old : SessionView = record { script = c.self.inside.script; limits = c.self.inside.limits; mode = c.self.inside.mode; budget = c.self.inside.budget } in
-    let new : SessionView = record { script = c.take.new.script; limits = c.self.inside.limits; mode = c.self.inside.mode; budget = c.take.new.budget } in
-    let held : IsHeld c.self.inside.limits.terms c.self.inside.script s = rw (← c.self.view_is) at h in
+    let i = c.self.inside in
+    let old : SessionView = record { table = i.table; stack = i.stack; limits = i.limits; mode = i.mode; budget = i.budget } in
+    let new : SessionView = record { table = c.take.new.table; stack = c.take.new.stack; limits = i.limits; mode = i.mode; budget = c.take.new.budget } in
+    let held : IsHeld i.limits.terms (standing i.table i.stack) s = rw (← c.self.view_is) at h in
     let k = c.in_ok-response.ensures.takes s held in
     let so = is_answered c.what_is_shown_is_so.ensures.at s x r old new k refl c.in_ok-response.ensures.budget in
-    let of : IsResponseOf c.take.new.script (text_of x) c.take.new.budget r k.a = record { is = k.is; symbols = k.held.script.symbols; option = k.held.script.option } in
+    let of = is_response (limits_meant i.limits) s x r (standing c.take.new.table c.take.new.stack) c.take.new.budget k in
     let w = c.in-Err.ensures (text_of x) c.take.new.budget k.a of in (
       k.a,
       subst (λ (v : SessionView). IsAnswered s x v new k.a) c.self.view_is so,
@@ -26,15 +29,16 @@ pub returns-in-Ok-clause-stepped : goal.returns-in-Ok-clause-stepped
 returns-in-Ok-clause-stepped g c = λ s h.
     let x = c.args.command.now in
     let r = c.in_ok-response.response in
-    let old : SessionView = record { script = c.self.inside.script; limits = c.self.inside.limits; mode = c.self.inside.mode; budget = c.self.inside.budget } in
-    let new : SessionView = record { script = c.take.new.script; limits = c.self.inside.limits; mode = c.self.inside.mode; budget = c.take.new.budget } in
-    let held : IsHeld c.self.inside.limits.terms c.self.inside.script s = rw (← c.self.view_is) at h in
+    let i = c.self.inside in
+    let old : SessionView = record { table = i.table; stack = i.stack; limits = i.limits; mode = i.mode; budget = i.budget } in
+    let new : SessionView = record { table = c.take.new.table; stack = c.take.new.stack; limits = i.limits; mode = i.mode; budget = c.take.new.budget } in
+    let held : IsHeld i.limits.terms (standing i.table i.stack) s = rw (← c.self.view_is) at h in
     let k = c.in_ok-response.ensures.takes s held in
     let so = is_answered c.what_is_shown_is_so.ensures.at s x r old new k refl c.in_ok-response.ensures.budget in
-    let of : IsResponseOf c.take.new.script (text_of x) c.take.new.budget r k.a = record { is = k.is; symbols = k.held.script.symbols; option = k.held.script.option } in
+    let of = is_response (limits_meant i.limits) s x r (standing c.take.new.table c.take.new.stack) c.take.new.budget k in
     let w = c.in-Ok.ensures (text_of x) c.take.new.budget k.a of in (
       k.a,
       subst (λ (v : SessionView). IsAnswered s x v new k.a) c.self.view_is so,
-      c.after_of.ensures c.take.new.script.table (text_of x) c.take.new.budget k.a.response k.is,
+      c.after_of.ensures c.take.new.table (text_of x) c.take.new.budget k.a.response k.is,
       (subst (λ (v : SessionView). Sent (written_for v x k.a) (g.K.Sink.state c.args.out.now) (g.K.Sink.state c.send_response.new.out)) c.self.view_is w.0, w.1),
     )

@@ -44,10 +44,10 @@ returns-clause-learned c =
           (implied.cut store x.trail trail d.level (implied.added u c.learn.new.log d.step x.store store x.trail c.steps_are_paired.ensures r.implied added) cut);
       continues = record {
         table = c.learn.ensures.grown;
-        symbols = c.learn.ensures.symbols;
+        declared = c.learn.ensures.declared;
         limit = ap (λ (b : BudgetView). b.limit) noted;
         vars = cut.vars;
-        search = search_learned t u c.learn.ensures.grown c.ids_are_unique.ensures c.ids_are_unique-2.ensures c.all_terms_are_bool.ensures x y r once leveled c.is_sound.ensures.consistent
+        search = search_learned t u c.learn.ensures.grown c.ids_are_unique.ensures c.ids_are_unique-2.ensures c.learn.ensures.declared x y r once leveled c.is_sound.ensures.consistent
             (c.logs_stand_in_grown_tables.ensures.same t u x.log r.right c.learn.ensures.grown) c.args.clash d l noted added cut;
       };
       learned = ap (λ (b : BudgetView). length b.learned) noted ∙ length-append x.budget.learned (d.clause ∷ []);

@@ -5,4 +5,4 @@ use Rattle.term_core.proofs.TermsApart.{terms_apart}
 use Rattle.term_core.proofs.terms.TermTable.ids_are_unique.Goals as goal
 
 pub returns : goal.returns
-returns c = subst (λ t. AreDifferent t.terms) c.self.view_is (terms_apart _ _ c.self.invariant)
+returns c = subst (λ t. AreDifferent t.terms) c.self.view_is (terms_apart _ _ c.self.invariant.whole)

@@ -1,6 +1,6 @@
 -- The term at hand, with the parity up to here, has the literal of the whole.
 use Rattle.std.proofs.Common.{◌≡◌}
-use Rattle.spec_terms.specs.Literals.{literal_of}
+use Rattle.spec_sorts.specs.Literals.{literal_of}
 use Rattle.term_core.specs.Tables.{term_at, IsIn}
 use Rattle.term_core.proofs.TermsLiteral.{with_parity}
 use Rattle.term_core.proofs.terms.TermTable.literal.Given as goal

@@ -1,6 +1,6 @@
 -- What has another head in front is no negation.
 use Rattle.std.proofs.Common.{◌≡◌, sym, subst}
-use Rattle.spec_terms.specs.Literals.{literal_of}
+use Rattle.spec_sorts.specs.Literals.{literal_of}
 use Rattle.term_core.specs.Tables.{positive_literal}
 use Rattle.term_core.proofs.TermsLiteral.{own}
 use Rattle.term_core.proofs.terms.TermTable.negated.Goals as goal

@@ -2,7 +2,7 @@
 use Rattle.std.proofs.Common.{◌≡◌, List, map, drop}
 use Rattle.spec_text.specs.Bytes.{Name}
 use Rattle.spec_sorts.specs.Values.{first_fit}
-use Rattle.term_table.specs.NameLists.{HaveNoTwice}
+use Rattle.term_core.specs.NameLists.{HaveNoTwice}
 use Rattle.term_walks.specs.Valuations.{value_meant, values_meant, row_meant, AreNamed, AreRowsNamed}
 use Rattle.term_walks.proofs.values.Table.value_at.Given as goal
 

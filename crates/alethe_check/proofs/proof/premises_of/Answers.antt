@@ -1,7 +1,0 @@
-use Rattle.std.proofs.Common.{ℕ, List, Ok, sym, ap, ◌∙◌}
-use Rattle.alethe_check.specs.Holding.{known_view, clauses_numbered}
-use Rattle.alethe_check.proofs.PremiseLists.{none_left}
-use Rattle.alethe_check.proofs.proof.premises_of.Goals as goal
-
-pub returns-in-None-clause-gives : goal.returns-in-None-clause-gives
-returns-in-None-clause-gives c = rw c.in-None.is (none_left (known_view c.args.state.now) ∙ ap (λ (is : List ℕ). Ok (clauses_numbered c.args.state.now is)) (sym c.new.ensures.items))

@@ -1,0 +1,63 @@
+//! Why a proof is not read on.
+
+ghost use Rattle.std.specs.Prelude.{◌≡◌};
+ghost use Rattle.alethe_reader.specs.declared.errors.CommandError.TheVariants as errors;
+
+use spec_proofs::ProofKind;
+use std::alloc::{AllocError, AllocFailed};
+use world_io::NoMemory;
+
+/// A fault of a proof with its offset in bytes.
+#[derive(Clone, Copy, Debug, PartialEq, Eq)]
+pub struct LocatedFault {
+    /// The offset in the proof.
+    pub offset: u64,
+    /// What is wrong.
+    pub kind: ProofKind,
+}
+
+/// Why a command is not read, or not right.
+#[derive(Clone, Copy, Debug, PartialEq, Eq)]
+pub enum CommandError {
+    /// It has this fault.
+    Fault(LocatedFault),
+    /// Memory ran out.
+    Memory,
+}
+
+/// Makes the error of a fault at an offset.
+pub fn fault(offset: u64, kind: ProofKind) -> CommandError
+    ensures { result ≡ errors.Fault (record { offset = offset; kind = kind }) }
+{
+    CommandError::Fault(LocatedFault { offset, kind })
+}
+
+impl From<AllocError> for CommandError {
+    ghost use Rattle.alethe_reader.specs.declared.errors.CommandError.TheVariants as errors;
+
+    ghost from_gives = { λ _ e. e ≡ errors.Memory };
+
+    fn from(_error: AllocError) -> CommandError {
+        CommandError::Memory
+    }
+}
+
+impl<T: Drop> From<AllocFailed<T>> for CommandError {
+    ghost use Rattle.alethe_reader.specs.declared.errors.CommandError.TheVariants as errors;
+
+    ghost from_gives = { λ _ e. e ≡ errors.Memory };
+
+    fn from(_error: AllocFailed<T>) -> CommandError {
+        CommandError::Memory
+    }
+}
+
+impl From<NoMemory> for CommandError {
+    ghost use Rattle.alethe_reader.specs.declared.errors.CommandError.TheVariants as errors;
+
+    ghost from_gives = { λ _ e. e ≡ errors.Memory };
+
+    fn from(_error: NoMemory) -> CommandError {
+        CommandError::Memory
+    }
+}

@@ -1,0 +1,35 @@
+-- A term that is read with room is the last assertion, after the names that it makes.
+use Rattle.std.proofs.Common.{◌≡◌, Some, refl, sym, ap, ◌∙◌, subst}
+use Rattle.spec_commands.specs.Stack.{did, begun, with_definitions, with_assertion, signature_of}
+use Rattle.smt_sexpr.specs.Items.{tree_meant}
+use Rattle.term_reader.specs.Names.{setting_meant}
+use Rattle.sort_check.specs.Reads.{room_meant, store}
+use Rattle.assertion_stack.specs.Stacks.{standing, IsStack}
+use Rattle.assertion_stack.proofs.Reaching.{marks_kept}
+use Rattle.assertion_stack.proofs.Stacks.{assert_done, assert_fails, named, one_asserted}
+use Rattle.assertion_stack.proofs.asserting.assert_term.Goals as goal
+
+pub add-requires-clause-marks : goal.add-requires-clause-marks
+add-requires-clause-marks c = marks_kept c.args.table.now c.term.new.table c.in-Ok.ensures.grows.keeps.extends c.args.stack.now.reached c.requires.2.reached
+
+pub returns-in-Ok-add-clause-performs : goal.returns-in-Ok-add-clause-performs
+returns-in-Ok-add-clause-performs c limit s h =
+    let r = c.in-Ok.ensures.ends (signature_of s) h.scope in
+    let x = c.args.stack.now in
+    let t = c.term.new.table in
+    let y = record x { scope = c.term.new.scope } in
+    let added = c.in-Ok-add.ensures.added in
+    let tree = tree_meant c.args.tree in
+    let room : room_meant c.room-room.result ≡ record { limit = Some limit; at = c.args.at } = ap room_meant c.room-room.ensures ∙ ap (λ l. record { limit = Some l; at = c.args.at }) h.limit_is in
+    let next = begun (with_assertion (with_definitions s r.reading.made) tree r.reading.term) in (
+      did next,
+      assert_done limit c.args.at s tree (room_meant c.room-room.result) (setting_meant c.in_script.result) room c.in_script.ensures r.reading r.read,
+      refl,
+      subst (λ z. IsStack limit (standing t z) next) (sym added.2)
+          (one_asserted limit t y (with_definitions s r.reading.made) tree r.reading.term c.in-Ok.id added.0 (named limit c.args.table.now t x s c.term.new.scope r.reading.made h c.in-Ok.ensures.grows.keeps r.stands) r.term added.1),
+    )
+
+pub returns-in-Err-clause-performs : goal.returns-in-Err-clause-performs
+returns-in-Err-clause-performs c limit s h =
+    let room : room_meant c.room-room.result ≡ record { limit = Some limit; at = c.args.at } = ap room_meant c.room-room.ensures ∙ ap (λ l. record { limit = Some l; at = c.args.at }) h.limit_is in
+    assert_fails limit c.args.at s (tree_meant c.args.tree) (room_meant c.room-room.result) (setting_meant c.in_script.result) room c.in_script.ensures (store c.term.new.table c.term.new.scope) c.in-Err.stop (c.in-Err.ensures.ends (signature_of s) h.scope)

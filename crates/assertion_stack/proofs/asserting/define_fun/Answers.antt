@@ -1,0 +1,25 @@
+-- Definitions that are read with room are the last names.
+use Rattle.std.proofs.Common.{◌≡◌, Some, refl, ap, ◌∙◌}
+use Rattle.spec_commands.specs.Stack.{did, begun, with_definitions, signature_of}
+use Rattle.smt_command.specs.Commands.{parts_view}
+use Rattle.term_reader.specs.Names.{setting_meant}
+use Rattle.sort_check.specs.Reads.{room_meant, store}
+use Rattle.assertion_stack.proofs.Stacks.{define_done, define_fails, begun_stack, named}
+use Rattle.assertion_stack.proofs.asserting.define_fun.Goals as goal
+
+pub returns-in-Ok-clause-performs : goal.returns-in-Ok-clause-performs
+returns-in-Ok-clause-performs c limit s h =
+    let r = c.in-Ok.ensures.ends (signature_of s) h.scope in
+    let x = c.args.stack.now in
+    let room : room_meant c.room-room.result ≡ record { limit = Some limit; at = c.args.at } = ap room_meant c.room-room.ensures ∙ ap (λ l. record { limit = Some l; at = c.args.at }) h.limit_is in
+    let t = c.define.new.table in (
+      did (begun (with_definitions s r.definitions)),
+      define_done limit c.args.at s (parts_view c.args.parts) (room_meant c.room-room.result) (setting_meant c.in_script.result) room c.in_script.ensures r.definitions r.read,
+      refl,
+      begun_stack limit t (record x { scope = c.define.new.scope }) (with_definitions s r.definitions) (named limit c.args.table.now t x s c.define.new.scope r.definitions h c.in-Ok.ensures.grows.keeps r.stands),
+    )
+
+pub returns-in-Err-clause-performs : goal.returns-in-Err-clause-performs
+returns-in-Err-clause-performs c limit s h =
+    let room : room_meant c.room-room.result ≡ record { limit = Some limit; at = c.args.at } = ap room_meant c.room-room.ensures ∙ ap (λ l. record { limit = Some l; at = c.args.at }) h.limit_is in
+    define_fails limit c.args.at s (parts_view c.args.parts) (room_meant c.room-room.result) (setting_meant c.in_script.result) room c.in_script.ensures (store c.define.new.table c.define.new.scope) c.in-Err.stop (c.in-Err.ensures.ends (signature_of s) h.scope)

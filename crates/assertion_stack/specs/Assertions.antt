@@ -1,0 +1,23 @@
+-- What the list of assertions holds.
+use Rattle.std.specs.Prelude.{ℕ, ◌+◌, Bool, true, List, [], ◌∷◌, length, map}
+use Rattle.spec_commands.specs.Stack.{Assertion}
+use Rattle.term_core.specs.declared.ids.TermId.{TermId}
+
+-- Asserted terms, their levels, and whether the search reaches them.
+pub record AssertionsView : Type 0 where
+  -- the numbers of the terms, oldest first
+  pub ids : List TermId
+  -- how many assertions come before each level above the first
+  pub starts : List ℕ
+  -- the search reaches all of them
+  pub in_reach : Bool
+
+-- the first level, without assertions
+abbrev pub no_assertions : AssertionsView
+no_assertions = record { ids = []; starts = []; in_reach = true }
+
+-- how many assertions come before each level above the first
+abbrev pub starts_of : List (List Assertion) → List ℕ
+starts_of [] = []
+starts_of (l ∷ []) = []
+starts_of (l ∷ m ∷ ls) = length l ∷ map (λ n. length l + n) (starts_of (m ∷ ls))

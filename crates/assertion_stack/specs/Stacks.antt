@@ -1,0 +1,115 @@
+-- The stack of the definitions that a stack of the code stands for in a table, and what commands make of it.
+use Rattle.std.specs.Prelude.{◌≡◌, ℕ, Bool, true, false, ◌&&◌, List, [], ◌∷◌, ◌++◌, None, Result, Ok, Err}
+use Rattle.spec_text.specs.Places.{IsPlaceOf}
+use Rattle.spec_text.specs.Answers.{Answer}
+use Rattle.spec_text.specs.Bytes.{Name, among}
+use Rattle.spec_sorts.specs.Signatures.{symbols_in, sort_as}
+use Rattle.spec_commands.specs.Stack.{Options, Stack, Effect, done, unsupported, check, say, leave, Taken, signature_of, assertions_of, terms_asserted, all_in_reach}
+use Rattle.smt_lexer.specs.declared.Refused.{Refused}
+use Rattle.smt_lexer.specs.declared.Refused.TheVariants as refusals
+use Rattle.smt_sexpr.specs.declared.sexpr.Sexpr.{Sexpr}
+use Rattle.smt_sexpr.specs.Items.{text_of}
+use Rattle.term_core.specs.declared.ids.TermId.{TermId}
+use Rattle.term_core.specs.declared.sorts.Sort.{Sort as TableSort}
+use Rattle.term_core.specs.Tables.{TableView, AreIn, clause_at}
+use Rattle.term_reader.specs.declared.scope.Function.{Function}
+use Rattle.term_reader.specs.declared.faults.ReadError.{ReadError}
+use Rattle.term_reader.specs.Scopes.{Stands}
+use Rattle.assertion_stack.specs.declared.options.Options.{Options as CodeOptions}
+use Rattle.assertion_stack.specs.declared.stack.Stack.{Stack as CodeStack}
+use Rattle.assertion_stack.specs.declared.stack.Effect.{Effect as CodeEffect}
+use Rattle.assertion_stack.specs.declared.stack.Effect.TheVariants as effects
+use Rattle.assertion_stack.specs.Assertions.{starts_of}
+use Rattle.assertion_stack.specs.Marks.{AreMarks}
+use Rattle.assertion_stack.specs.Views.{Fails}
+
+-- the options in the words of the definitions
+abbrev pub options_meant : CodeOptions → Options
+options_meant o = record { print_success = o.print_success; models = o.models; proofs = o.proofs; assertions = o.assertions }
+
+-- what a command answers in the words of the definitions
+abbrev pub effect_meant : CodeEffect → Effect
+effect_meant effects.Done = done
+effect_meant effects.Unsupported = unsupported
+effect_meant effects.Check = check []
+effect_meant (effects.Say text) = say text.now
+effect_meant effects.Exit = leave
+
+-- A stack of the code, and the table that has its terms.
+pub record Standing : Type 0 where
+  -- the table
+  pub table : TableView
+  -- the stack
+  pub stack : CodeStack
+
+-- a stack with a table
+abbrev pub standing : TableView → CodeStack → Standing
+standing t x = record { table = t; stack = x }
+
+-- The stack of the definitions, under a limit, for which a stack of the code stands in a table.
+pub record IsStack (limit : ℕ) (x : Standing) (s : Stack) : Type 0 where
+  -- the limit
+  pub limit_is : x.stack.limit ≡ limit
+  -- names stand for what is declared and defined
+  pub scope : Stands x.table x.stack.scope (signature_of s)
+  -- the table's symbols are those that are declared
+  pub symbols : x.table.symbols ≡ symbols_in (signature_of s)
+  -- each of its sorts has its name
+  pub sorts : (n : Name) → sort_as (signature_of s) n ≡ None → among x.table.sorts n ≡ false
+  -- the asserted terms are in the table
+  pub inside : AreIn x.table x.stack.assertions.ids
+  -- they are those of the assertions
+  pub terms : clause_at x.table x.stack.assertions.ids ≡ terms_asserted (assertions_of s)
+  -- levels begin at the same places
+  pub starts : x.stack.assertions.starts ≡ starts_of s.levels
+  -- whether the search reaches all of them
+  pub in_reach : x.stack.assertions.in_reach ≡ all_in_reach (assertions_of s)
+  -- marks tell it of the first terms of the table
+  pub reached : AreMarks x.table x.stack.reached
+  -- the options
+  pub options : options_meant x.stack.options ≡ s.options
+  -- whether a command has begun it
+  pub started : x.stack.started ≡ s.started
+
+-- in a table the stack stands for some stack
+abbrev pub HasStack : Standing → Type 0
+HasStack x = (limit : ℕ) × (s : Stack) × IsStack limit x s
+
+-- a name of a sort more, by a command that ends the start
+abbrev pub with_sort : CodeStack → Name → TableSort → CodeStack
+with_sort x n sort = record x {
+  scope = record x.scope { sort_names = x.scope.sort_names ++ n ∷ []; sorts = x.scope.sorts ++ sort ∷ [] };
+  started = true;
+}
+
+-- a name of a function more, by a command that ends the start
+abbrev pub with_function : CodeStack → Name → Function → CodeStack
+with_function x n f = record x {
+  scope = record x.scope { names = x.scope.names ++ n ∷ []; functions = x.scope.functions ++ f ∷ [] };
+  started = true;
+}
+
+-- an asserted term more, over these marks, by a command that ends the start
+abbrev pub with_term : CodeStack → List Bool → TermId → Bool → CodeStack
+with_term x marks id in_reach = record x {
+  assertions = record x.assertions { ids = x.assertions.ids ++ id ∷ []; in_reach = x.assertions.in_reach && in_reach };
+  reached = marks;
+  started = true;
+}
+
+-- what a command answers and leaves, or its fault, unless memory ran out
+abbrev pub Performs : ℕ → Answer Taken → Standing → Result CodeEffect ReadError → Type 0
+Performs limit left new (Ok e) = (d : Taken) × (left ≡ Ok d) × (effect_meant e ≡ d.effect) × IsStack limit new d.stack
+Performs limit left new (Err stop) = Fails stop left
+
+-- what the command of an s-expression answers and leaves, or its first fault with its place in the text, unless memory ran out
+abbrev pub Steps : ℕ → Answer Taken → Sexpr → Standing → Result CodeEffect Refused → Type 0
+Steps limit left x new (Ok e) = (d : Taken) × (left ≡ Ok d) × (effect_meant e ≡ d.effect) × IsStack limit new d.stack
+Steps limit left x new (Err (refusals.Fault r)) =
+    (left ≡ Err (record { offset = r.place.offset; fault = r.fault })) × IsPlaceOf (text_of x) r.place
+Steps limit left x new (Err refusals.Memory) = Unit {0}
+
+-- a check leaves the table, and of the stack it changes no more than that it ends the start
+abbrev pub KeepsAtCheck : {E : Type 0} → Result CodeEffect E → Standing → Standing → Type 0
+KeepsAtCheck (Ok effects.Check) old new = new ≡ standing old.table (record old.stack { started = true })
+KeepsAtCheck _ old new = Unit {0}

@@ -1,0 +1,75 @@
+//! Logics, options, and the beginning of a check.
+
+ghost use Rattle.std.specs.Prelude.{◌≡◌, ℕ, true, OnErr, OnOk};
+ghost use Rattle.spec_commands.specs.Commands.{SetLogic, SetOption, CheckSat};
+ghost use Rattle.spec_commands.specs.Stack.{Stack as ScriptStack, performed};
+ghost use Rattle.smt_sexpr.specs.Items.{tree_meant};
+ghost use Rattle.smt_sexpr.specs.Views.{word_view};
+ghost use Rattle.term_core.specs.Tables.{TableView};
+ghost use Rattle.assertion_stack.specs.Stacks.{standing, IsStack, Performs};
+
+use crate::faults::refused;
+use crate::stack::{Effect, Stack};
+use smt_command::{Logic, OptionKey, truth_in};
+use smt_sexpr::{Trees, Word, is_reserved};
+use spec_text::Fault;
+use term_reader::ReadError;
+
+/// Sets the logic of a name, by a command at an offset. All logics that are known have one language.
+pub(crate) fn set_logic<'a>(
+    stack: &mut Stack,
+    at: u64,
+    word: Word<'_>,
+) -> Result<Effect<'a>, ReadError>
+    ensures performs { (limit : ℕ) (t : TableView) (s : ScriptStack) → IsStack limit (standing t stack.old) s
+        → Performs limit (performed limit at s (SetLogic (word_view word.entry))) (standing t stack.new) result }
+    ensures same { OnErr result (stack.new ≡ stack.old) }
+{
+    if is_reserved(word.kind) {
+        return Err(refused(word.at, Fault::Reserved));
+    }
+    let Some(_) = Logic::named(word.bytes) else {
+        return Err(refused(word.at, Fault::UnknownLogic));
+    };
+    if stack.started {
+        return Err(refused(at, Fault::WrongMode));
+    }
+    stack.started = true;
+    Ok(Effect::Done)
+}
+
+/// Sets an option, by a command at an offset. One that is not known changes nothing.
+pub(crate) fn set_option<'a>(
+    stack: &mut Stack,
+    at: u64,
+    name: &[u8],
+    value: Trees<'_>,
+) -> Result<Effect<'a>, ReadError>
+    ensures performs { (limit : ℕ) (t : TableView) (s : ScriptStack) → IsStack limit (standing t stack.old) s
+        → Performs limit (performed limit at s (SetOption name.now (tree_meant value.entry))) (standing t stack.new)
+        result }
+    ensures same { OnErr result (stack.new ≡ stack.old) }
+{
+    let Some(key) = OptionKey::named(name) else {
+        return Ok(Effect::Unsupported);
+    };
+    let Some(truth) = truth_in(value) else {
+        return Err(refused(at, Fault::BadShape));
+    };
+    stack.options = stack.options.with(key, truth);
+    Ok(Effect::Done)
+}
+
+/// Begins a check, by a command whose word stands at a place: the search has to reach all assertions.
+pub(crate) fn begin_check<'a>(stack: &mut Stack, place: u64) -> Result<Effect<'a>, ReadError>
+    ensures performs { (limit at : ℕ) (t : TableView) (s : ScriptStack) → IsStack limit (standing t stack.old) s
+        → Performs limit (performed limit at s (CheckSat place)) (standing t stack.new) result }
+    ensures begun { OnOk result (stack.new ≡ record stack.old { started = true }) }
+    ensures same { OnErr result (stack.new ≡ stack.old) }
+{
+    if !stack.assertions.are_in_reach() {
+        return Err(refused(place, Fault::UnknownLogic));
+    }
+    stack.started = true;
+    Ok(Effect::Check)
+}

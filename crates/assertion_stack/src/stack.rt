@@ -1,0 +1,154 @@
+//! The stack of a script: its names, assertions and options, and what each command makes of them.
+
+ghost use Rattle.std.specs.Prelude.{◌≡◌, ℕ, [], OnErr, OnOk};
+ghost use Rattle.spec_commands.specs.Stack.{Stack as ScriptStack, empty_stack, performed, step};
+ghost use Rattle.smt_command.specs.Commands.{command_view};
+ghost use Rattle.smt_sexpr.specs.Items.{tree_of};
+ghost use Rattle.term_core.specs.Tables.{TableView, Extends};
+ghost use Rattle.assertion_stack.specs.Stacks.{standing, HasStack, IsStack, Performs, Steps, KeepsAtCheck};
+
+use crate::asserting::{assert_term, define_fun};
+use crate::assertions::Assertions;
+use crate::declaring::{declare_const, declare_fun, declare_sort, define_sort};
+use crate::faults::place_in;
+use crate::options::Options;
+use crate::reach::Reached;
+use crate::settings::{begin_check, set_logic, set_option};
+use smt_command::{Command, command};
+use smt_lexer::{Refusal, Refused};
+use smt_sexpr::{Sexpr, offset};
+use std::alloc::Global;
+use term_core::TermTable;
+use term_reader::{ReadError, Scope};
+
+/// The most names that a script may have, and the most different subterms that the terms of one command may have. It is own.
+pub const TERM_LIMIT: u64 = 1 << 24;
+
+/// What a script has stated: its names, its assertions, and its options. The terms are in a table that stands beside it.
+///
+/// Contracts see it as a `Stack` of the definitions, by the relation `IsStack`. While the table grows by terms alone, it
+/// stays the same stack (`stacks_stand_in_grown_tables`). Source: SMT-LIB 2.6, section 4.1.4.
+#[derive(Drop)]
+pub struct Stack {
+    /// The most names that a script may have, and the most different subterms of the terms of one command.
+    pub limit: u64,
+    /// The names, with what they stand for.
+    pub scope: Scope,
+    /// The assertions.
+    pub assertions: Assertions,
+    /// Which of the table's first terms the search reaches.
+    pub reached: Reached,
+    /// The options.
+    pub options: Options,
+    /// Whether a command has set the logic, or come without one.
+    pub started: bool,
+}
+
+/// What a command that was taken is answered.
+///
+/// Source: SMT-LIB 2.6, section 4.1.
+#[derive(Clone, Copy, Debug, PartialEq, Eq)]
+pub enum Effect<'a> {
+    /// It is done: the answer is `success`, where that is printed.
+    Done,
+    /// Its option is not known: the answer is `unsupported`.
+    Unsupported,
+    /// It asks for a check of what is asserted.
+    Check,
+    /// It asks for a text to be written, which stands between its quotes.
+    Say(&'a [u8]),
+    /// It ends the script.
+    Exit,
+}
+
+impl Stack {
+    /// Makes the stack that nothing was stated on. It takes no memory.
+    ///
+    /// `limit` is the most names that may be declared and defined, and the most different subterms that the terms of one
+    /// command may have.
+    pub fn new(alloc: Global, limit: u64) -> Stack
+        ensures { (t : TableView) → t.sorts ≡ [] → t.symbols ≡ [] → IsStack limit (standing t result) empty_stack }
+    {
+        Stack {
+            limit,
+            scope: Scope::new(alloc),
+            assertions: Assertions::new(alloc),
+            reached: Reached::new(alloc),
+            options: Options::new(),
+            started: false,
+        }
+    }
+
+    /// Takes the command that an s-expression is, and says what it is answered. The table has the terms of the stack.
+    ///
+    /// - `Fault` has the command's first fault, with its place in the text. It is its head (`UnknownCommand`), then its own
+    ///   shape (`BadShape` at its parenthesis), then its parts in reading order. These are for a new name `Reserved` and
+    ///   `Twice`; for a sort `UnknownSort`, `Reserved` and `BadShape`; for a term those of `term_reader::term`. Then come
+    ///   `WrongMode` of `set-logic` and `BadShape` of an option's value at the parenthesis, and `UnknownLogic` at the name
+    ///   of a logic, or at the word of a check that the search does not reach. `Full` at the parenthesis comes last.
+    /// - `Memory` may come at any allocation, and says nothing of the command.
+    ///
+    /// After each of these stack and table are as they were. A check changes no more than that it ends the start. Its time
+    /// goes with no assertion that was made before. Source: SMT-LIB 2.6, sections 3.9 and 4.2.
+    pub fn command<'a>(
+        &mut self,
+        alloc: Global,
+        table: &mut TermTable,
+        sexpr: &'a Sexpr<'_>,
+    ) -> Result<Effect<'a>, Refused>
+        requires { HasStack (standing table.old self.old) }
+        ensures steps { (limit : ℕ) (s : ScriptStack) → IsStack limit (standing table.old self.old) s
+            → Steps limit (step limit s (tree_of sexpr.now)) sexpr.now (standing table.new self.new) result }
+        ensures check { KeepsAtCheck result (standing table.old self.old) (standing table.new self.new) }
+        ensures kept { OnOk result (Extends table.old table.new) }
+        ensures same { OnErr result ((self.new ≡ self.old) × (table.new ≡ table.old)) }
+    {
+        spec_commands::faults_stand_in_their_command();
+        sexpr.offsets_have_places();
+        let command = match command(sexpr) {
+            Ok(command) => command,
+            Err(refused) => return Err(refused),
+        };
+        match perform(self, alloc, table, offset(sexpr.trees()), command) {
+            Ok(effect) => Ok(effect),
+            Err(ReadError::Fault(fault)) => Err(Refused::Fault(Refusal {
+                place: place_in(sexpr, fault.offset),
+                fault: fault.fault,
+            })),
+            Err(ReadError::Memory) => Err(Refused::Memory),
+        }
+    }
+}
+
+/// Performs a command at an offset.
+fn perform<'a>(
+    stack: &mut Stack,
+    alloc: Global,
+    table: &mut TermTable,
+    at: u64,
+    command: Command<'a>,
+) -> Result<Effect<'a>, ReadError>
+    requires { HasStack (standing table.old stack.old) }
+    ensures performs { (limit : ℕ) (s : ScriptStack) → IsStack limit (standing table.old stack.old) s
+        → Performs limit (performed limit at s (command_view command.entry)) (standing table.new stack.new) result }
+    ensures check { KeepsAtCheck result (standing table.old stack.old) (standing table.new stack.new) }
+    ensures kept { OnOk result (Extends table.old table.new) }
+    ensures same { OnErr result ((stack.new ≡ stack.old) × (table.new ≡ table.old)) }
+{
+    match command {
+        Command::SetLogic(word) => set_logic(stack, at, word),
+        Command::SetOption(name, value) => set_option(stack, at, name, value),
+        Command::SetInfo => Ok(Effect::Done),
+        Command::DeclareSort(word) => declare_sort(stack, table, at, word),
+        Command::DefineSort(word, sort) => define_sort(stack, table, at, word, sort),
+        Command::DeclareConst(word, sort) => declare_const(stack, table, at, word, sort),
+        Command::DeclareFun(word, parameters, sort) => {
+            declare_fun(stack, alloc, table, at, word, parameters, sort)
+        }
+        Command::DefineFun(parts) => define_fun(stack, alloc, table, at, parts),
+        Command::Assert(tree) => assert_term(stack, alloc, table, at, tree),
+        Command::CheckSat(place) => begin_check(stack, place),
+        Command::Echo(text) => Ok(Effect::Say(text)),
+        Command::Exit => Ok(Effect::Exit),
+    }
+}

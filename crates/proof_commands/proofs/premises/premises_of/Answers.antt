@@ -1,8 +1,0 @@
-use Rattle.std.proofs.Common.{ℕ, List, Ok, sym, ap, ◌∙◌}
-use Rattle.proof_commands.specs.Holding.{clauses_numbered}
-use Rattle.proof_commands.specs.Parts.{known_entries}
-use Rattle.proof_commands.proofs.PremiseLists.{none_left}
-use Rattle.proof_commands.proofs.premises.premises_of.Goals as goal
-
-pub returns-in-None-clause-gives : goal.returns-in-None-clause-gives
-returns-in-None-clause-gives c = rw c.in-None.is (none_left (known_entries c.args.state.now) ∙ ap (λ (is : List ℕ). Ok (clauses_numbered c.args.state.now is)) (sym c.new.ensures.items))

@@ -1,6 +1,0 @@
--- The terms of the marked clauses up to here are marked.
-use Rattle.proof_writer.proofs.Printed.{AreOfFirst}
-use Rattle.proof_writer.proofs.marks.mark_clauses.Given as goal
-
-abbrev pub invariant-clauses : goal.invariant-clauses
-invariant-clauses l = record { so_far : AreOfFirst l.table l.log l.rests l.number l.marks }

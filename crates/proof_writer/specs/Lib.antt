@@ -1,5 +1,0 @@
--- How what is printed is marked, numbered and written.
-pub mod Marks
-pub mod Counting
-pub mod Digits
-pub mod Printing

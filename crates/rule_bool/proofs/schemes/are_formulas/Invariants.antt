@@ -1,0 +1,10 @@
+-- What is left of the terms answers for all.
+use Rattle.std.proofs.Common.{◌≡◌, drop, map}
+use Rattle.spec_sorts.specs.Terms.{Truth, sort_of, all_same}
+use Rattle.term_core.specs.Tables.{clause_at}
+use Rattle.rule_bool.proofs.schemes.are_formulas.Given as goal
+
+abbrev pub invariant-terms : goal.invariant-terms
+invariant-terms l = record {
+  same : all_same Truth (map sort_of (clause_at l.table (drop l.id-index l.ids))) ≡ all_same Truth (map sort_of (clause_at l.table l.ids));
+}

@@ -1,9 +1,0 @@
--- The premises up to here.
-use Rattle.std.proofs.Common.{map, take}
-use Rattle.term_table.specs.Tables.{clause_at}
-use Rattle.rule_calls.specs.Literals.{lists}
-use Rattle.rule_calls.specs.Resolvents.{MeansEach}
-use Rattle.rule_calls.proofs.resolvent.premises_of.Given as goal
-
-abbrev pub invariant-loop-premise : goal.invariant-loop-premise
-invariant-loop-premise l = MeansEach l.table (lists l.found.items) (map (clause_at l.table) (take l.premise-index l.premises))

@@ -1,3 +1,0 @@
--- What sessions do.
-pub mod Sessions
-pub mod Runs

@@ -1,4 +1,0 @@
-pub mod Adding
-pub mod Passing
-pub mod Seen
-pub mod Reasons

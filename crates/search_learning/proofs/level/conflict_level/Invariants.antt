@@ -1,9 +1,0 @@
--- The greatest level of the literals up to here.
-use Rattle.std.proofs.Common.{take}
-use Rattle.spec_sorts.specs.Literals.{literals_of}
-use Rattle.term_table.specs.Tables.{clause_at}
-use Rattle.search_learning.specs.Analyses.{IsGreatestOf}
-use Rattle.search_learning.proofs.level.conflict_level.Given as goal
-
-abbrev pub invariant-loop-id : goal.invariant-loop-id
-invariant-loop-id l = IsGreatestOf l.table l.trail (literals_of (clause_at l.table (take l.id-index l.id-items))) l.level

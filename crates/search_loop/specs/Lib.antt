@@ -1,5 +1,0 @@
--- The definitions that contracts cite: what an answer shows, and what the parts of the search keep.
-pub mod Search
-pub mod SearchModels
-pub mod Rounds
-pub mod Decisions

@@ -1,4 +1,0 @@
-pub mod ValueLaws
-pub mod LevelLaws
-pub mod Fields
-pub mod Restoring

@@ -1,4 +1,0 @@
--- What a trail holds, what its calls do to it, and how its fields fit together.
-pub mod Trails
-pub mod Values
-pub mod Kept

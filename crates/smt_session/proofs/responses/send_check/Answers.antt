@@ -1,0 +1,16 @@
+-- The line of the answer, and what shows it.
+use Rattle.std.proofs.Common.{◌++◌, sym, subst}
+use Rattle.world_io.specs.Writing.{Sends}
+use Rattle.world_io.proofs.Sending.{first_then}
+use Rattle.spec_sessions.specs.Evidence.{Checked}
+use Rattle.spec_sessions.specs.Responses.{answer_text, evidence_text}
+use Rattle.check_evidence.specs.Evidence.{checked_on}
+use Rattle.smt_session.proofs.Answering.{checked_is}
+use Rattle.smt_session.proofs.responses.send_check.Goals as goal
+
+pub returns-in-Certify : goal.returns-in-Certify
+returns-in-Certify g c = rw c.in-Certify.is (λ budget s x same asked e.
+    subst (λ (y : Checked). Sends (answer_text y.found ++ evidence_text y) c.send_evidence.result (g.K.Sink.state c.args.out.now) (g.K.Sink.state c.send_evidence.new.out)) (sym (checked_is s x asked))
+    (first_then (answer_text x.found) (evidence_text (checked_on s x.found)) _ _ _ _
+    (c.in_ok-send_answer.ensures c.args.table.now budget x.found e)
+    (c.send_evidence.ensures budget s x.found same e)))

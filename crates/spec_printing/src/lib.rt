@@ -1,8 +1,0 @@
-//! Definitions about printed proofs: the lines of a proof, their text, what they mean, and which lines a derivation has.
-//!
-//! Nothing here runs. The functions with empty bodies are laws: what they ensure is proved of the definitions in
-//! `specs/`.
-#![tactic(auto)]
-
-pub mod examples;
-pub mod laws;

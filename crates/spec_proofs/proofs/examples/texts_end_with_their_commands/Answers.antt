@@ -1,7 +1,0 @@
--- Texts that are more than commands.
-use Rattle.spec_proofs.specs.Examples.{unclosed_place, behind_list_place}
-use Rattle.spec_proofs.proofs.Verdicts.{unclosed_verdict, behind_list_verdict}
-use Rattle.spec_proofs.proofs.examples.texts_end_with_their_commands.Goals as goal
-
-pub returns : goal.returns
-returns c = record { unclosed = (unclosed_verdict, unclosed_place); behind_list = (behind_list_verdict, behind_list_place) }

@@ -1,4 +1,0 @@
--- Lemmas of this crate.
-pub mod Named
-pub mod Lines
-pub mod Reading

@@ -1,8 +1,0 @@
-//! Definitions about runs of scripts: what each command is answered, what shows that an answer is right, and what is written.
-//!
-//! Nothing here runs. The functions with empty bodies are laws: what they ensure is proved of the definitions in
-//! `specs/`.
-#![tactic(auto)]
-
-pub mod examples;
-pub mod laws;

@@ -1,5 +1,0 @@
--- What a log holds and says over a table, and what comes of adding to it.
-pub mod Logs
-pub mod Entries
-pub mod Faults
-pub mod Adding

@@ -1,8 +1,0 @@
--- Different numbers name different terms.
-use Rattle.std.proofs.Common.{subst}
-use Rattle.term_table.specs.Tables.{AreDifferent}
-use Rattle.term_table.proofs.TermsApart.{terms_apart}
-use Rattle.term_table.proofs.terms.TermTable.ids_are_unique.Goals as goal
-
-pub returns : goal.returns
-returns c = subst (λ t. AreDifferent t.terms) c.self.view_is (terms_apart _ _ c.self.invariant.whole)

@@ -1,6 +1,0 @@
--- What a table of terms holds.
-pub mod NameLists
-pub mod Symbols
-pub mod Tables
-pub mod Facts
-pub mod TheoryHeads

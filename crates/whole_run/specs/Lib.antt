@@ -1,6 +1,0 @@
--- The definitions that contracts cite.
-pub mod Arguments
-pub mod Output
-pub mod Ends
-pub mod Calls
-pub mod InMemory
