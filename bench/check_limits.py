@@ -3,9 +3,9 @@
 
     bench/check_limits.py EXECUTABLE
 
-Each row is a pair of texts whose answer is known beforehand; the script ends with status 1 where another one comes. It
-prints a table of times and of peak memory, also as a multiple of the bytes of both texts. It needs Python 3, its standard
-library and /usr/bin/time.
+Each row is a pair of texts whose answer is known beforehand; there is none where the run ends out of memory, with
+status 3. The script ends with status 1 where another one comes. It prints a table of times and of peak memory, also as
+a multiple of the bytes of both texts. It needs Python 3, its standard library and /usr/bin/time.
 """
 
 import os
@@ -48,7 +48,11 @@ def many_assertions(size):
 
 
 def many_pairs(count):
-    """A script with an assertion of so many constants that are to be distinct, beside two that can be refuted."""
+    """A script with an assertion of so many constants that are to be distinct, beside two that can be refuted.
+
+    There is room for the terms of the pairs of 4,000. Of 4,200 there is none, and the assertion is refused. With more
+    than 2^26 pairs the run ends out of memory at once.
+    """
     names = [f"c{i}" for i in range(count)]
     declared = "".join(f"(declare-const {name} Bool)" for name in names)
     return f"{declared}(assert (distinct {' '.join(names)}))" + SCRIPT
@@ -70,15 +74,22 @@ ROWS = [
     ("proof of empty lists", lambda: SCRIPT, lambda: "()" * (LIMIT // 2), refused(3, "BadShape")),
     ("proof of zero bytes", lambda: SCRIPT, lambda: "\0" * LIMIT, refused(1, "BadChar")),
     ("script of 4,000 constants that are distinct", lambda: many_pairs(4_000), lambda: PROOF, "valid"),
-    ("script of 20,000 constants that are distinct, refused", lambda: many_pairs(20_000), lambda: PROOF, "valid"),
+    ("script of 4,200 constants that are distinct, refused", lambda: many_pairs(4_200), lambda: PROOF, "valid"),
+    ("script of 20,000, for whose pairs there is no memory", lambda: many_pairs(20_000), lambda: PROOF, ""),
 ]
 
 
+def status_of(answer):
+    """The status of a run with this answer."""
+    return {"valid": 0, "": 3}.get(answer, 1)
+
+
 def measured(executable, script, proof):
-    """The output, the seconds, and the peak memory in kilobytes of one run."""
+    """The output, the status, the seconds, and the peak memory in kilobytes of one run."""
     begin = time.monotonic()
-    run = subprocess.run(["/usr/bin/time", "-f", "%M", executable, "check", script, proof], capture_output=True, text=True)
-    return run.stdout.strip(), time.monotonic() - begin, int(run.stderr.split()[-1])
+    words = ["/usr/bin/time", "-f", "%M", executable, "check", script, proof]
+    run = subprocess.run(words, capture_output=True, text=True, check=False)
+    return run.stdout.strip(), run.returncode, time.monotonic() - begin, int(run.stderr.split()[-1])
 
 
 def main():
@@ -94,9 +105,10 @@ def main():
                 with open(path, "w", encoding="ascii") as out:
                     out.write(text)
             size = os.path.getsize(script) + os.path.getsize(proof)
-            output, seconds, memory = measured(os.path.abspath(sys.argv[1]), script, proof)
-            right = right and output == wanted
-            print(f"| {name} | `{output}` | {seconds:.2f} | {memory:,} | {memory * 1024 / size:.1f} |", flush=True)
+            output, status, seconds, memory = measured(os.path.abspath(sys.argv[1]), script, proof)
+            right = right and (output, status) == (wanted, status_of(wanted))
+            answer = f"`{output}`" if output else f"status {status}"
+            print(f"| {name} | {answer} | {seconds:.2f} | {memory:,} | {memory * 1024 / size:.1f} |", flush=True)
     if not right:
         sys.exit("an answer is not the one wanted")
 

@@ -4,18 +4,21 @@
     bench/compare.py EXECUTABLE [--seconds N] [--seed K]
 
 The modules in bench/compare/ say in Python what docs/FORMATS.md, docs/ALETHE.md and SMT-LIB 2.6 say, and share nothing
-with the program: a reader, truth tables, the rules of proofs, and a judge. Each kind of run gets an even share of the N
-seconds, 60 if none are given. A round of a kind is seeded by K, 1 if none is given, by the kind and by the number of the
-round, so the same words make the same texts, and more seconds make more of them. Where proofs are changed, the texts
-depend on what `certify` printed, too.
+with the program: a reader of sorts, functions, numbers and terms, truth tables, values, the rules of proofs, and a
+judge. bench/compare_definitions.py compares the same modules with the definitions. Each kind of run gets an even share
+of the N seconds, 60 if none are given. A round of a kind is seeded by K, 1 if none is given, by the kind and by the
+number of the round, so the same words make the same texts, and more seconds make more of them. Where proofs are
+changed, the texts depend on what `certify` printed, too.
 
 solve well-formed      scripts, of which output and status are foretold
 solve ill-formed       scripts with about a third of the commands ill-formed
 solve damaged          texts of scripts, changed at some places
-certify                the answers are foretold; models and proofs are judged, and so is the form of their text
+certify                the answers are foretold; models and proofs are judged, and so is the form of their text: a model
+                       gives each symbol a table of its sorts, and the assertions are true in it
 check certified        proofs that `certify` printed, which have to be valid, alone and after the answer
 check changed          such proofs, changed in their parts or in their bytes
-check invented         proofs of steps by all rules, mostly right, and single steps, right or near to it
+check invented         proofs of steps by all rules, mostly right, over terms of all sorts, with definitions, `:named`
+                       and odd texts; and single steps, right or near to it
 check forms            forms of a small proof, with odd names, attributes, definitions and ends
 
 Of each `valid` it is looked up that the truth tables have no row that makes all assertions true, too.
@@ -35,16 +38,21 @@ import time
 sys.dont_write_bytecode = True
 sys.path.insert(0, os.path.join(os.path.dirname(os.path.abspath(__file__)), "compare"))
 
-from changes import changed, proof_text, tree_of_item
+import bool_scripts
+from changes import changed, proof_text
 from forms import SCRIPTS, a_form
-from judging import judge_certify, predict_check
-from meaning import checks_of, predict_solve, run_script
-from proofs import invented, single_step_texts
+from judging import predict_check
+from language import BOOL, checks_of, read_script
+from layout import damaged, laid_out, tree_of_item
+from proofs import proof_of_single_steps, some_trees
 from reading import read_one
-from scripts import a_script, damaged
+from scripts import NAMES, a_session, an_arithmetic_script
+from sessions import judge_certify, predict_solve
 
 MOST_DIFFERENCES = 20
 LONGEST_RUN = 120
+LIMIT = 2**24
+MOST_STEPS = 40
 
 
 class Comparison:
@@ -101,8 +109,27 @@ class Comparison:
         got = self.run([*words, paths[0], "" if from_input else paths[1]], proof if from_input else b"")
         if got != (wanted, status, b"") or (must_be_valid and status != 0):
             self.tell(f"at {number}, wanted {wanted!r} and {status}, got {got!r}", script, proof)
-        elif status == 0 and checks_of(run_script(script)[0])[number - 1].is_satisfiable:
+        elif status == 0 and current_checks(script)[number - 1].is_satisfiable:
             self.tell(f"at {number}, valid, but there is a model", script, proof)
+
+
+def current_checks(script):
+    """Returns what is current at each check of a script that is accepted."""
+    return checks_of(read_script(script)[0])
+
+
+def a_script(share):
+    """Makes a script; the greater the share, the more of it is ill-formed."""
+    choice = random.random()
+    if choice < 0.3:
+        return bool_scripts.a_script(share)
+    script = an_arithmetic_script() + b"(check-sat)\n" if choice < 0.4 else a_session(share)
+    return laid_out(script, NAMES) if random.random() < 0.3 else script
+
+
+def constants_of(check):
+    """Returns the names of the constants of sort Bool."""
+    return [name for name in check.order if check.functions[name] == ([], BOOL)]
 
 
 def solve_well_formed(comparison):
@@ -139,10 +166,10 @@ def check_certified(comparison):
 
 def check_changed(comparison):
     script, proofs = some_certified(comparison)
-    checks = checks_of(run_script(script)[0])
+    checks = current_checks(script)
     for number, proof in proofs:
         commands = [tree_of_item(item) for item in read_one(proof, 0)[0][1]]
-        names = checks[number - 1].order
+        names = constants_of(checks[number - 1])
         for _ in range(14):
             other = random.choice([1, 2, len(checks), len(checks) + 1, 1000000000])
             at = number if random.random() < 0.93 else other
@@ -154,15 +181,15 @@ def check_changed(comparison):
 
 def check_invented(comparison):
     if random.random() < 0.6:
-        script, proof = single_step_texts()
-        comparison.check(script, 1, proof)
+        script, _, proof = proof_of_single_steps(LIMIT, MOST_STEPS)
+        comparison.check(script.text, 1, proof)
         return
     script = a_script(random.choice([0, 0, 0, 0.1]))
-    checks = checks_of(run_script(script)[0])
+    checks = current_checks(script)
     if checks:
         number = random.randint(1, len(checks))
-        commands = invented(checks[number - 1])
-        commands = changed(commands, checks[number - 1].order, random.choice([0, 0, 0, 1, 2]))
+        check = checks[number - 1]
+        commands = changed(some_trees(check), constants_of(check), random.choice([0, 0, 0, 1, 2]))
         comparison.check(script, number, proof_text(commands))
 
 

@@ -1,5 +1,5 @@
 #!/usr/bin/env python3
-"""Compares the definitions of the whole language with an independent reading, on texts that are made by chance.
+"""Compares the definitions with an independent reading, on texts that are made by chance.
 
 usage: bench/compare_definitions.py [--scripts N] [--proofs N] [--models N] [--printed N] [--sessions N] [--rows FILE]
                                     [--seed K] [--batch N] [--folder FOLDER] [--top FOLDER]
@@ -11,13 +11,13 @@ The last is the repository whose crates are compared, this one where none is giv
               foretells the values of these terms under tables by chance, or the first operation that leaves 128 bits.
               The definitions are `faults_after` and `stack_after` of `spec_commands`, and `bounded_value` of
               `spec_sorts`.
---proofs N    `bench/compare/language_proofs.py` foretells what the commands of N proofs are read as, and the verdict on
+--proofs N    `bench/compare/judging.py` foretells what the commands of N proofs are read as, and the verdict on
               each. The definitions are `command_of` and `IsVerdict` of `spec_checking`.
 --models N    `bench/compare/model_rows.py` foretells the texts of N models by their tables, and values of the bodies.
               The definitions are `model_text` and `model_value` of `spec_models`.
 --printed N   `bench/compare/print_rows.py` foretells the text of the proofs of N derivations. The definition is
               `proof_text` of `spec_proof_texts`.
---sessions N  `bench/compare/language_session.py` foretells what is written for N scripts, where some model or text was
+--sessions N  `bench/compare/sessions.py` foretells what is written for N scripts, where some model or text was
               found at each check. The definition is `answers_text` of `spec_sessions`.
 --rows FILE   the same of the scripts and proofs in a file of rows that are written by hand, with what is written for
               them, as bench/compare/fault_rows.txt.
@@ -53,8 +53,8 @@ import session_rows
 
 OF_SCRIPTS = ["spec_text", "spec_numbers", "spec_sorts", "spec_reading", "spec_commands"]
 OF_MODELS = ["spec_text", "spec_numbers", "spec_sorts", "spec_reading", "spec_models"]
-OF_PROOFS = ["spec_terms", "spec_scripts", "spec_proofs", "spec_rules", "spec_checking"]
-OF_PRINTS = ["spec_search", "spec_derivations", "spec_models", "spec_proof_texts"]
+OF_PROOFS = ["spec_proofs", "spec_rules", "spec_checking"]
+OF_PRINTS = ["spec_derivations", "spec_models", "spec_proof_texts"]
 OF_SESSIONS = ["spec_replies", "spec_sessions"]
 CODE = """//! Rows alone.
 #![tactic(auto)]

@@ -23,11 +23,15 @@ GNU_TIME = "/usr/bin/time"
 
 @dataclass
 class Run:
-    """What one run came to: times in seconds, memory in kilobytes, and no status where a limit of time stopped it."""
+    """What one run came to: times in seconds, memory in kilobytes, and no status where a limit of time stopped it.
+
+    `seconds` are those in the program and in the system for it, `user` those in the program alone.
+    """
 
     output: bytes
     status: int | None
     seconds: float
+    user: float
     memory: int
 
     @property
@@ -67,7 +71,7 @@ def run(words, seconds=None, memory=None):
             with open(report, encoding="ascii") as text:
                 peak = int(text.read())
     stopped = child.returncode < 0 and seconds is not None and taken >= seconds
-    return Run(output, None if stopped else child.returncode, processor, peak)
+    return Run(output, None if stopped else child.returncode, processor, usage.ru_utime, peak)
 
 
 def least(words, runs, seconds=None):

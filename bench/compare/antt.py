@@ -1,4 +1,4 @@
-"""Writes what the independent reading finds as the definitions of the whole language have it."""
+"""Writes what the independent reading finds as the definitions have it."""
 
 import os
 import re

@@ -2,9 +2,9 @@
 
 import random
 
-from proofs import plainly_written
+from bool_scripts import BAD_SORTS, HEADS, a_term
+from layout import copied, plainly_written, raw, replaced, row, symbol, written
 from rules import RULES
-from scripts import BAD_SORTS, HEADS, a_term, raw, row, symbol, written
 
 ALL_RULES = sorted(RULES)
 OTHER_RULES = b"""hole subproof refl trans symm cong la_generic eq_reflexive eq_transitive eq_congruent distinct_elim
@@ -46,28 +46,6 @@ ATTRIBUTES = b""":args ()
 :discharge x
 :discharge ((a))
 :discharge (let)""".split(b"\n")
-
-
-def tree_of_item(item):
-    """Returns the tree of an item that was read."""
-    kind, value, _ = item
-    if kind == "list":
-        return row(*map(tree_of_item, value))
-    return symbol(value) if kind == "sym" else raw(value)
-
-
-def copied(tree):
-    """Returns a copy that can be changed alone."""
-    kind, value = tree
-    return (kind, list(map(copied, value))) if kind == "row" else tree
-
-
-def replaced(tree, old, new):
-    """Returns the tree with each occurrence of `old` replaced."""
-    if tree == old:
-        return copied(new)
-    kind, value = tree
-    return (kind, [replaced(part, old, new) for part in value]) if kind == "row" else tree
 
 
 def begun_by(commands, head):

@@ -7,10 +7,10 @@ there is none), `=` what is written, by `check` where there is a proof and else 
 """
 
 from antt import lines_written
-from language_proofs import predict_check
-from language_session import predict_solve
+from judging import predict_check
 from proof_rows import LEXICAL, statement
 from script_rows import FAULT
+from sessions import predict_solve
 
 FIRST_LINE = b"(set-option :print-success false)\n"
 

@@ -3,7 +3,7 @@
 import random
 
 from changes import ALL_RULES, OTHER_RULES
-from scripts import damaged
+from layout import damaged
 
 SCRIPTS = (
     b"(declare-const p Bool)(declare-const q Bool)(assert p)(assert (not p))(check-sat)"

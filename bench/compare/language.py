@@ -1,4 +1,4 @@
-"""Reads scripts of the whole language: sorts, functions, numbers, `let`, `!` and definitions, as SMT-LIB 2.6 has them.
+"""Reads scripts: sorts, functions, numbers, `let`, `!` and definitions, as SMT-LIB 2.6 has them.
 
 It shares nothing with the program. What the standard leaves open is as in docs/DECISIONS.md: chains and `distinct` are
 read as conjunctions of pairs, the first fault in the order of reading counts, and numbers end at 128 bits.
@@ -76,6 +76,16 @@ class Terms:
                 seen.add(number)
                 waiting += self.nodes[number][1]
         return sorted(seen)
+
+    def are_in_reach(self, roots):
+        """Tells whether the terms have constants of sort Bool and heads of theory Core alone."""
+        for number in self.below(roots):
+            head, given = self.nodes[number]
+            if head[0] == "symbol" and (given or self.sorts[number] != BOOL):
+                return False
+            if head[0] == "number" or head in REAL_HEADS:
+                return False
+        return True
 
     def is_constant(self, term):
         """Tells whether the term is a literal, or `-`, `+`, `*`, `/` before such."""
@@ -383,16 +393,6 @@ class State:
         if live > self.limit or len(self.terms.below(terms)) > self.limit:
             raise Fault(start, b"Full")
 
-    def is_in_reach(self):
-        """Tells whether the assertions have constants of sort Bool and heads of theory Core alone."""
-        for number in self.terms.below(self.assertions):
-            head, given = self.terms.nodes[number]
-            if head[0] == "symbol" and (given or self.terms.sorts[number] != BOOL):
-                return False
-            if head[0] == "number" or head in REAL_HEADS:
-                return False
-        return True
-
 
 class Check(State):
     """What is current at a check in reach, with the names of its declared symbols in their order, and its answer."""
@@ -520,7 +520,7 @@ def check_sat(state, parts, start):
     """Performs `check-sat`, where its assertions are in reach."""
     if len(parts) != 1:
         raise Fault(start, b"BadShape")
-    if not state.is_in_reach():
+    if not state.terms.are_in_reach(state.assertions):
         raise Fault(parts[0][2], b"UnknownLogic")
     return "check"
 
@@ -596,3 +596,8 @@ def read_script(text, limit=2**24):
             answers.append(b"success\n")
         if answer == "exit":
             return answers, state
+
+
+def checks_of(answers):
+    """Returns the checks among the answers of a script."""
+    return [answer for answer in answers if isinstance(answer, Check)]

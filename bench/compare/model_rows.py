@@ -7,8 +7,8 @@ import random
 
 from antt import listed, lines_written, read, sort_written, value_written, world_written, written
 from language import BOOL, REAL
-from language_session import table_of
 from reading import printed_name, read_one
+from sessions import table_of
 from values import some_tables, some_value
 
 NAMES = [b"p", b"f", b"a b", b"let", b"x", b"", b"define-fun", b"0", b"as", b"U", b"Bool", b"a.b", b"<=>"]

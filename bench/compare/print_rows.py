@@ -7,9 +7,9 @@ steps that the last one rests on. The independent judge has to take what is prin
 import random
 
 from antt import declared, lines_written, listed, read, term_written, written
-from language import read_script
-from language_proofs import Assumed, Defined, Stepped, checks_of, first_fault
-from language_proofs_by_chance import Invented, a_script, refutation
+from judging import Assumed, Defined, Stepped, first_fault
+from language import checks_of, read_script
+from proofs import Invented, a_script, refutation
 from reading import Fault, printed_name, read_one
 
 HEAD = read("PrintRows.antt.txt")

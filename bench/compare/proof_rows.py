@@ -4,10 +4,10 @@ import os
 import random
 
 from antt import declared, lines_written, listed, read, term_written, written
-from language import read_script
-from language_proofs import Assumed, Defined, Judge, checks_of, first_fault
-from language_proofs_by_chance import a_proof
+from judging import Assumed, Defined, Judge, first_fault
+from language import checks_of, read_script
 from proof_texts import list_start, take_list, take_row
+from proofs import a_proof
 from reading import Fault, place_of, read_one
 
 LONGEST = 900

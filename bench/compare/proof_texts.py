@@ -1,4 +1,4 @@
-"""Reads what the proofs of every language have in common: the row of commands, and the parts of a step."""
+"""Reads what is round the terms of a proof: the row of its commands, and the parts of a step."""
 
 from reading import Fault, behind_blanks, read_one, token
 

@@ -1,355 +1,239 @@
-"""Makes scripts by chance: well-formed ones, ones with ill-formed parts, and damaged texts.
-
-What is made is first a tree: ("symbol", name), ("raw", text), or ("row", list of trees). The caller seeds `random`.
-"""
+"""Makes scripts by chance, over all sorts; the share of their commands that is ill-formed somewhere is an argument."""
 
 import random
-import re
 
-from meaning import ARGUMENT_COUNTS
-from reading import RESERVED, printed_name
+from faulty import NUMERALS, ODD_TERMS, command_of_a_script
+from language import checks_of, read_script
 
-HEADS = list(ARGUMENT_COUNTS)
-RESERVED_WORDS = sorted(RESERVED)
-PLAIN_NAMES = b"p q r s t".split()
-ODD_NAMES = b"""p q r s a b x1 Bool Real U -x <=> ~ % ? cl assume step unsat success assert let ! _ par as exit
-define-fun 1a 0 ;c ( ) " :k h1 t1 p1 == +1 trUe AND & $ a@ a. # resolution '""".split()
-ODD_NAMES += [b"", b"a b", b"x\ny", b"\xc3\xa9", b"\x00", b"\t", b"a\r", b"p q", b"\xff", b"a\n(check-sat)"]
-BAD_NAMES = b"@p1 .x @ . and true false not = + - * / < <= > >= ite distinct xor => or".split()
-LITERAL_TEXTS = b'5 0 1.5 "s" "a""b" :kw 0.0 12345678901234567890123456789012345678901234567890'.split()
-BAD_SORTS = b'Real Int 5 "s" :k 1.5 () (Bool) let _ |Bool| bool ||'.split() + [b"(_ Bool 1)"]
-OTHER_COMMANDS = b"""(set-logic QF_UF)
-(declare-fun f () Bool)
-(define-fun f () Bool true)
-(echo "a""b")
-(set-info :status sat)
-(get-info :name)
-(get-model)
-(get-proof)
-(reset)
-(push)
-(pop)
-(get-assertions)
-(reset-assertions)
-(get-unsat-core)
-(set-option)
-(set-option :print-success)
-(set-option print-success true)
-(set-option :print-success true true)
-(set-option :foo)
-(set-option ":print-success" true)
-(set-option :x a b)
-(set-option :print-success 5)
-(set-option :print-success "true")
-(set-option :print-success (true))
-(set-option :print-success let)
-(set-option :print-success :true)
-(set-option :print-success True)
-(set-option :print-success |true|)
-(set-option :print-success |false|)
-(set-option :produce-models true)
-(set-option :foo 5)
-(set-option :print-successs "x")
-(set-option :0 (a let))
-(set-option :. let)
-(set-option :produce-unsat-cores ())
-(set-option :global-declarations :k)""".split(b"\n")
-STRAY_TEXTS = b"""5 "s" :k check-sat p () 1.25 || ) "open |open |a\\b| 1. 00 1a 1.5.2 : #x1 \\ { ( |a\\ "a"" (assert
-0. 1|a| 1"s" 1:k""".split()
-HEADS_OF_LISTS = b'assert check-sat exit |assert| |check-sat| foo 5 "s" :k (check-sat) ()'.split()
+NAMES = [b"p", b"q", b"x", b"y", b"a", b"b", b"f", b"g", b"h", b"|a b|", b"n"]
+SORTS = [b"Bool", b"Bool", b"Real", b"Real", b"U", b"V"]
+ODD_SORTS = [b"W", b"let", b"5", b'"s"', b"(Bool)", b"()", b"|Real|", b":k"]
+ODD_NAMES = [b"let", b"@a", b".a", b"|@b|", b"and", b"=", b"true", b"_", b"|let|"]
+OTHERS = [b"(set-info :status sat)", b'(echo "a ""b""")', b"(set-option :produce-models true)", b"(set-option :x y)"]
+# What stands before and after a term to make none of it.
+ODD_FRONTS = [b"(zz", b"(forall ((v Bool))", b"(let ()", b"(let ((v))", b"((not)", b"(5", b"(true"]
+ODD_FRONTS = [(front, b")") for front in ODD_FRONTS]
+ODD_FRONTS += [(b"(!", end) for end in (b")", b" :named)", b" a)")]
 
 
-def symbol(name):
-    """Returns the tree of a symbol."""
-    return ("symbol", name)
+def one_of(words, odd, share):
+    """Returns a word, an odd one in this share of the cases."""
+    return random.choice(odd if random.random() < share else words)
 
 
-def raw(text):
-    """Returns the tree of a text that is written as it is."""
-    return ("raw", text)
+class Maker:
+    """Makes the commands of one script, with the names that it has declared by sort."""
 
+    def __init__(self, share):
+        self.share = share
+        self.functions = {}
+        self.sorts = []
 
-def row(*trees):
-    """Returns the tree of a list."""
-    return ("row", list(trees))
+    def sort(self):
+        """Makes a sort, mostly one that there is."""
+        return one_of([s for s in SORTS if s not in (b"U", b"V") or s in self.sorts], ODD_SORTS + SORTS, self.share / 3)
 
+    def name(self):
+        """Makes a name, mostly a new one."""
+        new = [name for name in NAMES if name not in self.functions]
+        return one_of(new or NAMES, ODD_NAMES + NAMES, self.share / 2)
 
-def separator():
-    """Returns what stands between two items, mostly one blank."""
-    if random.random() < 0.85:
-        return b" "
-    comments = [b" ;c\n", b' ; (x "|\r', b";\n", b" ;\xff\x00\n"]
-    return random.choice([b"  ", b"\n", b"\t", b"\r", b"\r\n", b"\n\n", *comments])
+    def of_sort(self, sort, size, bound):
+        """Makes a term that mostly has the sort; `bound` has the sorts of names."""
+        if random.random() < self.share / 6:
+            return self.odd(size, bound)
+        choices = [n for n, s in bound.items() if s == sort]
+        choices += [n for n, (sorts, result) in self.functions.items() if result == sort and not sorts]
+        if sort == b"Bool":
+            choices += [b"true", b"false"]
+        if sort == b"Real":
+            choices += [random.choice(NUMERALS)]
+        if size <= 1:
+            return random.choice(choices or [b"c"])
+        if random.random() < 0.12:
+            return self.let(sort, size, bound)
+        if random.random() < 0.1:
+            return self.annotated(sort, size, bound)
+        return self.applied(sort, size - 1, bound)
 
+    def applied(self, sort, size, bound):
+        """Makes a head before terms."""
+        heads = [(n, sorts) for n, (sorts, result) in self.functions.items() if result == sort and sorts]
+        if heads and random.random() < 0.4:
+            head, sorts = random.choice(heads)
+            return self.list(head, sorts, size, bound)
+        if sort == b"Bool":
+            head = random.choice(
+                b"not and or xor => = distinct ite and or < <= > >=".split() if size < 9 else b"and or ite".split()
+            )
+            count = {b"not": 1, b"ite": 3}.get(head) or random.choice([2, 2, 3])
+            if head in (b"=", b"distinct"):
+                sorts = [random.choice([b"Bool", b"Real", sort] + self.sorts)] * count
+            elif head in (b"<", b"<=", b">", b">="):
+                sorts = [b"Real"] * count
+            else:
+                sorts = [b"Bool"] * count
+            return self.list(head, sorts, size, bound)
+        if sort == b"Real":
+            head = random.choice(b"- + * / ite".split())
+            if head == b"*":
+                factors = [random.choice([*NUMERALS, b"(+ 1 1)", b"(- 2)"]), self.of_sort(b"Real", size // 2, bound)]
+                random.shuffle(factors)
+                return b"(* " + b" ".join(factors) + b")"
+            if head == b"/":
+                return b"(/ " + self.of_sort(b"Real", size // 2, bound) + b" " + self.divisor() + b")"
+            if head != b"ite":
+                return self.list(head, [b"Real"] * random.choice([1, 2, 3]), size, bound)
+        return self.list(b"ite", [b"Bool", sort, sort], size, bound)
 
-def seldom_separator():
-    """Returns what stands where nothing needs to."""
-    return b"" if random.random() < 0.9 else separator()
+    def divisor(self):
+        """Makes a divisor, seldom one that is none or zero."""
+        number = random.choice(NUMERALS)
+        return random.choice([number, b"2", b"(- " + number + b")", b"(/ 1 " + number + b")", b"(+ 2)", b"x"])
 
+    def list(self, head, sorts, size, bound):
+        """Makes a list of a head and terms of these sorts."""
+        given = [self.of_sort(sort, size // len(sorts), bound) for sort in sorts]
+        if random.random() < self.share / 8:
+            given = given[1:] if random.random() < 0.5 else given + given[:1]
+        return b"(" + b" ".join([head, *given]) + b")"
 
-def may_touch(left, right):
-    """Tells whether two texts stay two items with nothing between them."""
-    if left[-1:] == b'"' and right[:1] == b'"':
-        return False
-    return left[-1:] in b')"|' or right[:1] in b'("|'
+    def let(self, sort, size, bound):
+        """Makes a `let`."""
+        here = {}
+        texts = []
+        for _ in range(random.choice([1, 1, 2])):
+            of = random.choice([b"Bool", b"Real", sort])
+            name = one_of([b"z", b"w", b"p", b"x"], ODD_NAMES, self.share / 6)
+            texts.append(b"(" + name + b" " + self.of_sort(of, size // 3, bound) + b")")
+            here[name] = of
+        body = self.of_sort(sort, size // 2, {**bound, **here})
+        return b"(let (" + b" ".join(texts) + b") " + body + b")"
 
+    def annotated(self, sort, size, bound):
+        """Makes a term with attributes."""
+        attributes = [random.choice([b":a", b":a 1", b":pattern (p q)", b":a let"])] if random.random() < 0.4 else []
+        term = self.of_sort(sort, size - 1, bound)
+        if random.random() < 0.7:
+            name = self.name()
+            attributes.append(b":named " + name)
+            if random.random() < 0.8:
+                self.functions.setdefault(name, ([], sort))
+        return b"(! " + b" ".join([term, *attributes]) + b")"
 
-def written(tree):
-    """Writes a tree, with separators and bars by chance."""
-    kind, value = tree
-    if kind == "raw":
-        return value
-    if kind == "symbol":
-        name = printed_name(value)
-        return b"|" + value + b"|" if name == value and random.random() < 0.12 else name
-    result = b"(" + seldom_separator()
-    before = None
-    for text in map(written, value):
-        if before is not None and not (may_touch(before, text) and random.random() < 0.15):
-            result += separator()
-        result += text
-        before = text
-    return result + seldom_separator() + b")"
-
-
-def leaf(names):
-    """Makes a constant, or seldom a truth value."""
-    if names and random.random() < 0.9:
-        return symbol(random.choice(names))
-    return symbol(random.choice([b"true", b"false"]))
-
-
-def a_term(names, size, pool):
-    """Makes a term of about this size; terms of the pool come again."""
-    if pool and random.random() < 0.2:
-        return random.choice(pool)
-    if size <= 1 or random.random() < 0.15:
-        return leaf(names)
-    head = random.choice(HEADS + [b"not", b"and", b"or", b"or", b"and"])
-    if head in (b"not", b"ite"):
-        count = ARGUMENT_COUNTS[head][0]
-    else:
-        count = random.choice([1, 2, 2, 3, 3, 4, 7] if head in (b"and", b"or") else [2, 2, 2, 3, 4, 5])
-    made = row(symbol(head), *(a_term(names, size // count, pool) for _ in range(count)))
-    pool.append(made)
-    if len(pool) > 12:
-        pool.pop(random.randrange(12))
-    return made
-
-
-def deep_term(names, depth):
-    """Makes a term that is nested so deep, in one argument each."""
-    made = leaf(names)
-    for _ in range(depth):
-        head = random.choice(HEADS)
-        given = [leaf(names) for _ in range({b"not": 0, b"ite": 2}.get(head, 1))]
-        given.insert(random.randint(0, len(given)), made)
-        made = row(symbol(head), *given)
-    return made
-
-
-def a_clause(names):
-    """Makes a disjunction of at most three literals."""
-    chosen = random.sample(names, random.randint(1, min(3, len(names))))
-    return row(
-        symbol(b"or"),
-        *(symbol(name) if random.random() < 0.5 else row(symbol(b"not"), symbol(name)) for name in chosen),
-    )
-
-
-def bad_term(names):
-    """Makes a term that is ill-formed somewhere."""
-
-    def good():
-        return a_term(names, 3, [])
-
-    def chosen(words):
-        return symbol(random.choice(words))
-
-    reserved = raw(random.choice(RESERVED_WORDS))
-    kinds = [
-        lambda: raw(random.choice(LITERAL_TEXTS)),
-        lambda: row(),
-        lambda: row(good()),
-        lambda: row(reserved, good()),
-        lambda: reserved,
-        lambda: row(reserved),
-        lambda: row(raw(random.choice([b"5", b'"s"', b":k", b"1.0"])), good()),
-        lambda: row(row(symbol(b"not"), good()), good()),
-        lambda: row(chosen([b"true", b"false", *names]), good()),
-        lambda: row(chosen([b"zz", b"f", b"+", b"<", b"Int", b"@a", b".b"]), good(), good()),
-        lambda: chosen(HEADS),
-        lambda: chosen([b"+", b"-", b"<=", b"zz", b"@p1", b""]),
-        lambda: row(symbol(b"not"), good(), good()),
-        lambda: row(chosen([b"xor", b"=>", b"=", b"distinct"]), good()),
-        lambda: row(symbol(b"ite"), *(good() for _ in range(random.choice([1, 2, 4, 5])))),
-        lambda: row(raw(b"let"), row(row(symbol(b"x"), good())), good()),
-        lambda: row(raw(b"!"), good(), raw(b":named"), symbol(b"n")),
-        lambda: row(raw(b"forall"), row(row(symbol(b"x"), symbol(b"Bool"))), good()),
-        lambda: row(chosen(HEADS), row(), bad_term(names)),
-        lambda: row(symbol(b"zz"), bad_term(names)),
-        lambda: row(symbol(b"and"), good(), bad_term(names)),
-        lambda: row(chosen(HEADS), good(), bad_term(names), bad_term(names)),
-    ]
-    return random.choice(kinds)()
-
-
-def bad_declaration(names):
-    """Makes a declaration with a wrong name, a wrong sort, or a wrong number of parts."""
-    known = random.choice([symbol(random.choice(BAD_NAMES + names)), raw(random.choice(RESERVED_WORDS))])
-    kinds = [
-        row(raw(b"declare-const"), known, raw(random.choice([b"Bool", b"Real", b"5"]))),
-        row(raw(b"declare-const"), symbol(random.choice(ODD_NAMES + names)), raw(random.choice(BAD_SORTS))),
-        row(
-            raw(b"declare-const"),
-            raw(random.choice([b"5", b'"s"', b":k", b"()", b"zz"])),
-            *[symbol(b"Bool")] * random.randint(0, 2),
-        ),
-    ]
-    return random.choice(kinds)
-
-
-def bad_command(names):
-    """Makes a command that is ill-formed, mostly, or ends the script."""
-
-    def several(counts):
-        return [a_term(names, 3, []) for _ in range(random.choice(counts))]
-
-    choice = random.randrange(24)
-    if choice < 8:
-        return row(raw(b"assert"), bad_term(names))
-    if choice < 11:
-        return bad_declaration(names)
-    if choice < 13:
-        return row(raw(random.choice(RESERVED_WORDS)), *several([0, 1, 2, 3]))
-    if choice == 13:
-        return row(raw(random.choice(HEADS_OF_LISTS)), *several([0, 1, 2]))
-    if choice == 14:
-        return row(raw(b"check-sat"), *several([1, 2]))
-    if choice == 15:
-        return row(raw(b"assert"), *several([0, 2, 3]))
-    if choice == 16:
-        return row(raw(b"exit"), *several([0, 1]))
-    if choice < 22:
-        return raw(random.choice(OTHER_COMMANDS))
-    return raw(random.choice(STRAY_TEXTS))
-
-
-def declaration(name):
-    """Makes the declaration of a constant."""
-    return row(raw(b"declare-const"), symbol(name), symbol(b"Bool"))
-
-
-def print_success(words):
-    """Makes the option that turns the answer `success` on or off."""
-    return row(raw(b"set-option"), raw(b":print-success"), symbol(random.choice(words)))
-
-
-def an_assertion(names, mode, pool):
-    """Makes an assertion: of a clause, of a deep term, or of any term."""
-    if mode < 0.3 and names:
-        asserted = a_clause(names)
-    elif mode < 0.36:
-        asserted = deep_term(names, random.randint(1, 60))
-    else:
-        asserted = a_term(names, random.choice([1, 2, 4, 8, 16, 30]), pool)
-    return row(raw(b"assert"), asserted)
-
-
-def a_script(bad_share):
-    """Makes a script in which about this share of the commands is ill-formed."""
-    count = random.randint(1, 5)
-    undeclared = random.sample(ODD_NAMES, count) if random.random() < 0.6 else PLAIN_NAMES[:count]
-    names = []
-    commands = []
-    pool = []
-    mode = random.random()
-    if random.random() < 0.6:
-        commands.append(print_success([b"true", b"false", b"false"]))
-    if random.random() < 0.7:
-        commands += map(declaration, undeclared)
-        names, undeclared = undeclared, []
-    for _ in range(random.randint(2, 14)):
+    def odd(self, size, bound):
+        """Makes what is mostly no term, or one of another sort."""
         choice = random.random()
-        if random.random() < bad_share:
-            commands.append(bad_command(names or [b"zz"]))
-        elif undeclared and choice < 0.35:
-            names = names + undeclared[:1]
-            commands.append(declaration(undeclared[0]))
-            undeclared = undeclared[1:]
-        elif choice < 0.78:
-            commands.append(an_assertion(names, mode, pool))
-        elif choice < 0.95:
-            commands.append(row(raw(b"check-sat")))
-        elif choice < 0.97:
-            commands.append(print_success([b"true", b"false"]))
+        if choice < 0.5:
+            return random.choice(ODD_TERMS)
+        if choice < 0.6:
+            return self.of_sort(random.choice([b"Bool", b"Real", b"U"]), size, bound)
+        front, end = random.choice(ODD_FRONTS)
+        return front + b" " + self.of_sort(random.choice([b"Bool", b"Real"]), size // 2, bound) + end
+
+    def declaration(self):
+        """Makes a declaration or a definition."""
+        choice = random.random()
+        if choice < 0.15:
+            name = one_of([b"U", b"V"], [b"Bool", b"let", b"@S", b"|Real|"], self.share)
+            self.sorts.append(name)
+            return b"(declare-sort " + name + b" " + one_of([b"0"], [b"1", b"0.0", b"x"], self.share / 4) + b")"
+        if choice < 0.22:
+            name = one_of([b"V", b"W"], ODD_NAMES, self.share)
+            self.sorts.append(name)
+            return b"(define-sort " + name + b" () " + self.sort() + b")"
+        name, result = self.name(), self.sort()
+        if choice < 0.5:
+            self.functions.setdefault(name, ([], result))
+            return b"(declare-const " + name + b" " + result + b")"
+        sorts = [self.sort() for _ in range(random.choice([0, 1, 1, 2]))]
+        if choice < 0.75:
+            self.functions.setdefault(name, (sorts, result))
+            return b"(declare-fun " + name + b" (" + b" ".join(sorts) + b") " + result + b")"
+        bound = {one_of([b"s%d" % k], ODD_NAMES + [b"s0"], self.share / 4): sort for k, sort in enumerate(sorts)}
+        parameters = b" ".join(b"(" + n + b" " + s + b")" for n, s in bound.items())
+        body = self.of_sort(result, random.choice([1, 3, 6]), bound)
+        self.functions.setdefault(name, (list(bound.values()), result))
+        return b"(define-fun " + name + b" (" + parameters + b") " + result + b" " + body + b")"
+
+    def command(self):
+        """Makes a command."""
+        choice = random.random()
+        if choice < 0.45:
+            return self.declaration()
+        if choice < 0.45 + self.share / 2:
+            return command_of_a_script()
+        if choice < 0.85:
+            return b"(assert " + self.of_sort(b"Bool", random.choice([1, 3, 6, 10]), {}) + b")"
+        if choice < 0.93:
+            return b"(check-sat)"
+        return random.choice(
+            [
+                b"(set-logic QF_UF)",
+                b"(set-logic QF_BV)",
+                b"(set-info :status sat)",
+                b"(set-option :produce-models true)",
+                b"(set-option :x y)",
+                b'(echo "a")',
+                b"(push 1)",
+                b"(assert p q)",
+            ]
+        )
+
+
+def an_arithmetic_script():
+    """Makes a script of assertions on numbers, nearly all of them well-formed."""
+    maker = Maker(0.03)
+    lines = []
+    for name in (b"x", b"y"):
+        maker.functions[name] = ([], b"Real")
+        lines.append(b"(declare-const " + name + b" Real)")
+    maker.functions[b"f"] = ([b"Real"], b"Real")
+    lines.append(b"(declare-fun f (Real) Real)")
+    lines.append(b"(define-fun g ((s0 Real)) Real " + maker.of_sort(b"Real", 5, {b"s0": b"Real"}) + b")")
+    maker.functions[b"g"] = ([b"Real"], b"Real")
+    for _ in range(random.randint(1, 3)):
+        sides = maker.of_sort(b"Real", random.choice([4, 8]), {}), maker.of_sort(b"Real", 4, {})
+        head = random.choice([b"<", b"<=", b"=", b">", b"distinct"])
+        lines.append(b"(assert (" + b" ".join([head, *sides]) + b"))")
+    return b"\n".join(lines) + b"\n"
+
+
+def a_script(share=0.5, count=None):
+    """Makes a script; the greater the share, the more is ill-formed."""
+    maker = Maker(share)
+    lines = [b"(set-option :print-success false)"] if random.random() < 0.5 else []
+    lines += [maker.declaration() for _ in range(random.randint(1, 4))]
+    lines += [maker.command() for _ in range(count or random.randint(2, 6))]
+    return b"\n".join(lines) + b"\n"
+
+
+def assertion_in_reach(maker, lines):
+    """Makes an assertion whose check is in reach, after the lines of a script."""
+    while True:
+        asserted = b"(assert %s)" % maker.of_sort(b"Bool", random.choice([1, 2, 4]), {})
+        if checks_of(read_script(b"\n".join([*lines, asserted, b"(check-sat)"]))[0]):
+            return asserted
+
+
+def a_session(share):
+    """Makes a script with checks at its end and before it; in half of those with ill-formed parts all are in reach.
+
+    The greater the share, the more of it is ill-formed.
+    """
+    if share and random.random() < 0.5:
+        return a_script(share)
+    maker, bools = Maker(0), Maker(0)
+    lines = [b"(set-option :print-success false)"] if random.random() < 0.5 else []
+    lines += [maker.declaration() for _ in range(random.randint(1, 6))]
+    bools.functions = {n: f for n, f in maker.functions.items() if f == ([], b"Bool")}
+    bools.sorts = maker.sorts
+    for _ in range(random.randint(2, 8)):
+        choice = random.random()
+        if choice < 0.5:
+            lines.append(assertion_in_reach(bools, lines))
         else:
-            commands.append(raw(b"(set-option :produce-models true)"))
-    commands.append(row(raw(b"check-sat")))
-    if random.random() < 0.2:
-        commands.append(row(raw(b"exit")))
-    between = [b"", b"\n", b"\n", separator()]
-    return seldom_separator() + b"".join(written(command) + random.choice(between) for command in commands)
-
-
-INSERTED = b"""( ) | " ; \\ \x00 \xff \x80 : . 0 1 @ ! _ { # ' , ` \x7f a () "" || (check-sat)""".split(b" ")
-INSERTED += [b"\t", b"\n", b"\r", b" ", b"\x0b", b"\x0c", b" let ", b" true "]
-PIECES = re.compile(rb'\|[^|]*\||"[^"]*"|[()]|[^\s()|"]+|\s+')
-
-
-def damage_pieces(text):
-    """Exchanges, copies or drops a piece of the text."""
-    pieces = PIECES.findall(text)
-    if b"".join(pieces) != text or len(pieces) < 2:
-        return text
-    one = random.randrange(len(pieces))
-    other = random.randrange(len(pieces))
-    choice = random.random()
-    if choice < 0.4:
-        pieces[one], pieces[other] = pieces[other], pieces[one]
-    elif choice < 0.7:
-        pieces[one] = pieces[other]
-    elif choice < 0.85:
-        del pieces[one]
-    else:
-        pieces.insert(one, pieces[other])
-    return b"".join(pieces)
-
-
-def damage_once(text):
-    """Changes the text, which is not empty, at one place."""
-    choice = random.random()
-    at = random.randrange(len(text))
-    if choice < 0.15:
-        return text[:at] + text[at + 1 :]
-    if choice < 0.22:
-        return text[:at] + text[at + random.randint(1, 8) :]
-    if choice < 0.40:
-        return text[:at] + random.choice(INSERTED) + text[at:]
-    if choice < 0.50:
-        return text[:at] + random.choice(INSERTED) + text[at + 1 :]
-    if choice < 0.55:
-        other = random.randrange(len(text))
-        changed = bytearray(text)
-        changed[at], changed[other] = changed[other], changed[at]
-        return bytes(changed)
-    if choice < 0.60:
-        return text[:at] + bytes([random.randrange(256)]) + text[at + 1 :]
-    if choice < 0.65:
-        places = [found.start() for found in re.finditer(rb"[()]", text)] or [at]
-        at = random.choice(places)
-        return text[:at] + text[at + 1 :]
-    if choice < 0.90:
-        return damage_pieces(text)
-    if choice < 0.95:
-        return text[:at]
-    end = min(len(text), at + random.randint(1, 30))
-    return text[:end] + text[at:end] + text[end:]
-
-
-def damaged(text, times=None):
-    """Changes the text at one place or several."""
-    for _ in range(times or random.choice([1, 1, 1, 2, 3, 5])):
-        if text:
-            text = damage_once(text)
-    return text
+            lines.append(b"(check-sat)" if choice < 0.8 else random.choice(OTHERS))
+    if random.random() < share:
+        lines.insert(random.randint(0, len(lines)), a_script(share).split(b"\n")[-2])
+    return b"\n".join([*lines, b"(check-sat)"]) + b"\n"

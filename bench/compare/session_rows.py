@@ -4,11 +4,11 @@ import random
 
 from antt import listed, lines_written, read, world_written, written
 from language import Check
-from language_session import answer_word, run_script
 from model_rows import definition_text
+from scripts import a_session
+from sessions import answer_word, run_script
 from truths import Tables
 from values import some_tables
-from whole_language import a_script
 
 LONGEST = 700
 HEAD = read("SessionRows.antt.txt")
@@ -48,7 +48,7 @@ def written_text(text):
 def row_of(seed):
     """Returns the statements of what both modes write for a script, with counts; or nothing where it is too long."""
     random.seed(seed)
-    script = a_script(random.choice([0, 0.1, 0.3]))
+    script = a_session(random.choice([0, 0.1, 0.3]))
     if len(script) > LONGEST:
         return None
     answers, _ = run_script(script)

@@ -1,4 +1,4 @@
-"""Foretells what `solve` writes for a script of the whole language, and judges what `certify` writes.
+"""Foretells what `solve` writes for a script, and judges what `certify` writes.
 
 It follows docs/FORMATS.md. A check is in reach where its assertions have constants of sort Bool and heads of theory
 Core alone; these are decided by truth tables. Every other check is refused, so what is left is foretold to the byte.
@@ -6,8 +6,8 @@ Core alone; these are decided by truth tables. Every other check is refused, so 
 
 from fractions import Fraction
 
+from judging import Judge
 from language import BOOL, REAL, Check, read_script
-from language_proofs import Judge
 from printed_proofs import Wrong, printed, proof_end
 from reading import Fault, printed_name, read_one
 from values import Values
