@@ -4,8 +4,8 @@ use Rattle.std.proofs.lemmas.Bool.{cases_lt}
 use Rattle.std.proofs.lemmas.List.{length-append, append-nil, append_assoc, map-append, get_or_append_left, get_or-append-add, take-append-le}
 use Rattle.std.proofs.Math.Seq.{take-append-add}
 use Rattle.term_core.specs.declared.ids.Lit.{Lit}
-use Rattle.rule_bool.specs.Literals.{lit_complement}
-use Rattle.rule_bool.specs.Statuses.{IsUnit}
+use Rattle.clause_literals.specs.Literals.{lit_complement}
+use Rattle.clause_literals.specs.Statuses.{IsUnit}
 use Rattle.proof_log.specs.declared.premises.StepId.{StepId}
 use Rattle.sat_trail.specs.Trails.{TrailView, no_lit, IsPushed}
 use Rattle.clause_store.specs.Stores.{StoreView, no_step}

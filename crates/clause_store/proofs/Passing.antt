@@ -4,9 +4,9 @@ use Rattle.std.specs.Prelude.{Some}
 use Rattle.std.proofs.lemmas.List.{length-append, length_push}
 use Rattle.std.proofs.lemmas.List.Elements.{Contains-push_cases}
 use Rattle.term_core.specs.declared.ids.Lit.{Lit}
-use Rattle.rule_bool.specs.Statuses.{IsFalsified, IsUnit, IsSettled}
-use Rattle.rule_bool.specs.declared.status.ClauseStatus.{ClauseStatus}
-use Rattle.rule_bool.specs.declared.status.ClauseStatus.TheVariants as statuses
+use Rattle.clause_literals.specs.Statuses.{IsFalsified, IsUnit, IsSettled}
+use Rattle.clause_literals.specs.declared.status.ClauseStatus.{ClauseStatus}
+use Rattle.clause_literals.specs.declared.status.ClauseStatus.TheVariants as statuses
 use Rattle.proof_log.specs.declared.premises.StepId.{StepId}
 use Rattle.sat_trail.specs.Trails.{TrailView, IsPushed}
 use Rattle.clause_store.specs.Stores.{StoreView, no_step}

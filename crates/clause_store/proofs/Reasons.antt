@@ -6,9 +6,9 @@ use Rattle.std.proofs.lemmas.List.Elements.{All-push}
 use Rattle.std.proofs.Math.Seq.{take-append-add}
 use Rattle.term_core.specs.declared.ids.Lit.{Lit}
 use Rattle.term_core.specs.Tables.{TableView}
-use Rattle.rule_bool.specs.Literals.{lit_complement, IsConsistent}
-use Rattle.rule_bool.specs.Statuses.{IsFalsified, IsUnit, IsSettled}
-use Rattle.rule_bool.proofs.LiteralLists.{decide}
+use Rattle.clause_literals.specs.Literals.{lit_complement, IsConsistent}
+use Rattle.clause_literals.specs.Statuses.{IsFalsified, IsUnit, IsSettled}
+use Rattle.clause_literals.proofs.LiteralLists.{decide}
 use Rattle.proof_log.specs.declared.premises.StepId.{StepId}
 use Rattle.proof_log.specs.Logs.{Logged}
 use Rattle.sat_trail.specs.Trails.{TrailView, no_lit, HasSame, IsPushed, IsCutTo}

@@ -1,8 +1,8 @@
 -- What propagation does to a trail, and what it comes to.
 use Rattle.std.specs.Prelude.{◌≡◌, ◌≢◌, ◌<◌, ℕ, List, [], ◌++◌, length, map, take, get_or, Contains, Option, Some, None}
 use Rattle.term_core.specs.declared.ids.Lit.{Lit}
-use Rattle.rule_bool.specs.Literals.{lit_complement}
-use Rattle.rule_bool.specs.Statuses.{IsFalsified, IsSettled}
+use Rattle.clause_literals.specs.Literals.{lit_complement}
+use Rattle.clause_literals.specs.Statuses.{IsFalsified, IsSettled}
 use Rattle.proof_log.specs.declared.premises.StepId.{StepId}
 use Rattle.sat_trail.specs.Trails.{TrailView, no_lit}
 use Rattle.clause_store.specs.Stores.{StoreView, no_step}

@@ -1,9 +1,9 @@
 -- Passes over all clauses.
 use Rattle.std.specs.Prelude.{◌≡◌, ◌<◌, List, length, Some}
 use Rattle.term_core.specs.declared.ids.Lit.{Lit}
-use Rattle.rule_bool.specs.Statuses.{IsFalsified, IsUnit, IsSettled}
-use Rattle.rule_bool.specs.declared.status.ClauseStatus.{ClauseStatus}
-use Rattle.rule_bool.specs.declared.status.ClauseStatus.TheVariants as statuses
+use Rattle.clause_literals.specs.Statuses.{IsFalsified, IsUnit, IsSettled}
+use Rattle.clause_literals.specs.declared.status.ClauseStatus.{ClauseStatus}
+use Rattle.clause_literals.specs.declared.status.ClauseStatus.TheVariants as statuses
 use Rattle.proof_log.specs.declared.premises.StepId.{StepId}
 use Rattle.sat_trail.specs.Trails.{TrailView, IsPushed}
 use Rattle.clause_store.specs.Stores.{StoreView}

@@ -3,8 +3,8 @@
 ghost use Rattle.std.specs.Prelude.{◌≡◌, ℕ, ◌≤◌, length, List, Option, None, Contains};
 ghost use Rattle.term_core.specs.Tables.{TableView};
 ghost use Rattle.term_core.specs.declared.ids.Lit.{Lit};
-ghost use Rattle.rule_bool.specs.Literals.{IsConsistent};
-ghost use Rattle.rule_bool.specs.Statuses.{IsFalsified, IsUnit};
+ghost use Rattle.clause_literals.specs.Literals.{IsConsistent};
+ghost use Rattle.clause_literals.specs.Statuses.{IsFalsified, IsUnit};
 ghost use Rattle.proof_log.specs.declared.premises.StepId.{StepId};
 ghost use Rattle.proof_log.specs.Logs.{Logged};
 ghost use Rattle.sat_trail.specs.Trails.{TrailView, empty as no_trail, HasSame, IsPushed, IsCutTo};

@@ -6,8 +6,8 @@ ghost use Rattle.clause_store.specs.Scanning.{TakesUp, Passes};
 
 use crate::status::clause_status;
 use crate::store::ClauseStore;
+use clause_literals::ClauseStatus;
 use proof_log::StepId;
-use rule_bool::ClauseStatus;
 use sat_trail::SatTrail;
 use term_core::Lit;
 

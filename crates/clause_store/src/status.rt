@@ -2,10 +2,10 @@
 
 ghost use Rattle.std.specs.Prelude.{◌<◌, ◌++◌, ◌∷◌, [], List, All};
 ghost use Rattle.term_core.specs.declared.ids.Lit.{Lit as Literal};
-ghost use Rattle.rule_bool.specs.Statuses.{HasStatus};
+ghost use Rattle.clause_literals.specs.Statuses.{HasStatus};
 ghost use Rattle.sat_trail.specs.Trails.{IsUnassigned};
 
-use rule_bool::{ClauseStatus, same};
+use clause_literals::{ClauseStatus, same};
 use sat_trail::SatTrail;
 use term_core::Lit;
 

@@ -5,8 +5,8 @@ ghost use Rattle.proof_log.specs.Logs.{IsLogOf};
 ghost use Rattle.clause_store.specs.Stores.{StoreView, empty, no_step, IsAdded};
 
 use crate::entry::Entry;
+use clause_literals::literals_of;
 use proof_log::{ProofLog, StepId};
-use rule_bool::literals_of;
 use std::alloc::Global;
 use std::marker::Model;
 use term_core::{Lit, TermTable};

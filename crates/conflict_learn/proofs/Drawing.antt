@@ -4,8 +4,8 @@ use Rattle.std.proofs.lemmas.Bool.{cases_lt}
 use Rattle.std.proofs.lemmas.List.Elements.{Contains-push, Contains-push_cases, Contains-append_left}
 use Rattle.spec_text.proofs.Members.{first, only}
 use Rattle.term_core.specs.declared.ids.Lit.{Lit}
-use Rattle.rule_bool.specs.Literals.{lit_complement}
-use Rattle.rule_bool.proofs.LiteralLists.{negation_twice}
+use Rattle.clause_literals.specs.Literals.{lit_complement}
+use Rattle.clause_literals.proofs.LiteralLists.{negation_twice}
 use Rattle.sat_trail.specs.Trails.{TrailView, no_lit, AreApart, IsLeveled}
 use Rattle.conflict_learn.specs.Conflicts.{IsFalseAt}
 use Rattle.conflict_learn.specs.Learned.{HasOneAt}

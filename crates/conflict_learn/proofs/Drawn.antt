@@ -13,9 +13,9 @@ use Rattle.term_core.specs.declared.ids.TermId.{TermId}
 use Rattle.term_core.specs.declared.ids.Lit.{Lit}
 use Rattle.term_core.specs.Tables.{TableView, IsIn, AreDifferent, term_at, literal_at, clause_at, positive_literal, Extends}
 use Rattle.term_core.proofs.TermsExtend.{IsIn-kept, literal_at-kept}
-use Rattle.rule_bool.specs.Literals.{lit_complement}
-use Rattle.rule_bool.specs.Literals.{Means}
-use Rattle.rule_bool.proofs.Resolvents.{literals_apart}
+use Rattle.clause_literals.specs.Literals.{lit_complement}
+use Rattle.clause_literals.specs.Literals.{Means}
+use Rattle.clause_literals.proofs.TableLiterals.{literals_apart}
 use Rattle.proof_log.specs.declared.premises.StepId.{StepId}
 use Rattle.proof_log.specs.Logs.{IsLogOf, IsFormulaIn, Logged, stepped, numbers_of, inference_of, derivation_in}
 use Rattle.proof_log.specs.Adding.{IsAdded}

@@ -6,7 +6,7 @@ use Rattle.std.proofs.lemmas.List.Elements.{All-nil, All-push, Contains-push, Co
 use Rattle.spec_text.proofs.Members.{first, only}
 use Rattle.spec_sorts.specs.Literals.{Literal}
 use Rattle.term_core.specs.declared.ids.Lit.{Lit}
-use Rattle.rule_bool.specs.Literals.{lit_complement}
+use Rattle.clause_literals.specs.Literals.{lit_complement}
 use Rattle.proof_log.specs.declared.premises.StepId.{StepId}
 use Rattle.sat_trail.specs.Trails.{no_lit, AreApart}
 use Rattle.conflict_learn.specs.Conflicts.{Conflict, step_of, literals_in, HasLit, IsClash, IsReason, AreReasons, IsNeeded, by_clash, by_reason}

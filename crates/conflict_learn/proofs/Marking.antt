@@ -6,7 +6,7 @@ use Rattle.spec_text.proofs.Members.{none}
 use Rattle.spec_sorts.specs.Literals.{Literal}
 use Rattle.term_core.specs.declared.ids.Lit.{Lit}
 use Rattle.term_core.specs.Tables.{TableView, IsIn, AreDifferent, literal_at}
-use Rattle.rule_bool.proofs.Resolvents.{literals_apart}
+use Rattle.clause_literals.proofs.TableLiterals.{literals_apart}
 use Rattle.sat_trail.specs.Trails.{TrailView, AreApart}
 use Rattle.conflict_learn.specs.Conflicts.{Conflict, literals_in, IsFalseAt, IsConflictLevel}
 use Rattle.conflict_learn.specs.Analyses.{IsGreatestOf, IsMarked, Marks}

@@ -5,8 +5,8 @@ use Rattle.spec_sorts.specs.Literals.{Literal, complement}
 use Rattle.spec_proofs.specs.Resolution.{Derives, given, unit, false_clause, Resolves}
 use Rattle.term_core.specs.declared.ids.Lit.{Lit}
 use Rattle.term_core.specs.Tables.{IsIn, literal_at}
-use Rattle.rule_bool.specs.Literals.{lit_complement}
-use Rattle.rule_bool.proofs.LiteralLists.{negation_twice}
+use Rattle.clause_literals.specs.Literals.{lit_complement}
+use Rattle.clause_literals.proofs.LiteralLists.{negation_twice}
 use Rattle.proof_log.specs.declared.premises.StepId.{StepId}
 use Rattle.proof_log.specs.Logs.{named, no_logged, logged_at, IsLogOf}
 use Rattle.sat_trail.specs.Trails.{no_lit, AreApart, IsLeveled}

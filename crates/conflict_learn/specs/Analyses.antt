@@ -5,7 +5,7 @@ use Rattle.spec_sorts.specs.Literals.{Literal, literal_of, literals_of}
 use Rattle.term_core.specs.declared.ids.TermId.{TermId}
 use Rattle.term_core.specs.declared.ids.Lit.{Lit}
 use Rattle.term_core.specs.Tables.{TableView, IsIn, term_at, literal_at, clause_at, positive_literal}
-use Rattle.rule_bool.specs.Literals.{lit_complement}
+use Rattle.clause_literals.specs.Literals.{lit_complement}
 use Rattle.proof_log.specs.declared.premises.StepId.{StepId}
 use Rattle.proof_log.specs.Logs.{AreOf, IsFormulaIn, AreFormulasIn}
 use Rattle.sat_trail.specs.Trails.{TrailView, no_lit}

@@ -3,7 +3,7 @@ use Rattle.std.specs.Prelude.{◌≡◌, ◌≢◌, ◌⊎◌, ◌<◌, ◌≤�
 use Rattle.spec_sorts.specs.Literals.{Literal, literals_of}
 use Rattle.term_core.specs.declared.ids.Lit.{Lit}
 use Rattle.term_core.specs.Tables.{TableView, IsIn, clause_at, literal_at}
-use Rattle.rule_bool.specs.Literals.{lit_complement}
+use Rattle.clause_literals.specs.Literals.{lit_complement}
 use Rattle.proof_log.specs.declared.premises.StepId.{StepId}
 use Rattle.proof_log.specs.Logs.{Logged, named, logged_at}
 use Rattle.sat_trail.specs.Trails.{TrailView, no_lit}

@@ -5,7 +5,7 @@ use Rattle.world_io.specs.declared.bytes.NoMemory.{NoMemory}
 use Rattle.term_core.specs.declared.ids.TermId.{TermId}
 use Rattle.term_core.specs.declared.ids.Lit.{Lit}
 use Rattle.term_core.specs.Tables.{TableView, clause_at}
-use Rattle.rule_bool.specs.Literals.{Means}
+use Rattle.clause_literals.specs.Literals.{Means}
 use Rattle.proof_log.specs.declared.premises.StepId.{StepId}
 use Rattle.proof_log.specs.Logs.{Logged, stepped, IsLogOf}
 use Rattle.sat_trail.specs.Trails.{TrailView}

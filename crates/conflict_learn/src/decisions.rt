@@ -1,11 +1,11 @@
 //! The clause that is drawn from what a conflict rests on.
 
 ghost use Rattle.std.specs.Prelude.{◌≡◌, ◌<◌, ◌+◌, length, MatchOption, OnOk, IfOk};
-ghost use Rattle.rule_bool.specs.Literals.{lit_complement};
+ghost use Rattle.clause_literals.specs.Literals.{lit_complement};
 ghost use Rattle.term_core.specs.declared.ids.Lit.{Lit as Literal};
 ghost use Rattle.conflict_learn.specs.Analyses.{HasNone, IsOldest, HasDrawn};
 
-use rule_bool::negated;
+use clause_literals::negated;
 use sat_trail::SatTrail;
 use std::alloc::Global;
 use term_core::Lit;

@@ -10,7 +10,7 @@ use Rattle.spec_sorts.specs.Literals.{Clause}
 use Rattle.spec_rules.specs.Schemes.{signed}
 use Rattle.term_core.specs.declared.ids.TermId.{TermId}
 use Rattle.term_core.specs.Tables.{TableView, term_at, IsIn, AreIn, AreDifferent, clause_at}
-use Rattle.rule_bool.specs.Schemes.{IsSigned, HasNoSign}
+use Rattle.clause_literals.specs.Polarities.{IsSigned, HasNoSign}
 
 -- terms are one where they are with a sign
 pub signed_apart : (p : Bool) (t u : Term) → signed p t ≡ signed p u → t ≡ u

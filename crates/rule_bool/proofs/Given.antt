@@ -19,7 +19,8 @@ use Rattle.term_core.specs.declared.nodes.Node.{Node}
 use Rattle.term_core.specs.contracts.nodes.HeadPartialEq.TheImpl.{ghosts as head_ghosts}
 use Rattle.term_core.proofs.NodesSame.{same_node, node_same}
 use Rattle.term_core.specs.Tables.{TableView, term_at, IsIn, AreIn, clause_at, head_meant, takes, Shape, shape_term, Fits}
-use Rattle.rule_bool.specs.Schemes.{scheme_meant, IsSigned, HasNoSign, HasNoTurn, IsStating, IsTurning, GivesRest}
+use Rattle.clause_literals.specs.Polarities.{IsSigned, HasNoSign, HasNoTurn}
+use Rattle.rule_bool.specs.Schemes.{scheme_meant, IsStating, IsTurning, GivesRest}
 use Rattle.rule_bool.proofs.Behind.{signed_apart}
 
 -- a head before arguments of sort Bool that it takes

@@ -1,25 +1,19 @@
 -- Literals of terms by number: resolution of the numbers is that of the terms.
-use Rattle.std.proofs.Common.{◌≡◌, ℕ, ◌+◌, ◌<◌, Bool, List, [], ◌∷◌, ◌++◌, map, length, get_or, take, All, sym, ap, ◌∙◌, subst, refl}
+use Rattle.std.proofs.Common.{◌≡◌, ℕ, ◌+◌, ◌<◌, List, [], ◌∷◌, ◌++◌, map, length, get_or, take, All, sym, ap, ◌∙◌, subst, refl}
 use Rattle.std.specs.Prelude.{Vec}
 use Rattle.std.specs.declared.alloc.Global.{Global}
 use Rattle.std.proofs.lemmas.List.{map-append, map_more}
 use Rattle.std.proofs.lemmas.List.Elements.{All-contains, All-push}
-use Rattle.spec_sorts.specs.Literals.{Clause, Literal, complement, literal_of, literals_of}
+use Rattle.spec_sorts.specs.Literals.{Clause, Literal, complement, literals_of}
 use Rattle.spec_proofs.specs.Resolution.{Resolves}
 use Rattle.spec_rules.specs.Clauses.{IsResolvent}
 use Rattle.term_core.specs.declared.ids.TermId.{TermId}
 use Rattle.term_core.specs.declared.ids.Lit.{Lit}
-use Rattle.term_core.specs.Tables.{TableView, term_at, IsIn, AreDifferent, literal_at, clause_at}
-use Rattle.rule_bool.specs.Literals.{lit_complement, lists, AreOf, Means}
+use Rattle.term_core.specs.Tables.{TableView, IsIn, AreDifferent, literal_at, clause_at}
+use Rattle.clause_literals.specs.Literals.{lit_complement, lists, AreOf, Means}
+use Rattle.clause_literals.proofs.TableLiterals.{literals_apart}
 use Rattle.rule_bool.specs.Resolvents.{MeansEach}
 use Rattle.rule_bool.proofs.Transport.{resolves_there, resolves_back}
-
--- different literals of the table mean different ones
-pub literals_apart : (t : TableView) → AreDifferent t.terms → (l m : Lit) → IsIn t l.term → IsIn t m.term → literal_at t l ≡ literal_at t m → l ≡ m
-literals_apart t differ l m l_in m_in e =
-    let make : ℕ → Bool → Lit = λ n p. record { term = record { 0 = n }; positive = p } in
-    let numbers = differ l.term.0 m.term.0 l_in m_in (ap (λ (x : Literal). x.atom) e) in
-    λ j. make (numbers j) (ap (λ (x : Literal). x.positive) e j)
 
 module _ (t : TableView) (differ : AreDifferent t.terms) (ps : List (List Lit)) (c : List Lit) (premises : List Clause) (clause : Clause) (each : MeansEach t ps premises) (one : Means t c clause) where
   -- resolution of the literals is that of the terms
@@ -35,15 +29,6 @@ module _ (t : TableView) (differ : AreDifferent t.terms) (ps : List (List Lit)) 
       (λ l l_in. All-contains (λ m. IsIn t m.term) c l one.there l_in)
       (subst (λ (qs : List (List Literal)). Resolves complement qs (map (literal_at t) c)) (sym each.same)
       (subst (λ (d : List Literal). Resolves complement (map literals_of premises) d) (sym one.same) r))
-
--- a clause with one more literal
-pub means_more : (t : TableView) (ids : List TermId) (i : ℕ) (d : TermId) (ls new : List Lit) (l : Lit) → i < length ids → new ≡ ls ++ l ∷ []
-    → literal_at t l ≡ literal_of (term_at t (get_or ids i d)) → IsIn t l.term → Means t ls (clause_at t (take i ids)) → Means t new (clause_at t (take (i + 1) ids))
-means_more t ids i d ls new l lt n e l_in h = record {
-  same = ap (map (literal_at t)) n ∙ map-append (literal_at t) ls (l ∷ []) ∙ (λ j. h.same j ++ e j ∷ [])
-      ∙ sym (map-append literal_of (clause_at t (take i ids)) (term_at t (get_or ids i d) ∷ [])) ∙ sym (ap literals_of (map_more (term_at t) ids i d lt));
-  there = subst (λ (xs : List Lit). AreOf t xs) (sym n) (All-push (λ m. IsIn t m.term) ls l h.there l_in);
-}
 
 -- a list of clauses with one more
 pub means_each_more : (t : TableView) (ps : List (List TermId)) (i : ℕ) (d p : List TermId) (vs new : List (Vec Lit Global)) (v : Vec Lit Global) → i < length ps → p ≡ get_or ps i d

@@ -3,7 +3,7 @@ use Rattle.std.specs.Prelude.{◌≡◌, List, map, All}
 use Rattle.spec_sorts.specs.Literals.{Clause, literals_of}
 use Rattle.term_core.specs.declared.ids.Lit.{Lit}
 use Rattle.term_core.specs.Tables.{TableView, literal_at}
-use Rattle.rule_bool.specs.Literals.{AreOf}
+use Rattle.clause_literals.specs.Literals.{AreOf}
 use Rattle.rule_bool.specs.declared.rule_stop.RuleStop.{RuleStop}
 use Rattle.rule_bool.specs.declared.rule_stop.RuleStop.TheVariants.{Fails, Wide, Memory}
 

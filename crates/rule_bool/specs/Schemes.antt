@@ -1,18 +1,18 @@
 -- What a term gives by a scheme, over numbers of the table.
-use Rattle.std.specs.Prelude.{◌≡◌, ◌<◌, ℕ, Bool, true, List, map, Contains, Result, MatchBool, MatchResult}
+use Rattle.std.specs.Prelude.{◌≡◌, ◌<◌, ℕ, Bool, true, List, map, Contains, Result, MatchResult}
 use Rattle.spec_text.specs.Trees.{Trees}
-use Rattle.spec_sorts.specs.Terms.{Head, Term, negated}
+use Rattle.spec_sorts.specs.Terms.{Head, Term}
 use Rattle.spec_sorts.specs.Subsets.{arguments_of}
 use Rattle.spec_sorts.specs.Literals.{Clause}
 use Rattle.spec_proofs.specs.declared.Rule.{Rule}
 use Rattle.spec_proofs.specs.declared.Rest.{Rest}
 use Rattle.spec_proofs.specs.declared.Rest.TheVariants.{One, Two}
-use Rattle.spec_rules.specs.Schemes.{Scheme, Kind, states, turns, signed, rests_of, is_formula_of, kind_of}
-use Rattle.spec_rules.specs.Rules.{flipped, IsRight, IsWide}
+use Rattle.spec_rules.specs.Schemes.{Scheme, Kind, states, turns, rests_of, is_formula_of, kind_of}
+use Rattle.spec_rules.specs.Rules.{IsRight, IsWide}
 use Rattle.term_core.specs.declared.ids.TermId.{TermId}
 use Rattle.term_core.specs.declared.nodes.Head.{Head as NodeHead}
 use Rattle.term_core.specs.declared.nodes.Head.TheVariants as heads
-use Rattle.term_core.specs.Tables.{TableView, IsIn, term_at, clause_at, head_meant}
+use Rattle.term_core.specs.Tables.{TableView, clause_at, head_meant}
 use Rattle.term_core.specs.declared.rule_fails.RuleFails.{RuleFails}
 use Rattle.rule_bool.specs.declared.rule_stop.RuleStop.{RuleStop}
 use Rattle.rule_bool.specs.declared.scheme_table.Scheme.{Scheme as CodeScheme}
@@ -25,21 +25,6 @@ scheme_meant table head positive rest = record { head = head_meant table head; p
 -- the scheme that the code's means in a table
 abbrev pub scheme_seen : TableView → CodeScheme → Scheme
 scheme_seen table s = scheme_meant table s.head s.positive s.rest
-
--- The term is that of a number, as it stands or negated.
-pub record IsSigned (table : TableView) (positive : Bool) (t : Term) (id : TermId) : Type 0 where
-  -- the number is one of the table's
-  pub there : IsIn table id
-  -- its term, so meant, is the term
-  pub same : t ≡ signed positive (term_at table id)
-
--- the term is none as it stands, or none negated
-abbrev pub HasNoSign : Bool → Term → Type 0
-HasNoSign positive t = (u : Term) → t ≡ signed positive u → ⊥
-
--- the term, flipped, is none as it stands, or none negated, but for a negation
-abbrev pub HasNoTurn : Bool → Term → Type 0
-HasNoTurn positive t = (u : Term) → flipped t ≡ signed positive u → u ≡ negated t
 
 -- the least number of arguments that a head takes
 abbrev pub arity : NodeHead → ℕ
@@ -80,10 +65,6 @@ pub record GivesRest (head : Head) (rest : Rest) (t : Term) (behind : Clause) : 
   pub formula : is_formula_of head t ≡ true
   -- the literals are as its arguments say
   pub by_arguments : Contains (rests_of rest (arguments_of t)) behind
-
--- a test says yes exactly where the statement is so
-abbrev pub Tests : Type 0 → Bool → Type 0
-Tests P b = MatchBool b P (P → ⊥)
 
 -- the terms of numbers may stand after a term of these arguments
 abbrev pub HasRest : TableView → Rest → List TermId → List TermId → Type 0

@@ -6,29 +6,22 @@
 //! for all terms.
 //!
 //! Which clauses a rule states of a term says one table, `scheme_of`: the term has the scheme's head before arguments of sort Bool. By
-//! the same schemes go the rules that turn the first term into a premise. `resolution` makes literals of the terms, over which `resolves` propagates units in time in proportion to them.
+//! the same schemes go the rules that turn the first term into a premise. `resolution` makes literals of the terms, over which `resolves`
+//! of `clause_literals` propagates units.
 #![tactic(auto)]
 
 mod and_or_rules;
 mod arguments;
-mod assignment;
 mod by_rule;
-mod distinct;
 mod equiv_rules;
 mod implies_rules;
 mod ite_rules;
-mod literals;
-mod occurrences;
-mod polarity;
-mod propagation;
 mod resolvent;
 mod rests;
 mod rule_stop;
 mod rules;
-mod scan;
 mod scheme_table;
 mod schemes;
-mod status;
 mod truth_rules;
 mod within;
 mod xor_rules;
@@ -37,7 +30,6 @@ pub use and_or_rules::{
     rule_and, rule_and_neg, rule_and_pos, rule_not_and, rule_not_or, rule_or_neg, rule_or_pos,
 };
 pub use arguments::ArgumentTexts;
-pub use assignment::Assignment;
 pub use by_rule::judge;
 pub use equiv_rules::{
     rule_equiv_neg1, rule_equiv_neg2, rule_equiv_pos1, rule_equiv_pos2, rule_equiv1, rule_equiv2,
@@ -51,15 +43,12 @@ pub use ite_rules::{
     rule_ite_neg1, rule_ite_neg2, rule_ite_pos1, rule_ite_pos2, rule_ite1, rule_ite2,
     rule_not_ite1, rule_not_ite2,
 };
-pub use literals::{literals_of, negated, same};
-pub use propagation::resolves;
 pub use resolvent::resolution;
 pub use rule_stop::RuleStop;
 pub use rules::{rule_contraction, rule_or, rule_reordering, rule_weakening};
 pub use scheme_table::{Scheme, scheme_of};
 pub use schemes::are_formulas;
-pub use status::{ClauseStatus, clause_status};
-pub use term_core::{Lit, TermId};
+pub use term_core::TermId;
 pub use truth_rules::{rule_false, rule_not_not, rule_true};
 pub use xor_rules::{
     rule_not_xor1, rule_not_xor2, rule_xor_neg1, rule_xor_neg2, rule_xor_pos1, rule_xor_pos2,

@@ -3,12 +3,11 @@
 ghost use Rattle.std.specs.Prelude.{map, IfOk, All, MatchResult};
 ghost use Rattle.spec_rules.specs.Clauses.{IsResolvent};
 ghost use Rattle.term_core.specs.Tables.{AreIn, clause_at};
-ghost use Rattle.rule_bool.specs.Literals.{lists};
+ghost use Rattle.clause_literals.specs.Literals.{lists};
 ghost use Rattle.rule_bool.specs.Resolvents.{MeansEach, Stops};
 
-use crate::literals::literals_of;
-use crate::propagation::resolves;
 use crate::rule_stop::RuleStop;
+use clause_literals::{literals_of, resolves};
 use std::alloc::{AllocError, Global};
 use term_core::{Clause, Lit, TermId, TermTable};
 

@@ -4,10 +4,11 @@ ghost use Rattle.std.specs.Prelude.{◌≡◌, ◌<◌, length};
 ghost use Rattle.spec_rules.specs.Schemes.{side_of};
 ghost use Rattle.spec_proofs.specs.declared.Rest.TheVariants as rests;
 ghost use Rattle.term_core.specs.Tables.{IsIn, AreIn, term_at, clause_at};
-ghost use Rattle.rule_bool.specs.Schemes.{HasPlaces, HasRest, Tests};
+ghost use Rattle.clause_literals.specs.Literals.{Tests};
+ghost use Rattle.rule_bool.specs.Schemes.{HasPlaces, HasRest};
 
-use crate::polarity::without_sign;
 use crate::within::{alone, has_number, same_number};
+use clause_literals::without_sign;
 use spec_proofs::{Rest, Side};
 use term_core::{TermId, TermTable};
 

@@ -5,12 +5,13 @@ ghost use Rattle.spec_sorts.specs.Terms.{Truth, sort_of, all_same};
 ghost use Rattle.spec_rules.specs.Rules.{IsStated, IsTurned};
 ghost use Rattle.term_core.specs.declared.ids.TermId.{TermId as Number};
 ghost use Rattle.term_core.specs.Tables.{IsIn, AreIn, term_at, clause_at, head_meant};
-ghost use Rattle.rule_bool.specs.Schemes.{scheme_seen, IsStating, IsTurning, GivesRest, HasScheme, IsExact, Judges, Tests};
+ghost use Rattle.clause_literals.specs.Literals.{Tests};
+ghost use Rattle.rule_bool.specs.Schemes.{scheme_seen, IsStating, IsTurning, GivesRest, HasScheme, IsExact, Judges};
 
-use crate::polarity::{turned_without_sign, without_sign};
 use crate::rests::has_rest;
 use crate::scheme_table::{Scheme, scheme_of, turned_scheme_of};
 use crate::within::alone;
+use clause_literals::{turned_without_sign, without_sign};
 use spec_proofs::{Rest, Rule};
 use term_core::{Clause, Head, Node, RuleFails, Sort, TermId, TermTable};
 

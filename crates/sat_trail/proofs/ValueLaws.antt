@@ -10,7 +10,7 @@ use Rattle.std.proofs.lemmas.Map.Steps.{length-le_from_distinct_below}
 use Rattle.std.proofs.lemmas.Map.Made.{IsDistinct-from_AllPairs, is_member-Decides}
 use Rattle.term_core.specs.declared.ids.TermId.{TermId}
 use Rattle.term_core.specs.declared.ids.Lit.{Lit}
-use Rattle.rule_bool.specs.Literals.{lit_complement}
+use Rattle.clause_literals.specs.Literals.{lit_complement}
 use Rattle.sat_trail.specs.Trails.{no_lit, AreApart, IsUnassigned, HasValue}
 use Rattle.sat_trail.specs.Values.{HasValues}
 use Rattle.sat_trail.specs.Kept.{by_variable}

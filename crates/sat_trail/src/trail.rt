@@ -1,7 +1,7 @@
 //! Literals with values, levels and reasons by variable.
 
 ghost use Rattle.std.specs.Prelude.{◌≡◌, ℕ, ◌+◌, ◌^◌, ◌<◌, ◌≤◌, length, take, All, OnOk, OnErr, None, Some, get_or, vec_capacity};
-ghost use Rattle.rule_bool.specs.Literals.{IsConsistent};
+ghost use Rattle.clause_literals.specs.Literals.{IsConsistent};
 ghost use Rattle.sat_trail.specs.Trails.{TrailView, empty, no_lit, AreApart, IsUnassigned, HasValue, HasSame, IsPushed, IsCutTo, IsLeveled};
 ghost use Rattle.sat_trail.specs.Values.{HasValues};
 

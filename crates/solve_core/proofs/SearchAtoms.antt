@@ -11,9 +11,9 @@ use Rattle.spec_derivations.specs.Base.{clauses_of, base_clauses}
 use Rattle.spec_derivations.specs.Spent.{IsAtomOf, subterm as by_subterm}
 use Rattle.term_core.specs.declared.ids.Lit.{Lit}
 use Rattle.term_core.specs.Tables.{TableView, IsIn, AreDifferent, term_at, literal_at}
-use Rattle.rule_bool.specs.Literals.{lit_complement}
-use Rattle.rule_bool.specs.Statuses.{IsSettled}
-use Rattle.rule_bool.proofs.Resolvents.{literals_apart}
+use Rattle.clause_literals.specs.Literals.{lit_complement}
+use Rattle.clause_literals.specs.Statuses.{IsSettled}
+use Rattle.clause_literals.proofs.TableLiterals.{literals_apart}
 use Rattle.clause_store.specs.Propagating.{IsQuiet}
 
 -- a clause of a subterm is one of the base clauses

@@ -17,7 +17,7 @@ use Rattle.term_core.specs.declared.ids.TermId.{TermId}
 use Rattle.term_core.specs.declared.ids.Lit.{Lit}
 use Rattle.term_core.specs.Tables.{TableView, term_at, literal_at, clause_at}
 use Rattle.term_core.proofs.TermsExtend.{clause_at-kept}
-use Rattle.rule_bool.specs.Literals.{AreOf}
+use Rattle.clause_literals.specs.Literals.{AreOf}
 use Rattle.proof_log.specs.declared.premises.StepId.{StepId}
 use Rattle.proof_log.specs.Logs.{Logged, assumed, stepped, inference_of, derivation_in}
 use Rattle.proof_log.proofs.Logged.{conclusion_there}

@@ -16,8 +16,8 @@ use Rattle.spec_derivations.proofs.Propagated.{propagated}
 use Rattle.term_core.specs.declared.ids.TermId.{TermId}
 use Rattle.term_core.specs.declared.ids.Lit.{Lit}
 use Rattle.term_core.specs.Tables.{TableView, IsIn, AreDifferent, term_at, literal_at, positive_literal}
-use Rattle.rule_bool.specs.Literals.{lit_complement, IsConsistent}
-use Rattle.rule_bool.proofs.LiteralLists.{negation_twice}
+use Rattle.clause_literals.specs.Literals.{lit_complement, IsConsistent}
+use Rattle.clause_literals.proofs.LiteralLists.{negation_twice}
 use Rattle.rule_bool.proofs.Transport.{resolves_there}
 use Rattle.sat_trail.specs.Trails.{no_lit, AreApart, IsLeveled}
 use Rattle.clause_store.specs.Propagating.{IsClash}

@@ -6,7 +6,7 @@ use Rattle.std.proofs.lemmas.List.{length-append, get_or_append_left, get_or-app
 use Rattle.std.proofs.lemmas.List.Elements.{Contains-push_cases, Contains-append_left}
 use Rattle.std.proofs.Math.Seq.{get_or-append_seam, take-append_seam}
 use Rattle.term_core.specs.declared.ids.Lit.{Lit}
-use Rattle.rule_bool.specs.Statuses.{IsSettled}
+use Rattle.clause_literals.specs.Statuses.{IsSettled}
 use Rattle.sat_trail.specs.Trails.{TrailView, no_lit, HasSame, empty as no_trail, IsPushed, IsCutTo}
 use Rattle.clause_store.specs.Stores.{StoreView}
 use Rattle.clause_store.specs.Propagating.{Adds, IsQuiet}

@@ -4,8 +4,8 @@ use Rattle.std.specs.Prelude.{None}
 use Rattle.std.proofs.lemmas.Bool.{cases_lt}
 use Rattle.std.proofs.lemmas.List.{get_or_default}
 use Rattle.term_core.specs.declared.ids.Lit.{Lit}
-use Rattle.rule_bool.specs.Literals.{lit_complement, IsConsistent}
-use Rattle.rule_bool.specs.Statuses.{IsSettled}
+use Rattle.clause_literals.specs.Literals.{lit_complement, IsConsistent}
+use Rattle.clause_literals.specs.Statuses.{IsSettled}
 use Rattle.sat_trail.specs.Trails.{TrailView, no_lit, AreApart, IsLeveled}
 use Rattle.conflict_learn.specs.Conflicts.{IsFalseAt}
 use Rattle.conflict_learn.specs.Learned.{HasOneAt}

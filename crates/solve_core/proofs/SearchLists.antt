@@ -6,8 +6,8 @@ use Rattle.spec_sorts.specs.Literals.{Clause, Literal}
 use Rattle.term_core.specs.declared.ids.Lit.{Lit}
 use Rattle.term_core.specs.Tables.{TableView, AreDifferent, Extends, literal_at}
 use Rattle.term_core.proofs.TermsExtend.{IsIn-kept, literal_at-kept}
-use Rattle.rule_bool.specs.Literals.{AreOf, Means}
-use Rattle.rule_bool.proofs.Resolvents.{literals_apart}
+use Rattle.clause_literals.specs.Literals.{AreOf, Means}
+use Rattle.clause_literals.proofs.TableLiterals.{literals_apart}
 use Rattle.sat_trail.specs.Trails.{no_lit}
 use Rattle.solve_core.specs.Search.{images, AreAllOf}
 

@@ -26,8 +26,8 @@ use Rattle.term_core.specs.Symbols.{no_symbol, names_of}
 use Rattle.term_core.specs.Tables.{TableView, term_at, IsIn, clause_at, literal_at, AreDifferent}
 use Rattle.term_walks.specs.declared.values.Interp.{Interp}
 use Rattle.term_walks.specs.Valuations.{Stands}
-use Rattle.rule_bool.specs.Literals.{lit_complement, IsConsistent, AreOf, Means}
-use Rattle.rule_bool.specs.Statuses.{IsSatisfied}
+use Rattle.clause_literals.specs.Literals.{lit_complement, IsConsistent, AreOf, Means}
+use Rattle.clause_literals.specs.Statuses.{IsSatisfied}
 use Rattle.rule_bool.proofs.Behind.{same_numbers}
 use Rattle.proof_log.specs.Logs.{AreFormulasIn}
 use Rattle.solve_core.specs.SearchModels.{affirms, truths_of, value_of_sort, constant_table, IsModelOf, IsModel}

@@ -9,9 +9,9 @@ use Rattle.spec_derivations.specs.Quiet.{IsSettled, IsQuiet, IsConsistent}
 use Rattle.spec_derivations.proofs.Learned.{quiet_is_new}
 use Rattle.term_core.specs.declared.ids.Lit.{Lit}
 use Rattle.term_core.specs.Tables.{TableView, IsIn, AreDifferent, literal_at}
-use Rattle.rule_bool.specs.Literals.{lit_complement}
-use Rattle.rule_bool.specs.Statuses.{IsSettled as LitSettled}
-use Rattle.rule_bool.proofs.Resolvents.{literals_apart}
+use Rattle.clause_literals.specs.Literals.{lit_complement}
+use Rattle.clause_literals.specs.Statuses.{IsSettled as LitSettled}
+use Rattle.clause_literals.proofs.TableLiterals.{literals_apart}
 use Rattle.clause_store.specs.Propagating.{IsQuiet as LitQuiet}
 
 -- what follows from some clauses follows from more

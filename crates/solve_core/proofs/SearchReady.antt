@@ -10,7 +10,7 @@ use Rattle.spec_proofs.specs.declared.Rule.TheVariants.{Resolution}
 use Rattle.term_core.specs.declared.ids.TermId.{TermId}
 use Rattle.term_core.specs.declared.ids.Lit.{Lit}
 use Rattle.term_core.specs.Tables.{TableView, IsIn, AreDifferent, Extends, term_at, clause_at, literal_at, positive_literal}
-use Rattle.rule_bool.specs.Literals.{AreOf, Means}
+use Rattle.clause_literals.specs.Literals.{AreOf, Means}
 use Rattle.proof_log.specs.declared.premises.StepId.{StepId}
 use Rattle.proof_log.specs.Logs.{Logged, stepped, named, no_logged, logged_at, IsLogOf}
 use Rattle.sat_budget.specs.Budgets.{BudgetView}

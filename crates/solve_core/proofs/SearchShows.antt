@@ -25,7 +25,7 @@ use Rattle.term_core.specs.Tables.{TableView, declared_in, AreDifferent, literal
 use Rattle.term_core.specs.declared.ids.TermId.{TermId}
 use Rattle.term_core.proofs.TermsExtend.{clause_at-kept}
 use Rattle.term_walks.specs.declared.values.Interp.{Interp}
-use Rattle.rule_bool.specs.Literals.{IsConsistent, AreOf, Means}
+use Rattle.clause_literals.specs.Literals.{IsConsistent, AreOf, Means}
 use Rattle.proof_log.specs.declared.premises.StepId.{StepId}
 use Rattle.proof_log.specs.Logs.{Logged, stepped, numbers_of, inference_of, derivation_in, IsLogOf}
 use Rattle.clausify.proofs.Parts.{formula_kept}

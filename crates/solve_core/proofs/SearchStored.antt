@@ -9,8 +9,8 @@ use Rattle.term_core.specs.declared.ids.TermId.{TermId}
 use Rattle.term_core.specs.declared.ids.Lit.{Lit}
 use Rattle.term_core.specs.Tables.{TableView, AreIn, Extends, clause_at}
 use Rattle.term_core.proofs.TermsExtend.{clause_at-kept}
-use Rattle.rule_bool.specs.Statuses.{IsFalsified}
-use Rattle.rule_bool.specs.Literals.{Means}
+use Rattle.clause_literals.specs.Statuses.{IsFalsified}
+use Rattle.clause_literals.specs.Literals.{Means}
 use Rattle.proof_log.specs.declared.premises.StepId.{StepId}
 use Rattle.proof_log.specs.Logs.{Logged, named, logged_at, no_logged, IsLogOf}
 use Rattle.clause_store.specs.Stores.{StoreView, no_step, HasSameClauses, IsAdded}

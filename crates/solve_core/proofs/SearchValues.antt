@@ -6,8 +6,8 @@ use Rattle.std.proofs.lemmas.Bool.{false≢true}
 use Rattle.std.proofs.lemmas.List.{take_more}
 use Rattle.std.proofs.lemmas.List.Elements.{Contains-push_cases}
 use Rattle.term_core.specs.declared.ids.Lit.{Lit}
-use Rattle.rule_bool.specs.Literals.{lit_complement, IsConsistent}
-use Rattle.rule_bool.specs.Statuses.{IsSettled}
+use Rattle.clause_literals.specs.Literals.{lit_complement, IsConsistent}
+use Rattle.clause_literals.specs.Statuses.{IsSettled}
 use Rattle.sat_trail.specs.Trails.{HasValue, IsUnassigned}
 
 -- a value is a sign where the literal holds or its complement

@@ -4,8 +4,8 @@ use Rattle.spec_sorts.specs.Literals.{Literal}
 use Rattle.term_core.specs.declared.ids.TermId.{TermId}
 use Rattle.term_core.specs.declared.ids.Lit.{Lit}
 use Rattle.term_core.specs.Tables.{TableView, clause_at, literal_at}
-use Rattle.rule_bool.specs.Statuses.{IsSatisfied}
-use Rattle.rule_bool.specs.Literals.{AreOf, Means}
+use Rattle.clause_literals.specs.Statuses.{IsSatisfied}
+use Rattle.clause_literals.specs.Literals.{AreOf, Means}
 use Rattle.proof_log.specs.declared.premises.StepId.{StepId}
 use Rattle.proof_log.specs.Logs.{Logged, named, logged_at, IsLogOf}
 use Rattle.sat_trail.specs.Trails.{TrailView, no_lit, IsUnassigned, HasSame, empty as no_trail}

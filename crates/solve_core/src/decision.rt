@@ -1,8 +1,8 @@
 //! What is decided next.
 
 ghost use Rattle.std.specs.Prelude.{◌<◌, ◌⊎◌, All, Contains, MatchBool, MatchOption};
-ghost use Rattle.rule_bool.specs.Literals.{lit_complement};
-ghost use Rattle.rule_bool.specs.Statuses.{IsSatisfied};
+ghost use Rattle.clause_literals.specs.Literals.{lit_complement};
+ghost use Rattle.clause_literals.specs.Statuses.{IsSatisfied};
 ghost use Rattle.term_core.specs.declared.ids.Lit.{Lit as Literal};
 ghost use Rattle.clause_store.specs.Stores.{AreKnown};
 ghost use Rattle.clause_store.specs.Propagating.{IsQuiet};

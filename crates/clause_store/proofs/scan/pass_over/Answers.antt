@@ -2,7 +2,7 @@
 use Rattle.std.proofs.Common.{arith, ◌≡◌, ◌+◌, ◌++◌, ◌∷◌, [], ◌<◌, List, length, take, get_or, subst}
 use Rattle.std.proofs.lemmas.List.{take_more, take_all}
 use Rattle.term_core.specs.declared.ids.Lit.{Lit}
-use Rattle.rule_bool.specs.Statuses.{IsFalsified, IsUnit, IsSettled}
+use Rattle.clause_literals.specs.Statuses.{IsFalsified, IsUnit, IsSettled}
 use Rattle.clause_store.proofs.Passing.{settles, to_unit, to_settled, to_false}
 use Rattle.clause_store.proofs.scan.pass_over.Goals as goal
 use Rattle.clause_store.proofs.scan.pass_over.Goals.{in-Unit, in-Unresolved}

@@ -1,5 +1,5 @@
 -- What a literal more does that is false.
-use Rattle.rule_bool.proofs.Statuses.{false_more}
+use Rattle.clause_literals.proofs.Statuses.{false_more}
 use Rattle.clause_store.proofs.status.status_with.Goals as goal
 
 pub returns-in-Some-false : goal.returns-in-Some-false

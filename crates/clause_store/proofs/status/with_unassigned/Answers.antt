@@ -1,5 +1,5 @@
 -- What an unassigned literal more does.
-use Rattle.rule_bool.proofs.Statuses.{first_open, same_open, two_open, still_open, still_true}
+use Rattle.clause_literals.proofs.Statuses.{first_open, same_open, two_open, still_open, still_true}
 use Rattle.clause_store.proofs.status.with_unassigned.Goals as goal
 
 pub returns-in-Falsified : goal.returns-in-Falsified

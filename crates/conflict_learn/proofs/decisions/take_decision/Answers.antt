@@ -4,7 +4,7 @@ use Rattle.std.specs.Prelude.{Some}
 use Rattle.std.specs.Option.{is_some}
 use Rattle.std.proofs.lemmas.Bool.{false≢true}
 use Rattle.term_core.specs.declared.ids.Lit.{Lit}
-use Rattle.rule_bool.specs.Literals.{lit_complement}
+use Rattle.clause_literals.specs.Literals.{lit_complement}
 use Rattle.conflict_learn.specs.Analyses.{IsMarkedAt, Source, DrawsAt}
 use Rattle.conflict_learn.proofs.Drawing.{draws_more}
 use Rattle.conflict_learn.proofs.decisions.take_decision.Goals as goal

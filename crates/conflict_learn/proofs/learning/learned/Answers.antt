@@ -3,9 +3,9 @@ use Rattle.std.proofs.Common.{◌∙◌, Bool, List, length, map, All, sym, ap, 
 use Rattle.term_core.specs.declared.ids.Lit.{Lit}
 use Rattle.term_core.specs.Tables.{literal_at, clause_at}
 use Rattle.term_core.proofs.TermsExtend.{Extends-self}
-use Rattle.rule_bool.specs.Literals.{lit_complement}
-use Rattle.rule_bool.specs.Literals.{Means}
-use Rattle.rule_bool.proofs.LiteralLists.{negation_twice}
+use Rattle.clause_literals.specs.Literals.{lit_complement}
+use Rattle.clause_literals.specs.Literals.{Means}
+use Rattle.clause_literals.proofs.LiteralLists.{negation_twice}
 use Rattle.conflict_learn.specs.Conflicts.{Conflict}
 use Rattle.conflict_learn.specs.Learned.{HasOneAt}
 use Rattle.conflict_learn.specs.Analyses.{HasNone, IsOldest, Source, HasDrawn, IsBare, StateAll}

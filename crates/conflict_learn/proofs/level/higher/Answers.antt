@@ -1,7 +1,7 @@
 -- That the greater level counts one literal more.
 use Rattle.std.proofs.Common.{◌≡◌, ◌<◌, ℕ, length, get_or, Contains, inl, inr, refl, sym, ap, arith}
 use Rattle.term_core.specs.declared.ids.Lit.{Lit}
-use Rattle.rule_bool.specs.Literals.{lit_complement}
+use Rattle.clause_literals.specs.Literals.{lit_complement}
 use Rattle.sat_trail.specs.Trails.{TrailView, no_lit}
 use Rattle.conflict_learn.specs.Conflicts.{IsFalseAt}
 use Rattle.conflict_learn.proofs.Places.{place_of}

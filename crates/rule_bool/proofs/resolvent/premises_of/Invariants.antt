@@ -1,7 +1,7 @@
 -- The premises up to here.
 use Rattle.std.proofs.Common.{map, take}
 use Rattle.term_core.specs.Tables.{clause_at}
-use Rattle.rule_bool.specs.Literals.{lists}
+use Rattle.clause_literals.specs.Literals.{lists}
 use Rattle.rule_bool.specs.Resolvents.{MeansEach}
 use Rattle.rule_bool.proofs.resolvent.premises_of.Given as goal
 

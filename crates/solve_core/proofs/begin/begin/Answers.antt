@@ -1,7 +1,7 @@
 -- That all fits together at the beginning.
 use Rattle.std.proofs.Common.{◌≡◌, List, [], sym, ap, refl, subst}
 use Rattle.std.proofs.lemmas.List.Elements.{All-nil}
-use Rattle.rule_bool.specs.Literals.{AreOf}
+use Rattle.clause_literals.specs.Literals.{AreOf}
 use Rattle.proof_log.specs.declared.premises.StepId.{StepId}
 use Rattle.sat_trail.specs.Trails.{empty}
 use Rattle.conflict_learn.proofs.Stating.{extends_back}

@@ -2,7 +2,7 @@
 use Rattle.std.proofs.lemmas.List.{take_all}
 use Rattle.std.proofs.lemmas.List.Elements.{Contains-get_or}
 use Rattle.std.proofs.Common.{[], get_or, subst, sym, arith, length, ◌<◌}
-use Rattle.rule_bool.specs.Statuses.{IsSatisfied, IsSettled}
+use Rattle.clause_literals.specs.Statuses.{IsSatisfied, IsSettled}
 use Rattle.solve_core.proofs.SearchValues.{more_items, none_open}
 use Rattle.solve_core.proofs.decision.next_decision.Goals as goal
 

@@ -2,7 +2,7 @@
 use Rattle.std.proofs.lemmas.List.{take_all}
 use Rattle.std.proofs.Common.{Contains, ◌⊎◌, get_or}
 use Rattle.term_core.specs.declared.ids.Lit.{Lit}
-use Rattle.rule_bool.specs.Literals.{lit_complement}
+use Rattle.clause_literals.specs.Literals.{lit_complement}
 use Rattle.sat_trail.specs.Trails.{no_lit}
 use Rattle.solve_core.proofs.SearchValues.{assigned_by, more_items}
 use Rattle.solve_core.proofs.decision.unassigned_in.Goals as goal

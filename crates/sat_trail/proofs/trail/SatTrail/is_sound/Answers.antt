@@ -2,7 +2,7 @@
 use Rattle.std.proofs.Common.{◌<◌, ◌≤◌, length, All, subst}
 use Rattle.std.proofs.lemmas.List.Elements.{Contains-get_or}
 use Rattle.term_core.specs.declared.ids.Lit.{Lit}
-use Rattle.rule_bool.specs.Literals.{IsConsistent}
+use Rattle.clause_literals.specs.Literals.{IsConsistent}
 use Rattle.sat_trail.specs.Trails.{TrailView, IsLeveled}
 use Rattle.sat_trail.proofs.ValueLaws.{term_below, bounded, consistent_by}
 use Rattle.sat_trail.proofs.Fields.{is_leveled}

@@ -1,7 +1,0 @@
--- The literals up to here.
-use Rattle.std.proofs.Common.{take}
-use Rattle.rule_bool.specs.Literals.{SameLits}
-use Rattle.rule_bool.proofs.distinct.distinct.Given as goal
-
-abbrev pub invariant-loop-l : goal.invariant-loop-l
-invariant-loop-l l = SameLits l.taken.keys (take l.l-index l.clause)

@@ -1,8 +1,0 @@
--- The clauses up to here.
-use Rattle.std.proofs.Common.{take}
-use Rattle.std.specs.List.{AllZip}
-use Rattle.rule_bool.specs.Literals.{lists, IsSetOf}
-use Rattle.rule_bool.proofs.distinct.distinct_each.Given as goal
-
-abbrev pub invariant-loop-clause : goal.invariant-loop-clause
-invariant-loop-clause l = AllZip IsSetOf (take l.clause-index (lists l.clauses)) (lists l.made.items)

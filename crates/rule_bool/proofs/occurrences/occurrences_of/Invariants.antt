@@ -1,7 +1,0 @@
--- The clauses up to here are in the lists.
-use Rattle.rule_bool.specs.Literals.{lists}
-use Rattle.rule_bool.proofs.Noting.{HasIndexed}
-use Rattle.rule_bool.proofs.occurrences.occurrences_of.Given as goal
-
-abbrev pub invariant-loop-number : goal.invariant-loop-number
-invariant-loop-number l = HasIndexed l.occurrences (lists l.clauses) l.number

@@ -1,7 +1,0 @@
--- The premises up to here are tracked.
-use Rattle.rule_bool.specs.Literals.{lists}
-use Rattle.rule_bool.proofs.Stepping.{HasBegun}
-use Rattle.rule_bool.proofs.propagation.begin.Given as goal
-
-abbrev pub invariant-loop-premise : goal.invariant-loop-premise
-invariant-loop-premise l = HasBegun (lists l.premises) l.fn.held l.held l.left.items l.premise-index

@@ -1,8 +1,0 @@
--- What the premises after have come to.
-use Rattle.std.proofs.Common.{drop}
-use Rattle.rule_bool.specs.Literals.{lists}
-use Rattle.rule_bool.proofs.Passes.{SoFar}
-use Rattle.rule_bool.proofs.scan.pass_over.Given as goal
-
-abbrev pub invariant-loop-at : goal.invariant-loop-at
-invariant-loop-at l = SoFar (lists l.premises) (drop l.at (lists l.premises)) l.fn.held l.held l.added
