@@ -53,73 +53,93 @@ fn add(stack: &mut Stack, table: &TermTable, id: TermId) -> Result<(), NoMemory>
     }
 }
 
-/// Asserts the term that the first tree is, by a command at an offset.
-pub(crate) fn assert_term<'a>(
-    stack: &mut Stack,
-    alloc: Global,
-    table: &mut TermTable,
-    at: u64,
-    tree: Trees<'_>,
-) -> Result<Effect<'a>, ReadError>
-    requires { HasStack (standing table.old stack.old) }
-    ensures performs { (limit : ℕ) (s : ScriptStack) → IsStack limit (standing table.old stack.old) s
-        → Performs limit (performed limit at s (Assert (tree_meant tree.entry))) (standing table.new stack.new) result }
-    ensures kept { OnOk result (Keeps table.old table.new) }
-    ensures same { OnErr result ((stack.new ≡ stack.old) × (table.new ≡ table.old)) }
-{
-    stack.scope.each_name_stands_for_something();
-    let room = room(stack, at);
-    let terms = table.len();
-    let sorts = stack.scope.sorts_len();
-    let functions = stack.scope.len();
-    match term(
-        alloc,
-        table,
-        &mut stack.scope,
-        in_script(),
-        Sort::Bool,
-        tree,
-        room,
-    ) {
-        Ok(id) => match add(stack, table, id) {
-            Ok(()) => Ok(Effect::Done),
-            Err(_) => {
-                stack.scope.back(sorts, functions);
-                table.cut(terms);
-                Err(ReadError::Memory)
-            }
-        },
-        Err(stop) => Err(stop),
-    }
-}
-
-/// Defines a function, by a command at an offset.
-pub(crate) fn define_fun<'a>(
-    stack: &mut Stack,
-    alloc: Global,
-    table: &mut TermTable,
-    at: u64,
-    parts: Parts<'_>,
-) -> Result<Effect<'a>, ReadError>
-    requires { HasStack (standing table.old stack.old) }
-    ensures performs { (limit : ℕ) (s : ScriptStack) → IsStack limit (standing table.old stack.old) s
-        → Performs limit (performed limit at s (DefineFun (parts_view parts.entry))) (standing table.new stack.new)
-        result }
-    ensures kept { OnOk result (Keeps table.old table.new) }
-    ensures same { OnErr result ((stack.new ≡ stack.old) × (table.new ≡ table.old)) }
-{
-    let room = room(stack, at);
-    let parts = sort_check::Parts {
-        name: parts.name,
-        parameters: parts.parameters,
-        result: parts.result,
-        body: parts.body,
-    };
-    match define(alloc, table, &mut stack.scope, in_script(), parts, room) {
-        Ok(()) => {
-            stack.started = true;
-            Ok(Effect::Done)
+impl Stack {
+    /// Asserts the term that the first tree is, by an `assert` at an offset in bytes: `current` has it last, and the scope
+    /// the names that `:named` makes in it.
+    ///
+    /// - `Fault` has the first fault, with its offset: of the term as `sort_check::term` tells it, `WrongSort` at the tree
+    ///   where the term is not of sort Bool, then `Full` at the command where there are more names or different subterms
+    ///   than the limit says.
+    /// - `Memory` may come at any allocation, and says nothing of the command.
+    ///
+    /// After each of these stack and table are as they were. Its time goes with no assertion that was made before.
+    /// Source: SMT-LIB 2.6, section 4.2.5.
+    pub fn assert<'a>(
+        &mut self,
+        alloc: Global,
+        table: &mut TermTable,
+        at: u64,
+        tree: Trees<'_>,
+    ) -> Result<Effect<'a>, ReadError>
+        requires { HasStack (standing table.old self.old) }
+        ensures performs { (limit : ℕ) (s : ScriptStack) → IsStack limit (standing table.old self.old) s
+            → Performs limit (performed limit at s (Assert (tree_meant tree.entry))) (standing table.new self.new)
+            result }
+        ensures kept { OnOk result (Keeps table.old table.new) }
+        ensures same { OnErr result ((self.new ≡ self.old) × (table.new ≡ table.old)) }
+    {
+        self.scope.each_name_stands_for_something();
+        let room = room(self, at);
+        let terms = table.len();
+        let sorts = self.scope.sorts_len();
+        let functions = self.scope.len();
+        match term(
+            alloc,
+            table,
+            &mut self.scope,
+            in_script(),
+            Sort::Bool,
+            tree,
+            room,
+        ) {
+            Ok(id) => match add(self, table, id) {
+                Ok(()) => Ok(Effect::Done),
+                Err(_) => {
+                    self.scope.back(sorts, functions);
+                    table.cut(terms);
+                    Err(ReadError::Memory)
+                }
+            },
+            Err(stop) => Err(stop),
         }
-        Err(stop) => Err(stop),
+    }
+
+    /// Defines a function, by a `define-fun` at an offset in bytes: the scope has its name last, after those that `:named`
+    /// makes in its body.
+    ///
+    /// - `Fault` has the first fault, with its offset: of the name (`Reserved`, `Twice` at the word), of each parameter's
+    ///   name and sort, of the result's sort, of the body as `sort_check::define` tells it, then `Full` at the command
+    ///   where there are more names or different subterms than the limit says.
+    /// - `Memory` may come at any allocation, and says nothing of the command.
+    ///
+    /// After each of these stack and table are as they were. Source: SMT-LIB 2.6, section 4.2.3.
+    pub fn define<'a>(
+        &mut self,
+        alloc: Global,
+        table: &mut TermTable,
+        at: u64,
+        parts: Parts<'_>,
+    ) -> Result<Effect<'a>, ReadError>
+        requires { HasStack (standing table.old self.old) }
+        ensures performs { (limit : ℕ) (s : ScriptStack) → IsStack limit (standing table.old self.old) s
+            → Performs limit (performed limit at s (DefineFun (parts_view parts.entry))) (standing table.new self.new)
+            result }
+        ensures kept { OnOk result (Keeps table.old table.new) }
+        ensures same { OnErr result ((self.new ≡ self.old) × (table.new ≡ table.old)) }
+    {
+        let room = room(self, at);
+        let parts = sort_check::Parts {
+            name: parts.name,
+            parameters: parts.parameters,
+            result: parts.result,
+            body: parts.body,
+        };
+        match define(alloc, table, &mut self.scope, in_script(), parts, room) {
+            Ok(()) => {
+                self.started = true;
+                Ok(Effect::Done)
+            }
+            Err(stop) => Err(stop),
+        }
     }
 }

@@ -99,65 +99,6 @@ fn add_symbol(
     }
 }
 
-/// Declares a sort, by a command at an offset.
-pub(crate) fn declare_sort<'a>(
-    stack: &mut Stack,
-    table: &mut TermTable,
-    at: u64,
-    word: Word<'_>,
-) -> Result<Effect<'a>, ReadError>
-    requires { HasStack (standing table.old stack.old) }
-    ensures performs { (limit : ℕ) (s : ScriptStack) → IsStack limit (standing table.old stack.old) s
-        → Performs limit (performed limit at s (DeclareSort (word_view word.entry))) (standing table.new stack.new)
-        result }
-    ensures kept { OnOk result (Extends table.old table.new) }
-    ensures same { OnErr result ((stack.new ≡ stack.old) × (table.new ≡ table.old)) }
-{
-    stack.scope.each_name_stands_for_something();
-    let name = match new_sort(&stack.scope, word) {
-        Ok(name) => name,
-        Err(fault) => return Err(ReadError::Fault(fault)),
-    };
-    if !has_room(stack) {
-        return Err(refused(at, Fault::Full));
-    }
-    match add_sort(stack, table, name) {
-        Ok(()) => Ok(Effect::Done),
-        Err(_) => Err(ReadError::Memory),
-    }
-}
-
-/// Defines the name of a sort, by a command at an offset.
-pub(crate) fn define_sort<'a>(
-    stack: &mut Stack,
-    table: &TermTable,
-    at: u64,
-    word: Word<'_>,
-    sort: Trees<'_>,
-) -> Result<Effect<'a>, ReadError>
-    ensures performs { (limit : ℕ) (s : ScriptStack) → IsStack limit (standing table.now stack.old) s
-        → Performs limit (performed limit at s (DefineSort (word_view word.entry) (tree_meant sort.entry)))
-        (standing table.now stack.new) result }
-    ensures same { OnErr result (stack.new ≡ stack.old) }
-{
-    stack.scope.each_name_stands_for_something();
-    let name = match new_sort(&stack.scope, word) {
-        Ok(name) => name,
-        Err(fault) => return Err(ReadError::Fault(fault)),
-    };
-    let sort = match sort_in(&stack.scope, sort) {
-        Ok(sort) => sort,
-        Err(fault) => return Err(ReadError::Fault(fault)),
-    };
-    if !has_room(stack) {
-        return Err(refused(at, Fault::Full));
-    }
-    match add_name(stack, name, sort) {
-        Ok(()) => Ok(Effect::Done),
-        Err(_) => Err(ReadError::Memory),
-    }
-}
-
 /// Declares a function of a new name over sorts that are there, by a command at an offset.
 fn declare_over<'a>(
     stack: &mut Stack,
@@ -188,59 +129,145 @@ fn declare_over<'a>(
     }
 }
 
-/// Declares a constant, by a command at an offset.
-pub(crate) fn declare_const<'a>(
-    stack: &mut Stack,
-    table: &mut TermTable,
-    at: u64,
-    word: Word<'_>,
-    sort: Trees<'_>,
-) -> Result<Effect<'a>, ReadError>
-    requires { HasStack (standing table.old stack.old) }
-    ensures performs { (limit : ℕ) (s : ScriptStack) → IsStack limit (standing table.old stack.old) s
-        → Performs limit (performed limit at s (DeclareFun (word_view word.entry) none (tree_meant sort.entry)))
-        (standing table.new stack.new) result }
-    ensures kept { OnOk result (Extends table.old table.new) }
-    ensures same { OnErr result ((stack.new ≡ stack.old) × (table.new ≡ table.old)) }
-{
-    let name = match new_function(&stack.scope, word) {
-        Ok(name) => name,
-        Err(fault) => return Err(ReadError::Fault(fault)),
-    };
-    match sort_in(&stack.scope, sort) {
-        Ok(gives) => declare_over(stack, table, at, name, &[], gives),
-        Err(fault) => Err(ReadError::Fault(fault)),
+impl Stack {
+    /// Declares a sort, by a `declare-sort` at an offset in bytes: the table has it last, and the scope its name.
+    ///
+    /// - `Fault` has the first fault, with its offset: of the name (`Reserved` at the word where it is reserved or kept
+    ///   for solvers, `Twice` there where a sort has it), then `Full` at the command where no name more has room.
+    /// - `Memory` may come where the sort or its name finds no memory, and says nothing of the command.
+    ///
+    /// After each of these stack and table are as they were. Source: SMT-LIB 2.6, section 4.2.3.
+    pub fn declare_sort<'a>(
+        &mut self,
+        table: &mut TermTable,
+        at: u64,
+        word: Word<'_>,
+    ) -> Result<Effect<'a>, ReadError>
+        requires { HasStack (standing table.old self.old) }
+        ensures performs { (limit : ℕ) (s : ScriptStack) → IsStack limit (standing table.old self.old) s
+            → Performs limit (performed limit at s (DeclareSort (word_view word.entry))) (standing table.new self.new)
+            result }
+        ensures kept { OnOk result (Extends table.old table.new) }
+        ensures same { OnErr result ((self.new ≡ self.old) × (table.new ≡ table.old)) }
+    {
+        self.scope.each_name_stands_for_something();
+        let name = match new_sort(&self.scope, word) {
+            Ok(name) => name,
+            Err(fault) => return Err(ReadError::Fault(fault)),
+        };
+        if !has_room(self) {
+            return Err(refused(at, Fault::Full));
+        }
+        match add_sort(self, table, name) {
+            Ok(()) => Ok(Effect::Done),
+            Err(_) => Err(ReadError::Memory),
+        }
     }
-}
 
-/// Declares a function, by a command at an offset.
-pub(crate) fn declare_fun<'a>(
-    stack: &mut Stack,
-    alloc: Global,
-    table: &mut TermTable,
-    at: u64,
-    word: Word<'_>,
-    parameters: Trees<'_>,
-    sort: Trees<'_>,
-) -> Result<Effect<'a>, ReadError>
-    requires { HasStack (standing table.old stack.old) }
-    ensures performs { (limit : ℕ) (s : ScriptStack) → IsStack limit (standing table.old stack.old) s
-        → Performs limit (performed limit at s
-        (DeclareFun (word_view word.entry) (trees_meant parameters.entry) (tree_meant sort.entry)))
-        (standing table.new stack.new) result }
-    ensures kept { OnOk result (Extends table.old table.new) }
-    ensures same { OnErr result ((stack.new ≡ stack.old) × (table.new ≡ table.old)) }
-{
-    let name = match new_function(&stack.scope, word) {
-        Ok(name) => name,
-        Err(fault) => return Err(ReadError::Fault(fault)),
-    };
-    let parameters = match sorts_in(alloc, &stack.scope, parameters) {
-        Ok(parameters) => parameters,
-        Err(stop) => return Err(stop),
-    };
-    match sort_in(&stack.scope, sort) {
-        Ok(gives) => declare_over(stack, table, at, name, parameters.as_slice(), gives),
-        Err(fault) => Err(ReadError::Fault(fault)),
+    /// Gives a sort of the table a name more, by a `define-sort` without parameters at an offset in bytes.
+    ///
+    /// - `Fault` has the first fault, with its offset: of the name as `declare_sort` tells it, of the sort
+    ///   (`UnknownSort`, `Reserved`, `BadShape` at its tree), then `Full` at the command where no name more has room.
+    /// - `Memory` may come where the name finds no memory, and says nothing of the command.
+    ///
+    /// After each of these the stack is as it was. Source: SMT-LIB 2.6, section 4.2.3.
+    pub fn name_sort<'a>(
+        &mut self,
+        table: &TermTable,
+        at: u64,
+        word: Word<'_>,
+        sort: Trees<'_>,
+    ) -> Result<Effect<'a>, ReadError>
+        ensures performs { (limit : ℕ) (s : ScriptStack) → IsStack limit (standing table.now self.old) s
+            → Performs limit (performed limit at s (DefineSort (word_view word.entry) (tree_meant sort.entry)))
+            (standing table.now self.new) result }
+        ensures same { OnErr result (self.new ≡ self.old) }
+    {
+        self.scope.each_name_stands_for_something();
+        let name = match new_sort(&self.scope, word) {
+            Ok(name) => name,
+            Err(fault) => return Err(ReadError::Fault(fault)),
+        };
+        let sort = match sort_in(&self.scope, sort) {
+            Ok(sort) => sort,
+            Err(fault) => return Err(ReadError::Fault(fault)),
+        };
+        if !has_room(self) {
+            return Err(refused(at, Fault::Full));
+        }
+        match add_name(self, name, sort) {
+            Ok(()) => Ok(Effect::Done),
+            Err(_) => Err(ReadError::Memory),
+        }
+    }
+
+    /// Declares a constant, by a `declare-const` at an offset in bytes: a function without parameters.
+    ///
+    /// - `Fault` has the first fault, with its offset: of the name, of the sort, then `Full`, each as `declare` tells it.
+    /// - `Memory` may come where the symbol or its name finds no memory, and says nothing of the command.
+    ///
+    /// After each of these stack and table are as they were. Source: SMT-LIB 2.6, section 4.2.3.
+    pub fn declare_const<'a>(
+        &mut self,
+        table: &mut TermTable,
+        at: u64,
+        word: Word<'_>,
+        sort: Trees<'_>,
+    ) -> Result<Effect<'a>, ReadError>
+        requires { HasStack (standing table.old self.old) }
+        ensures performs { (limit : ℕ) (s : ScriptStack) → IsStack limit (standing table.old self.old) s
+            → Performs limit (performed limit at s (DeclareFun (word_view word.entry) none (tree_meant sort.entry)))
+            (standing table.new self.new) result }
+        ensures kept { OnOk result (Extends table.old table.new) }
+        ensures same { OnErr result ((self.new ≡ self.old) × (table.new ≡ table.old)) }
+    {
+        let name = match new_function(&self.scope, word) {
+            Ok(name) => name,
+            Err(fault) => return Err(ReadError::Fault(fault)),
+        };
+        match sort_in(&self.scope, sort) {
+            Ok(gives) => declare_over(self, table, at, name, &[], gives),
+            Err(fault) => Err(ReadError::Fault(fault)),
+        }
+    }
+
+    /// Declares a function, by a `declare-fun` at an offset in bytes: the table has its symbol last, and the scope its
+    /// name. `parameters` are the sorts of its parameters, none or more, and `sort` is that of its values.
+    ///
+    /// - `Fault` has the first fault, with its offset: of the name (`Reserved` at the word where it is reserved or kept
+    ///   for solvers, `Twice` there where a function has it), of each parameter's sort, of the values' sort
+    ///   (`UnknownSort`, `Reserved`, `BadShape` at its tree), then `Full` at the command where no name more has room.
+    /// - `Memory` may come at any allocation, and says nothing of the command.
+    ///
+    /// After each of these stack and table are as they were. Source: SMT-LIB 2.6, section 4.2.3.
+    pub fn declare<'a>(
+        &mut self,
+        alloc: Global,
+        table: &mut TermTable,
+        at: u64,
+        word: Word<'_>,
+        parameters: Trees<'_>,
+        sort: Trees<'_>,
+    ) -> Result<Effect<'a>, ReadError>
+        requires { HasStack (standing table.old self.old) }
+        ensures performs { (limit : ℕ) (s : ScriptStack) → IsStack limit (standing table.old self.old) s
+            → Performs limit (performed limit at s
+            (DeclareFun (word_view word.entry) (trees_meant parameters.entry) (tree_meant sort.entry)))
+            (standing table.new self.new) result }
+        ensures kept { OnOk result (Extends table.old table.new) }
+        ensures same { OnErr result ((self.new ≡ self.old) × (table.new ≡ table.old)) }
+    {
+        let name = match new_function(&self.scope, word) {
+            Ok(name) => name,
+            Err(fault) => return Err(ReadError::Fault(fault)),
+        };
+        let parameters = match sorts_in(alloc, &self.scope, parameters) {
+            Ok(parameters) => parameters,
+            Err(stop) => return Err(stop),
+        };
+        match sort_in(&self.scope, sort) {
+            Ok(gives) => declare_over(self, table, at, name, parameters.as_slice(), gives),
+            Err(fault) => Err(ReadError::Fault(fault)),
+        }
     }
 }

@@ -1,15 +1,13 @@
 //! The stack of a script: its names, assertions and options, and what each command makes of them.
 
-ghost use Rattle.std.specs.Prelude.{◌≡◌, ℕ, [], OnErr, OnOk};
+ghost use Rattle.std.specs.Prelude.{◌≡◌, ℕ, [], length, OnErr, OnOk};
 ghost use Rattle.spec_commands.specs.Stack.{Stack as ScriptStack, empty_stack, performed, step};
 ghost use Rattle.smt_command.specs.Commands.{command_view};
 ghost use Rattle.smt_sexpr.specs.Items.{tree_of};
 ghost use Rattle.term_core.specs.Tables.{TableView, Extends};
 ghost use Rattle.assertion_stack.specs.Stacks.{standing, HasStack, IsStack, Performs, Steps, KeepsAtCheck};
 
-use crate::asserting::{assert_term, define_fun};
 use crate::assertions::Assertions;
-use crate::declaring::{declare_const, declare_fun, declare_sort, define_sort};
 use crate::faults::place_in;
 use crate::options::Options;
 use crate::reach::Reached;
@@ -18,7 +16,7 @@ use smt_command::{Command, command};
 use smt_lexer::{Refusal, Refused};
 use smt_sexpr::{Sexpr, offset};
 use std::alloc::Global;
-use term_core::TermTable;
+use term_core::{TermId, TermTable};
 use term_reader::{ReadError, Scope};
 
 /// The most names that a script may have, and the most different subterms that the terms of one command may have. It is own.
@@ -77,6 +75,27 @@ impl Stack {
             options: Options::new(),
             started: false,
         }
+    }
+
+    /// Lends the names, with what they stand for.
+    pub fn scope(&self) -> &Scope
+        ensures { result.now ≡ self.now.scope }
+    {
+        &self.scope
+    }
+
+    /// Lends the numbers of the asserted terms in the table, oldest first.
+    pub fn current(&self) -> &[TermId]
+        ensures { result.now ≡ self.now.assertions.ids }
+    {
+        self.assertions.as_slice()
+    }
+
+    /// Counts the levels above the first. No command opens one yet.
+    pub fn levels(&self) -> u64
+        ensures { result ≡ length self.now.assertions.starts }
+    {
+        self.assertions.levels()
     }
 
     /// Takes the command that an s-expression is, and says what it is answered. The table has the terms of the stack.
@@ -139,14 +158,14 @@ fn perform<'a>(
         Command::SetLogic(word) => set_logic(stack, at, word),
         Command::SetOption(name, value) => set_option(stack, at, name, value),
         Command::SetInfo => Ok(Effect::Done),
-        Command::DeclareSort(word) => declare_sort(stack, table, at, word),
-        Command::DefineSort(word, sort) => define_sort(stack, table, at, word, sort),
-        Command::DeclareConst(word, sort) => declare_const(stack, table, at, word, sort),
+        Command::DeclareSort(word) => stack.declare_sort(table, at, word),
+        Command::DefineSort(word, sort) => stack.name_sort(table, at, word, sort),
+        Command::DeclareConst(word, sort) => stack.declare_const(table, at, word, sort),
         Command::DeclareFun(word, parameters, sort) => {
-            declare_fun(stack, alloc, table, at, word, parameters, sort)
+            stack.declare(alloc, table, at, word, parameters, sort)
         }
-        Command::DefineFun(parts) => define_fun(stack, alloc, table, at, parts),
-        Command::Assert(tree) => assert_term(stack, alloc, table, at, tree),
+        Command::DefineFun(parts) => stack.define(alloc, table, at, parts),
+        Command::Assert(tree) => stack.assert(alloc, table, at, tree),
         Command::CheckSat(place) => begin_check(stack, place),
         Command::Echo(text) => Ok(Effect::Say(text)),
         Command::Exit => Ok(Effect::Exit),

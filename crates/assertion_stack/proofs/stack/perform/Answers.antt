@@ -28,13 +28,13 @@ pub returns-in-SetInfo-clause-kept : goal.returns-in-SetInfo-clause-kept
 returns-in-SetInfo-clause-kept c = Extends-self c.args.table.now
 
 pub returns-in-DefineSort-clause-kept : goal.returns-in-DefineSort-clause-kept
-returns-in-DefineSort-clause-kept c = anyway c.define_sort.result (Extends c.args.table.now c.args.table.now) (Extends-self c.args.table.now)
+returns-in-DefineSort-clause-kept c = anyway c.name_sort.result (Extends c.args.table.now c.args.table.now) (Extends-self c.args.table.now)
 
 pub returns-in-DeclareConst-clause-performs : goal.returns-in-DeclareConst-clause-performs
 returns-in-DeclareConst-clause-performs c limit s h = rw c.in-DeclareConst.is (c.declare_const.ensures.performs limit s h)
 
 pub returns-in-DeclareFun-clause-performs : goal.returns-in-DeclareFun-clause-performs
-returns-in-DeclareFun-clause-performs c limit s h = rw c.in-DeclareFun.is (c.declare_fun.ensures.performs limit s h)
+returns-in-DeclareFun-clause-performs c limit s h = rw c.in-DeclareFun.is (c.declare.ensures.performs limit s h)
 
 pub returns-in-CheckSat-clause-performs : goal.returns-in-CheckSat-clause-performs
 returns-in-CheckSat-clause-performs c limit s h = rw c.in-CheckSat.is (c.begin_check.ensures.performs limit c.args.at c.args.table.now s h)
@@ -64,19 +64,19 @@ pub returns-in-DeclareSort-clause-check : goal.returns-in-DeclareSort-clause-che
 returns-in-DeclareSort-clause-check c = not_asked c.requires.0 c.args.at c.requires.1 (DeclareSort (word_view c.in-DeclareSort.word)) (λ no. no) _ _ c.declare_sort.result (c.declare_sort.ensures.performs c.requires.0 c.requires.1 c.requires.2)
 
 pub returns-in-DefineSort-clause-check : goal.returns-in-DefineSort-clause-check
-returns-in-DefineSort-clause-check c = not_asked c.requires.0 c.args.at c.requires.1 (DefineSort (word_view c.in-DefineSort.word) (tree_meant c.in-DefineSort.sort)) (λ no. no) _ _ c.define_sort.result (c.define_sort.ensures.performs c.requires.0 c.requires.1 c.requires.2)
+returns-in-DefineSort-clause-check c = not_asked c.requires.0 c.args.at c.requires.1 (DefineSort (word_view c.in-DefineSort.word) (tree_meant c.in-DefineSort.sort)) (λ no. no) _ _ c.name_sort.result (c.name_sort.ensures.performs c.requires.0 c.requires.1 c.requires.2)
 
 pub returns-in-DeclareConst-clause-check : goal.returns-in-DeclareConst-clause-check
 returns-in-DeclareConst-clause-check c = not_asked c.requires.0 c.args.at c.requires.1 (DeclareFun (word_view c.in-DeclareConst.word) none (tree_meant c.in-DeclareConst.sort)) (λ no. no) _ _ c.declare_const.result (c.declare_const.ensures.performs c.requires.0 c.requires.1 c.requires.2)
 
 pub returns-in-DeclareFun-clause-check : goal.returns-in-DeclareFun-clause-check
-returns-in-DeclareFun-clause-check c = not_asked c.requires.0 c.args.at c.requires.1 (DeclareFun (word_view c.in-DeclareFun.word) (trees_meant c.in-DeclareFun.parameters) (tree_meant c.in-DeclareFun.sort)) (λ no. no) _ _ c.declare_fun.result (c.declare_fun.ensures.performs c.requires.0 c.requires.1 c.requires.2)
+returns-in-DeclareFun-clause-check c = not_asked c.requires.0 c.args.at c.requires.1 (DeclareFun (word_view c.in-DeclareFun.word) (trees_meant c.in-DeclareFun.parameters) (tree_meant c.in-DeclareFun.sort)) (λ no. no) _ _ c.declare.result (c.declare.ensures.performs c.requires.0 c.requires.1 c.requires.2)
 
 pub returns-in-DefineFun-clause-check : goal.returns-in-DefineFun-clause-check
-returns-in-DefineFun-clause-check c = not_asked c.requires.0 c.args.at c.requires.1 (DefineFun (parts_view c.in-DefineFun.parts)) (λ no. no) _ _ c.define_fun.result (c.define_fun.ensures.performs c.requires.0 c.requires.1 c.requires.2)
+returns-in-DefineFun-clause-check c = not_asked c.requires.0 c.args.at c.requires.1 (DefineFun (parts_view c.in-DefineFun.parts)) (λ no. no) _ _ c.define.result (c.define.ensures.performs c.requires.0 c.requires.1 c.requires.2)
 
 pub returns-in-Assert-clause-check : goal.returns-in-Assert-clause-check
-returns-in-Assert-clause-check c = not_asked c.requires.0 c.args.at c.requires.1 (Assert (tree_meant c.in-Assert.tree)) (λ no. no) _ _ c.assert_term.result (c.assert_term.ensures.performs c.requires.0 c.requires.1 c.requires.2)
+returns-in-Assert-clause-check c = not_asked c.requires.0 c.args.at c.requires.1 (Assert (tree_meant c.in-Assert.tree)) (λ no. no) _ _ c.assert.result (c.assert.ensures.performs c.requires.0 c.requires.1 c.requires.2)
 
 pub returns-in-CheckSat-clause-check : goal.returns-in-CheckSat-clause-check
 returns-in-CheckSat-clause-check c = begins_check c.args.table.now c.args.stack.now c.begin_check.new.stack c.begin_check.result c.begin_check.ensures.begun

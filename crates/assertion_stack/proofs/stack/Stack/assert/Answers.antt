@@ -7,15 +7,15 @@ use Rattle.sort_check.specs.Reads.{room_meant, store}
 use Rattle.assertion_stack.specs.Stacks.{standing, IsStack}
 use Rattle.assertion_stack.proofs.Reaching.{marks_kept}
 use Rattle.assertion_stack.proofs.Stacks.{assert_done, assert_fails, named, one_asserted}
-use Rattle.assertion_stack.proofs.asserting.assert_term.Goals as goal
+use Rattle.assertion_stack.proofs.stack.Stack.assert.Goals as goal
 
 pub add-requires-clause-marks : goal.add-requires-clause-marks
-add-requires-clause-marks c = marks_kept c.args.table.now c.term.new.table c.in-Ok.ensures.grows.keeps.extends c.args.stack.now.reached c.requires.2.reached
+add-requires-clause-marks c = marks_kept c.args.table.now c.term.new.table c.in-Ok.ensures.grows.keeps.extends c.args.self.now.reached c.requires.2.reached
 
 pub returns-in-Ok-add-clause-performs : goal.returns-in-Ok-add-clause-performs
 returns-in-Ok-add-clause-performs c limit s h =
     let r = c.in-Ok.ensures.ends (signature_of s) h.scope in
-    let x = c.args.stack.now in
+    let x = c.args.self.now in
     let t = c.term.new.table in
     let y = record x { scope = c.term.new.scope } in
     let added = c.in-Ok-add.ensures.added in

@@ -11,7 +11,7 @@ use Rattle.term_core.specs.Symbols.{HaveSortsIn, sort_meant, sorts_meant, symbol
 use Rattle.term_reader.specs.Names.{located_of}
 use Rattle.assertion_stack.specs.Stacks.{standing, Performs}
 use Rattle.assertion_stack.proofs.Stacks.{function_refused, parameters_fail, result_refused, function_declared}
-use Rattle.assertion_stack.proofs.declaring.declare_fun.Goals as goal
+use Rattle.assertion_stack.proofs.stack.Stack.declare.Goals as goal
 
 pub returns-in-Err-clause-performs : goal.returns-in-Err-clause-performs
 returns-in-Err-clause-performs c limit s h = function_refused limit c.args.at s (word_view c.args.word) (trees_meant c.args.parameters) (tree_meant c.args.sort) (located_of c.in-Err.fault) (sym (c.in-Err.ensures c.args.table.now (signature_of s) h.scope))

@@ -5,12 +5,12 @@ use Rattle.smt_command.specs.Commands.{parts_view}
 use Rattle.term_reader.specs.Names.{setting_meant}
 use Rattle.sort_check.specs.Reads.{room_meant, store}
 use Rattle.assertion_stack.proofs.Stacks.{define_done, define_fails, begun_stack, named}
-use Rattle.assertion_stack.proofs.asserting.define_fun.Goals as goal
+use Rattle.assertion_stack.proofs.stack.Stack.define.Goals as goal
 
 pub returns-in-Ok-clause-performs : goal.returns-in-Ok-clause-performs
 returns-in-Ok-clause-performs c limit s h =
     let r = c.in-Ok.ensures.ends (signature_of s) h.scope in
-    let x = c.args.stack.now in
+    let x = c.args.self.now in
     let room : room_meant c.room-room.result ≡ record { limit = Some limit; at = c.args.at } = ap room_meant c.room-room.ensures ∙ ap (λ l. record { limit = Some l; at = c.args.at }) h.limit_is in
     let t = c.define.new.table in (
       did (begun (with_definitions s r.definitions)),

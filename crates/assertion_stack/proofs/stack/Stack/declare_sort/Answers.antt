@@ -13,14 +13,14 @@ use Rattle.assertion_stack.specs.Stacks.{standing, IsStack}
 use Rattle.assertion_stack.proofs.Known.{unknown_sort}
 use Rattle.assertion_stack.proofs.Stacks.{sort_name_refused, sort_declared, no_room, has_place}
 use Rattle.assertion_stack.proofs.Declared.{sort_grows, declared_stack}
-use Rattle.assertion_stack.proofs.declaring.declare_sort.Goals as goal
+use Rattle.assertion_stack.proofs.stack.Stack.declare_sort.Goals as goal
 
 pub returns-in-Err-clause-performs : goal.returns-in-Err-clause-performs
 returns-in-Err-clause-performs c limit s h = sort_name_refused limit c.args.at s (word_view c.args.word) (located_of c.in-Err.fault) (sym (c.in-Err.ensures c.args.table.now (signature_of s) h.scope))
 
 pub returns-then-not-has_room-clause-performs : goal.returns-then-not-has_room-clause-performs
 returns-then-not-has_room-clause-performs c limit s h =
-    let v = c.args.stack.now.scope in
+    let v = c.args.self.now.scope in
     let n = length v.sort_names + length v.names in
     let name = c.in-Ok.name.now in
     let full : nat_lt n limit ≡ false = ap (nat_lt n) (sym h.limit_is) ∙ sym c.if-not-has_room.ensures in
@@ -36,7 +36,7 @@ add_sort-requires c =
 pub returns-in-Ok-add_sort-clause-performs : goal.returns-in-Ok-add_sort-clause-performs
 returns-in-Ok-add_sort-clause-performs c limit s h =
     let t = c.args.table.now in
-    let x = c.args.stack.now in
+    let x = c.args.self.now in
     let n = length x.scope.sort_names + length x.scope.names in
     let name = c.in-Ok.name.now in
     let named : new_name script (is_sort (signature_of s)) (word_view c.args.word) ≡ Ok name = sym (c.in-Ok.ensures t (signature_of s) h.scope) in

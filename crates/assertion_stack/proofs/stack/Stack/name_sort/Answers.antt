@@ -13,7 +13,7 @@ use Rattle.assertion_stack.specs.Stacks.{standing, IsStack}
 use Rattle.assertion_stack.proofs.Known.{unknown_sort}
 use Rattle.assertion_stack.proofs.Stacks.{alias_refused, alias_not_sorted, alias_defined, no_room, has_place}
 use Rattle.assertion_stack.proofs.Declared.{alias_stack}
-use Rattle.assertion_stack.proofs.declaring.define_sort.Goals as goal
+use Rattle.assertion_stack.proofs.stack.Stack.name_sort.Goals as goal
 
 pub returns-in-Err-clause-performs : goal.returns-in-Err-clause-performs
 returns-in-Err-clause-performs c limit s h = alias_refused limit c.args.at s (word_view c.args.word) (tree_meant c.args.sort) (located_of c.in-Err.fault) (sym (c.in-Err.ensures c.args.table.now (signature_of s) h.scope))
@@ -26,7 +26,7 @@ returns-in-Err-sort_in-clause-performs c limit s h =
 pub returns-then-not-has_room-clause-performs : goal.returns-then-not-has_room-clause-performs
 returns-then-not-has_room-clause-performs c limit s h =
     let t = c.args.table.now in
-    let v = c.args.stack.now.scope in
+    let v = c.args.self.now.scope in
     let n = length v.sort_names + length v.names in
     let name = c.in-Ok.name.now in
     let sort = c.in-Ok-sort_in.ensures t (signature_of s) h.scope in
@@ -36,7 +36,7 @@ returns-then-not-has_room-clause-performs c limit s h =
 pub returns-in-Ok-add_name-clause-performs : goal.returns-in-Ok-add_name-clause-performs
 returns-in-Ok-add_name-clause-performs c limit s h =
     let t = c.args.table.now in
-    let x = c.args.stack.now in
+    let x = c.args.self.now in
     let n = length x.scope.sort_names + length x.scope.names in
     let name = c.in-Ok.name.now in
     let y = c.in-Ok-sort_in.sort in
