@@ -1,0 +1,9 @@
+//! Tests of the checker, over its public call.
+#![tactic(auto)]
+
+#[cfg(test)]
+mod check_rows;
+#[cfg(test)]
+mod check_tests;
+#[cfg(test)]
+mod rule_rows;

@@ -1,0 +1,7 @@
+//! Tests of unit propagation over clauses, by which the rule `resolution` judges.
+//!
+//! Each is a text of rows, which a helper reads; it gives the first row that is not so.
+#![tactic(auto)]
+
+#[cfg(test)]
+mod resolution_tests;
