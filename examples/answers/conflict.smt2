@@ -1,0 +1,6 @@
+(set-logic QF_UF)
+(set-option :print-success false)
+(declare-fun p () Bool)
+(assert p)
+(assert (not p))
+(check-sat)

@@ -1,0 +1,8 @@
+(set-option :print-success false)
+(declare-const p Bool)
+(assert (let ((p (not p))) (let ((q p) (r (and p p))) (and q r))))
+(assert (let () p))
+(assert (let ((q p) (q p)) q))
+(assert (let ((q p) (r q)) r))
+(assert (let ((q p)) (! q :named n)))
+(check-sat)

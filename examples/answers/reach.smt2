@@ -1,0 +1,7 @@
+(set-option :print-success false)
+(declare-const p Bool)
+(declare-const x Real)
+(assert p)
+(check-sat)
+(assert (< x 1))
+(check-sat)
