@@ -9,6 +9,7 @@ It needs Python 3 and its standard library.
 
 from __future__ import annotations
 
+import math
 import os
 import resource
 import subprocess
@@ -19,6 +20,8 @@ import time
 from dataclasses import dataclass
 
 GNU_TIME = "/usr/bin/time"
+# The system's clock for the limit of a processor is not quite that of its record.
+NEAR = 0.95
 
 
 @dataclass
@@ -40,12 +43,17 @@ class Run:
         return self.output.decode("ascii", "replace").splitlines()
 
 
-def run(words, seconds=None, memory=None):
-    """Runs the words. It is stopped after so many seconds of the clock, and gets so many bytes of address space."""
+def run(words, seconds=None, memory=None, processor=None):
+    """Runs the words. It is stopped after so many seconds of the clock, and gets so many bytes of address space.
 
-    def limit_memory():
+    It is also stopped after so many seconds of a processor, which the system counts in whole ones.
+    """
+
+    def set_limits():
         if memory is not None:
             resource.setrlimit(resource.RLIMIT_AS, (memory, memory))
+        if processor is not None:
+            resource.setrlimit(resource.RLIMIT_CPU, (math.ceil(processor), math.ceil(processor) + 1))
 
     with tempfile.TemporaryDirectory() as folder:
         report = os.path.join(folder, "memory")
@@ -55,7 +63,7 @@ def run(words, seconds=None, memory=None):
             [*timed, *words],
             stdin=subprocess.DEVNULL,
             stdout=subprocess.PIPE,
-            preexec_fn=limit_memory,
+            preexec_fn=set_limits,
             start_new_session=True,
         ) as child:
             stop = threading.Timer(seconds or 1e6, os.killpg, (child.pid, 9))
@@ -66,12 +74,14 @@ def run(words, seconds=None, memory=None):
             taken = time.perf_counter() - began
             stop.cancel()
             child.returncode = os.waitstatus_to_exitcode(status)
-        peak, processor = usage.ru_maxrss, usage.ru_utime + usage.ru_stime
+        peak, used = usage.ru_maxrss, usage.ru_utime + usage.ru_stime
         if os.path.exists(report) and os.path.getsize(report):
             with open(report, encoding="ascii") as text:
                 peak = int(text.read())
     stopped = child.returncode < 0 and seconds is not None and taken >= seconds
-    return Run(output, None if stopped else child.returncode, processor, usage.ru_utime, peak)
+    # /usr/bin/time and some programs turn the signal of the processor's limit into a status.
+    stopped = stopped or (child.returncode != 0 and processor is not None and used > NEAR * processor)
+    return Run(output, None if stopped else child.returncode, used, usage.ru_utime, peak)
 
 
 def least(words, runs, seconds=None):

@@ -30,7 +30,7 @@ RUNS = 3
 HOLES = (3, 4, 5, 6, 7)
 SEEDS = range(1, 11)
 CONSTANTS = 70
-CLAUSES = round(4.26 * CONSTANTS)
+DENSITY = 4.26
 LONGEST = 300
 
 
@@ -52,31 +52,36 @@ def numbers(seed):
         yield state >> 33
 
 
-def random_clauses(seed):
+def random_clauses(seed, constants=CONSTANTS):
     """The number of constants, and the clauses, as in `pigeons`."""
     source, clauses = numbers(seed), []
-    for _ in range(CLAUSES):
+    for _ in range(round(DENSITY * constants)):
         chosen = []
         while len(chosen) < 3:
-            constant = next(source) % CONSTANTS + 1
+            constant = next(source) % constants + 1
             if constant not in chosen:
                 chosen.append(constant)
         clauses.append([-constant if next(source) % 2 else constant for constant in chosen])
-    return CONSTANTS, clauses
+    return constants, clauses
 
 
 FAMILIES = {"pigeons": (pigeons, HOLES), "random": (random_clauses, SEEDS)}
+
+
+def assertions(constants, clauses):
+    """The declarations, and an assertion for each clause, as lines."""
+    for constant in range(1, constants + 1):
+        yield f"(declare-const x{constant} Bool)\n"
+    for clause in clauses:
+        literals = [f"(not x{-number})" if number < 0 else f"x{number}" for number in clause]
+        yield f"(assert (or {' '.join(literals)}))\n"
 
 
 def write_script(constants, clauses, path):
     """Writes a script with an assertion for each clause."""
     with open(path, "w", encoding="ascii") as out:
         out.write("(set-option :print-success false)\n")
-        for constant in range(1, constants + 1):
-            out.write(f"(declare-const x{constant} Bool)\n")
-        for clause in clauses:
-            literals = [f"(not x{-number})" if number < 0 else f"x{number}" for number in clause]
-            out.write(f"(assert (or {' '.join(literals)}))\n")
+        out.writelines(assertions(constants, clauses))
         out.write("(check-sat)\n")
 
 

@@ -30,20 +30,31 @@ MOST = 2.5
 SHORTEST = 0.01
 
 
+def exchanged(n):
+    """Gives the numbers below n in their order, but for each two neighbours, which are exchanged."""
+    order = list(range(n))
+    for i in range(0, n - 1, 2):
+        order[i], order[i + 1] = order[i + 1], order[i]
+    return order
+
+
+def assertions(order):
+    """The declarations and assertions of a chain, as lines; its implications come in this order of their numbers."""
+    n = len(order)
+    for i in range(n + 1):
+        yield f"(declare-const p{i} Bool)\n"
+    yield "(assert p0)\n"
+    for i in order:
+        yield f"(assert (=> p{i} p{i + 1}))\n"
+    yield f"(assert (not p{n}))\n"
+
+
 def write_script(n, path, helpful):
     """Writes the script of a chain of n implications."""
-    order = list(range(n))
-    if not helpful:
-        for i in range(0, n - 1, 2):
-            order[i], order[i + 1] = order[i + 1], order[i]
     with open(path, "w", encoding="ascii") as out:
         out.write("(set-option :print-success false)\n")
-        for i in range(n + 1):
-            out.write(f"(declare-const p{i} Bool)\n")
-        out.write("(assert p0)\n")
-        for i in order:
-            out.write(f"(assert (=> p{i} p{i + 1}))\n")
-        out.write(f"(assert (not p{n}))\n(check-sat)\n")
+        out.writelines(assertions(range(n) if helpful else exchanged(n)))
+        out.write("(check-sat)\n")
 
 
 def measure(executable, n, helpful, folder):

@@ -1,0 +1,235 @@
+#!/usr/bin/env python3
+"""Runs `smt_cli solve` and `certify` on formulas that it writes, with z3 and cvc5 beside it where these are on the path.
+
+    bench/search_race.py EXECUTABLE [--limit SECONDS] [--family WORD ..] [--most N] [--table] [--check]
+    bench/search_race.py --write NAME SCRIPT     writes the script of one formula, as pigeons-6, and runs nothing
+
+Each run gets the same number of seconds of a processor, 20 if none is given, in the program and in the system for it;
+other work on the machine counts little. --family takes those families alone whose names begin with one of the words,
+--most the first N formulas of each. --table leaves the rows of the formulas out. --check gives each proof that
+`certify` writes to `check`, too. The formulas are in bench/search/families.py:
+
+pigeons            N + 1 pigeons do not fit into N holes, for 5 to 9 holes
+random-N           4.26 clauses of three for each of N constants, 100, 150 and 200, by ten seeds: about half are `sat`
+chain              N implications in their order, with p0 and (not pN): N is 1,000, 10,000 and 100,000
+chain-exchanged    the same with each two neighbours exchanged, and chain-backwards in the opposite order
+parity-exchanged   N constants have one parity in two chains of `xor`, of which one has each two neighbours exchanged
+parity-backwards   the same, with one of the chains backwards
+parity-shuffled    the same, with one of the chains in an order by chance
+adder              a + b by a chain of full adders is b + a in blocks with selected carries, for 6, 8 and 10 bits
+multiplier         a * b is b * a row by row, all bits of the product, for 4, 5 and 6 bits
+
+A row has the answer, the seconds of each program, how many times as long `solve` took as z3 and as cvc5, and the peak
+memory of `solve` in KB. Instead of seconds `limit` says that the limit stopped it, and `none` that it gave no answer for
+another reason. A table by family follows: how many each answered, and of those that `solve` and all other programs
+answered the seconds together and the geometric mean of the ratios; and the greatest memory. Times below 0.001 s count
+as 0.001 s in ratios. For chains a third table has how many times as long ten times N took, which may be fifteen times;
+there times below 0.01 s count as 0.01 s.
+
+WRONG comes where two answers differ, where an answer is not the known one, where a model does not make all clauses
+true, where `solve` or `certify` ends with a status that it may not have, or a proof is not `valid`. The status is 1
+where something is WRONG, or a chain takes too long. It needs Python 3 and its standard library; Debian's packages of
+the others are z3 and cvc5.
+"""
+
+import argparse
+import math
+import os
+import shutil
+import sys
+import tempfile
+
+sys.dont_write_bytecode = True  # so that the imports below leave no files here
+sys.path.insert(0, os.path.join(os.path.dirname(os.path.abspath(__file__)), "search"))
+
+import growing_texts
+from families import FAMILIES, LINEAR
+from real_scripts import SHORTEST, verdicts
+from runs import run
+from solve_and_check import is_model
+
+OTHERS = [name for name in ("z3", "cvc5") if shutil.which(name)]
+PROGRAMS = ("solve", "certify", *OTHERS)
+# That all is well, or that memory ran out; nothing of these formulas is refused.
+ALLOWED = (0, 3, None)
+# The longest text that `check` reads.
+LONGEST_PROOF = 2**26
+
+
+def evidence(ran):
+    """Returns the lines of the answer to the one check, and of what follows it."""
+    return ran.lines[ran.lines.index(verdicts(ran)[0]) :]
+
+
+class Race:
+    """The runs of all programs on one formula."""
+
+    def __init__(self, asked, formula, folder):
+        script = os.path.join(folder, "formula.smt2")
+        formula.write(script)
+        self.name, self.asked, self.wrong = formula.name, asked, []
+        self.runs = {}
+        for name in PROGRAMS:
+            words = [shutil.which(name), script] if name in OTHERS else [asked.executable, name, script]
+            self.runs[name] = self.ran(words)
+        self.judge_answers(formula.answer)
+        if self.answer_of("certify") == "sat" and formula.clauses:
+            if not is_model(evidence(self.runs["certify"])[1:], *formula.clauses):
+                self.wrong.append("a model that does not make all clauses true")
+        if asked.check and self.answer_of("certify") == "unsat":
+            self.judge_proof(script, os.path.join(folder, "proof.alethe"))
+
+    def ran(self, words):
+        """Runs the words within the limit of a processor, and within a generous one of the clock."""
+        return run(words, seconds=10 + 10 * self.asked.limit, processor=self.asked.limit)
+
+    def answer_of(self, name):
+        """Returns the answer that a program gave within the limit, or nothing."""
+        ran = self.runs[name]
+        given = verdicts(ran)[:1]
+        is_known = given in (["sat"], ["unsat"]) and ran.status == 0 and ran.seconds <= self.asked.limit
+        return given[0] if is_known else None
+
+    def judge_answers(self, known):
+        """Notes answers that differ, and statuses that the program may not have."""
+        answers = {name: self.answer_of(name) for name in PROGRAMS}
+        different = {answer for answer in (known, *answers.values()) if answer}
+        if len(different) > 1:
+            self.wrong.append(f"answers {answers}, known {known}")
+        self.answer = different.pop() if different else ""
+        for name in ("solve", "certify"):
+            if self.runs[name].status not in ALLOWED:
+                self.wrong.append(f"{name}: status {self.runs[name].status}, {self.runs[name].output[:80]!r}")
+
+    def judge_proof(self, script, path):
+        """Notes a proof that `check` does not find valid; one that is too long for it is passed over."""
+        with open(path, "w", encoding="utf-8") as out:
+            out.writelines(f"{line}\n" for line in evidence(self.runs["certify"]))
+        if os.path.getsize(path) > LONGEST_PROOF:
+            return
+        self.runs["check"] = checked = self.ran([self.asked.executable, "check", script, path])
+        if checked.status is not None and (checked.output, checked.status) != (b"valid\n", 0):
+            self.wrong.append(f"check: status {checked.status}, {checked.output[:80]!r}")
+
+    def ratio(self, other):
+        """Returns how many times as long `solve` took as another program."""
+        return max(self.runs["solve"].seconds, SHORTEST) / max(self.runs[other].seconds, SHORTEST)
+
+    @property
+    def is_by_all(self):
+        """Whether `solve` and all other programs answered, and nothing is wrong."""
+        return not self.wrong and all(self.answer_of(name) for name in ("solve", *OTHERS))
+
+    def cells(self):
+        """Returns the row as it is printed."""
+        cells = [self.name, f"`{self.answer}`" if self.answer else ""]
+        for name in PROGRAMS:
+            missing = "limit" if self.runs[name].status is None else "none"
+            cells.append(f"{self.runs[name].seconds:.3f}" if self.answer_of(name) else missing)
+        if self.asked.check:
+            checked = self.runs.get("check")
+            cells.append("" if checked is None else "limit" if checked.status is None else f"{checked.seconds:.3f}")
+        cells += [f"{self.ratio(name):.2f}" if self.is_by_all else "" for name in OTHERS]
+        return [*cells, f"{self.runs['solve'].memory:,}"]
+
+
+def row(cells):
+    """Prints the cells of a row."""
+    print("| " + " | ".join(cells) + " |", flush=True)
+
+
+def head(cells):
+    """Prints the head of a table."""
+    row(cells)
+    print("|---" * len(cells) + "|")
+
+
+def mean(ratios):
+    """Returns the geometric mean as a cell."""
+    return f"{math.exp(sum(map(math.log, ratios)) / len(ratios)):.2f}" if ratios else ""
+
+
+def tell_family(name, races):
+    """Prints the row of a family."""
+    common = [race for race in races if race.is_by_all]
+    cells = [name, str(len(races)), *(str(sum(map(bool, (race.answer_of(one) for race in races)))) for one in PROGRAMS)]
+    cells.append(str(len(common)))
+    cells += [f"{sum(race.runs[one].seconds for race in common):.2f}" for one in PROGRAMS]
+    cells += [mean([race.ratio(one) for race in common]) for one in OTHERS]
+    row([*cells, f"{max(race.runs['solve'].memory for race in races):,}"])
+
+
+def tell_growth(races):
+    """Prints how times grow along a family whose formulas grow tenfold; returns what takes too long, as texts."""
+    long = []
+    for before, after in zip(races, races[1:]):
+        cells = [after.name]
+        for name in PROGRAMS:
+            times = [max(race.runs[name].seconds, growing_texts.SHORTEST) for race in (before, after)]
+            is_stopped = not after.answer_of(name)
+            # A run that the limit stopped would have taken longer.
+            cells.append(f"{'over ' * is_stopped}{times[1] / times[0]:.1f}" if before.answer_of(name) else "")
+            if name not in OTHERS and before.answer_of(name) and times[1] > growing_texts.MOST * times[0]:
+                long.append(f"{after.name}: {name} took more than {growing_texts.MOST} times as long as with a tenth")
+        row(cells)
+    return long
+
+
+def run_all(asked):
+    """Runs the families, and prints the tables; returns what is wrong, as texts."""
+    races, wrong = {}, []
+    ratios = [f"solve / {name}" for name in OTHERS]
+    if not asked.table:
+        head(["formula", "answer", *PROGRAMS, *["check"] * asked.check, *ratios, "KB"])
+    with tempfile.TemporaryDirectory() as folder:
+        for family in asked.families:
+            races[family] = []
+            for formula in FAMILIES[family]()[: asked.most]:
+                race = Race(asked, formula, folder)
+                races[family].append(race)
+                wrong += [f"WRONG {race.name}: {what}" for what in race.wrong]
+                if not asked.table:
+                    row(race.cells())
+    print()
+    answered = [f"{name} answers" for name in PROGRAMS]
+    head(["family", "formulas", *answered, "all answer", *(f"{name} s" for name in PROGRAMS), *ratios, "KB"])
+    for family, of_family in races.items():
+        tell_family(family, of_family)
+    tell_family("all", [race for of_family in races.values() for race in of_family])
+    grown = [family for family in LINEAR if family in races]
+    if grown:
+        print()
+        head(["ten times N", *PROGRAMS])
+        for family in grown:
+            wrong += tell_growth(races[family])
+    return wrong
+
+
+def main():
+    """Runs the families that are asked for, or writes one formula."""
+    if len(sys.argv) == 4 and sys.argv[1] == "--write":
+        formulas = {formula.name: formula for make in FAMILIES.values() for formula in make()}
+        if sys.argv[2] not in formulas:
+            sys.exit("the formulas are " + ", ".join(formulas))
+        formulas[sys.argv[2]].write(sys.argv[3])
+        return 0
+    parser = argparse.ArgumentParser(description=__doc__, formatter_class=argparse.RawDescriptionHelpFormatter)
+    parser.add_argument("executable")
+    parser.add_argument("--limit", type=float, default=20)
+    parser.add_argument("--family", nargs="+", metavar="WORD", default=[""])
+    parser.add_argument("--most", type=int, metavar="N")
+    parser.add_argument("--table", action="store_true")
+    parser.add_argument("--check", action="store_true")
+    asked = parser.parse_args()
+    asked.executable = os.path.abspath(asked.executable)
+    asked.families = [family for family in FAMILIES if family.startswith(tuple(asked.family))]
+    if not asked.families:
+        parser.error("the families are " + ", ".join(FAMILIES))
+    wrong = run_all(asked)
+    for line in wrong:
+        print(line, file=sys.stderr)
+    return 1 if wrong else 0
+
+
+if __name__ == "__main__":
+    sys.exit(main())
