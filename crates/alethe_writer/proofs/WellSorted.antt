@@ -2,7 +2,7 @@
 use Rattle.std.proofs.Common.{◌≡◌, ◌⊎◌, inl, inr, ℕ, true, List, [], Contains, subst}
 use Rattle.std.proofs.lemmas.Bool.{and_parts}
 use Rattle.spec_text.proofs.Members.{cases, none as no_member}
-use Rattle.spec_sorts.specs.Terms.{Symbol, Head, True, False, Not, And, Or, Xor, Implies, Equal, Ite, Minus, Plus, Times, Divide, Less, AtMost, Literal, Apply, Parameter, Term, Terms, app, nil, cons, list_of, sorts_of, head_takes, is_sorted, are_sorted}
+use Rattle.spec_sorts.specs.Terms.{Symbol, Term, Terms, app, nil, cons, list_of, sorts_of, head_takes, is_sorted, are_sorted}
 use Rattle.spec_sorts.specs.Subsets.{arguments_of}
 use Rattle.spec_sorts.specs.WellSorted.{AllHeads, AllHeadsIn, IsHeadOver, IsWellSorted}
 use Rattle.spec_derivations.specs.Derivations.{Derivation, RestsOn, conclusion_at}
@@ -27,38 +27,3 @@ module _ (symbols : List Symbol) where
   pub printed_sorted : (d : Derivation) (n : ℕ) → ((m : ℕ) (u : Term) → RestsOn d n m → Contains (conclusion_at d m) u → IsWellSorted symbols [] u) → (u : Term) → IsPrinted d n u → IsWellSorted symbols [] u
   printed_sorted d n each u (in_clause m _ on c) = each m u on c
   printed_sorted d n each u (as_argument t _ p c) = arguments_sorted t u (printed_sorted d n each t p) c
-
-  module _ (more : List Symbol) (within : (f : Symbol) → Contains symbols f → Contains more f) where
-    head_over : (h : Head) → IsHeadOver symbols h → IsHeadOver more h
-    head_over True o = tt
-    head_over False o = tt
-    head_over Not o = tt
-    head_over And o = tt
-    head_over Or o = tt
-    head_over Xor o = tt
-    head_over Implies o = tt
-    head_over Equal o = tt
-    head_over Ite o = tt
-    head_over Minus o = tt
-    head_over Plus o = tt
-    head_over Times o = tt
-    head_over Divide o = tt
-    head_over Less o = tt
-    head_over AtMost o = tt
-    head_over (Literal q) o = o
-    head_over (Apply f) o = within f o
-    head_over (Parameter k s) o = tt
-
-    mutual
-      unfolding AllHeads AllHeadsIn
-
-      heads_over : (t : Term) → AllHeads (IsHeadOver symbols) t → AllHeads (IsHeadOver more) t
-      heads_over (app h ts) o = (head_over h o.0, all_heads_over ts o.1)
-
-      all_heads_over : (ts : Terms) → AllHeadsIn (IsHeadOver symbols) ts → AllHeadsIn (IsHeadOver more) ts
-      all_heads_over nil o = tt
-      all_heads_over (cons t ts) o = (heads_over t o.0, all_heads_over ts o.1)
-
-    -- it is so over more symbols
-    pub sorted_over : (t : Term) → IsWellSorted symbols [] t → IsWellSorted more [] t
-    sorted_over t w = record { sorted = w.sorted; heads = heads_over t w.heads }

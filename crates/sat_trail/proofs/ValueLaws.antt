@@ -2,7 +2,7 @@
 use Rattle.std.proofs.Common.{◌≡◌, ◌≢◌, ℕ, suc, ◌+◌, ◌<◌, ◌≤◌, ◌==◌, not, Bool, true, false, List, [], ◌∷◌, ◌++◌, length, get_or, set, take, map, Contains, Option, Some, None, ◌⊎◌, inl, inr, refl, sym, ap, ◌∙◌, subst, arith, true≢false}
 use Rattle.std.specs.List.{AllPairs, list_any}
 use Rattle.std.specs.Bool.{beq}
-use Rattle.std.proofs.lemmas.Bool.{cases_lt, eqb-true, eq-eqb}
+use Rattle.std.proofs.lemmas.Bool.{cases_eq, cases_lt}
 use Rattle.std.proofs.lemmas.Bool.Decides.{Decides-eqb}
 use Rattle.std.proofs.lemmas.List.{length-append, length_push, length-set, length-map, get_or-set_same, get_or-set_other, get_or-map, get_or_append_left, get_or_past, get_or_push, take_at, take-take}
 use Rattle.std.proofs.lemmas.List.Elements.{Contains-push, Contains-push_cases, Contains-append_left, Contains-get_or}
@@ -25,13 +25,6 @@ not_some b e = cc
 
 some_same : (a b : Bool) → Some a ≡ Some b → a ≡ b
 some_same a b e = cc
-
-equal_or : (a b : ℕ) → (a ≡ b) ⊎ (a ≢ b)
-equal_or a b = go (a == b) refl
-  where
-    go : (t : Bool) → (a == b) ≡ t → (a ≡ b) ⊎ (a ≢ b)
-    go true e = inl (eqb-true a b e)
-    go false e = inr (λ h. true≢false (sym (eq-eqb a b h) ∙ e))
 
 -- two signs are one or the other
 signs : (a b : Bool) → (a ≡ b) ⊎ (a ≡ not b)
@@ -86,7 +79,7 @@ module _ (held : List Lit) (values : List (Option Bool)) (h : HasValues held val
       there m (inr e) = subst (λ (x : Lit). get_or (set values l.term.0 (Some l.positive)) x.term.0 None ≡ Some x.positive) e (get_or-set_same values l.term.0 (Some l.positive) None lt)
 
       only : (m : Lit) → get_or (set values l.term.0 (Some l.positive)) m.term.0 None ≡ Some m.positive → Contains (held ++ l ∷ []) m
-      only m e = elim (equal_or m.term.0 l.term.0) [
+      only m e = elim (cases_eq m.term.0 l.term.0) [
         | inl same ↦ subst (Contains (held ++ l ∷ [])) (by_term l m (sym same) (some_same _ _ (sym (get_or-set_same values l.term.0 (Some l.positive) None lt) ∙ ap (λ t. get_or (set values l.term.0 (Some l.positive)) t None) (sym same) ∙ e))) (Contains-push held l)
         | inr other ↦ Contains-append_left held (l ∷ []) m (h.only m (sym (get_or-set_other values l.term.0 m.term.0 (Some l.positive) None other) ∙ e))
       ]
@@ -159,7 +152,7 @@ module _ (held : List Lit) (values : List (Option Bool)) (h : HasValues held val
       same : (k : ℕ) → get_or (values ++ None ∷ []) k None ≡ get_or values k None
       same k = elim (cases_lt k (length values)) [
         | inl lt ↦ get_or_append_left values (None ∷ []) None k lt
-        | inr le ↦ elim (equal_or (length values) k) [
+        | inr le ↦ elim (cases_eq (length values) k) [
           | inl is ↦ get_or_push values None None k is ∙ sym (get_or_past values k None le)
           | inr other ↦ get_or_past (values ++ None ∷ []) k None (omega (arith, le, other, length_push values None)) ∙ sym (get_or_past values k None le)
         ]
@@ -186,7 +179,7 @@ pop_values front held l values e g = record {
     ]
 
     only : (m : Lit) → get_or (set values l.term.0 None) m.term.0 None ≡ Some m.positive → Contains front m
-    only m q = elim (equal_or m.term.0 l.term.0) [
+    only m q = elim (cases_eq m.term.0 l.term.0) [
       | inl same ↦ absurd (not_some m.positive (sym gone ∙ ap (λ t. get_or (set values l.term.0 None) t None) (sym same) ∙ q))
       | inr other ↦ elim (Contains-push_cases front l m (h.only m (sym (get_or-set_other values l.term.0 m.term.0 None None other) ∙ q))) [
         | inl c ↦ c

@@ -11,6 +11,7 @@ use Rattle.spec_text.proofs.AnswerLaws.{answer, went}
 use Rattle.spec_text.specs.Trees.{Tree}
 use Rattle.spec_sorts.specs.Terms.{Sort, Term}
 use Rattle.spec_sorts.specs.Signatures.{Definition, defined, Signature, known_as, definition, with_definitions}
+use Rattle.spec_sorts.proofs.Signatures.{sort_same}
 use Rattle.spec_reading.specs.Names.{Setting, new_name, is_function}
 use Rattle.spec_reading.specs.Sorts.{sort_in}
 use Rattle.spec_reading.specs.Reading.{Bound, Annotated, Reading, reading, reading_of_sort, naming, made_by, annotated_as}
@@ -31,7 +32,7 @@ use Rattle.term_reader.specs.declared.scope.Function.TheVariants.{Defined}
 use Rattle.term_reader.specs.declared.faults.ReadError.{ReadError}
 use Rattle.term_reader.specs.Building.{Keeps, Means}
 use Rattle.term_reader.specs.Scopes.{ScopeView, Stands, IsMacro, SortStands, sort_under}
-use Rattle.term_reader.proofs.Standing.{known_last, sorts_with, function_added}
+use Rattle.term_reader.proofs.Standing.{known_last, function_added}
 use Rattle.sort_check.specs.Reads.{Room, within, roomy_definitions, Store, HasFault, EndsDefinition}
 use Rattle.sort_check.specs.Rows.{EndsRoom}
 use Rattle.sort_check.specs.Defining.{parameters_at, HasMade}
@@ -125,7 +126,7 @@ module _ (w : Setting) (s : Signature) (d : Parts) where
               let both = with_both s r.made (this ∷ []) in
               subst (Stands t (record v { names = v.names ++ n ∷ []; functions = v.functions ++ Defined m ∷ [] })) (sym both)
               (record {
-                sorts = λ k. subst (SortStands t (sort_under v k)) (sym (sorts_with made (defined this) k)) (h.sorts k);
+                sorts = λ k. subst (SortStands t (sort_under v k)) (sym (sort_same made (defined this) k)) (h.sorts k);
                 functions = function_added t v made n (Defined m) (defined this) long refl h.functions none macro;
                 count = omega (arith, h.count, length-append v.names (n ∷ []), length-append made (definition this ∷ []));
                 sorted = subst AreWellSorted both (definition_keeps_sorts w s d (r.made ++ this ∷ []) sorts whole_read);

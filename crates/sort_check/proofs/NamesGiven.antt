@@ -13,6 +13,7 @@ use Rattle.spec_text.proofs.AnswerLaws.{answer, went, require_true}
 use Rattle.spec_text.specs.Trees.{Tree, Trees, atom, list, none, more}
 use Rattle.spec_sorts.specs.Terms.{Term}
 use Rattle.spec_sorts.specs.Signatures.{Definition, Known, defined, Signature, known_as, is_some, definition, with_definitions}
+use Rattle.spec_sorts.proofs.Signatures.{sort_same}
 use Rattle.spec_sorts.specs.Theory.{is_of_theory}
 use Rattle.spec_reading.proofs.Closed.{not_true}
 use Rattle.spec_sorts.specs.Forms.{Next, a_keyword, a_value, a_name, is_name, named_words}
@@ -24,7 +25,7 @@ use Rattle.term_core.specs.Tables.{TableView}
 use Rattle.term_reader.specs.declared.scope.Macro.{Macro}
 use Rattle.term_reader.specs.declared.scope.Function.TheVariants.{Defined}
 use Rattle.term_reader.specs.Scopes.{ScopeView, IsMacro, SortStands, sort_under}
-use Rattle.term_reader.proofs.Standing.{sorts_with, function_added}
+use Rattle.term_reader.proofs.Standing.{function_added}
 use Rattle.term_reader.specs.declared.faults.ReadError.{ReadError}
 use Rattle.term_reader.specs.declared.faults.ReadError.TheVariants.{Fault, Memory}
 use Rattle.term_reader.specs.Names.{located_of}
@@ -232,7 +233,7 @@ module _ (w : Setting) (s : Signature) (t : TableView) (a : Annotated) (x : Word
       let free = new_is_free w is_taken x n e in
       let none : known_as s n ≡ None = ap (known_as s) (sym free.same) ∙ no_known (known_as s x.bytes) (or_false_right (is_of_theory x.bytes) (is_some (known_as s x.bytes)) (or_false_left (is_function s x.bytes) (is_own w.own x.bytes) free.free)) in
       record {
-        sorts = λ k. subst (SortStands t (sort_under v k)) (sym (sorts_with s (defined (naming n a)) k)) (h.sorts k);
+        sorts = λ k. subst (SortStands t (sort_under v k)) (sym (sort_same s (defined (naming n a)) k)) (h.sorts k);
         functions = function_added t v s n (Defined m) (defined (naming n a)) long refl h.functions none macro;
         count = omega (arith, h.count, length-append v.names (n ∷ []), length-append s (definition (naming n a) ∷ []));
       }

@@ -1,6 +1,6 @@
 //! Whether bound names occur free in a text.
 
-ghost use Rattle.std.specs.Prelude.{◌≡◌, ◌+◌, ◌||◌, ℕ, List, ◌++◌, IfOk, OnOk};
+ghost use Rattle.std.specs.Prelude.{◌≡◌, ◌+◌, ◌||◌, List, ◌++◌, IfOk, OnOk};
 ghost use Rattle.spec_text.specs.Bytes.{Name, among};
 ghost use Rattle.spec_sorts.specs.Forms.{form};
 ghost use Rattle.spec_reading.specs.Names.{names_bound, without, mentions, any_mentions, first_mentions, let_mentions, binding_mentions};

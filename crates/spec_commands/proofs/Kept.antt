@@ -33,11 +33,11 @@ use Rattle.spec_commands.specs.Checks.{Check, this_or, after_effect, after_comma
 use Rattle.spec_commands.specs.Kept.{WasRead, IsAsserted, IsKept}
 
 -- one declaration more is the last of the signature
-signature_last : (s : Stack) (d : Declaration) → signature_of (with_declaration s d) ≡ signature_of s ++ d ∷ []
+pub signature_last : (s : Stack) (d : Declaration) → signature_of (with_declaration s d) ≡ signature_of s ++ d ∷ []
 signature_last s d = map-append (λ (e : Entry). e.declaration) s.names _
 
 -- definitions more are the last ones
-signature_with : (s : Stack) (ds : List Definition) → signature_of (with_definitions s ds) ≡ signatures.with_definitions (signature_of s) ds
+pub signature_with : (s : Stack) (ds : List Definition) → signature_of (with_definitions s ds) ≡ signatures.with_definitions (signature_of s) ds
 signature_with s [] = sym (append-nil (signature_of s))
 signature_with s (d ∷ ds) =
     signature_with (with_declaration s (definition d)) ds
@@ -50,7 +50,7 @@ levels_with s [] = refl
 levels_with s (d ∷ ds) = levels_with (with_declaration s (definition d)) ds
 
 -- an assertion more is the last of all
-joined_last : (ls : List (List Assertion)) (a : Assertion) → joined (with_last ls a) ≡ joined ls ++ a ∷ []
+pub joined_last : (ls : List (List Assertion)) (a : Assertion) → joined (with_last ls a) ≡ joined ls ++ a ∷ []
 joined_last [] a = refl
 joined_last (l ∷ []) a = append-nil (l ++ a ∷ []) ∙ ap (λ x. x ++ a ∷ []) (sym (append-nil l))
 joined_last (l ∷ m ∷ ls) a = ap (λ x. l ++ x) (joined_last (m ∷ ls) a) ∙ sym (append_assoc l (joined (m ∷ ls)) (a ∷ []))

@@ -1,5 +1,5 @@
 -- What terms pass to their subterms.
-use Rattle.std.proofs.Common.{◌≡◌, true, List, [], ◌∷◌, map, All, Contains, inl, inr, refl, sym, ap, ◌∙◌, subst}
+use Rattle.std.proofs.Common.{◌≡◌, true, List, [], ◌∷◌, map, All, Contains, inl, inr, sym, ap, ◌∙◌, subst}
 use Rattle.std.proofs.lemmas.Bool.{and_parts}
 use Rattle.std.proofs.lemmas.List.Elements.{All-head, All-tail}
 use Rattle.spec_text.proofs.Members.{first, later, cases, none}
@@ -7,6 +7,7 @@ use Rattle.spec_sorts.specs.Terms.{Sort, Symbol, Head, Term, Terms, app, nil, co
 use Rattle.spec_sorts.specs.WellSorted.{AllHeads, AllHeadsIn, IsHeadOver, IsWellSorted}
 use Rattle.spec_sorts.specs.Subterms.{with_term, with_subterms, with_all_subterms, subterms_of}
 use Rattle.spec_sorts.specs.Subsets.{arguments_of}
+use Rattle.spec_sorts.proofs.General.{sorts_listed}
 use Rattle.spec_sorts.proofs.Members.{with_one}
 
 module _ (P : Term → Type 0) (down : (t : Term) → P t → (u : Term) → Contains (arguments_of t) u → P u) where
@@ -55,15 +56,10 @@ module _ (symbols : List Symbol) (ps : List Sort) where
   pub argument_sorted : (t : Term) → IsWellSorted symbols ps t → (u : Term) → Contains (arguments_of t) u → IsWellSorted symbols ps u
   argument_sorted (app h ts) w = all_sorted ts (tail_sorted h ts w.sorted) (tail_heads h ts w.heads)
 
--- the sorts of terms, by their list
-sorts_are : (ts : Terms) → sorts_of ts ≡ map sort_of (list_of ts)
-sorts_are nil = refl
-sorts_are (cons t ts) = λ i. sort_of t ∷ sorts_are ts i
-
 -- the head of a well-sorted term takes its arguments
 pub head_fits : (symbols : List Symbol) (ps : List Sort) (h : Head) (ts : Terms) → IsWellSorted symbols ps (app h ts) → head_takes ps h (map sort_of (list_of ts)) ≡ true
 unfolding is_sorted
-head_fits symbols ps h ts w = ap (head_takes ps h) (sym (sorts_are ts)) ∙ (and_parts (head_takes ps h (sorts_of ts)) (are_sorted ps ts) w.sorted).0
+head_fits symbols ps h ts w = ap (head_takes ps h) (sym (sorts_listed ts)) ∙ (and_parts (head_takes ps h (sorts_of ts)) (are_sorted ps ts) w.sorted).0
 
 -- and is over the symbols
 pub head_over : (symbols : List Symbol) (ps : List Sort) (h : Head) (ts : Terms) → IsWellSorted symbols ps (app h ts) → IsHeadOver symbols h

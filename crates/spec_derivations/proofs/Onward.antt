@@ -42,7 +42,7 @@ module _ (d more : Derivation) where
   }
 
 -- a clause that is new after others
-new_pushed : (premises learned : List (List Literal)) (c : List Literal) → AreNew premises learned → IsNew (premises ++ learned) c → AreNew premises (learned ++ c ∷ [])
+pub new_pushed : (premises learned : List (List Literal)) (c : List Literal) → AreNew premises learned → IsNew (premises ++ learned) c → AreNew premises (learned ++ c ∷ [])
 new_pushed premises [] c news new = (subst (λ ps. IsNew ps c) (append-nil premises) new, tt)
 new_pushed premises (l ∷ learned) c news new = (news.0, new_pushed (premises ++ l ∷ []) learned c news.1 (subst (λ ps. IsNew ps c) (sym (append_assoc premises (l ∷ []) learned)) new))
 

@@ -3,13 +3,13 @@ use Rattle.std.proofs.Common.{◌≡◌, ℕ, suc, ◌+◌, ◌&&◌, All, List,
 use Rattle.std.specs.Prelude.{codes}
 use Rattle.std.specs.List.{AllByRecursion}
 use Rattle.std.proofs.lemmas.List.Elements.{recursion_from_All}
-use Rattle.spec_text.specs.Lexemes.{opens, closes, lexemes, first_piece}
+use Rattle.spec_text.specs.Lexemes.{opens, closes, lexemes}
 use Rattle.spec_text.specs.Lexicon.{reserved_word}
 use Rattle.spec_text.specs.Printed.{printed}
 use Rattle.spec_text.specs.Trees.{Tree, Trees, list, none, more, spelled, spelled_all, IsRead}
 use Rattle.spec_text.proofs.General.{bytes_itself}
 use Rattle.spec_text.proofs.Words.{HasWords, HaveWords}
-use Rattle.spec_text.proofs.Printing.{moved, open_read, close_read, tree_read}
+use Rattle.spec_text.proofs.Printing.{moved, open_read, close_read, space_read, feed_read, tree_read}
 use Rattle.spec_sorts.specs.Terms.{Sort, Symbol}
 use Rattle.spec_sorts.specs.Values.{Value, HasSort, HaveSorts, Row, Interpretation, IsRowOf, IsTableOf, Interprets}
 use Rattle.spec_sorts.specs.Signatures.{Signature}
@@ -68,14 +68,6 @@ module _ (g : Signature) where
         value = λ m vs e. body_means m (bind (parameters_of s) vs) (no_theory_bound 0 s.parameters vs) s (i.table s.name).rows (i.table s.name).default vs rows_are t.default e (bound_at 0 s.parameters vs e) _;
       },
     )
-
-space_read : (at : ℕ) (rest : List ℕ) → lexemes 0 at (32 ∷ rest) ≡ lexemes 0 (at + 1) rest
-unfolding lexemes first_piece
-space_read at rest = refl
-
-feed_read : (at : ℕ) (rest : List ℕ) → lexemes 0 at (10 ∷ rest) ≡ lexemes 0 (at + 1) rest
-unfolding lexemes first_piece
-feed_read at rest = refl
 
 nothing_read : (at : ℕ) → lexemes 0 at [] ≡ []
 unfolding lexemes

@@ -5,7 +5,7 @@ use Rattle.std.specs.Str.{bytes_eq}
 use Rattle.std.specs.Int.Digits.{digits_of, number_from_digits_after, AllBelowBase}
 use Rattle.std.proofs.lemmas.Int.Digits.{digits_of_step, all_below_base_digits_of, first_digits_of, number_digits_of}
 use Rattle.std.proofs.lemmas.Fmt.{decimal_by_steps_wide, decimal_digit}
-use Rattle.std.proofs.lemmas.List.{map-append}
+use Rattle.std.proofs.lemmas.List.{map-append, drop_all}
 use Rattle.spec_text.specs.Bytes.{is_digit, is_symbol_byte, front}
 use Rattle.spec_text.specs.Lexicon.{Consists, IsNumeral, only_zero, digits}
 use Rattle.spec_text.proofs.General.{bytes_itself}
@@ -86,13 +86,10 @@ numeral_decimal (suc n) small = numeral_glyphs n ∙ sym (steps (suc n) small (o
         (λ m ds l h a. ap (λ x. x ++ ((48 + m % 10) ∷ [])) (h (omega arith)) ∙ sym (map-append (λ d. 48 + d) (digits_of 10 (m / 10)) (m % 10 ∷ [])) ∙ ap glyphs (sym (digits_of_step 10 m (omega arith) a)))
         m
 
-front_all : (ds : List ℕ) → Consists is_digit ds → front is_digit ds ≡ ds
+-- digits are the front of themselves
+pub front_all : (ds : List ℕ) → Consists is_digit ds → front is_digit ds ≡ ds
 front_all [] h = refl
 front_all (d ∷ ds) h = rw h.0 (ap (λ (xs : List ℕ). d ∷ xs) (front_all ds h.1))
-
-drop_past : (ds : List ℕ) → drop (suc (length ds)) ds ≡ []
-drop_past [] = refl
-drop_past (d ∷ ds) = drop_past ds
 
 -- a whole number is in lowest terms
 pub whole_reduced : (n : ℕ) → IsReduced (whole (pos n))
@@ -104,7 +101,7 @@ pub literal_numeral : (n : ℕ) → literal_value (numeral n) ≡ whole (pos n)
 unfolding literal_value
 literal_numeral n =
     let front_is : whole_digits (numeral n) ≡ numeral n = front_all (numeral n) (numeral_digits n) in
-    let no_point : point_digits (numeral n) ≡ [] = ap (λ (w : List ℕ). trimmed (drop (suc (length w)) (numeral n))) front_is ∙ ap trimmed (drop_past (numeral n)) in
+    let no_point : point_digits (numeral n) ≡ [] = ap (λ (w : List ℕ). trimmed (drop (suc (length w)) (numeral n))) front_is ∙ ap trimmed (drop_all (suc (length (numeral n))) (numeral n) (omega arith)) in
     (λ i. lowest (pos (number_after 0 (front_is i ++ no_point i))) (10 ^ length (no_point i)))
     ∙ ap (λ (x : List ℕ). lowest (pos (number_after 0 x)) 1) (append-nil (numeral n))
     ∙ ap (λ k. lowest (pos k) 1) (numeral_number n)

@@ -1,5 +1,5 @@
 -- Parameters have names of their own, and the values that are bound to them.
-use Rattle.std.proofs.Common.{◌≡◌, ◌≢◌, ℕ, zero, suc, ◌+◌, ◌<◌, ◌≤◌, Bool, true, false, ◌||◌, cond, List, [], ◌∷◌, ◌++◌, length, get_or, drop, Some, None, refl, sym, ap, ◌∙◌, arith}
+use Rattle.std.proofs.Common.{◌≡◌, ◌≢◌, ℕ, zero, suc, ◌+◌, ◌<◌, ◌≤◌, Bool, true, false, cond, List, [], ◌∷◌, ◌++◌, length, get_or, drop, Some, None, refl, sym, ap, ◌∙◌, arith}
 use Rattle.std.specs.Prelude.{not, Ok}
 use Rattle.std.specs.Str.{bytes_eq}
 use Rattle.std.specs.List.{AllByRecursion}
@@ -12,7 +12,7 @@ use Rattle.spec_text.specs.Answers.{◌>>=◌, require}
 use Rattle.spec_text.specs.Trees.{atom}
 use Rattle.spec_text.specs.Printed.{is_bare}
 use Rattle.spec_text.proofs.AnswerLaws.{joined}
-use Rattle.spec_text.proofs.General.{bytes_itself}
+use Rattle.spec_text.proofs.General.{bytes_itself, among_last}
 use Rattle.spec_text.proofs.Printing.{moved, moved_all}
 use Rattle.spec_sorts.specs.Numerals.{number_after}
 use Rattle.spec_sorts.specs.Terms.{Sort, Truth, Number, Declared}
@@ -76,14 +76,6 @@ sort_read g (Declared n) h at = go (is_bare n)
 abbrev AreFree : ℕ → List Name → Type 0
 AreFree k names = (j : ℕ) → k ≤ j → among names (parameter j) ≡ false
 
-among_push : (names : List Name) (m n : Name) → among names n ≡ false → bytes_eq m n ≡ false → among (names ++ m ∷ []) n ≡ false
-among_push [] m n e f = ap (λ c. c || false) f
-among_push (x ∷ names) m n e f = go (bytes_eq x n) (λ h. among_push names m n h f) e
-  where
-    go : (c : Bool) → (among names n ≡ false → among (names ++ m ∷ []) n ≡ false) → (c || among names n) ≡ false → (c || among (names ++ m ∷ []) n) ≡ false
-    go true later e = cc
-    go false later e = later e
-
 -- a parameter's name is new
 new_read : (at k : ℕ) (names : List Name) → among names (parameter k) ≡ false → new_name model (is_in_list names) (record { at = at; kind = Simple; bytes = parameter k }) ≡ Ok (parameter k)
 unfolding ◌>>=◌ require
@@ -96,4 +88,4 @@ parameters_read g k [] names h free at = refl
 parameters_read g k (s ∷ ss) names h free at =
     joined _ _ (parameter k) _ (new_read _ k names (free k (omega arith)))
     (joined _ _ s _ (sort_read g s h.0 _)
-    (joined _ _ (parameters_from (suc k) ss) _ (parameters_read g (suc k) ss (names ++ parameter k ∷ []) h.1 (λ j le. among_push names (parameter k) (parameter j) (free j (omega (arith, le))) (parameters_apart k j (λ same. omega (arith, le, same)))) _) refl))
+    (joined _ _ (parameters_from (suc k) ss) _ (parameters_read g (suc k) ss (names ++ parameter k ∷ []) h.1 (λ j le. among_last names (parameter k) (parameter j) (free j (omega (arith, le))) (parameters_apart k j (λ same. omega (arith, le, same)))) _) refl))

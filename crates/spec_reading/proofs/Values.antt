@@ -8,17 +8,17 @@ use Rattle.std.proofs.lemmas.Bool.{eqb-true}
 use Rattle.spec_text.specs.declared.Kind.{Kind}
 use Rattle.spec_text.specs.declared.Kind.TheVariants.{Numeral, Decimal, Text, Simple, Quoted, Reserved as word_kind, Keyword}
 use Rattle.spec_text.specs.declared.Fault.{Fault}
-use Rattle.spec_text.specs.declared.Fault.TheVariants.{BadShape, UnknownSymbol, Reserved}
+use Rattle.spec_text.specs.declared.Fault.TheVariants.{BadShape, UnknownSymbol, WrongCount, WrongSort, Reserved}
 use Rattle.spec_text.specs.Bytes.{Name}
 use Rattle.spec_text.specs.Shapes.{Word}
-use Rattle.spec_text.specs.Answers.{Answer, ◌>>=◌, refused}
+use Rattle.spec_text.specs.Answers.{Answer, ◌>>=◌, refused, require}
 use Rattle.spec_text.specs.Trees.{Tree, Trees, atom, list, none, more}
 use Rattle.spec_text.proofs.AnswerLaws.{answer, went, require_true}
 use Rattle.spec_sorts.specs.Numerals.{literal_value}
-use Rattle.spec_sorts.specs.Terms.{Sort, Term}
+use Rattle.spec_sorts.specs.Terms.{Sort, Term, sort_of}
 use Rattle.spec_sorts.specs.Values.{Value, truth, number, Interpretation, table_value}
 use Rattle.spec_sorts.specs.TermValues.{value_at}
-use Rattle.spec_sorts.specs.Theory.{look_up, Rule, theory}
+use Rattle.spec_sorts.specs.Theory.{look_up, Rule, takes_count, sorts_fit, theory}
 use Rattle.spec_sorts.specs.Signatures.{Definition, Known, declared, defined, of_sort, of_function, Signature, known_name, known_as, definition, with_definitions}
 use Rattle.spec_sorts.specs.Forms.{Form, malformed, reserved, applies, binds, annotates, form}
 use Rattle.spec_sorts.specs.Meaning as meaning
@@ -237,3 +237,11 @@ module _ (i : Interpretation) (ps : List Value) (m : Meaning) where
         let same = answer (Ok _) r c.then in
         let k = agrees_both i m s a.first.made c.first (subst (λ (x : Reading). Agrees i m (with_definitions s x.made)) (sym same) h) in
         sound w s b t a.first a.was k.0 ∙ ap (λ (x : Reading). value_at i ps x.term) same
+
+-- what a rule reads, where the arguments are as many and of such sorts as it takes, and none is refused
+pub rule_reads : (r : Rule) (at : ℕ) (ts : List Term) → takes_count r (length ts) ≡ true → sorts_fit r.takes (map sort_of ts) ≡ true → r.fault ts ≡ None → by_rule r at ts ≡ Ok (r.reads ts)
+unfolding require ◌>>=◌
+rule_reads r at ts count fit fine =
+    ap (λ b. require b at WrongCount >>= λ counted. require (sorts_fit r.takes (map sort_of ts)) at WrongSort >>= λ sorted. unless (r.fault ts) at (r.reads ts)) count
+    ∙ ap (λ b. require b at WrongSort >>= λ sorted. unless (r.fault ts) at (r.reads ts)) fit
+    ∙ ap (λ o. unless o at (r.reads ts)) fine

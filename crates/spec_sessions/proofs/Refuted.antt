@@ -1,12 +1,11 @@
 -- The proof of a contradiction, by what it has to be.
 use Rattle.std.proofs.Common.{◌≡◌, ◌<◌, ◌≤◌, ◌^◌, ℕ, zero, suc, Bool, true, false, List, [], ◌∷◌, Some, Contains, get_or, refl, sym, ap, subst, inl, inr, arith}
-use Rattle.std.specs.Prelude.{◌⊎◌, codes}
+use Rattle.std.specs.Prelude.{◌⊎◌}
 use Rattle.std.specs.List.{slice_get}
 use Rattle.std.proofs.lemmas.List.Elements.{All-contains, All-cons, All-nil}
 use Rattle.spec_text.specs.Trees as trees
 use Rattle.spec_text.proofs.Members.{first, later, none, only}
-use Rattle.spec_sorts.specs.Terms.{Truth, Term, constant, negated, sort_of, same_term}
-use Rattle.spec_sorts.specs.Signatures.{declared, known_as}
+use Rattle.spec_sorts.specs.Terms.{Truth, Term, negated, sort_of, same_term}
 use Rattle.spec_sorts.specs.Subsets.{arguments_of}
 use Rattle.spec_rules.specs.Examples.{p}
 use Rattle.spec_proofs.specs.declared.Rule.TheVariants as rules
@@ -21,6 +20,7 @@ use Rattle.spec_proof_texts.specs.Plans.{Plan, lines_of, counted, counted_infere
 use Rattle.spec_proof_texts.specs.Printable.{IsPrintable, ArePrintable, IsOver, HasGiven, AreOver}
 use Rattle.spec_proof_texts.specs.ReadBack.{numbers_in}
 use Rattle.spec_proof_texts.specs.Examples.{refutation}
+use Rattle.spec_proof_texts.proofs.Refutation.{found}
 use Rattle.spec_sessions.specs.Refutations.{IsProofOf}
 
 -- the terms, and the clauses of the proof
@@ -96,11 +96,6 @@ argument_term t u (inr e) h = inl (only p u (subst (λ x. Contains (arguments_of
 printed_term : (t : Term) → IsPrinted derivation 2 t → IsTerm t
 printed_term t (in_clause m u rests h) = clause_term m u (rests_low 2 m (omega arith) rests) h
 printed_term t (as_argument u v of h) = argument_term u v (printed_term u of) h
-
--- the script declares p
-found : known_as known.scope (codes "p") ≡ Some (declared (constant (codes "p") Truth))
-unfolding proofs_on_literals
-found = refl
 
 p_printable : IsPrintable known.scope p
 unfolding sort_of

@@ -1,6 +1,7 @@
 -- The value of a well-sorted term has the term's sort.
-use Rattle.std.proofs.Common.{◌≡◌, ℕ, zero, suc, ◌<◌, ◌^◌, arith, Bool, true, false, List, [], ◌∷◌, get_or, pos, cond, refl, sym, subst}
+use Rattle.std.proofs.Common.{◌≡◌, ℕ, zero, suc, arith, Bool, true, false, List, [], ◌∷◌, get_or, pos, cond, refl, sym, subst}
 use Rattle.std.specs.List.{AllByRecursion}
+use Rattle.std.proofs.Math.Nat.{one-le-pow}
 use Rattle.std.proofs.lemmas.Bool.{false≢true, and_parts}
 use Rattle.std.proofs.lemmas.List.Elements.{All-contains, recursion_from_All}
 use Rattle.spec_numbers.specs.Fractions.{Fraction, IsReduced, plus, times, minus, opposite, inverse, divide, zero_fraction, one_fraction}
@@ -14,15 +15,10 @@ use Rattle.spec_sorts.specs.Values.{Value, truth, number, element, is_true, numb
 use Rattle.spec_sorts.specs.TermValues.{by_numbers, head_value, value_at, values_at}
 use Rattle.spec_sorts.proofs.WellSorted.{same_sort_is, IsPlain}
 
--- a power of ten is above 0
-ten_positive : (k : ℕ) → 0 < 10 ^ k
-ten_positive zero = omega arith
-ten_positive (suc k) = let h = ten_positive k in omega (arith, h)
-
 -- a literal is in lowest terms
 pub literal_reduced : (literal : List ℕ) → IsReduced (literal_value literal)
 unfolding literal_value
-literal_reduced literal = lowest-reduced (pos (digits_number literal)) _ (ten_positive _)
+literal_reduced literal = lowest-reduced (pos (digits_number literal)) _ (one-le-pow _ 10 (omega arith))
 
 -- the number that a value of sort Real is
 reduced_in : (v : Value) → HasSort Number v → IsReduced (number_in v)

@@ -88,9 +88,14 @@ pub close_read : (at : ℕ) (rest : List ℕ) → lexemes 0 at (41 ∷ rest) ≡
 unfolding lexemes first_piece
 close_read at rest = refl
 
-space_read : (at : ℕ) (rest : List ℕ) → lexemes 0 at (32 ∷ rest) ≡ lexemes 0 (at + 1) rest
+-- white space between words is passed over
+pub space_read : (at : ℕ) (rest : List ℕ) → lexemes 0 at (32 ∷ rest) ≡ lexemes 0 (at + 1) rest
 unfolding lexemes first_piece
 space_read at rest = refl
+
+pub feed_read : (at : ℕ) (rest : List ℕ) → lexemes 0 at (10 ∷ rest) ≡ lexemes 0 (at + 1) rest
+unfolding lexemes first_piece
+feed_read at rest = refl
 
 -- a word has a byte
 some_bytes : (k : Kind) (w : List ℕ) → IsWord k w → 0 < length (printed_word k w)

@@ -12,7 +12,8 @@ use Rattle.term_core.specs.declared.ids.TermId.{TermId}
 abbrev pub with_parity : Bool → Literal → Literal
 with_parity b l = if b then l else complement l
 
-literal_of-negated : (t : Term) → literal_of (negated t) ≡ complement (literal_of t)
+-- a negation's literal is the complement
+pub literal_of-negated : (t : Term) → literal_of (negated t) ≡ complement (literal_of t)
 unfolding literal_of
 literal_of-negated t = refl
 

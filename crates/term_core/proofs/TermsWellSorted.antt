@@ -5,12 +5,8 @@ use Rattle.spec_text.proofs.Members.{first, later}
 use Rattle.spec_sorts.specs.Terms.{Sort, Truth, Number, Symbol, Head, True, False, Not, And, Or, Xor, Implies, Equal, Ite, Minus, Plus, Times, Divide, Less, AtMost, Literal, Apply, Parameter, Term, Terms, app, nil, cons, list_of, sort_of, sorts_of, head_takes, is_sorted, are_sorted}
 use Rattle.spec_sorts.specs.WellSorted.{AllHeads, AllHeadsIn, IsHeadOver, IsWellSorted}
 use Rattle.spec_sorts.specs.Subsets.{IsClosed}
+use Rattle.spec_sorts.proofs.General.{sorts_listed}
 use Rattle.term_core.specs.Tables.{takes, IsParameterAmong}
-
--- the sorts of terms are those of their list
-sorts_listed : (ts : Terms) → sorts_of ts ≡ map sort_of (list_of ts)
-sorts_listed nil = refl
-sorts_listed (cons t ts) = ap (λ ss. sort_of t ∷ ss) (sorts_listed ts)
 
 -- what a head takes in a table, it takes where its parameter is one
 takes_among : (ps : List Sort) (h : Head) (ss : List Sort) → IsParameterAmong ps h → takes h ss ≡ true → head_takes ps h ss ≡ true

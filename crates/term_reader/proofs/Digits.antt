@@ -1,12 +1,13 @@
 -- Digits one after the other, and the number that they write.
-use Rattle.std.proofs.Common.{◌≡◌, ℕ, zero, suc, ◌+◌, ◌*◌, ◌-◌, ◌<◌, ◌≤◌, ◌^◌, ℤ, pos, true, false, List, [], ◌∷◌, ◌++◌, length, cond, refl, sym, ap, ◌∙◌, subst, arith}
-use Rattle.std.specs.Prelude.{◌==◌, not, Ok, Err}
+use Rattle.std.proofs.Common.{◌≡◌, ℕ, zero, suc, ◌+◌, ◌*◌, ◌-◌, ◌<◌, ◌≤◌, ◌^◌, ℤ, pos, true, false, List, [], ◌∷◌, ◌++◌, length, refl, sym, ap, ◌∙◌, subst, arith}
+use Rattle.std.specs.Prelude.{not, Ok, Err}
 use Rattle.std.proofs.Math.Nat.{pow-le-pow_right, one-le-pow}
 use Rattle.std.proofs.lemmas.Bool.Decides.{nat_tests}
 use Rattle.term_reader.specs.Numbers.{are_wide}
 use Rattle.spec_numbers.specs.Fractions.{Fraction, lowest, divide, whole, times, inverse}
 use Rattle.spec_numbers.proofs.Integers.{times_whole}
 use Rattle.spec_sorts.specs.Numerals.{whole_digits, point_digits, trimmed, before_trimmed, number_after, literal_value, is_wide}
+use Rattle.spec_sorts.proofs.General.{number_along}
 use Rattle.spec_text.specs.declared.Fault.TheVariants.{NumberWide}
 use Rattle.spec_text.specs.Answers.{require, ◌>>=◌}
 use Rattle.spec_sorts.specs.Terms.{Literal, of}
@@ -17,23 +18,10 @@ pub number_grows : (n : ℕ) (ds : List ℕ) → n ≤ number_after n ds
 number_grows n [] = omega arith
 number_grows n (d ∷ ds) = omega (arith, number_grows (n * 10 + (d - 48)) ds)
 
-pub number_along : (n : ℕ) (ds es : List ℕ) → number_after n (ds ++ es) ≡ number_after (number_after n ds) es
-number_along n [] es = refl
-number_along n (d ∷ ds) es = number_along (n * 10 + (d - 48)) ds es
-
 -- a zero at the end
 pub trimmed_zero : (ds : List ℕ) (d : ℕ) → d ≡ 48 → trimmed (ds ++ d ∷ []) ≡ trimmed ds
 trimmed_zero [] d e = subst (λ x. trimmed (x ∷ []) ≡ []) (sym e) refl
 trimmed_zero (c ∷ ds) d e = ap (before_trimmed c) (trimmed_zero ds d e)
-
--- another digit at the end
-pub trimmed_other : (ds : List ℕ) (d : ℕ) → (d == 48) ≡ false → trimmed (ds ++ d ∷ []) ≡ ds ++ d ∷ []
-trimmed_other [] d e = ap (λ b. cond b [] (d ∷ [])) e
-trimmed_other (c ∷ ds) d e = ap (before_trimmed c) (trimmed_other ds d e) ∙ longer c ds d
-  where
-    longer : (c : ℕ) (ds : List ℕ) (d : ℕ) → before_trimmed c (ds ++ d ∷ []) ≡ c ∷ ds ++ d ∷ []
-    longer c [] d = refl
-    longer c (b ∷ ds) d = refl
 
 -- a whole number over another one
 pub whole_over : (z : ℤ) (d : ℕ) → 0 < d → divide (whole z) (whole (pos d)) ≡ lowest z d

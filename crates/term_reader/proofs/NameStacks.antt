@@ -226,9 +226,6 @@ module _ (met : List Name) (latest : List ℕ) (places : List Place) (h : IsStac
   numbers_with : (p : Place) → numbers_in (places ++ p ∷ []) ≡ numbers_in places ++ p.number ∷ []
   numbers_with p = map-append (λ (q : Place). q.number) places (p ∷ [])
 
-  numbers_as_long : length (numbers_in places) ≡ length places
-  numbers_as_long = length-map places (λ (q : Place). q.number)
-
   -- a place more
   pub stack_pushed : (k m : ℕ) (p : Place) → k < length met → m ≡ suc (length places) → p.number ≡ k → p.hidden ≡ get_or latest k 0 → IsStack met (set latest k m) (places ++ p ∷ [])
   stack_pushed k m p inside count number_is hidden_is = record {
@@ -242,7 +239,7 @@ module _ (met : List Name) (latest : List ℕ) (places : List Place) (h : IsStac
       each j lt = elim (tells p.number j) [
         | inl e ↦
             (let is : k ≡ j = sym number_is ∙ e.1 in
-            ap (λ i. get_or (set latest k m) i 0) (sym is) ∙ get_or-set_same latest k m 0 (omega (arith, inside, h.long)) ∙ count ∙ ap suc (sym numbers_as_long)
+            ap (λ i. get_or (set latest k m) i 0) (sym is) ∙ get_or-set_same latest k m 0 (omega (arith, inside, h.long)) ∙ count ∙ ap suc (sym (numbers_long met places))
             ∙ sym (latest_same j p.number (numbers_in places) e.1) ∙ ap (latest_of j) (sym (numbers_with p)))
         | inr e ↦
             (let other : j ≡ k → ⊥ = λ same. e.1 (number_is ∙ sym same) in
@@ -253,12 +250,12 @@ module _ (met : List Name) (latest : List ℕ) (places : List Place) (h : IsStac
       hidden j lt = elim (cases_lt j (length places)) [
         | inl le ↦
             (let here : get_or (places ++ p ∷ []) j no_place ≡ get_or places j no_place = get_or_append_left places (p ∷ []) no_place j le in
-            let front : take j (numbers_in (places ++ p ∷ [])) ≡ take j (numbers_in places) = ap (take j) (numbers_with p) ∙ take-append-le j (numbers_in places) (p.number ∷ []) (omega (arith, le, numbers_as_long)) in
+            let front : take j (numbers_in (places ++ p ∷ [])) ≡ take j (numbers_in places) = ap (take j) (numbers_with p) ∙ take-append-le j (numbers_in places) (p.number ∷ []) (omega (arith, le, numbers_long met places)) in
             ap (λ (q : Place). q.hidden) here ∙ h.hidden j le ∙ (λ i. latest_of (sym here i).number (sym front i)))
         | inr ge ↦
             (let is : j ≡ length places = omega (arith, ge, lt, length-append places (p ∷ [])) in
             let here : get_or (places ++ p ∷ []) j no_place ≡ p = ap (λ i. get_or (places ++ p ∷ []) i no_place) is ∙ get_or-append_seam places p [] no_place in
-            let front : take j (numbers_in (places ++ p ∷ [])) ≡ numbers_in places = ap (take j) (numbers_with p) ∙ take_at (numbers_in places) (p.number ∷ []) j (numbers_as_long ∙ sym is) in
+            let front : take j (numbers_in (places ++ p ∷ [])) ≡ numbers_in places = ap (take j) (numbers_with p) ∙ take_at (numbers_in places) (p.number ∷ []) j (numbers_long met places ∙ sym is) in
             ap (λ (q : Place). q.hidden) here ∙ hidden_is ∙ h.each k inside ∙ ap (λ n. latest_of n (numbers_in places)) (sym number_is) ∙ (λ i. latest_of (sym here i).number (sym front i)))
       ]
 

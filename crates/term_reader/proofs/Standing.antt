@@ -3,7 +3,7 @@ use Rattle.std.proofs.Common.{◌≡◌, Bool, true, false, cond, [], ◌∷◌,
 use Rattle.std.specs.Str.{bytes_eq}
 use Rattle.spec_text.specs.Bytes.{Name}
 use Rattle.spec_sorts.specs.Terms.{Sort}
-use Rattle.spec_sorts.specs.Signatures.{Known, declared, defined, of_sort, of_function, Signature, known_name, known_as, sort_as}
+use Rattle.spec_sorts.specs.Signatures.{Known, declared, defined, of_sort, of_function, Signature, known_name, known_as}
 use Rattle.spec_sorts.specs.Theory.{look_up}
 use Rattle.term_core.specs.declared.sorts.Sort.{Sort as TableSort}
 use Rattle.term_core.specs.Symbols.{HasSortIn, sort_meant, symbol_at, IsSymbol, sorts_meant, HaveSortsIn}
@@ -76,15 +76,6 @@ module _ (s : Signature) (k : Known) where
           one : (b : Bool) → cond b (Some j) (known_as ds n) ≡ None → (known_as ds n ≡ None → known_as (ds ++ of_function k ∷ []) n ≡ cond (bytes_eq (known_name k) n) (Some k) None) → cond b (Some j) (known_as (ds ++ of_function k ∷ []) n) ≡ cond (bytes_eq (known_name k) n) (Some k) None
           one true e rec = cc
           one false e rec = rec e
-
-  -- the sorts are the same
-  pub sorts_with : (n : Name) → sort_as (s ++ of_function k ∷ []) n ≡ sort_as s n
-  sorts_with n = go s
-    where
-      go : (ds : Signature) → sort_as (ds ++ of_function k ∷ []) n ≡ sort_as ds n
-      go [] = refl
-      go (of_sort m u ∷ ds) = ap (cond (bytes_eq m n) (Some u)) (go ds)
-      go (of_function j ∷ ds) = go ds
 
 -- a new name of a function
 module _ (t : TableView) (v : ScopeView) (s : Signature) (n : Name) (f : Function) (k : Known) (long : length v.names ≡ length v.functions) (named : known_name k ≡ n) where

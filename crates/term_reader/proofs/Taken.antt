@@ -1,6 +1,5 @@
 -- Arguments that a head takes.
-use Rattle.std.proofs.Common.{◌≡◌, ℕ, suc, ◌+◌, ◌<◌, ◌≤◌, if◌then◌else◌, Bool, true, false, not, ◌&&◌, List, [], ◌∷◌, ◌++◌, length, map, Some, None, refl, sym, ap, ◌∙◌, subst, arith}
-use Rattle.std.specs.Prelude.{Ok}
+use Rattle.std.proofs.Common.{◌≡◌, ℕ, suc, ◌+◌, ◌<◌, ◌≤◌, if◌then◌else◌, Bool, true, false, not, ◌&&◌, List, [], ◌∷◌, ◌++◌, length, map, Some, refl, sym, ap, ◌∙◌, subst, arith}
 use Rattle.std.proofs.lemmas.Bool.{false≢true}
 use Rattle.std.proofs.lemmas.List.{map-append}
 use Rattle.std.proofs.lemmas.List.Elements.{All-head, All-tail, All-cons, All-nil, All-append}
@@ -199,6 +198,3 @@ module _ (r : Rule) (at : ℕ) (ts : List Term) where
 
   pub rule_fault : (f : Fault) → takes_count r (length ts) ≡ true → sorts_fit r.takes (map sort_of ts) ≡ true → r.fault ts ≡ Some f → by_rule r at ts ≡ refused at f
   rule_fault f e g h = sorted_is e g ∙ ap (λ x. unless x at (r.reads ts)) h
-
-  pub rule_reads : takes_count r (length ts) ≡ true → sorts_fit r.takes (map sort_of ts) ≡ true → r.fault ts ≡ None → by_rule r at ts ≡ Ok (r.reads ts)
-  rule_reads e g h = sorted_is e g ∙ ap (λ x. unless x at (r.reads ts)) h

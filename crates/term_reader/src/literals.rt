@@ -49,7 +49,7 @@ fn whole_digits(literal: &[u8]) -> &[u8]
 }
 
 // The digits without the zeros at their end.
-#[tactic(auto, using(crate::proofs::Digits::trimmed_zero, crate::proofs::Digits::trimmed_other))]
+#[tactic(auto, using(crate::proofs::Digits::trimmed_zero, spec_sorts::proofs::General::trimmed_other))]
 fn trimmed(digits: &[u8]) -> &[u8]
     ensures { result.now ≡ trimmed digits.now }
 {

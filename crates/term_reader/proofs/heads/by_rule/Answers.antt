@@ -2,10 +2,11 @@ use Rattle.std.proofs.Common.{sym, ap, ◌∙◌}
 use Rattle.std.specs.Prelude.{Ok}
 use Rattle.std.proofs.lemmas.List.{length-map}
 use Rattle.spec_sorts.specs.Theory.{takes_count}
+use Rattle.spec_reading.proofs.Values.{rule_reads}
 use Rattle.term_core.specs.Tables.{term_at, clause_at}
 use Rattle.term_core.specs.TheoryHeads.{rule_of}
 use Rattle.term_reader.proofs.Tables.{keeps_same}
-use Rattle.term_reader.proofs.Taken.{rule_count, rule_sorts, rule_fault, rule_reads}
+use Rattle.term_reader.proofs.Taken.{rule_count, rule_sorts, rule_fault}
 use Rattle.term_reader.proofs.heads.by_rule.Goals as goal
 
 pub returns-then-not-takes_count : goal.returns-then-not-takes_count

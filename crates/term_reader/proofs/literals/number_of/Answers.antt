@@ -1,7 +1,8 @@
 use Rattle.std.proofs.Common.{◌≡◌, ◌^◌, ◌++◌, pos, length, sym, ap, ◌∙◌}
 use Rattle.spec_numbers.specs.Fractions.{lowest}
 use Rattle.spec_sorts.specs.Numerals.{number_after}
-use Rattle.term_reader.proofs.Digits.{number_along, wide_by_whole, wide_by_places_number, not_wide}
+use Rattle.spec_sorts.proofs.General.{number_along}
+use Rattle.term_reader.proofs.Digits.{wide_by_whole, wide_by_places_number, not_wide}
 use Rattle.term_reader.proofs.literals.number_of.Goals as goal
 
 pub returns-in_default : goal.returns-in_default
