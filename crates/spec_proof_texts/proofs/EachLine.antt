@@ -18,7 +18,7 @@ use Rattle.spec_reading.specs.Reading.{plain, reading_of_sort}
 use Rattle.spec_proofs.specs.declared.Rule.{Rule}
 use Rattle.spec_proofs.specs.RuleNames.{rule_name}
 use Rattle.spec_rules.specs.Rules.{IsRight}
-use Rattle.spec_rules.specs.Schemes.{Kind, opens, keeps, resolves, states, turns, kind_of}
+use Rattle.spec_rules.specs.Schemes.{Kind, opens, keeps, resolves, states, turns, equates, kind_of}
 use Rattle.spec_rules.specs.Rules.{IsBy}
 use Rattle.spec_checking.specs.Commands.{Known, Entry, Step, Command, assumed, stepped, nothing}
 use Rattle.spec_checking.specs.Commands as checking
@@ -55,6 +55,7 @@ moved_right r ps ts at c h = go (kind_of r) h
     go resolves h = h
     go (states s) h = h
     go (turns s) h = h
+    go (equates rule) h = h
 
 -- a step with these premises and arguments
 abbrev with_parts : StepLine → List Reference → Trees → StepLine

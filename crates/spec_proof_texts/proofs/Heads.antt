@@ -14,26 +14,18 @@ use Rattle.spec_text.proofs.Printing.{moved, moved_all}
 use Rattle.spec_text.proofs.AnswerLaws.{joined}
 use Rattle.spec_sorts.specs.Terms.{Sort, Truth, Number, Head, True, False, Not, And, Or, Xor, Implies, Equal, Ite, Minus, Plus, Times, Divide, Less, AtMost, Literal, Apply, Parameter, Term, of, no_term, pair, sort_of, same_sort, same_sorts, all_same, head_takes}
 use Rattle.spec_sorts.specs.Lists.{left, right, neighbours}
-use Rattle.spec_sorts.specs.Theory.{Rule, each_of, alike, choice, takes_count, sorts_fit, exactly, at_least, each_pair, differences, product_fault, quotient_fault}
+use Rattle.spec_sorts.specs.Theory.{each_of, alike, choice, sorts_fit, exactly, at_least, each_pair, differences, product_fault, quotient_fault}
 use Rattle.spec_sorts.specs.Signatures.{declared, Signature}
 use Rattle.spec_sorts.specs.HeadNames.{head_name}
 use Rattle.spec_sorts.specs.Forms.{Form, applies, head_form}
 use Rattle.spec_reading.specs.Names.{Setting}
-use Rattle.spec_reading.specs.Reading.{plain, unless, by_rule, with_sorts, applied, applied_as, reading, readings}
-use Rattle.spec_reading.proofs.Values.{by_form}
+use Rattle.spec_reading.specs.Reading.{plain, with_sorts, applied, applied_as, reading, readings}
+use Rattle.spec_reading.proofs.Values.{by_form, rule_reads}
 use Rattle.spec_models.specs.Values.{trees_of, in_list, symbol_tree}
 use Rattle.spec_proof_texts.specs.Lines.{Argument, DefinitionLine, argument_tree, term_tree}
 use Rattle.spec_proof_texts.specs.Meaning.{Told, AreTold, TakesAll}
 use Rattle.spec_proof_texts.specs.ReadBack.{AreScriptNames}
 use Rattle.spec_proof_texts.proofs.Arguments.{Knows, own_name, arguments_read}
-
--- what a rule reads, where the arguments are as many and of such sorts as it takes, and none is refused
-rule_reads : (r : Rule) (at : ℕ) (ts : List Term) → takes_count r (length ts) ≡ true → sorts_fit r.takes (map sort_of ts) ≡ true → r.fault ts ≡ None → by_rule r at ts ≡ Ok (r.reads ts)
-unfolding require ◌>>=◌
-rule_reads r at ts count fit fine =
-    ap (λ b. require b at WrongCount >>= λ counted. require (sorts_fit r.takes (map sort_of ts)) at WrongSort >>= λ sorted. unless (r.fault ts) at (r.reads ts)) count
-    ∙ ap (λ b. require b at WrongSort >>= λ sorted. unless (r.fault ts) at (r.reads ts)) fit
-    ∙ ap (λ o. unless o at (r.reads ts)) fine
 
 -- what holds of one term, or of two, of given sorts
 one_of : (P : List Term → Type 0) (ts : List Term) (a : Sort) → map sort_of ts ≡ a ∷ [] → ((t : Term) → sort_of t ∷ [] ≡ a ∷ [] → P (t ∷ [])) → P ts

@@ -7,7 +7,7 @@ use Rattle.spec_text.specs.Trees.{Tree, Trees, atom, list, none, more, spelled, 
 use Rattle.spec_text.specs.Faults.{nesting_limit}
 use Rattle.spec_text.specs.Printed.{printed}
 use Rattle.spec_text.specs.Readings.{depth, depth_all, AreTrees}
-use Rattle.spec_text.proofs.Printing.{moved, moved_all, tree_read}
+use Rattle.spec_text.proofs.Printing.{moved, moved_all, feed_read, tree_read}
 use Rattle.spec_proofs.specs.Texts.{complete, behind_unsat, begins_listed, AreCommands, AreAllCommands, all_lexemes, IsWholeText}
 use Rattle.spec_sorts.specs.Terms.{Sort, Truth, Number, Declared}
 use Rattle.spec_numbers.specs.Fractions.{Fraction}
@@ -17,10 +17,6 @@ use Rattle.spec_proof_texts.proofs.Given.{number_depth}
 use Rattle.spec_proof_texts.specs.Lines.{Argument, truth, number, symbol, defined, Reference, Line, defines, assumes, steps, premise_trees, given_trees, argument_tree, reference_tree, line_tree, line_text, proof_text}
 use Rattle.spec_proof_texts.specs.ReadBack.{IsWritableLine}
 use Rattle.spec_proof_texts.proofs.Names.{line_words}
-
-feed_read : (at : ℕ) (rest : List ℕ) → lexemes 0 at (10 ∷ rest) ≡ lexemes 0 (at + 1) rest
-unfolding lexemes first_piece
-feed_read at rest = refl
 
 -- what closes the list
 end_read : (at : ℕ) → lexemes 0 at (codes ")\n") ≡ (at, closes) ∷ []

@@ -10,7 +10,7 @@ use Rattle.spec_text.specs.Bytes.{Name, among}
 use Rattle.spec_text.proofs.Members.{first, later}
 use Rattle.spec_sorts.specs.Numerals.{number_after}
 use Rattle.spec_sorts.specs.Terms.{Symbol}
-use Rattle.spec_sorts.specs.Signatures.{Known, known_name, declared, defined, of_sort, of_function, Signature, known_as, sort_as, symbols_in}
+use Rattle.spec_sorts.specs.Signatures.{Known, known_name, declared, defined, of_sort, of_function, Signature, known_as, symbols_in}
 use Rattle.spec_sorts.specs.Literals.{Clause}
 use Rattle.spec_checking.specs.Commands.{Entry}
 use Rattle.spec_checking.specs.Reading.{clause_of, entry_names}
@@ -27,6 +27,11 @@ extended None false c = None
 pub not_extended : {A : Type 0} (o : Option A) (c : A) → extended o false c ≡ o
 not_extended (Some a) c = refl
 not_extended None c = refl
+
+-- what is found stays so
+pub stays : {A : Type 0} (o : Option A) (b : Bool) (c k : A) → o ≡ Some k → extended o b c ≡ Some k
+stays (Some x) b c k e = e
+stays None b c k e = cc
 
 slice_push : {A : Type 0} (xs : List A) (c : A) (i : ℕ) (b : Bool) → (b ≡ true → i ≡ length xs) → (i ≡ length xs → b ≡ true) → slice_get (xs ++ c ∷ []) i ≡ extended (slice_get xs i) b c
 slice_push [] c zero true f g = refl
@@ -72,12 +77,6 @@ function_push (of_function j ∷ s) k n = go (bytes_eq (known_name j) n) (functi
     go : (b : Bool) → known_as (s ++ of_function k ∷ []) n ≡ extended (known_as s n) (bytes_eq (known_name k) n) k → cond b (Some j) (known_as (s ++ of_function k ∷ []) n) ≡ extended (cond b (Some j) (known_as s n)) (bytes_eq (known_name k) n) k
     go true h = refl
     go false h = h
-
--- and no sort more
-pub sort_same : (s : Signature) (k : Known) (n : Name) → sort_as (s ++ of_function k ∷ []) n ≡ sort_as s n
-sort_same [] k n = refl
-sort_same (of_sort m u ∷ s) k n = ap (λ o. cond (bytes_eq m n) (Some u) o) (sort_same s k n)
-sort_same (of_function j ∷ s) k n = sort_same s k n
 
 -- a declared symbol that is found is one of them, and has the name
 pub symbol_found : (s : Signature) (n : Name) (f : Symbol) → known_as s n ≡ Some (declared f) → Contains (symbols_in s) f × (f.name ≡ n)

@@ -2,7 +2,7 @@
 use Rattle.std.proofs.Common.{◌≡◌, ◌≤◌, ℕ, suc, ◌+◌, ◌*◌, Bool, true, false, not, ◌&&◌, ◌||◌, cond, List, [], ◌∷◌, ◌++◌, length, Option, Some, None, Contains, inl, inr, refl, sym, ap, ◌∙◌, subst, length-append, append-nil, arith}
 use Rattle.std.specs.Prelude.{◌⊎◌, Ok, codes}
 use Rattle.std.specs.Str.{bytes_eq}
-use Rattle.std.proofs.lemmas.Bool.{false≢true}
+use Rattle.std.proofs.lemmas.Bool.{false≢true, or_parts}
 use Rattle.std.proofs.lemmas.List.Elements.{All-weaker, Contains-push_cases}
 use Rattle.std.proofs.lemmas.Slice.Eq.{bytes_eq-Decides}
 use Rattle.spec_text.specs.declared.Kind.TheVariants.{Keyword}
@@ -18,6 +18,7 @@ use Rattle.spec_sorts.specs.Terms.{Sort, Truth, Number, Declared, Symbol}
 use Rattle.spec_sorts.specs.Theory.{is_of_theory}
 use Rattle.spec_sorts.specs.Signatures.{Definition, Known, known_name, declared, defined, Declaration, of_sort, of_function, Signature, known_as, sort_as, is_some, symbols_in, definition, with_definitions}
 use Rattle.spec_sorts.specs.Forms.{Form, malformed, reserved, applies, binds, annotates, form, Next, a_keyword, a_value, a_name, after_keyword, named_words}
+use Rattle.spec_sorts.proofs.Signatures.{sort_same}
 use Rattle.spec_reading.specs.Names.{Setting, new_name, is_kept_name, is_barred, is_function, is_own}
 use Rattle.spec_reading.specs.Sorts.{sort_found, sort_named}
 use Rattle.spec_reading.specs.Reading.{Bound, Reading, Readings, Bindings, Annotated, plain, naming, made_by, annotated_as, reading, readings, let_reading, bindings_reading, annotated_reading}
@@ -26,7 +27,7 @@ use Rattle.spec_reading.proofs.Kept.{text_keeps}
 use Rattle.spec_reading.proofs.Sound.{not_taken}
 use Rattle.spec_models.specs.Meaning.{IsSortIn, IsSymbolIn}
 use Rattle.spec_proof_texts.specs.ReadBack.{AreScriptNames}
-use Rattle.spec_proof_texts.proofs.Lookups.{extended, function_push, sort_same}
+use Rattle.spec_proof_texts.proofs.Lookups.{extended, function_push, stays}
 use Rattle.spec_proof_texts.proofs.Arguments.{the_same}
 use Rattle.spec_proof_texts.proofs.Weights.{weight, weight_all}
 
@@ -34,10 +35,6 @@ use Rattle.spec_proof_texts.proofs.Weights.{weight, weight_all}
 pub record IsScriptName (n : Name) : Type 0 where
   pub not_kept : is_kept_name n ≡ false
   pub own : is_of_theory n ≡ false
-
-pub neither : (a b : Bool) → (a || b) ≡ false → (a ≡ false) × (b ≡ false)
-neither true b e = absurd (false≢true (sym e))
-neither false b e = (refl, e)
 
 not_barred : (r : Bool) (k : Bool) → not (r || (true && k)) ≡ true → (r ≡ false) × (k ≡ false)
 not_barred true k e = absurd (false≢true e)
@@ -56,7 +53,7 @@ fresh_name w taken x n bare e =
 
 -- of a function too
 pub function_name : (w : Setting) (g : Signature) (taken : Name → Bool) (x : Word) (n : Name) → w.kept_names ≡ false → new_name w taken x ≡ Ok n → is_function g n ≡ false → IsScriptName n
-function_name w g taken x n bare e free = record { not_kept = (fresh_name w taken x n bare e).1; own = (neither (is_of_theory n) (is_some (known_as g n)) free).0 }
+function_name w g taken x n bare e free = record { not_kept = (fresh_name w taken x n bare e).1; own = (or_parts (is_of_theory n) (is_some (known_as g n)) free).0 }
 
 -- the symbols with a declaration more
 symbols_push : (s : Signature) (d : Declaration) → symbols_in (s ++ d ∷ []) ≡ symbols_in s ++ symbols_in (d ∷ [])
@@ -92,11 +89,6 @@ sort_in_more g h (Declared n) e = record { name = e.name; sort = λ at. sort_nam
 pub symbol_in_more : (g h : Signature) (f : Symbol) → IsSymbolIn g f → IsSymbolIn (g ++ h) f
 symbol_in_more g h f e = record { name = e.name; parameters = All-weaker (IsSortIn g) (IsSortIn (g ++ h)) (sort_in_more g h) f.parameters e.parameters; result = sort_in_more g h f.result e.result }
 
--- what a name is stays so
-found_more : (o : Option Known) (b : Bool) (k j : Known) → o ≡ Some j → extended o b k ≡ Some j
-found_more (Some x) b k j e = e
-found_more None b k j e = cc
-
 -- another name is not found
 still_none : (o : Option Known) (b : Bool) (k : Known) → o ≡ None → b ≡ false → extended o b k ≡ None
 still_none None true k e f = cc
@@ -122,7 +114,7 @@ module _ (g : Signature) (h : AreScriptNames g) (k : Known) (name : IsScriptName
   sorts_more n s e = sort_in_more g (of_function k ∷ []) s (h.sorts n s (sym (sort_same g k n) ∙ e))
 
   found_still : (f : Symbol) → Contains (symbols_in g) f → known_as (g ++ of_function k ∷ []) f.name ≡ Some (declared f)
-  found_still f c = function_push g k f.name ∙ found_more (known_as g f.name) (bytes_eq (known_name k) f.name) k (declared f) (h.found f c)
+  found_still f c = function_push g k f.name ∙ stays (known_as g f.name) (bytes_eq (known_name k) f.name) k (declared f) (h.found f c)
 
 -- a definition more
 pub definition_named : (g : Signature) (d : Definition) → IsScriptName d.name → AreScriptNames g → AreScriptNames (g ++ definition d ∷ [])
@@ -210,7 +202,7 @@ made_named w s t (x ∷ xs) ds bare e h =
     let q = went _ _ _ p.then in
     let r = went _ _ _ q.then in
     let d = naming p.first t in
-    let one : AreScriptNames (s ++ definition d ∷ []) = definition_named s d (function_name w s (λ n. is_function s n || is_own w.own n) x p.first bare p.was (neither (is_function s p.first) (is_own w.own p.first) (not_taken w (λ n. is_function s n || is_own w.own n) x p.first p.was)).0) h in
+    let one : AreScriptNames (s ++ definition d ∷ []) = definition_named s d (function_name w s (λ n. is_function s n || is_own w.own n) x p.first bare p.was (or_parts (is_function s p.first) (is_own w.own p.first) (not_taken w (λ n. is_function s n || is_own w.own n) x p.first p.was)).0) h in
     let rest = made_named w (with_definitions s (d ∷ [])) t xs r.first bare r.was one in
     subst (λ x. AreScriptNames (with_definitions s x)) (answer (Ok (d ∷ r.first)) ds r.then) (subst AreScriptNames (sym (with_both s (d ∷ []) r.first)) rest)
 

@@ -154,6 +154,17 @@ named rules.Ite1 = (refl, refl)
 named rules.Ite2 = (refl, refl)
 named rules.NotIte1 = (refl, refl)
 named rules.NotIte2 = (refl, refl)
+named rules.EqReflexive = (refl, refl)
+named rules.EqTransitive = (refl, refl)
+named rules.EqCongruent = (refl, refl)
+named rules.EqCongruentPred = (refl, refl)
+named rules.Refl = (refl, refl)
+named rules.Symm = (refl, refl)
+named rules.Trans = (refl, refl)
+named rules.Cong = (refl, refl)
+named rules.DistinctElim = (refl, refl)
+named rules.IteThen = (refl, refl)
+named rules.IteElse = (refl, refl)
 
 -- the words of a name that needs no bars
 bare_name : (w : Name) → is_bare w ≡ true → IsWord Simple w

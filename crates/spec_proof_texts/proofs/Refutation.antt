@@ -19,7 +19,7 @@ use Rattle.spec_proof_texts.specs.Meaning.{AreRightLines, IsDefinition, bare_ter
 use Rattle.spec_proof_texts.specs.Examples.{refutation, refutation_told}
 
 -- the script declares p
-found : known_as known.scope (codes "p") ≡ Some (declared (constant (codes "p") Truth))
+pub found : known_as known.scope (codes "p") ≡ Some (declared (constant (codes "p") Truth))
 unfolding proofs_on_literals
 found = refl
 

@@ -2,8 +2,8 @@
 use Rattle.std.proofs.Common.{◌≡◌, ◌≤◌, ℕ, zero, suc, ◌+◌, ◌*◌, Bool, true, false, ◌||◌, cond, All, List, [], ◌∷◌, ◌++◌, length, map, Option, Some, None, refl, sym, ap, ◌∙◌, subst, length-append, arith}
 use Rattle.std.specs.Prelude.{Ok, Err, codes}
 use Rattle.std.specs.Str.{bytes_eq}
-use Rattle.std.proofs.lemmas.Bool.{false≢true}
-use Rattle.std.proofs.lemmas.List.{length-map, map-append, append_assoc, append-nil}
+use Rattle.std.proofs.lemmas.Bool.{false≢true, or_parts}
+use Rattle.std.proofs.lemmas.List.{length-map}
 use Rattle.std.proofs.lemmas.List.Elements.{All-nil, All-cons, All-head, All-tail, All-from_recursion}
 use Rattle.std.proofs.lemmas.Slice.Eq.{bytes_eq-Decides}
 use Rattle.spec_text.specs.declared.Kind.{Kind}
@@ -32,13 +32,14 @@ use Rattle.spec_reading.specs.Definitions.{Parts, bound_parameters, parameters_i
 use Rattle.spec_reading.proofs.Values.{with_both}
 use Rattle.spec_reading.proofs.Sound.{not_taken, unknown}
 use Rattle.spec_commands.specs.Commands.{Command, SetLogic, SetOption, SetInfo, DeclareSort, DefineSort, DeclareFun, DefineFun, Assert, CheckSat, Echo, Exit, Verb, sets_logic, sets_option, sets_info, declares_sort, defines_sort, declares_const, declares_fun, defines_fun, asserts, checks, echoes, exits, verbs, is_numeral, one_at_most, first_name, first_tree, set_logic, set_option, set_info, declare_sort, define_sort, declare_const, declare_fun, define_fun, assertion, echo, alone, command_by, shaped, verb_of, command_as, command_of}
-use Rattle.spec_commands.specs.Stack.{Assertion, Entry, Stack, Key, Effect, done, unsupported, check, say, leave, Taken, did, empty_stack, signature_of, begun, with_declaration, with_definitions, with_assertion, key_named, truth_in, option_set, roomy, terms_defined, performed, step}
+use Rattle.spec_commands.specs.Stack.{Assertion, Stack, Key, Effect, done, unsupported, check, say, leave, Taken, did, empty_stack, signature_of, begun, with_declaration, with_definitions, with_assertion, key_named, truth_in, option_set, roomy, terms_defined, performed, step}
 use Rattle.spec_commands.specs.Checks.{Check, this_or, after_effect, after_command, current_at}
+use Rattle.spec_commands.proofs.Kept.{signature_last, signature_with}
 use Rattle.spec_models.specs.Values.{IsName}
 use Rattle.spec_models.specs.Meaning.{IsSortIn}
 use Rattle.spec_proof_texts.specs.ReadBack.{AreScriptNames}
 use Rattle.spec_proof_texts.proofs.Weights.{weight, weight_all}
-use Rattle.spec_proof_texts.proofs.Made.{IsScriptName, neither, fresh_name, function_name, definition_named, symbol_named, sort_in_more, sort_push_sort, sort_named_new, nothing_named, text_named, text_few}
+use Rattle.spec_proof_texts.proofs.Made.{IsScriptName, fresh_name, function_name, definition_named, symbol_named, sort_in_more, sort_push_sort, sort_named_new, nothing_named, text_named, text_few}
 use Rattle.spec_proof_texts.proofs.Lookups.{extended}
 
 -- a symbol's name can be printed
@@ -258,17 +259,6 @@ pub record IsNamed (size : ℕ) (s : Stack) : Type 0 where
   pub names : AreScriptNames (signature_of s)
   pub few : 5 * length (signature_of s) ≤ size
 
--- a declaration more is the last of the signature, and so are definitions
-signature_last : (s : Stack) (d : Declaration) → signature_of (with_declaration s d) ≡ signature_of s ++ d ∷ []
-signature_last s d = map-append (λ (e : Entry). e.declaration) s.names _
-
-signature_with : (s : Stack) (ds : List Definition) → signature_of (with_definitions s ds) ≡ signatures.with_definitions (signature_of s) ds
-signature_with s [] = sym (append-nil (signature_of s))
-signature_with s (d ∷ ds) =
-    signature_with (with_declaration s (definition d)) ds
-    ∙ ap (λ x. x ++ map definition ds) (signature_last s (definition d))
-    ∙ append_assoc (signature_of s) (definition d ∷ []) (map definition ds)
-
 more_named : (size extra : ℕ) (s : Stack) → IsNamed size s → IsNamed (size + extra) s
 more_named size extra s h = record { names = h.names; few = omega (arith, h.few) }
 
@@ -295,10 +285,10 @@ name_of taken x n is e =
 -- a sort that a command declares
 declared_sort : (g : Signature) (n : Name) → IsName n → is_sort g n ≡ false → IsSortIn (g ++ of_sort n (Declared n) ∷ []) (Declared n)
 declared_sort g n name e =
-    let parts = neither (among (codes "Bool" ∷ codes "Real" ∷ []) n) (is_some (sort_as g n)) e in
-    let two = neither (bytes_eq (codes "Bool") n) (bytes_eq (codes "Real") n || false) parts.0 in
+    let parts = or_parts (among (codes "Bool" ∷ codes "Real" ∷ []) n) (is_some (sort_as g n)) e in
+    let two = or_parts (bytes_eq (codes "Bool") n) (bytes_eq (codes "Real") n || false) parts.0 in
     let no_bool : bytes_eq n (codes "Bool") ≡ false = turned (codes "Bool") two.0 in
-    let no_real : bytes_eq n (codes "Real") ≡ false = turned (codes "Real") (neither (bytes_eq (codes "Real") n) false two.1).0 in
+    let no_real : bytes_eq n (codes "Real") ≡ false = turned (codes "Real") (or_parts (bytes_eq (codes "Real") n) false two.1).0 in
     let found : sort_as (g ++ of_sort n (Declared n) ∷ []) n ≡ Some (Declared n) = sort_push_sort g n (Declared n) n ∙ added (sort_as g n) (bytes_eq n n) parts.1 (bytes_itself n) in
     record { name = name; sort = λ at. (λ i. cond (no_bool i) (Ok Truth) (cond (no_real i) (Ok Number) (sort_found at (found i)))) }
   where

@@ -1,18 +1,15 @@
 -- Well-sorted terms can be printed.
-use Rattle.std.proofs.Common.{◌≡◌, ℕ, true, ◌&&◌, List, [], ◌∷◌, map, refl, sym, ap, ◌∙◌}
+use Rattle.std.proofs.Common.{◌≡◌, ℕ, true, ◌&&◌, List, [], ◌∷◌, refl, sym, ap, ◌∙◌}
 use Rattle.std.proofs.lemmas.Bool.{false≢true, and_parts}
-use Rattle.spec_sorts.specs.Terms.{Sort, Head, True, False, Not, And, Or, Xor, Implies, Equal, Ite, Minus, Plus, Times, Divide, Less, AtMost, Literal, Apply, Parameter, Term, Terms, app, nil, cons, list_of, sort_of, second_sort, head_takes, sorts_of, is_sorted, are_sorted}
+use Rattle.spec_sorts.specs.Terms.{Sort, Head, True, False, Not, And, Or, Xor, Implies, Equal, Ite, Minus, Plus, Times, Divide, Less, AtMost, Literal, Apply, Parameter, Term, Terms, app, nil, cons, sort_of, second_sort, head_takes, sorts_of, is_sorted, are_sorted}
 use Rattle.spec_sorts.specs.Signatures.{Signature, symbols_in}
 use Rattle.spec_sorts.specs.WellSorted.{AllHeads, AllHeadsIn, IsHeadOver, IsWellSorted}
+use Rattle.spec_sorts.proofs.General.{sorts_listed}
 use Rattle.spec_commands.specs.Stack.{head_in_reach}
 use Rattle.spec_models.specs.Meaning.{IsSortIn}
 use Rattle.spec_proof_texts.specs.Meaning.{IsKnownHead}
 use Rattle.spec_proof_texts.specs.Printable.{head_of, IsPrintable, HasText, IsReadable}
 use Rattle.spec_proof_texts.specs.ReadBack.{AreScriptNames}
-
-sorts_listed : (ts : Terms) → sorts_of ts ≡ map sort_of (list_of ts)
-sorts_listed nil = refl
-sorts_listed (cons t ts) = ap (λ ss. sort_of t ∷ ss) (sorts_listed ts)
 
 module _ (g : Signature) (own : AreScriptNames g) where
   mutual

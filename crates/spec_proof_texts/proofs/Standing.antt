@@ -11,6 +11,7 @@ use Rattle.spec_text.proofs.AnswerLaws.{joined}
 use Rattle.spec_text.proofs.Members.{first, later, none as no_member, to_image}
 use Rattle.spec_sorts.specs.Terms.{Sort, Truth, Number, Declared, True, False, Term, of, constant_term, filled}
 use Rattle.spec_sorts.specs.Signatures.{Definition, Known as Found, declared, defined as by_definition, of_sort, of_function, Signature, known_as, sort_as, is_some, symbols_in, definition}
+use Rattle.spec_sorts.proofs.Signatures.{sort_same}
 use Rattle.spec_sorts.specs.Literals.{Clause}
 use Rattle.spec_sorts.specs.Subsets.{arguments_of, AreAmong, IsClosed}
 use Rattle.spec_reading.specs.Names.{is_function}
@@ -22,7 +23,7 @@ use Rattle.spec_models.specs.Meaning.{IsSortIn}
 use Rattle.spec_proof_texts.specs.Lines.{Argument, Reference, assumed, stepped, defined_name, assume_name, step_name, reference_name, reference_tree}
 use Rattle.spec_proof_texts.specs.Meaning.{Told, nothing_told, with_definition, with_assume, with_step, numbered, truth_term, clause_told, ArePremises}
 use Rattle.spec_proof_texts.specs.ReadBack.{AreScriptNames, numbers_among}
-use Rattle.spec_proof_texts.proofs.Lookups.{extended, not_extended, numbered_push, numbered_next, function_push, sort_same, entry, clause_push, told_apart, entry_unfound, head_same, tail_same}
+use Rattle.spec_proof_texts.proofs.Lookups.{extended, not_extended, numbered_push, numbered_next, function_push, stays, entry, clause_push, told_apart, entry_unfound, head_same, tail_same}
 use Rattle.spec_proof_texts.proofs.Known.{number_terms, number_terms_count, closed_numbers, closed_more}
 use Rattle.spec_proof_texts.proofs.Arguments.{StandsFor, Knows, Holds}
 
@@ -104,11 +105,6 @@ stands_more (Some (declared x)) (Some u) b d t e f h = absurd h
 stands_more (Some (declared x)) None b d t e f h = absurd h
 stands_more (Some (by_definition x)) None b d t e f h = absurd h
 stands_more (Some (by_definition x)) (Some u) b d t e f h = h
-
--- what is known stays so
-stays : (o : Option Found) (b : Bool) (c k : Found) → o ≡ Some k → extended o b c ≡ Some k
-stays (Some x) b c k e = e
-stays None b c k e = cc
 
 module _ (g : Signature) (told : Told) (s : Signature) (entries : List Entry) (numbers : ℕ) (h : Stands g told s entries numbers) where
   -- terms that are known with the numbers among arguments

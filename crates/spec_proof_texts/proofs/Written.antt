@@ -5,6 +5,7 @@ use Rattle.std.proofs.Math.Nat.{mod-lt, mul_comm, mul_assoc, pow-suc, one-le-pow
 use Rattle.std.proofs.Math.Arith.{mod-mul}
 use Rattle.std.proofs.lemmas.Bool.{cases_eq, false≢true, and_parts}
 use Rattle.std.proofs.lemmas.Bool.Decides.{nat_tests}
+use Rattle.std.proofs.lemmas.List.{drop_all}
 use Rattle.std.proofs.lemmas.Nat.{pow-add}
 use Rattle.std.proofs.lemmas.Nat.Gcd.{dvd_of_mod-eq-zero}
 use Rattle.spec_text.specs.Bytes.{is_digit, front}
@@ -14,9 +15,10 @@ use Rattle.spec_numbers.proofs.Gcd.{gcd-dvd_left, gcd-dvd_right}
 use Rattle.spec_numbers.proofs.Lowest.{lowest-positive}
 use Rattle.spec_sorts.specs.Numerals.{number_after, trimmed, before_trimmed, whole_digits, point_digits, digits_number, literal_value, is_wide}
 use Rattle.spec_sorts.specs.Terms.{same_fraction}
+use Rattle.spec_sorts.proofs.General.{number_along, trimmed_other}
 use Rattle.spec_sorts.proofs.SameTerms.{fraction_itself}
 use Rattle.spec_models.specs.Values.{numeral}
-use Rattle.spec_models.proofs.Numerals.{numeral_number, numeral_digits}
+use Rattle.spec_models.proofs.Numerals.{numeral_number, numeral_digits, front_all}
 use Rattle.spec_proof_texts.specs.Decimals.{last_digits, places_from, places, in_last_place, behind_point, literal_text, has_decimal, is_decimal}
 
 -- the parts of a number without a common divisor, where the number is over a power
@@ -59,11 +61,6 @@ least (suc n) i d k low high early here = go (10 ^ i % d == 0) refl (λ lt. leas
       | inr differ ↦ on (grind (arith, low, differ))
     ]
 
--- digits, and others after them
-number_append : (a : ℕ) (xs ys : List ℕ) → number_after a (xs ++ ys) ≡ number_after (number_after a xs) ys
-number_append a [] ys = refl
-number_append a (x ∷ xs) ys = number_append (a * 10 + (x - 48)) xs ys
-
 -- the last digits of a number write its rest
 number_last : (k a m : ℕ) → number_after a (last_digits k m) ≡ a * 10 ^ k + m % 10 ^ k
 number_last zero a m = omega (arith, mod-lt m {m = 1} (omega arith))
@@ -76,7 +73,7 @@ number_last (suc k) a m =
     let more : a * (p * 10) ≡ a * p * 10 = sym (mul_assoc a p 10) in
     let goal : a * 10 ^ suc k + m % 10 ^ suc k ≡ a * (p * 10) + m % (p * 10) = ap (λ x. a * x + m % x) power in
     let last : 48 + m % 10 - 48 ≡ m % 10 = omega arith in
-    number_append a (last_digits k (m / 10)) ((48 + m % 10) ∷ [])
+    number_along a (last_digits k (m / 10)) ((48 + m % 10) ∷ [])
     ∙ (λ i. front i * 10 + last i)
     ∙ omega (arith, goal, rest, more)
 
@@ -84,38 +81,21 @@ length_last : (k m : ℕ) → length (last_digits k m) ≡ k
 length_last zero m = refl
 length_last (suc k) m = length-append (last_digits k (m / 10)) ((48 + m % 10) ∷ []) ∙ omega (arith, length_last k (m / 10))
 
--- digits that end with another one than 0 keep their end
-before_end : (x d : ℕ) (xs : List ℕ) → before_trimmed x (xs ++ d ∷ []) ≡ x ∷ (xs ++ d ∷ [])
-before_end x d [] = refl
-before_end x d (y ∷ ys) = refl
-
-kept_end : (xs : List ℕ) (d : ℕ) → (d == 48) ≡ false → trimmed (xs ++ d ∷ []) ≡ xs ++ d ∷ []
-kept_end [] d e = ap (λ b. cond b [] (d ∷ [])) e
-kept_end (x ∷ xs) d e = ap (before_trimmed x) (kept_end xs d e) ∙ before_end x d xs
-
 trimmed_last : (k m : ℕ) → (0 < k → m % 10 ≢ 0) → trimmed (last_digits k m) ≡ last_digits k m
 trimmed_last zero m ends = refl
 trimmed_last (suc k) m ends =
     let other : m % 10 ≢ 0 = ends (omega arith) in
     let test : (48 + m % 10 == 48) ≡ false = grind (arith, nat_tests, other) in
-    kept_end (last_digits k (m / 10)) (48 + m % 10) test
+    trimmed_other (last_digits k (m / 10)) (48 + m % 10) test
 
 -- digits up to a point, and those after it
 front_point : (xs ys : List ℕ) → Consists is_digit xs → front is_digit (xs ++ 46 ∷ ys) ≡ xs
 front_point [] ys h = refl
 front_point (x ∷ xs) ys h = rw h.0 (ap (λ (zs : List ℕ). x ∷ zs) (front_point xs ys h.1))
 
-front_all : (ds : List ℕ) → Consists is_digit ds → front is_digit ds ≡ ds
-front_all [] h = refl
-front_all (d ∷ ds) h = rw h.0 (ap (λ (xs : List ℕ). d ∷ xs) (front_all ds h.1))
-
 drop_point : (xs ys : List ℕ) → drop (suc (length xs)) (xs ++ 46 ∷ ys) ≡ ys
 drop_point [] ys = refl
 drop_point (x ∷ xs) ys = drop_point xs ys
-
-drop_past : (ds : List ℕ) → drop (suc (length ds)) ds ≡ []
-drop_past [] = refl
-drop_past (d ∷ ds) = drop_past ds
 
 whole_of : (k m : ℕ) (ds : List ℕ) → Consists is_digit ds → whole_digits (ds ++ behind_point k m) ≡ ds
 whole_of zero m ds h = ap (front is_digit) (append-nil ds) ∙ front_all ds h
@@ -123,7 +103,7 @@ whole_of (suc k) m ds h = front_point ds (last_digits (suc k) m) h
 
 points_of : (k m : ℕ) (ds : List ℕ) → Consists is_digit ds → (0 < k → m % 10 ≢ 0) → point_digits (ds ++ behind_point k m) ≡ last_digits k m
 points_of zero m ds h ends =
-    ap (λ w. point_digits w) (append-nil ds) ∙ ap (λ (w : List ℕ). trimmed (drop (suc (length w)) ds)) (front_all ds h) ∙ ap trimmed (drop_past ds)
+    ap (λ w. point_digits w) (append-nil ds) ∙ ap (λ (w : List ℕ). trimmed (drop (suc (length w)) ds)) (front_all ds h) ∙ ap trimmed (drop_all (suc (length ds)) ds (omega arith))
 points_of (suc k) m ds h ends =
     ap (λ (w : List ℕ). trimmed (drop (suc (length w)) (ds ++ behind_point (suc k) m))) (whole_of (suc k) m ds h)
     ∙ ap trimmed (drop_point ds (last_digits (suc k) m))
@@ -137,11 +117,8 @@ module _ (m k : ℕ) (small : m < 2 ^ 127) (short : k ≤ 38) (ends : 0 < k → 
   abbrev g : ℕ
   g = gcd m (10 ^ k)
 
-  some_power : 0 < 10 ^ k
-  some_power = one-le-pow k 10 (omega arith)
-
   some_den : 0 < q.den
-  some_den = lowest-positive (pos m) (10 ^ k) some_power
+  some_den = lowest-positive (pos m) (10 ^ k) (one-le-pow k 10 (omega arith))
 
   above : g * (m / g) ≡ m
   above = mul-div_cancel' g (gcd-dvd_left m (10 ^ k))
@@ -169,7 +146,7 @@ module _ (m k : ℕ) (small : m < 2 ^ 127) (short : k ≤ 38) (ends : 0 < k → 
       let front_is : whole_digits (literal_text q) ≡ numeral a = ap (λ w. whole_digits w) text ∙ whole_of k m (numeral a) (numeral_digits a) in
       let parts : 10 ^ k * a + m % 10 ^ k ≡ m = div-add-mod m (10 ^ k) in
       (λ i. number_after 0 (front_is i ++ points i))
-      ∙ number_append 0 (numeral a) (last_digits k m)
+      ∙ number_along 0 (numeral a) (last_digits k m)
       ∙ ap (λ n. number_after n (last_digits k m)) (numeral_number a)
       ∙ number_last k a m
       ∙ ap (λ x. x + m % 10 ^ k) (mul_comm a (10 ^ k))
@@ -246,7 +223,7 @@ literal_written w e ends = let n = not_wide w e in written (digits_number w) (le
 pub numeral_written : (ds : List ℕ) → IsNumeral ds → is_wide ds ≡ false → is_decimal (literal_value ds) ≡ true
 numeral_written ds h e =
     let all = numeral_consists ds h in
-    let no_point : point_digits ds ≡ [] = ap (λ (w : List ℕ). trimmed (drop (suc (length w)) ds)) (front_all ds all) ∙ ap trimmed (drop_past ds) in
+    let no_point : point_digits ds ≡ [] = ap (λ (w : List ℕ). trimmed (drop (suc (length w)) ds)) (front_all ds all) ∙ ap trimmed (drop_all (suc (length ds)) ds (omega arith)) in
     literal_written ds e (λ some. absurd (omega (arith, some, ap length no_point)))
 
 pub decimal_written : (ds : List ℕ) (f : ℕ) (fs : List ℕ) → IsNumeral ds → Consists is_digit (f ∷ fs) → is_wide (ds ++ 46 ∷ f ∷ fs) ≡ false → is_decimal (literal_value (ds ++ 46 ∷ f ∷ fs)) ≡ true
@@ -255,5 +232,5 @@ decimal_written ds f fs h rest e =
     let all = numeral_consists ds h in
     let front_is : whole_digits w ≡ ds = front_point ds (f ∷ fs) all in
     let points_are : point_digits w ≡ trimmed (f ∷ fs) = ap (λ (x : List ℕ). trimmed (drop (suc (length x)) w)) front_is ∙ ap trimmed (drop_point ds (f ∷ fs)) in
-    let number_is : digits_number w ≡ number_after (number_after 0 ds) (trimmed (f ∷ fs)) = (λ i. number_after 0 (front_is i ++ points_are i)) ∙ number_append 0 ds (trimmed (f ∷ fs)) in
+    let number_is : digits_number w ≡ number_after (number_after 0 ds) (trimmed (f ∷ fs)) = (λ i. number_after 0 (front_is i ++ points_are i)) ∙ number_along 0 ds (trimmed (f ∷ fs)) in
     literal_written w e (λ some ends. trimmed_ends (number_after 0 ds) (f ∷ fs) rest (subst (λ (x : List ℕ). 0 < length x) points_are some) (ap (λ n. n % 10) (sym number_is) ∙ ends))

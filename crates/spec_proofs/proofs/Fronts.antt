@@ -12,7 +12,7 @@ pub same_kept : (n : ℕ) (text : List ℕ) → take n (take (n + 1) text) ≡ t
 same_kept n text = take-take n (n + 1) text (omega arith)
 
 -- and it has more bytes exactly where the whole text has
-same_long : (n : ℕ) (text : List ℕ) → nat_lt n (length (take (n + 1) text)) ≡ nat_lt n (length text)
+pub same_long : (n : ℕ) (text : List ℕ) → nat_lt n (length (take (n + 1) text)) ≡ nat_lt n (length text)
 same_long n text = grind (arith, nat_tests, length-take (n + 1) text)
 
 -- a script is read by its prefix

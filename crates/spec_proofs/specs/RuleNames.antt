@@ -53,10 +53,21 @@ rule_name rules.Ite1 = codes "ite1"
 rule_name rules.Ite2 = codes "ite2"
 rule_name rules.NotIte1 = codes "not_ite1"
 rule_name rules.NotIte2 = codes "not_ite2"
+rule_name rules.EqReflexive = codes "eq_reflexive"
+rule_name rules.EqTransitive = codes "eq_transitive"
+rule_name rules.EqCongruent = codes "eq_congruent"
+rule_name rules.EqCongruentPred = codes "eq_congruent_pred"
+rule_name rules.Refl = codes "refl"
+rule_name rules.Symm = codes "symm"
+rule_name rules.Trans = codes "trans"
+rule_name rules.Cong = codes "cong"
+rule_name rules.DistinctElim = codes "distinct_elim"
+rule_name rules.IteThen = codes "x_ite_then"
+rule_name rules.IteElse = codes "x_ite_else"
 
 -- all rules
 abbrev pub every_rule : List Rule
-every_rule = rules.Or ∷ rules.Contraction ∷ rules.Reordering ∷ rules.Weakening ∷ rules.Resolution ∷ rules.ThResolution ∷ rules.True ∷ rules.False ∷ rules.AndPos ∷ rules.AndNeg ∷ rules.OrPos ∷ rules.OrNeg ∷ rules.ImpliesPos ∷ rules.ImpliesNeg1 ∷ rules.ImpliesNeg2 ∷ rules.EquivPos1 ∷ rules.EquivPos2 ∷ rules.EquivNeg1 ∷ rules.EquivNeg2 ∷ rules.XorPos1 ∷ rules.XorPos2 ∷ rules.XorNeg1 ∷ rules.XorNeg2 ∷ rules.ItePos1 ∷ rules.ItePos2 ∷ rules.IteNeg1 ∷ rules.IteNeg2 ∷ rules.NotNot ∷ rules.And ∷ rules.NotAnd ∷ rules.NotOr ∷ rules.Implies ∷ rules.NotImplies1 ∷ rules.NotImplies2 ∷ rules.Equiv1 ∷ rules.Equiv2 ∷ rules.NotEquiv1 ∷ rules.NotEquiv2 ∷ rules.Xor1 ∷ rules.Xor2 ∷ rules.NotXor1 ∷ rules.NotXor2 ∷ rules.Ite1 ∷ rules.Ite2 ∷ rules.NotIte1 ∷ rules.NotIte2 ∷ []
+every_rule = rules.Or ∷ rules.Contraction ∷ rules.Reordering ∷ rules.Weakening ∷ rules.Resolution ∷ rules.ThResolution ∷ rules.True ∷ rules.False ∷ rules.AndPos ∷ rules.AndNeg ∷ rules.OrPos ∷ rules.OrNeg ∷ rules.ImpliesPos ∷ rules.ImpliesNeg1 ∷ rules.ImpliesNeg2 ∷ rules.EquivPos1 ∷ rules.EquivPos2 ∷ rules.EquivNeg1 ∷ rules.EquivNeg2 ∷ rules.XorPos1 ∷ rules.XorPos2 ∷ rules.XorNeg1 ∷ rules.XorNeg2 ∷ rules.ItePos1 ∷ rules.ItePos2 ∷ rules.IteNeg1 ∷ rules.IteNeg2 ∷ rules.NotNot ∷ rules.And ∷ rules.NotAnd ∷ rules.NotOr ∷ rules.Implies ∷ rules.NotImplies1 ∷ rules.NotImplies2 ∷ rules.Equiv1 ∷ rules.Equiv2 ∷ rules.NotEquiv1 ∷ rules.NotEquiv2 ∷ rules.Xor1 ∷ rules.Xor2 ∷ rules.NotXor1 ∷ rules.NotXor2 ∷ rules.Ite1 ∷ rules.Ite2 ∷ rules.NotIte1 ∷ rules.NotIte2 ∷ rules.EqReflexive ∷ rules.EqTransitive ∷ rules.EqCongruent ∷ rules.EqCongruentPred ∷ rules.Refl ∷ rules.Symm ∷ rules.Trans ∷ rules.Cong ∷ rules.DistinctElim ∷ rules.IteThen ∷ rules.IteElse ∷ []
 
 -- the rows of a table of names for these rules
 abbrev pub named_rows : List Rule → List (Name × Rule)

@@ -105,6 +105,28 @@ pub enum Rule {
     NotIte1,
     /// `not_ite2`: `ite_neg2`, with the first term as the premise.
     NotIte2,
+    /// `eq_reflexive`: a term is equal to itself.
+    EqReflexive,
+    /// `eq_transitive`: negated equalities that lead from one term to another, or these two are equal.
+    EqTransitive,
+    /// `eq_congruent`: negated equalities of arguments, or a function has one value at them.
+    EqCongruent,
+    /// `eq_congruent_pred`: the same where that value is a truth value.
+    EqCongruentPred,
+    /// `refl`: a term is equal to itself.
+    Refl,
+    /// `symm`: an equality holds in the other direction.
+    Symm,
+    /// `trans`: equalities lead from one term to another.
+    Trans,
+    /// `cong`: a function has one value at arguments that are equal.
+    Cong,
+    /// `distinct_elim`: `distinct` is what it is read as.
+    DistinctElim,
+    /// `x_ite_then`: the condition does not hold, or the choice is its first branch.
+    IteThen,
+    /// `x_ite_else`: the condition holds, or the choice is its second branch.
+    IteElse,
 }
 
 /// Names a literal by an argument of a term: the argument as it stands, or its negation.

@@ -8,7 +8,7 @@ ghost use Rattle.spec_proofs.specs.RuleNames.{rule_name, named_rows, rule_named}
 use crate::Rule;
 
 /// All rules.
-const EVERY_RULE: [Rule; 46] = [
+const EVERY_RULE: [Rule; 57] = [
     Rule::Or,
     Rule::Contraction,
     Rule::Reordering,
@@ -55,6 +55,17 @@ const EVERY_RULE: [Rule; 46] = [
     Rule::Ite2,
     Rule::NotIte1,
     Rule::NotIte2,
+    Rule::EqReflexive,
+    Rule::EqTransitive,
+    Rule::EqCongruent,
+    Rule::EqCongruentPred,
+    Rule::Refl,
+    Rule::Symm,
+    Rule::Trans,
+    Rule::Cong,
+    Rule::DistinctElim,
+    Rule::IteThen,
+    Rule::IteElse,
 ];
 
 /// Tells whether two names are the same.
@@ -128,6 +139,17 @@ impl Rule {
             Rule::Ite2 => b"ite2",
             Rule::NotIte1 => b"not_ite1",
             Rule::NotIte2 => b"not_ite2",
+            Rule::EqReflexive => b"eq_reflexive",
+            Rule::EqTransitive => b"eq_transitive",
+            Rule::EqCongruent => b"eq_congruent",
+            Rule::EqCongruentPred => b"eq_congruent_pred",
+            Rule::Refl => b"refl",
+            Rule::Symm => b"symm",
+            Rule::Trans => b"trans",
+            Rule::Cong => b"cong",
+            Rule::DistinctElim => b"distinct_elim",
+            Rule::IteThen => b"x_ite_then",
+            Rule::IteElse => b"x_ite_else",
         }
     }
 

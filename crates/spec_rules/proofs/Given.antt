@@ -148,6 +148,17 @@ there rules.Ite1 = (42, omega arith, refl)
 there rules.Ite2 = (43, omega arith, refl)
 there rules.NotIte1 = (44, omega arith, refl)
 there rules.NotIte2 = (45, omega arith, refl)
+there rules.EqReflexive = (46, omega arith, refl)
+there rules.EqTransitive = (47, omega arith, refl)
+there rules.EqCongruent = (48, omega arith, refl)
+there rules.EqCongruentPred = (49, omega arith, refl)
+there rules.Refl = (50, omega arith, refl)
+there rules.Symm = (51, omega arith, refl)
+there rules.Trans = (52, omega arith, refl)
+there rules.Cong = (53, omega arith, refl)
+there rules.DistinctElim = (54, omega arith, refl)
+there rules.IteThen = (55, omega arith, refl)
+there rules.IteElse = (56, omega arith, refl)
 
 -- a rule with a scheme that takes the step is among these
 taker : (ps : List Clause) (arguments : Trees) (c : Clause) (rule : Rule) → has_scheme (kind_of rule) ≡ true → IsRight rule ps arguments c → Contains (takers ps c) rule

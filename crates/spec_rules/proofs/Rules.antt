@@ -11,11 +11,12 @@ use Rattle.spec_sorts.proofs.SortsOfValues.{formula_value}
 use Rattle.spec_text.specs.Trees.{Trees}
 use Rattle.spec_sorts.specs.Literals.{Clause, literal_of}
 use Rattle.spec_sorts.specs.TermValues.{value_at, values_at}
+use Rattle.spec_equality.proofs.Sound.{equating_true}
 use Rattle.spec_proofs.specs.declared.Rule.{Rule}
 use Rattle.spec_proofs.specs.Resolution.{IsWithin}
 use Rattle.spec_rules.specs.Clauses.{IsResolvent, term_true, clause_true}
 use Rattle.spec_rules.specs.Rules.{IsOr, IsWeakening, IsStated, flipped, IsTurned, IsBy, IsRight, IsWideBy}
-use Rattle.spec_rules.specs.Schemes.{Scheme, Kind, opens, keeps, resolves, states, turns, kind_of}
+use Rattle.spec_rules.specs.Schemes.{Scheme, Kind, opens, keeps, resolves, states, turns, equates, kind_of}
 use Rattle.spec_rules.specs.Truths.{term_true_by}
 use Rattle.spec_rules.proofs.Resolution.{complement_true, clause_true_by, resolvent_true}
 use Rattle.spec_rules.proofs.Schemes.{HasTruth, IsSound, IsSoundKind, kind_sound, given_true, none_given}
@@ -92,6 +93,7 @@ module _ (i : Interpretation) where
   by_true resolves sound premises arguments clause each truths right = resolution_true premises clause each right
   by_true (states s) sound premises arguments clause each truths right = stated_true s sound premises clause truths right
   by_true (turns s) sound premises arguments clause each truths right = turned_true s sound premises clause each truths right
+  by_true (equates rule) sound premises arguments clause each truths right = equating_true i rule premises clause each right
 
   -- what follows by a rule from what is true is true, where its terms are formulas over the symbols that the interpretation has
   pub rule_true : (symbols : List Symbol) (rule : Rule) (premises : List Clause) (arguments : Trees) (clause : Clause) → Interprets i symbols → All (IsFormulaOver symbols) clause → All IsTrue premises → IsRight rule premises arguments clause → IsTrue clause
@@ -105,3 +107,4 @@ never_both keeps premises arguments clause wide = wide
 never_both resolves premises arguments clause wide = wide
 never_both (states s) premises arguments clause wide = wide
 never_both (turns s) premises arguments clause wide = wide
+never_both (equates rule) premises arguments clause wide = wide

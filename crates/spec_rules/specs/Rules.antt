@@ -3,10 +3,11 @@ use Rattle.std.specs.Prelude.{List, [], ◌∷◌, Contains}
 use Rattle.spec_sorts.specs.Terms.{Or, Not, Term, app, nil, cons, list_of, negated}
 use Rattle.spec_text.specs.Trees.{Trees}
 use Rattle.spec_sorts.specs.Literals.{Clause}
+use Rattle.spec_equality.specs.EqualityRules.{IsEquating}
 use Rattle.spec_proofs.specs.declared.Rule.{Rule}
 use Rattle.spec_proofs.specs.Resolution.{IsWithin}
 use Rattle.spec_rules.specs.Clauses.{IsResolvent}
-use Rattle.spec_rules.specs.Schemes.{Scheme, Kind, opens, keeps, resolves, states, turns, clauses_by, kind_of}
+use Rattle.spec_rules.specs.Schemes.{Scheme, Kind, opens, keeps, resolves, states, turns, equates, clauses_by, kind_of}
 
 -- one premise, whose one literal is a disjunction; each of its arguments is a literal of the clause
 abbrev pub IsOr : List Clause → Clause → Type 0
@@ -44,6 +45,7 @@ IsBy keeps premises arguments clause = IsWeakening premises clause
 IsBy resolves premises arguments clause = IsResolvent premises clause
 IsBy (states s) premises arguments clause = IsStated s premises clause
 IsBy (turns s) premises arguments clause = IsTurned s premises clause
+IsBy (equates rule) premises arguments clause = IsEquating rule premises clause
 
 -- the clause follows from the premises by the rule, with the texts of its arguments
 abbrev pub IsRight : Rule → List Clause → Trees → Clause → Type 0
@@ -56,6 +58,7 @@ IsWideBy keeps premises arguments clause = ⊥
 IsWideBy resolves premises arguments clause = ⊥
 IsWideBy (states s) premises arguments clause = ⊥
 IsWideBy (turns s) premises arguments clause = ⊥
+IsWideBy (equates rule) premises arguments clause = ⊥
 
 -- whether the step is right cannot be told within the bound on numbers; then it is not right
 abbrev pub IsWide : Rule → List Clause → Trees → Clause → Type 0

@@ -3,6 +3,8 @@ use Rattle.std.specs.Prelude.{ℕ, Bool, true, false, ◌&&◌, List, [], ◌∷
 use Rattle.spec_sorts.specs.Terms.{Head, True, False, Not, And, Or, Xor, Implies, Equal, Ite, Truth, Term, app, nil, cons, list_of, no_term, negated, sort_of, all_same, head_takes, same_head}
 use Rattle.spec_sorts.specs.Subsets.{arguments_of}
 use Rattle.spec_sorts.specs.Literals.{Clause}
+use Rattle.spec_equality.specs.declared.EqualityRule.{EqualityRule}
+use Rattle.spec_equality.specs.declared.EqualityRule.TheVariants as equals
 use Rattle.spec_proofs.specs.declared.Rule.{Rule}
 use Rattle.spec_proofs.specs.declared.Rule.TheVariants as rules
 use Rattle.spec_proofs.specs.declared.Side.{Side}
@@ -61,6 +63,8 @@ pub data Kind : Type 0 where
   states : Scheme → Kind
   -- one premise of one literal; some term gives the clause with that literal's complement in front
   turns : Scheme → Kind
+  -- the step is one of equality and functions
+  equates : EqualityRule → Kind
 
 -- a scheme of a term as it stands, and of a negated one
 abbrev pub plain : Head → Rest → Scheme
@@ -205,3 +209,14 @@ kind_of rules.Ite1 = turns ite_pos1
 kind_of rules.Ite2 = turns ite_pos2
 kind_of rules.NotIte1 = turns ite_neg1
 kind_of rules.NotIte2 = turns ite_neg2
+kind_of rules.EqReflexive = equates equals.EqReflexive
+kind_of rules.EqTransitive = equates equals.EqTransitive
+kind_of rules.EqCongruent = equates equals.EqCongruent
+kind_of rules.EqCongruentPred = equates equals.EqCongruentPred
+kind_of rules.Refl = equates equals.Refl
+kind_of rules.Symm = equates equals.Symm
+kind_of rules.Trans = equates equals.Trans
+kind_of rules.Cong = equates equals.Cong
+kind_of rules.DistinctElim = equates equals.DistinctElim
+kind_of rules.IteThen = equates equals.IteThen
+kind_of rules.IteElse = equates equals.IteElse
