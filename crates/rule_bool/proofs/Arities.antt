@@ -7,6 +7,7 @@ use Rattle.spec_proofs.specs.declared.Rest.TheVariants.{One, Two}
 use Rattle.term_core.specs.declared.nodes.Head.{Head as NodeHead}
 use Rattle.term_core.specs.declared.nodes.Head.TheVariants as heads
 use Rattle.term_core.specs.Tables.{TableView, term_at, clause_at, head_meant, takes, Shape, Fits}
+use Rattle.term_core.proofs.FactsOfNodes.{ite_long}
 use Rattle.rule_bool.specs.Schemes.{arity, HasPlaces, IsStating}
 
 pub not_takes : (ss : List Sort) → takes Not ss ≡ true → length ss ≡ 1
@@ -25,17 +26,13 @@ equal_takes : (ss : List Sort) → takes Equal ss ≡ true → length ss ≡ 2
 equal_takes (s ∷ t ∷ []) e = refl
 equal_takes _ e = cc
 
-ite_takes : (ss : List Sort) → takes Ite ss ≡ true → length ss ≡ 3
-ite_takes (Truth ∷ s ∷ t ∷ []) e = refl
-ite_takes _ e = cc
-
 -- a head has at least so many arguments
 least : (t : TableView) (h : NodeHead) (ss : List Sort) → takes (head_meant t h) ss ≡ true → arity h ≤ length ss
 least t heads.Not ss e = omega (arith, not_takes ss e)
 least t heads.Xor ss e = omega (arith, xor_takes ss e)
 least t heads.Implies ss e = omega (arith, implies_takes ss e)
 least t heads.Equal ss e = omega (arith, equal_takes ss e)
-least t heads.Ite ss e = omega (arith, ite_takes ss e)
+least t heads.Ite ss e = omega (arith, ite_long ss e)
 least t _ ss e = omega arith
 
 -- places that are there are there among more

@@ -1,5 +1,5 @@
 -- The clauses that terms give by a scheme, by the numbers of their terms.
-use Rattle.std.proofs.Common.{◌≡◌, ◌≢◌, suc, Bool, true, false, ◌&&◌, if◌then◌else◌, List, [], ◌∷◌, map, length, All, Contains, refl, sym, ap, ◌∙◌, subst, arith}
+use Rattle.std.proofs.Common.{◌≡◌, ◌≢◌, suc, Bool, true, false, ◌&&◌, if◌then◌else◌, List, [], ◌∷◌, map, length, Contains, refl, sym, ap, ◌∙◌, subst, arith}
 use Rattle.std.specs.Prelude.{MatchBool}
 use Rattle.std.specs.Cmp.Derive.{both_true}
 use Rattle.std.proofs.lemmas.Bool.{false≢true, and_parts}
@@ -18,7 +18,7 @@ use Rattle.term_core.specs.declared.nodes.Head.TheVariants as heads
 use Rattle.term_core.specs.declared.nodes.Node.{Node}
 use Rattle.term_core.specs.contracts.nodes.HeadPartialEq.TheImpl.{ghosts as head_ghosts}
 use Rattle.term_core.proofs.NodesSame.{same_node, node_same}
-use Rattle.term_core.specs.Tables.{TableView, term_at, IsIn, AreIn, clause_at, head_meant, takes, Shape, shape_term, Fits}
+use Rattle.term_core.specs.Tables.{TableView, term_at, AreIn, clause_at, head_meant, takes, Shape, shape_term, Fits}
 use Rattle.clause_literals.specs.Polarities.{IsSigned, HasNoSign, HasNoTurn}
 use Rattle.rule_bool.specs.Schemes.{scheme_meant, IsStating, IsTurning, GivesRest}
 use Rattle.rule_bool.proofs.Behind.{signed_apart}
@@ -211,10 +211,6 @@ module _ (t : TableView) (head : NodeHead) (positive : Bool) (rest : Rest) where
     not_turned_many = turned_alone t (scheme_meant t head positive rest) premises (clause_at t clause)
 
     module _ (front : TermId) (is : premises ≡ (front ∷ []) ∷ []) where
-      -- the one term of the one premise is the table's
-      pub front_in : All (AreIn t) premises → IsIn t front
-      front_in h = subst (λ (ps : List (List TermId)). All (AreIn t) ps) is h 0 [] (omega arith) 0 front (omega arith)
-
       -- a clause that is turned is given
       turn_given : IsTurned (scheme_meant t head positive rest) (map (clause_at t) premises) (clause_at t clause) → IsGiven (scheme_meant t head positive rest) (flipped (term_at t front) ∷ clause_at t clause)
       turn_given r = subst (λ (ps : List (List TermId)). IsTurned (scheme_meant t head positive rest) (map (clause_at t) ps) (clause_at t clause)) is r

@@ -4,10 +4,11 @@ use Rattle.spec_text.specs.Trees.{Trees}
 use Rattle.spec_sorts.specs.Terms.{Head, Term}
 use Rattle.spec_sorts.specs.Subsets.{arguments_of}
 use Rattle.spec_sorts.specs.Literals.{Clause}
+use Rattle.spec_equality.specs.declared.EqualityRule.{EqualityRule}
 use Rattle.spec_proofs.specs.declared.Rule.{Rule}
 use Rattle.spec_proofs.specs.declared.Rest.{Rest}
 use Rattle.spec_proofs.specs.declared.Rest.TheVariants.{One, Two}
-use Rattle.spec_rules.specs.Schemes.{Scheme, Kind, states, turns, rests_of, is_formula_of, kind_of}
+use Rattle.spec_rules.specs.Schemes.{Scheme, Kind, states, turns, equates, rests_of, is_formula_of, kind_of}
 use Rattle.spec_rules.specs.Rules.{IsRight, IsWide}
 use Rattle.term_core.specs.declared.ids.TermId.{TermId}
 use Rattle.term_core.specs.declared.nodes.Head.{Head as NodeHead}
@@ -102,6 +103,11 @@ abbrev pub turns_nothing : Kind → Type 0
 turns_nothing (turns s) = ⊥
 turns_nothing k = Unit {0}
 
+-- the rules of that kind are none of equality
+abbrev pub equates_nothing : Kind → Type 0
+equates_nothing (equates e) = ⊥
+equates_nothing k = Unit {0}
+
 -- the rules of that kind have a scheme
 abbrev pub has_scheme : Kind → Type 0
 has_scheme (states s) = Unit {0}
@@ -115,6 +121,14 @@ StatesNothing rule = states_nothing (kind_of rule)
 -- the rule turns no scheme's terms
 abbrev pub TurnsNothing : Rule → Type 0
 TurnsNothing rule = turns_nothing (kind_of rule)
+
+-- the rule is none of equality
+abbrev pub EquatesNothing : Rule → Type 0
+EquatesNothing rule = equates_nothing (kind_of rule)
+
+-- the rule is that one of equality
+abbrev pub Equates : Rule → EqualityRule → Type 0
+Equates rule e = kind_of rule ≡ equates e
 
 -- the rule has a scheme
 abbrev pub HasScheme : Rule → Type 0

@@ -11,7 +11,9 @@ use crate::arguments::ArgumentTexts;
 use crate::resolvent::resolution;
 use crate::rule_stop::RuleStop;
 use crate::rules::{rule_contraction, rule_or, rule_reordering, rule_weakening};
+use crate::scheme_table::equality_of;
 use crate::schemes::by_scheme;
+use rule_eq::judge_equality;
 use spec_proofs::Rule;
 use std::alloc::Global;
 use term_core::{Clause, RuleFails, TermId, TermTable};
@@ -29,6 +31,9 @@ fn judge_alone(
     requires clause { AreIn table.now clause.now }
     ensures { Judges table.now rule premises.now clause.now result }
 {
+    if let Some(equality) = equality_of(rule) {
+        return judge_equality(table, equality, premises, clause);
+    }
     match rule {
         Rule::Or => rule_or(table, premises, clause),
         Rule::Contraction => rule_contraction(table, premises, clause),
@@ -40,8 +45,8 @@ fn judge_alone(
 
 /// Judges a step by its rule, whichever that is.
 ///
-/// What premises and conclusion a rule asks for says its own function (`resolution`, or `rule_` with the rule's name). `arguments` are
-/// the texts of the step's `:args`, which no rule reads for now.
+/// What premises and conclusion a rule asks for says its own function (`resolution`, or `rule_` with the rule's name, which stands in
+/// `rule_eq` where the rule is one of equality). `arguments` are the texts of the step's `:args`, which no rule reads for now.
 ///
 /// The two rules of resolution take memory from `alloc`; no other does.
 ///

@@ -1,9 +1,9 @@
 //! Rules of Alethe on clauses of the table of terms of every sort.
 //!
-//! There is a call for each rule, and `judge` judges by the rule that is named, with the texts of the step's arguments. Premises and
-//! clause give their terms by their numbers in the table, and terms are compared as they are read. `RuleFails` comes exactly where the
-//! step is not right. But for resolution no rule takes memory, and where a rule's comment says nothing of time, it takes the same time
-//! for all terms.
+//! There is a call for each rule, and `judge` judges by the rule that is named, with the texts of the step's arguments. Of the rules of
+//! equality and functions the calls are those of `rule_eq`. Premises and clause give their terms by their numbers in the table, and terms
+//! are compared as they are read. `RuleFails` comes exactly where the step is not right. But for resolution no rule takes memory, and
+//! where a rule's comment says nothing of time, it takes the same time for all terms.
 //!
 //! Which clauses a rule states of a term says one table, `scheme_of`: the term has the scheme's head before arguments of sort Bool. By
 //! the same schemes go the rules that turn the first term into a premise. `resolution` makes literals of the terms, over which `resolves`

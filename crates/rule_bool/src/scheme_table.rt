@@ -1,8 +1,9 @@
-//! The schemes of the rules: which clauses a term gives, by its head and its arguments.
+//! The schemes of the rules: which clauses a term gives, by its head and its arguments; and which rules are of equality.
 
 ghost use Rattle.std.specs.Prelude.{MatchOption};
-ghost use Rattle.rule_bool.specs.Schemes.{StatesNothing, States, TurnsNothing, Turns};
+ghost use Rattle.rule_bool.specs.Schemes.{StatesNothing, States, TurnsNothing, Turns, EquatesNothing, Equates};
 
+use spec_equality::EqualityRule;
 use spec_proofs::{Rest, Rule, Side};
 use term_core::Head;
 
@@ -263,6 +264,26 @@ pub(crate) fn turned_scheme_of(rule: Rule) -> Option<Scheme>
         Rule::Ite2 => Some(ITE_POS2),
         Rule::NotIte1 => Some(ITE_NEG1),
         Rule::NotIte2 => Some(ITE_NEG2),
+        _ => None,
+    }
+}
+
+/// Gives the rule of equality and functions that a rule is; nothing where it is none.
+pub(crate) fn equality_of(rule: Rule) -> Option<EqualityRule>
+    ensures { MatchOption result (EquatesNothing rule) (Equates rule) }
+{
+    match rule {
+        Rule::EqReflexive => Some(EqualityRule::EqReflexive),
+        Rule::EqTransitive => Some(EqualityRule::EqTransitive),
+        Rule::EqCongruent => Some(EqualityRule::EqCongruent),
+        Rule::EqCongruentPred => Some(EqualityRule::EqCongruentPred),
+        Rule::Refl => Some(EqualityRule::Refl),
+        Rule::Symm => Some(EqualityRule::Symm),
+        Rule::Trans => Some(EqualityRule::Trans),
+        Rule::Cong => Some(EqualityRule::Cong),
+        Rule::DistinctElim => Some(EqualityRule::DistinctElim),
+        Rule::IteThen => Some(EqualityRule::IteThen),
+        Rule::IteElse => Some(EqualityRule::IteElse),
         _ => None,
     }
 }
