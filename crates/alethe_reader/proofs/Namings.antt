@@ -135,9 +135,3 @@ module _ (at : ℕ) where
 module _ (ts us : Trees) (t : Tree) (e : Some (t, us) ≡ split_first ts) where
   pub less_atom : (place : ℕ) (k : Kind) (n : List ℕ) → atom place k n ≡ t → sizes ts ≡ 1 + sizes us
   less_atom place k n is = ap sizes (split_more ts us t e) ∙ ap (λ u. size u + sizes us) (sym is)
-
-  pub less_list : (place end : ℕ) (inside : Trees) → list place inside end ≡ t → sizes ts ≡ 2 + sizes inside + sizes us
-  less_list place end inside is = ap sizes (split_more ts us t e) ∙ ap (λ u. size u + sizes us) (sym is)
-
-pub less_end : (ts : Trees) → None ≡ split_first ts → sizes ts ≡ 0
-less_end ts e = ap sizes (split_end ts e)

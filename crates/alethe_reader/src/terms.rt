@@ -28,7 +28,7 @@ fn in_proof<'a>() -> Setting<'a>
 {
     Setting {
         kept_names: true,
-        may_name: false,
+        may_name: true,
         own: None,
     }
 }

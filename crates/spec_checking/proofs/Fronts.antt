@@ -1,5 +1,5 @@
 -- A verdict on the prefixes of two texts is that on the whole texts.
-use Rattle.std.proofs.Common.{◌≡◌, ◌+◌, ℕ, Bool, true, false, List, length, take, nat_lt, Option, Some, Ok, Err, inl, inr, refl, subst, arith, length-take}
+use Rattle.std.proofs.Common.{◌≡◌, ◌+◌, ℕ, Bool, true, false, List, length, take, nat_lt, Option, Some, Ok, Err, inl, inr, refl, subst, arith}
 use Rattle.std.proofs.lemmas.Bool.Decides.{nat_tests}
 use Rattle.std.proofs.lemmas.List.{take_all}
 use Rattle.spec_text.specs.Lexemes.{lexemes}
@@ -12,12 +12,8 @@ use Rattle.spec_checking.specs.Commands.{Known, Command, known_at}
 use Rattle.spec_checking.specs.Reading.{command_of}
 use Rattle.spec_proofs.specs.Texts.{behind_unsat, begins_listed, Ending, complete, broken, left_over, AreCommands, IsProofText, ending_fault}
 use Rattle.spec_checking.specs.Judging.{with_command, FaultBy, FirstFault}
-use Rattle.spec_proofs.proofs.Fronts.{same_kept, read_by}
+use Rattle.spec_proofs.proofs.Fronts.{same_kept, same_long, read_by}
 use Rattle.spec_checking.specs.Accepted.{IsJudged, IsVerdict}
-
--- a prefix has more bytes exactly where the whole text has
-same_long : (n : ℕ) (text : List ℕ) → nat_lt n (length (take (n + 1) text)) ≡ nat_lt n (length text)
-same_long n text = grind (arith, nat_tests, length-take (n + 1) text)
 
 -- a text that has no more bytes is its prefix
 whole_front : (n : ℕ) (text : List ℕ) → nat_lt n (length text) ≡ false → take (n + 1) text ≡ text

@@ -1,6 +1,5 @@
 -- The interpretation of declared symbols under which names have such truths.
-use Rattle.std.proofs.Common.{◌≡◌, Bool, true, false, List, [], ◌∷◌, ◌++◌, Option, Some, None, cond, Contains, get_or, inl, inr, ◌⊎◌, refl, sym, ap, ◌∙◌, subst, append_assoc}
-use Rattle.std.specs.Str.{bytes_eq}
+use Rattle.std.proofs.Common.{◌≡◌, Bool, List, [], ◌∷◌, ◌++◌, Option, Some, cond, Contains, get_or, inl, inr, ◌⊎◌, refl, sym, ap, ◌∙◌, subst, append_assoc}
 use Rattle.std.proofs.lemmas.List.Elements.{All-nil, All-contains, Contains-get_or}
 use Rattle.spec_numbers.specs.Fractions.{zero_fraction}
 use Rattle.spec_numbers.proofs.Field.{zero-reduced}
@@ -9,7 +8,8 @@ use Rattle.spec_text.proofs.General.{bytes_itself}
 use Rattle.spec_text.proofs.Members.{cases}
 use Rattle.spec_sorts.specs.Terms.{Sort, Truth, Number, Declared, Symbol}
 use Rattle.spec_sorts.specs.Values.{Value, truth, number, element, HasSort, Interpretation, table_value, IsRowOf, Interprets}
-use Rattle.spec_sorts.specs.Signatures.{Known, known_name, declared, defined, of_sort, of_function, Signature, known_as, symbols_in}
+use Rattle.spec_sorts.specs.Signatures.{Known, declared, defined, of_sort, of_function, Signature, known_as, symbols_in}
+use Rattle.spec_sorts.proofs.Signatures.{known_behind}
 use Rattle.spec_reading.specs.Agreement.{AreSoundAfter, AreSound}
 
 -- a value of a sort; of sort Bool it is this one
@@ -31,16 +31,6 @@ sort_of_it : (b : Bool) (s : Sort) → HasSort s (value_of_sort b s)
 sort_of_it b Truth = tt
 sort_of_it b Number = zero-reduced
 sort_of_it b (Declared n) = refl
-
--- a name that is not known yet is found after that
-known_behind : (s t : Signature) (n : Name) → known_as s n ≡ None → known_as (s ++ t) n ≡ known_as t n
-known_behind [] t n e = refl
-known_behind (of_sort m u ∷ ds) t n e = known_behind ds t n e
-known_behind (of_function k ∷ ds) t n e = go (bytes_eq (known_name k) n) e (known_behind ds t n)
-  where
-    go : (b : Bool) → cond b (Some k) (known_as ds n) ≡ None → (known_as ds n ≡ None → known_as (ds ++ t) n ≡ known_as t n) → cond b (Some k) (known_as (ds ++ t) n) ≡ known_as t n
-    go true e rest = cc
-    go false e rest = rest e
 
 -- each declared symbol is what its name is known as
 found : (before ds : Signature) → AreSoundAfter before ds → (f : Symbol) → Contains (symbols_in ds) f → known_as (before ++ ds) f.name ≡ Some (declared f)

@@ -26,6 +26,7 @@ use Rattle.spec_commands.specs.Stack.{Assertion, signature_of}
 use Rattle.spec_commands.specs.Checks.{Check, asked}
 use Rattle.spec_commands.specs.Kept.{IsAsserted}
 use Rattle.spec_rules.specs.Clauses.{IsResolvent}
+use Rattle.spec_rules.proofs.Resolution.{sure}
 use Rattle.spec_rules.specs.Truths.{Truths, term_true_by}
 use Rattle.spec_proofs.specs.declared.Rule.TheVariants.{Resolution}
 use Rattle.spec_proofs.specs.Resolution.{Derives, unit, both_ways}
@@ -35,11 +36,6 @@ use Rattle.spec_checking.specs.Judging.{with_command}
 use Rattle.spec_checking.specs.Good.{AreGood}
 use Rattle.spec_checking.proofs.Good.{good_end, good_step}
 use Rattle.spec_checking.proofs.Bare.{bare, read_again}
-
--- a test that is true where it being false makes it true
-sure : (b : Bool) → (b ≡ false → b ≡ true) → b ≡ true
-sure true h = refl
-sure false h = h refl
 
 -- the term of an assertion without its nots, and whether it is meant positively
 abbrev atom_of : Assertion → Term

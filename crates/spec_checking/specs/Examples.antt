@@ -101,8 +101,8 @@ pub names_bound : unread (codes "(assume h1 (let ((a p) (a p)) a))" ∷ codes "(
 unfolding proofs_on_literals read_commands
 names_bound = refl
 
--- `:named` does not stand in a proof for now; a name that is known is a fault of its own, and a reserved word one of terms
-pub names_given_to_terms : unread (codes "(assume h1 (! p :named n))" ∷ codes "(assume h1 (! p :named p))" ∷ codes "(assume h1 (and p (! p :a 1 :named let)))" ∷ codes "(assume h1 (! zz :named p))" ∷ []) ≡ at_column 12 BadShape ∷ at_column 24 TwiceName ∷ at_column 36 (Term faults.Reserved) ∷ at_column 15 (Term faults.UnknownSymbol) ∷ []
+-- a name that is given to a term is known from there on, in the same command and in later ones; one that is known already is a fault of its own, and a reserved word one of terms
+pub names_given_to_terms : unread (codes "(assume h1 (! p :named n))" ∷ codes "(step t1 (cl (! (and p p) :named @n) (not @n)) :rule hole)" ∷ codes "(assume h1 (and (! p :named n) n))\n(assume h2 (or n (! p :named m)))\n(assume h3 m)" ∷ codes "(assume h1 (and n (! p :named n)))" ∷ codes "(assume h1 (! p :named n))\n(assume h2 (! p :named n))" ∷ codes "(assume h1 (let ((a p)) (! a :named n)))" ∷ codes "(assume h1 (! p :named p))" ∷ codes "(assume h1 (and p (! p :a 1 :named let)))" ∷ codes "(assume h1 (! zz :named p))" ∷ []) ≡ None ∷ at_column 54 UnknownRule ∷ None ∷ at_column 17 (Term faults.UnknownSymbol) ∷ Some (2, 24, TwiceName) ∷ at_column 25 BadShape ∷ at_column 24 TwiceName ∷ at_column 36 (Term faults.Reserved) ∷ at_column 15 (Term faults.UnknownSymbol) ∷ []
 unfolding proofs_on_literals read_commands
 names_given_to_terms = refl
 

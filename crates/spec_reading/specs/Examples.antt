@@ -50,10 +50,15 @@ pub names_in_order : made_in script (codes "(and (! (or true (! false :named a))
 unfolding reading_on_literals
 names_in_order = refl
 
--- in a proof and in a term that is neither asserted nor defined no name is made
-pub names_elsewhere : made_in elsewhere (codes "(and true (! true :named a))") ∷ made_in proof (codes "(! true :named a)") ∷ made_in elsewhere (codes "(! true :a)") ∷ [] ≡ refused 10 BadShape ∷ refused 0 BadShape ∷ Ok [] ∷ []
+-- in a term of a script that is neither asserted nor defined no name is made
+pub names_elsewhere : made_in elsewhere (codes "(and true (! true :named a))") ∷ made_in elsewhere (codes "(! true :a)") ∷ [] ≡ refused 10 BadShape ∷ Ok [] ∷ []
 unfolding reading_on_literals
 names_elsewhere = refl
+
+-- a term of a proof may make names, also kept ones
+pub names_in_proofs : made_in proof (codes "(! true :named a)") ∷ made_in proof (codes "(and (! true :named @p_1) @p_1)") ∷ made_in script (codes "(! true :named @a)") ∷ [] ≡ Ok (codes "a" ∷ []) ∷ Ok (codes "@p_1" ∷ []) ∷ refused 15 Reserved ∷ []
+unfolding reading_on_literals
+names_in_proofs = refl
 
 -- a proof may bind kept names, and a script may not
 pub kept_names : made_in proof (codes "(let ((@x true) (.y false)) (and @x .y))") ∷ made_in script (codes "(let ((@x true)) @x)") ∷ [] ≡ Ok [] ∷ refused 7 Reserved ∷ []

@@ -32,9 +32,9 @@ defining n = record { kept_names = false; may_name = true; own = Some n }
 abbrev pub elsewhere : Setting
 elsewhere = record { kept_names = false; may_name = false; own = None }
 
--- a term of a proof, in which `:named` does not stand for now
+-- a term of a proof
 abbrev pub proof : Setting
-proof = record { kept_names = true; may_name = false; own = None }
+proof = record { kept_names = true; may_name = true; own = None }
 
 -- names that begin so are kept for solvers
 abbrev pub is_kept_name : Name → Bool

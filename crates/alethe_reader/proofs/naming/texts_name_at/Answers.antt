@@ -1,8 +1,9 @@
 -- A row ends, an atom is passed over, or a list opens.
 use Rattle.std.proofs.Common.{ap, sym, arith, refl}
 use Rattle.smt_sexpr.specs.Items.{trees_meant, tree_meant}
+use Rattle.assertion_stack.proofs.PrintedTrees.{less_end, less_list}
 use Rattle.alethe_reader.specs.Naming.{open_left}
-use Rattle.alethe_reader.proofs.Namings.{rest_ends, rest_pops, rest_atom, rest_named, rest_list, less_end, less_list, open_left_push}
+use Rattle.alethe_reader.proofs.Namings.{rest_ends, rest_pops, rest_atom, rest_named, rest_list, open_left_push}
 use Rattle.alethe_reader.proofs.naming.texts_name_at.Goals as goal
 
 pub returns-in_default-pop : goal.returns-in_default-pop
