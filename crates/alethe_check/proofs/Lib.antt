@@ -2,6 +2,7 @@
 pub mod Numbers
 pub mod Within
 pub mod FewPremises
+pub mod OneLiterals
 pub mod Rows
 pub mod Commands
 pub mod Judged

@@ -4,15 +4,15 @@ use Rattle.std.specs.Prelude.{◌↔◌}
 use Rattle.std.specs.List.{list_any}
 use Rattle.std.proofs.lemmas.Bool.Decides.{nat_tests}
 use Rattle.std.proofs.lemmas.List.{map_more, map_push, take_more}
-use Rattle.std.proofs.lemmas.List.Elements.{All-contains, All-push, Contains-get_or, Contains-push, Contains-push_cases, Contains-append_left}
+use Rattle.std.proofs.lemmas.List.Elements.{All-contains, All-push, All-take, Contains-get_or, Contains-push, Contains-push_cases, Contains-append_left}
 use Rattle.indexmap.specs.IndexSet.{insert_key}
 use Rattle.indexmap.proofs.CallerLemmas.{Contains-list_any}
 use Rattle.spec_sorts.specs.Literals.{Clause}
 use Rattle.term_core.specs.declared.ids.TermId.{TermId}
-use Rattle.term_core.specs.Tables.{clause_at, AreIn}
+use Rattle.term_core.specs.Tables.{clause_at, IsIn, AreIn}
 use Rattle.alethe_reader.specs.declared.proof_state.ProofState.{ProofState}
 use Rattle.alethe_reader.specs.Holding.{clause_numbered, clauses_numbered, AreNumbers}
-use Rattle.alethe_check.specs.Stating.{HasClauses}
+use Rattle.alethe_check.specs.Stating.{front_numbered, fronts_numbered, HasClauses}
 use Rattle.spec_proofs.proofs.Chains.{mapped_within}
 
 -- the same numbers are in both
@@ -51,6 +51,16 @@ module _ (h : ProofState) (numbers : List ℕ) (i d : ℕ) (copies new : List (L
   pub copies_there : HasClauses h → All (λ p. AreIn h.table p) copies → All (λ p. AreIn h.table p) new
   copies_there sound all = subst (λ (ps : List (List TermId)). All (λ p. AreIn h.table p) ps) (sym e)
       (All-push (λ p. AreIn h.table p) copies c all (subst (λ (ids : List TermId). AreIn h.table ids) (sym at) (sound (get_or numbers i d) [] (there i d lt))))
+
+module _ (h : ProofState) (numbers : List ℕ) (i d : ℕ) (copies new : List (List TermId)) (c : List TermId) (lt : i < length numbers) (there : AreNumbers h numbers)
+    (at : c ≡ take 2 (get_or h.clauses.items (get_or numbers i d) [])) (e : new ≡ copies ++ c ∷ []) where
+  -- a copied beginning is that of its number's clause
+  pub fronts_more : map (clause_at h.table) copies ≡ fronts_numbered h (take i numbers) → map (clause_at h.table) new ≡ fronts_numbered h (take (i + 1) numbers)
+  fronts_more same = ap (map (clause_at h.table)) e ∙ map_push (clause_at h.table) copies c ∙ (λ j. same j ++ clause_at h.table (at j) ∷ []) ∙ sym (map_more (front_numbered h) numbers i d lt)
+
+  pub fronts_there : HasClauses h → All (λ p. AreIn h.table p) copies → All (λ p. AreIn h.table p) new
+  fronts_there sound all = subst (λ (ps : List (List TermId)). All (λ p. AreIn h.table p) ps) (sym e)
+      (All-push (λ p. AreIn h.table p) copies c all (subst (λ (ids : List TermId). AreIn h.table ids) (sym at) (All-take (λ id. IsIn h.table id) 2 (get_or h.clauses.items (get_or numbers i d) []) (sound (get_or numbers i d) [] (there i d lt)))))
 
 module _ (h : ProofState) (slice set numbers : List ℕ) (e : slice ≡ set) (same : SameNumbers set numbers) where
   -- each number taken is that of a clause

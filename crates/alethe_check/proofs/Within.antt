@@ -31,7 +31,7 @@ resolvent_back : (ps qs : List Clause) (c : Clause) → ((d : Clause) → Contai
 resolvent_back ps qs c same r = resolvent_within qs ps c (λ d. (same d).1) r
 
 -- what a stop says of a step from the ones, it says of a step from the others
-stops_same : (P Q : Type 0) (stop : RuleStop) → (P ↔ Q) → Stops stop P ⊥ → Stops stop Q ⊥
+pub stops_same : (P Q : Type 0) (stop : RuleStop) → (P ↔ Q) → Stops stop P ⊥ → Stops stop Q ⊥
 stops_same P Q stops.Fails same s = (λ q. s.0 (same.1 q), s.1)
 stops_same P Q stops.Wide same s = s
 stops_same P Q stops.Memory same s = s

@@ -1,15 +1,16 @@
 -- Whether what a command of a proof states is right, and what is known after it.
-use Rattle.std.specs.Prelude.{◌≡◌, ◌⊎◌, List, All, Result, MatchResult}
+use Rattle.std.specs.Prelude.{◌≡◌, ◌⊎◌, ℕ, List, [], map, take, All, Result, MatchResult, slice_index_or}
 use Rattle.spec_text.specs.Trees.{Trees}
 use Rattle.spec_sorts.specs.Literals.{Clause}
+use Rattle.spec_equality.specs.declared.EqualityRule.TheVariants as equals
 use Rattle.spec_proofs.specs.declared.Rule.{Rule}
 use Rattle.spec_proofs.specs.Faults.{Fault}
 use Rattle.spec_rules.specs.Clauses.{IsResolvent}
-use Rattle.spec_rules.specs.Schemes.{Kind, resolves, kind_of}
+use Rattle.spec_rules.specs.Schemes.{Kind, resolves, equates, kind_of}
 use Rattle.spec_rules.specs.Rules.{IsRight, IsWide}
 use Rattle.spec_checking.specs.Commands.{Known, Step, Statement}
 use Rattle.spec_checking.specs.Judging.{with_statement, IsRightAfter, IsWideStep, fault_of, wide_fault}
-use Rattle.term_core.specs.Tables.{AreIn}
+use Rattle.term_core.specs.Tables.{clause_at, AreIn}
 use Rattle.rule_bool.specs.declared.rule_stop.RuleStop.{RuleStop}
 use Rattle.rule_bool.specs.Resolvents.{Stops}
 use Rattle.alethe_reader.specs.declared.proof_state.ProofState.{ProofState}
@@ -17,11 +18,30 @@ use Rattle.alethe_reader.specs.declared.proof_state.ProofState.{ProofState}
 -- such a step has one premise at most
 abbrev pub takes_few : Kind → Type 0
 takes_few resolves = ⊥
+takes_few (equates equals.Trans) = ⊥
+takes_few (equates equals.Cong) = ⊥
 takes_few k = Unit {0}
 
 -- a step by the rule has one premise at most
 abbrev pub TakesFew : Rule → Type 0
 TakesFew rule = takes_few (kind_of rule)
+
+-- such a step takes of each premise nothing but its one literal, if it has one
+abbrev pub takes_literals : Kind → Type 0
+takes_literals (equates equals.Trans) = Unit {0}
+takes_literals (equates equals.Cong) = Unit {0}
+takes_literals k = ⊥
+
+-- a step by the rule takes of each premise nothing but its one literal, if it has one
+abbrev pub TakesLiterals : Rule → Type 0
+TakesLiterals rule = takes_literals (kind_of rule)
+
+-- the two first terms of the clause with that number, and of the clauses with these numbers
+abbrev pub front_numbered : ProofState → ℕ → Clause
+front_numbered h k = clause_at h.table (take 2 (slice_index_or h.clauses.items k []))
+
+abbrev pub fronts_numbered : ProofState → List ℕ → List Clause
+fronts_numbered h ks = map (front_numbered h) ks
 
 -- the terms of the clauses that are known are in the table
 abbrev pub HasClauses : ProofState → Type 0

@@ -1,15 +1,15 @@
 //! The clauses of a step's premises.
 
-ghost use Rattle.std.specs.Prelude.{◌≡◌, ◌<◌, ◌≤◌, [], slice_index_or, ℕ, ◌↔◌, All, Contains, IfOk, length, map, MatchOption};
+ghost use Rattle.std.specs.Prelude.{◌≡◌, ◌<◌, ◌≤◌, [], slice_index_or, ℕ, ◌↔◌, All, Contains, IfOk, length, map, take, MatchOption};
 ghost use Rattle.spec_sorts.specs.Literals.{Clause as Meant};
 ghost use Rattle.term_core.specs.Tables.{AreIn, clause_at};
 ghost use Rattle.alethe_reader.specs.Holding.{clauses_numbered, AreNumbers};
-ghost use Rattle.alethe_check.specs.Stating.{HasClauses};
+ghost use Rattle.alethe_check.specs.Stating.{HasClauses, fronts_numbered};
 
 use alethe_reader::ProofState;
 use indexmap::IndexSet;
 use std::alloc::{AllocError, Global};
-use term_core::Clause;
+use term_core::{Clause, TermId};
 
 /// Takes each number once, in the order of first mention.
 fn distinct(alloc: Global, numbers: &[u64]) -> Result<IndexSet<u64>, AllocError>
@@ -45,6 +45,48 @@ fn clauses_of(alloc: Global, state: &ProofState, numbers: &[u64]) -> Result<Vec<
     for number in numbers {
         let clause = clause_of(alloc, state, *number)?;
         made.push(clause)?;
+    }
+    Ok(made)
+}
+
+/// Lends the two first terms of a list, or all where there are fewer.
+fn two_first(terms: &[TermId]) -> &[TermId]
+    ensures { result.now ≡ take 2 terms.now }
+{
+    if terms.len() < 2 {
+        return terms;
+    }
+    &terms[..2]
+}
+
+/// Copies the two first terms of the clause of a number.
+fn front_of(alloc: Global, state: &ProofState, number: u64) -> Result<Clause, AllocError>
+    requires { number < length state.now.clauses.items }
+    ensures { IfOk result (λ c. c ≡ take 2 (slice_index_or state.now.clauses.items number [])) }
+{
+    let front = two_first(state.clauses[number as usize].as_slice());
+    Ok(Clause::from(front.to_vec(alloc)?))
+}
+
+/// Copies the two first terms of the clause of each number, in order.
+///
+/// The numbers are of clauses, from 0. The copies take memory in proportion to the count of the numbers, however long the
+/// clauses are. Out of memory is the one error.
+pub(crate) fn fronts_of(
+    alloc: Global,
+    state: &ProofState,
+    numbers: &[u64],
+) -> Result<Vec<Clause>, AllocError>
+    requires clauses { HasClauses state.now }
+    requires numbers { AreNumbers state.now numbers.now }
+    ensures same { IfOk result (λ v. map (clause_at state.now.table) v.items
+        ≡ fronts_numbered state.now numbers.now) }
+    ensures there { IfOk result (λ v. All (λ p. AreIn state.now.table p) v.items) }
+{
+    let mut made = Vec::new(alloc);
+    for number in numbers {
+        let front = front_of(alloc, state, *number)?;
+        made.push(front)?;
     }
     Ok(made)
 }

@@ -4,9 +4,9 @@ ghost use Rattle.term_core.specs.Tables.{AreIn, clause_at};
 ghost use Rattle.alethe_reader.specs.Holding.{clauses_numbered, AreNumbers};
 ghost use Rattle.alethe_reader.specs.Reads.{IsReadyStep, step_view};
 ghost use Rattle.rule_bool.specs.Arguments.{texts_meant};
-ghost use Rattle.alethe_check.specs.Stating.{HasClauses, TakesFew, JudgesResolvent, JudgesBy, JudgesStep};
+ghost use Rattle.alethe_check.specs.Stating.{HasClauses, TakesFew, TakesLiterals, JudgesResolvent, JudgesBy, JudgesStep};
 
-use crate::premises::{distinct_clauses, one_or_none};
+use crate::premises::{distinct_clauses, fronts_of, one_or_none};
 use alethe_reader::{ProofState, ProofStep};
 use rule_bool::{ArgumentTexts, RuleStop, judge, resolution};
 use spec_proofs::Rule;
@@ -51,8 +51,29 @@ fn is_judged(
     judge(alloc, &state.table, rule, clauses, arguments, clause)
 }
 
-/// Judges a step by its rule. The clauses of its premises are lent where its rule takes one at most; else each different one is
-/// copied once.
+/// Judges by a rule that takes of each premise nothing but its one literal whether a clause follows from the clauses of numbers.
+/// The two first terms of each are copied.
+fn is_equated(
+    alloc: Global,
+    state: &ProofState,
+    rule: Rule,
+    premises: &[u64],
+    arguments: ArgumentTexts<'_>,
+    clause: &[TermId],
+) -> Result<(), RuleStop>
+    requires rule { TakesLiterals rule }
+    requires clauses { HasClauses state.now }
+    requires premises { AreNumbers state.now premises.now }
+    requires clause { AreIn state.now.table clause.now }
+    ensures { JudgesBy rule (clauses_numbered state.now premises.now) (texts_meant arguments.entry)
+        (clause_at state.now.table clause.now) result }
+{
+    let fronts = fronts_of(alloc, state, premises)?;
+    judge(alloc, &state.table, rule, &fronts, arguments, clause)
+}
+
+/// Judges a step by its rule. The clauses of its premises are lent where its rule takes one at most; of `trans` and `cong` their
+/// beginnings are copied; else each different one is copied once.
 pub(crate) fn follows(
     alloc: Global,
     state: &ProofState,
@@ -65,6 +86,22 @@ pub(crate) fn follows(
     match step.rule {
         Rule::Resolution => is_resolved(alloc, state, &step.premises, &step.clause),
         Rule::ThResolution => is_resolved(alloc, state, &step.premises, &step.clause),
+        Rule::Trans => is_equated(
+            alloc,
+            state,
+            step.rule,
+            &step.premises,
+            step.arguments,
+            &step.clause,
+        ),
+        Rule::Cong => is_equated(
+            alloc,
+            state,
+            step.rule,
+            &step.premises,
+            step.arguments,
+            &step.clause,
+        ),
         _ => is_judged(
             alloc,
             state,
