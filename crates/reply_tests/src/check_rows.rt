@@ -246,7 +246,7 @@ unsat unsat
 -- UnknownRule 3:21
 (assume h1 p)
 (assume h2 (not p))
-(step t1 (cl) :rule cong :premises (h1))
+(step t1 (cl) :rule la_generic :premises (h1))
 -- UnknownRule 3:21
 (assume h1 p)
 (assume h2 (not p))
@@ -263,7 +263,7 @@ unsat unsat
 (step t1 (cl p q) :rule hole)
 -- WrongSort 1:12
 (assume h1 5)
--- BadShape 1:12
+-- NoEmptyClause 1:27
 (assume h1 (! p :named a))
 -- RuleFails 1:1
 (step t1 (cl (let ((x p)) x)) :rule or)
@@ -386,6 +386,12 @@ pub(crate) const DEFINITIONS: &str = r#"valid
 -- WrongCount 2:12
 (define-fun f () Bool p)
 (assume h1 (f p))
+-- valid
+(assume h1 (! p :named @p))(assume h2 (not (! @p :named b)))(step t1 (cl) :rule resolution :premises (h1 h2))
+-- UnknownSymbol 1:17
+(assume h1 (and a (! p :named a)))
+-- TwiceName 1:61
+(assume h1 (! p :named a))(define-fun f () Bool (! p :named a))
 -- UnknownRule 2:31
 (define-fun f () Bool p)
 (step t1 (cl (not f) p) :rule f)"#;

@@ -1,8 +1,10 @@
 //! A step by each rule, right and wrong.
 
-/// The script of the rows: `p`, `(not p)` and each premise of a row is asserted.
+/// The script of the rows: `p`, `(not p)` and each premise of a row is asserted, and nothing of the declared sort.
 pub(crate) const SCRIPT: &str =
-    "(declare-const p Bool)(declare-const q Bool)(declare-const r Bool)(assert p)(assert (not p))\
+    "(declare-sort U 0)(declare-const u U)(declare-const v U)(declare-const w U)(declare-fun f (U U) U)\
+    (declare-fun g (U U) U)(declare-fun s (U) Bool)(declare-fun k (Bool) U)\
+    (declare-const p Bool)(declare-const q Bool)(declare-const r Bool)(assert p)(assert (not p))\
     (assert (or p q))(assert (and p q))(assert (not (and p q)))(assert (not (or p q)))\
     (assert (=> p q))(assert (not (=> p q)))(assert (= p q))(assert (not (= p q)))\
     (assert (xor p q))(assert (not (xor p q)))(assert (ite r p q))(assert (not (ite r p q)))(check-sat)";
@@ -100,6 +102,42 @@ not_ite1|(not (ite r p q))|(h)|(cl r (not q))|valid
 not_ite1|(not (ite r p q))|(h)|(cl (not r) (not p))|RuleFails 2:1
 not_ite2|(not (ite r p q))|(h)|(cl (not r) (not p))|valid
 not_ite2|(not (ite r p q))|(h)|(cl r (not q))|RuleFails 2:1
+eq_reflexive|||(cl (= u u))|valid
+eq_reflexive|||(cl (= u v))|RuleFails 2:1
+refl|||(cl (= (f u v) (f u v)))|valid
+refl|||(cl (= (f u v) (f v u)))|RuleFails 2:1
+refl|(= p q)|(h)|(cl (= p p))|RuleFails 2:1
+distinct_elim|||(cl (= (distinct u v w) (and (distinct u v) (distinct u w) (distinct v w))))|valid
+distinct_elim|||(cl (= (distinct u v) (not (= v u))))|RuleFails 2:1
+eq_transitive|||(cl (not (= u v)) (not (= w v)) (= u w))|valid
+eq_transitive|||(cl (not (= u v)) (not (= w v)) (= w u))|RuleFails 2:1
+eq_transitive|||(cl (not (= w v)) (not (= u v)) (= u w))|RuleFails 2:1
+eq_transitive|||(cl (= u u))|RuleFails 2:1
+eq_congruent|||(cl (not (= v u)) r (= (f u w) (f v w)))|valid
+eq_congruent|||(cl (= (f u w) (f v w)))|RuleFails 2:1
+eq_congruent|||(cl (not (= u v)) (= (f u w) (g v w)))|RuleFails 2:1
+eq_congruent|||(cl (not (= u v)) (= (f u w) (f w v)))|RuleFails 2:1
+eq_congruent|||(cl (= u u))|RuleFails 2:1
+eq_congruent_pred|||(cl (not (= u v)) (not (s u)) (s v))|valid
+eq_congruent_pred|||(cl (not (= u v)) (= (s u) (s v)))|valid
+eq_congruent_pred|||(cl (not (= u v)) (s u) (not (s v)))|RuleFails 2:1
+eq_congruent_pred|||(cl (not (= u v)) (= (f u w) (f v w)))|RuleFails 2:1
+symm|(= p q)|(h)|(cl (= q p))|valid
+symm|(= p q)|(h)|(cl (= p p))|RuleFails 2:1
+symm|(not (= p q))|(h)|(cl (not (= q p)))|RuleFails 2:1
+symm|(= p q)|(h h)|(cl (= q p))|RuleFails 2:1
+trans|(= p q)|(h h)|(cl (= p p))|valid
+trans|(= p q)|(h h)|(cl (= p q))|RuleFails 2:1
+trans|(= p q)||(cl (= p p))|RuleFails 2:1
+cong|(= p q)|(h)|(cl (= (k q) (k p)))|valid
+cong|(= p q)|(h)|(cl (= (k p) (k r)))|RuleFails 2:1
+cong|(= p q)||(cl (= (k p) (k q)))|RuleFails 2:1
+cong|(= p q)|(h)|(cl (= p q))|RuleFails 2:1
+x_ite_then|||(cl (not r) (= (ite r u v) u))|valid
+x_ite_then|||(cl (not r) (= (ite r u v) v))|RuleFails 2:1
+x_ite_then|||(cl (not r) (= (ite r p q) p))|RuleFails 2:1
+x_ite_else|||(cl r (= (ite r u v) v))|valid
+x_ite_else|||(cl (not r) (= (ite r u v) v))|RuleFails 2:1
 and|(and p q)|(h h)|(cl q)|RuleFails 2:1
 and|(and p q)||(cl q)|RuleFails 2:1
 true|(and p q)|(h)|(cl true)|RuleFails 2:1
