@@ -53,7 +53,7 @@ import session_rows
 
 OF_SCRIPTS = ["spec_text", "spec_numbers", "spec_sorts", "spec_reading", "spec_commands"]
 OF_MODELS = ["spec_text", "spec_numbers", "spec_sorts", "spec_reading", "spec_models"]
-OF_PROOFS = ["spec_proofs", "spec_rules", "spec_checking"]
+OF_PROOFS = ["spec_equality", "spec_proofs", "spec_rules", "spec_checking"]
 OF_PRINTS = ["spec_derivations", "spec_models", "spec_proof_texts"]
 OF_SESSIONS = ["spec_replies", "spec_sessions"]
 CODE = """//! Rows alone.

@@ -61,7 +61,7 @@ def exchanged(terms, number):
     binary = [b"and", b"or", b"xor", b"=", b"=>"]
     if head in binary and len(arguments) == 2 and random.random() < 0.5:
         return terms.make(random.choice(binary), arguments)
-    return terms.make(head, tuple(reversed(arguments))) if len(arguments) > 1 else number
+    return terms.make(head, tuple(reversed(arguments)), terms.sorts[number]) if len(arguments) > 1 else number
 
 
 def changed_clause(terms, clause, times=1):

@@ -239,8 +239,8 @@ def a_script():
 
 NAMES = b"h1 h2 t1 t2 t3".split()
 ODD_NAMES = b"|h1| p t9".split()
-RULES = b"or resolution weakening and_pos true not_not equiv1 th_resolution |or|".split()
-OTHER_RULES = b"hole cong Or".split()
+RULES = b"or resolution weakening and_pos true not_not equiv1 th_resolution |or| refl cong trans eq_congruent".split()
+OTHER_RULES = b"hole congr Or".split()
 CLAUSE_HEADS = b'|cl| kl "cl" (cl) 5'.split()
 ATTRIBUTES_OF_STEPS = b""":args ()
 :args (1 zz)

@@ -1,7 +1,7 @@
 """Judges Alethe proofs, as docs/FORMATS.md, docs/ALETHE.md and docs/DECISIONS.md say.
 
 A proof's terms are read as those of its script, with the names that the proof defines before them. Names may begin with
-`@` or `.` there. `:named` has no place in a proof yet: it is `BadShape` at its term, after the faults of the name.
+`@` or `.` there. A name that `:named` gives is known after it, in the same command and in those that follow.
 """
 
 from typing import NamedTuple
@@ -26,7 +26,6 @@ class Names(State):
         super().__init__(check.limit)
         self.terms = check.terms
         self.sorts, self.functions = dict(check.sorts), dict(check.functions)
-        self.may_name = False
 
     def reader(self, own=None):
         """Returns a reader of terms for one command, which may define a name of its own."""
@@ -79,22 +78,25 @@ class Judge:
         return item[1]
 
     def formulas(self, items, start):
-        """Returns the terms of items, each of sort Bool, for a command with room for them."""
+        """Returns the terms of items, each of sort Bool and with room for all, and the names that are given in them."""
+        reader = self.names.reader()
         terms = []
         for item in items:
-            term = self.names.reader().term({}, item)
+            term = reader.term({}, item)
             if self.terms.sorts[term] != BOOL:
                 raise Fault(item[2], b"WrongSort")
             terms.append(term)
-        self.names.require_room(start, 0, terms)
-        return terms
+        self.names.require_room(start, len(reader.made), terms)
+        return terms, reader.made
 
     def assume(self, parts, start):
         """Reads an assume."""
         if len(parts) != 3 or parts[1][0] != "sym":
             raise Fault(start, b"BadShape")
         name = self.fresh(parts[1])
-        return Assumed(parts[2][2], name, self.formulas(parts[2:], start)[0])
+        terms, made = self.formulas(parts[2:], start)
+        self.names.functions.update(made)
+        return Assumed(parts[2][2], name, terms[0])
 
     def step(self, parts, start):
         """Reads a step: its shape, its name, its literals, its rule, and its premises."""
@@ -105,7 +107,7 @@ class Judge:
             raise Fault(start, b"BadShape")
         found = step_parts(parts, start)
         name = self.fresh(parts[1])
-        clause = self.formulas(literals[1:], start)
+        clause, made = self.formulas(literals[1:], start)
         _, rule, rule_start = found[b":rule"]
         if rule not in RULES:
             raise Fault(rule_start, b"UnknownRule")
@@ -114,6 +116,7 @@ class Judge:
             if premise not in self.clauses:
                 raise Fault(premise_start, b"UnknownPremise")
             premises.append(self.clauses[premise])
+        self.names.functions.update(made)
         return Stepped(start, name, clause, rule, premises)
 
     def read(self, item):

@@ -77,6 +77,10 @@ class Terms:
                 waiting += self.nodes[number][1]
         return sorted(seen)
 
+    def is_closed(self, term):
+        """Tells whether no parameter of a definition is in the term."""
+        return all(self.nodes[number][0][0] != "parameter" for number in self.below([term]))
+
     def are_in_reach(self, roots):
         """Tells whether the terms have constants of sort Bool and heads of theory Core alone."""
         for number in self.below(roots):

@@ -16,6 +16,7 @@ USUAL = 2**24
 LEXICAL = {b"BadChar", b"UnclosedString", b"UnclosedQuote", b"UnclosedList", b"StrayClose", b"TooDeep"}
 OWN_KINDS = set(b"BadShape TwiceName UnknownPremise UnknownRule NotAsserted RuleFails NoEmptyClause".split())
 HEAD = read("ProofRows.antt.txt")
+OF_EQUALITY = ("Taking", "Verdicts")
 
 
 class Cut:
@@ -216,10 +217,15 @@ unfolding proofs_on_literals read_commands built
 
 def modules():
     """Returns the modules that the rows need, by their names."""
-    given = read(os.path.join("..", "..", "crates", "spec_rules", "proofs", "Given.antt"))
+    crates = os.path.join("..", "..", "crates")
+    given = read(os.path.join(crates, "spec_rules", "proofs", "Given.antt"))
     for name in ("is_by", "test_by"):
         given = given.replace(f"\n{name} :", f"\npub {name} :")
-    return {"Given": given, "Deciding": read("Deciding.antt.txt"), "Breaking": read("Breaking.antt.txt")}
+    taking, verdicts = (read(os.path.join(crates, "spec_equality", "proofs", f"{name}.antt")) for name in OF_EQUALITY)
+    verdicts = verdicts.replace("spec_equality.proofs.Taking", "compared.specs.Taking")
+    verdicts = verdicts.replace("\ntakes_decides :", "\npub takes_decides :")
+    made = {"Given": given, "Taking": taking, "Verdicts": verdicts}
+    return {**made, "Deciding": read("Deciding.antt.txt"), "Breaking": read("Breaking.antt.txt")}
 
 
 def row_of(seed):

@@ -8,9 +8,10 @@ import random
 from typing import NamedTuple
 
 from clauses import changed_clause, opened, resolved, single_step, stated_clause
+from equality_steps import equality_of_held, equality_step
 from faulty import DECLARATIONS, DEFINITIONS, ODD_TERMS, command_of_a_proof
 from judging import Judge
-from language import Definition, checks_of, read_script
+from language import BOOL, Definition, checks_of, read_script
 from layout import damaged, tree_of_item
 from reading import Fault, printed_name, read_one
 from rules import PREMISED, RESOLUTIONS, RULES, STATING, SUBSET_RULES, follows
@@ -18,10 +19,18 @@ from scripts import Maker, assertion_in_reach, one_of
 
 BOOLS = [b"p", b"q", b"|a b|"]
 SINGLE_NAMES = [b"p", b"q", b"r"]
+# What the script of single steps declares besides, so that terms of other sorts come in.
+SINGLE_DECLARATIONS = b"""(declare-sort U 0)
+(declare-fun a () U)
+(declare-fun b () U)
+(declare-fun f (U Bool) U)
+(declare-fun g (U Bool) Bool)
+(declare-fun x () Real)
+(declare-fun h (Bool) U)""".split(b"\n")
 ALL_RULES = sorted(RULES)
 FRONTS = [b"unsat ", b"|unsat|", b"unsat unsat ", b"sat ", b":unsat ", b";unsat\n", b"() "]
 ENDS = [b" ()", b" unsat", b" )", b" (", b"\n\"s", b" ; (", b" |a\\", b" 1."]
-OTHER_RULES = b"hole cong refl la_generic eq_transitive and_simplify Resolution or1 ite3 cl".split()
+OTHER_RULES = b"hole congr reflexive la_generic eq_symmetric and_simplify Resolution or1 ite3 cl".split()
 PARAMETERS = [(b"v", b"Real"), (b"@w", b"Bool"), (b"p", b"U")]
 
 
@@ -79,11 +88,21 @@ class Writer:
         self.judge = judge
         self.terms = judge.terms
         self.count = 0
+        self.may_name = True
+        self.given = {}
 
     def names_of(self, number):
-        """Returns the defined names without parameters that stand for a term."""
+        """Returns the names that stand for a term: defined without parameters, or given to it where it was written."""
         functions = self.judge.names.functions.items()
-        return [n for n, d in functions if isinstance(d, Definition) and not d.parameters and d.term == number]
+        names = [n for n, d in functions if isinstance(d, Definition) and not d.parameters and d.term == number]
+        return names + [n for n, t in self.given.items() if self.may_name and t == number]
+
+    def outside(self, number):
+        """Writes a term for a script, or for a command that may be left out: without names of a proof."""
+        self.may_name = False
+        text = self.written(number)
+        self.may_name = True
+        return text
 
     def written(self, number):
         """Writes a term in one of the ways in which it can be."""
@@ -93,9 +112,14 @@ class Writer:
         choice = random.random()
         if choice < 0.03:
             return b"(! " + self.plain(number) + b" :a 1)"
+        if choice > 0.9 and self.may_name:
+            text = self.plain(number)
+            name = b"@n%d" % len(self.given)
+            self.given[name] = number
+            return b"(! " + text + b" :named " + name + b")"
         if choice < 0.08:
             self.count += 1
-            name = b"@v%d" % self.count
+            name = (b"@v%d" if self.may_name else b"v%d") % self.count
             return b"(let ((" + name + b" " + self.plain(number) + b")) " + name + b")"
         return self.plain(number)
 
@@ -157,6 +181,25 @@ class Invented:
         """Returns the term of a declared constant of sort Bool."""
         return self.terms.make(("symbol", name))
 
+    def some(self, sort):
+        """Returns a term of a sort, by number."""
+        if sort == BOOL:
+            return self.formula()
+        item = read_one(self.maker.of_sort(sort[0], random.choice([1, 1, 2, 3]), {}), 0)[0]
+        try:
+            term = self.judge.names.reader().term({}, item)
+        except Fault:
+            term = None
+        if term is not None and self.terms.sorts[term] == sort:
+            return term
+        fitting = [n for n, known in enumerate(self.terms.sorts) if known == sort and self.terms.is_closed(n)]
+        return random.choice(fitting) if fitting else self.terms.make(b"true")
+
+    def declared_sorts(self):
+        """Returns the declared sorts that some constant has."""
+        known = [known for known in self.judge.names.functions.values() if not isinstance(known, Definition)]
+        return sorted({sort for sorts, sort in known if not sorts and len(sort) > 1})
+
     def formula(self):
         """Returns a formula, by number: one that was used, or a new one."""
         if self.pool and random.random() < 0.5:
@@ -172,6 +215,8 @@ class Invented:
         """Returns a rule, names of premises and a clause."""
         held = list(self.judge.clauses)
         choice = random.random()
+        if random.random() < 0.3:
+            return equality_of_held(self.terms, self.some, self.judge.clauses, self.declared_sorts())
         if choice < 0.4 or not held:
             rule = random.choice(sorted(STATING))
             return rule, [], stated_clause(self.terms, rule, self.formula)
@@ -404,7 +449,7 @@ def some_lines(check, faulty=0.6, most=6):
     for _ in range(random.randint(0, 2) if is_faulty else random.randint(2, most)):
         invented.add()
     if is_faulty:
-        asserted = [invented.writer.written(term) for term in check.assertions]
+        asserted = [invented.writer.outside(term) for term in check.assertions]
         return invented.lines + [command_of_a_proof(asserted) for _ in range(random.randint(1, 2))]
     if random.random() < 0.7:
         invented.lines += refutation(invented)
@@ -430,9 +475,8 @@ def proof_of_single_steps(limit, most=2):
 
     Of more than two steps nearly all are right, up to a last one that need not be.
     """
-    head = [b"(declare-const %s Bool)" % name for name in SINGLE_NAMES]
+    head = [b"(declare-const %s Bool)" % name for name in SINGLE_NAMES] + SINGLE_DECLARATIONS
     invented = Invented(checks_of(read_script(b"\n".join([*head, b"(check-sat)"]))[0])[0], 0)
-    invented.maker.sorts = []
     assertions = []
     for number in range(random.randint(1, most)):
         rule, premises, clause = a_single_step(invented)
@@ -454,6 +498,9 @@ def a_single_step(invented):
     def atom():
         return random.choice([*(invented.known(name) for name in SINGLE_NAMES), invented.formula()])
 
+    if random.random() < 0.4:
+        return equality_step(invented.terms, lambda sort: atom() if sort == BOOL else invented.some(sort),
+                             invented.declared_sorts())
     return single_step(invented.terms, atom)
 
 
@@ -463,7 +510,7 @@ def single_step_lines(invented, number, rule, premises, clause):
     for place, premise in enumerate(premises):
         term = premise[0] if len(premise) == 1 else invented.terms.make(b"or", premise)
         name = b"a%d%d" % (number, place)
-        assertions.append(b"(assert %s)" % invented.writer.written(term))
+        assertions.append(b"(assert %s)" % invented.writer.outside(term))
         invented.lines.append(b"(assume %s %s)" % (name, invented.writer.written(term)))
         if len(premise) > 1:
             literals = b" ".join(map(invented.writer.written, premise))

@@ -1,4 +1,6 @@
-"""The 46 rules of proofs as docs/ALETHE.md lists them, over terms by number; a clause is a list of these."""
+"""The 57 rules of proofs as docs/ALETHE.md lists them, over terms by number; a clause is a list of these."""
+
+from equality_rules import EQUALITY_RULES, equates
 
 HEADS = {
     b"and": b"and_pos and_neg",
@@ -33,8 +35,8 @@ PREMISED = {
 }
 SUBSET_RULES = (b"contraction", b"reordering", b"weakening")
 RESOLUTIONS = (b"resolution", b"th_resolution")
-RULES = STATING | set(PREMISED) | set(SUBSET_RULES) | set(RESOLUTIONS) | {b"or"}
-assert len(RULES) == 46
+RULES = STATING | set(PREMISED) | set(SUBSET_RULES) | set(RESOLUTIONS) | EQUALITY_RULES | {b"or"}
+assert len(RULES) == 57
 
 
 def strip(terms, term):
@@ -133,6 +135,8 @@ def follows(terms, rule, premises, clause):
         return not premises and states(terms, rule, clause)
     if rule in RESOLUTIONS:
         return resolution(terms, premises, clause)
+    if rule in EQUALITY_RULES:
+        return equates(terms, rule, premises, clause)
     if len(premises) != 1:
         return False
     premise = premises[0]
