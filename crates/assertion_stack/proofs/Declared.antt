@@ -1,12 +1,14 @@
 -- What declarations make of a stack.
-use Rattle.std.proofs.Common.{◌≡◌, ℕ, Bool, true, false, cond, ◌||◌, List, [], ◌∷◌, ◌++◌, length, Option, Some, None, refl, sym, ap, ◌∙◌, subst, arith, length-append}
+use Rattle.std.proofs.Common.{◌≡◌, ℕ, Bool, true, false, cond, [], ◌∷◌, ◌++◌, length, Option, Some, None, refl, sym, ap, ◌∙◌, subst, arith, length-append}
 use Rattle.std.specs.Str.{bytes_eq}
 use Rattle.std.proofs.lemmas.List.{append-nil, get_or_push}
 use Rattle.spec_text.specs.Bytes.{Name, among}
+use Rattle.spec_text.proofs.General.{among_last}
 use Rattle.spec_sorts.specs.Terms.{Sort, Declared, Symbol}
 use Rattle.spec_sorts.specs.Signatures.{declared, of_sort, of_function, known_as, sort_as, symbols_in}
 use Rattle.spec_sorts.proofs.Signatures.{symbols_append}
 use Rattle.spec_commands.specs.Stack.{Stack, signature_of, begun, with_declaration}
+use Rattle.spec_commands.proofs.Kept.{signature_last}
 use Rattle.term_core.specs.declared.sorts.Sort.{Sort as TableSort}
 use Rattle.term_core.specs.declared.sorts.Sort.TheVariants.{Declared as declared_sort}
 use Rattle.term_core.specs.Symbols.{HasSortIn, sort_meant, no_symbol}
@@ -16,17 +18,8 @@ use Rattle.term_reader.specs.declared.scope.Function.TheVariants as functions
 use Rattle.term_reader.specs.Scopes.{Stands}
 use Rattle.assertion_stack.specs.declared.stack.Stack.{Stack as CodeStack}
 use Rattle.assertion_stack.specs.Stacks.{standing, IsStack, with_sort, with_function}
-use Rattle.assertion_stack.proofs.Levels.{signature_last}
 use Rattle.assertion_stack.proofs.Reaching.{marks_kept}
 use Rattle.assertion_stack.proofs.Naming.{sort_last, sort_before, stands_sort, stands_symbol}
-
-among_last : (ns : List Name) (n m : Name) → among ns m ≡ false → bytes_eq n m ≡ false → among (ns ++ n ∷ []) m ≡ false
-among_last [] n m e f = ap (λ b. b || false) f
-among_last (k ∷ ns) n m e f = go (bytes_eq k m) e (λ g. among_last ns n m g f)
-  where
-    go : (b : Bool) → (b || among ns m) ≡ false → (among ns m ≡ false → among (ns ++ n ∷ []) m ≡ false) → (b || among (ns ++ n ∷ []) m) ≡ false
-    go true g rest = cc
-    go false g rest = rest g
 
 -- a table with a sort more
 pub sort_grows : (t : TableView) (n : Name) → Extends t (record t { sorts = t.sorts ++ n ∷ [] })
@@ -51,6 +44,7 @@ module _ (limit : ℕ) (old new : TableView) (x : CodeStack) (s : Stack) (h : Is
     sorts = λ m e. let both = neither (bytes_eq n m) r (sort_as (signature_of s) m) (sym (sort_last (signature_of s) n r m free) ∙ ap (λ g. sort_as g m) (sym (signature_last s (of_sort n r))) ∙ e) in others m both.1 both.0;
     inside = AreIn-kept old new grows x.assertions.ids h.inside;
     terms = clause_at-kept old new grows x.assertions.ids h.inside ∙ h.terms;
+    written = h.written;
     starts = h.starts;
     in_reach = h.in_reach;
     reached = marks_kept old new grows x.reached h.reached;
@@ -83,6 +77,7 @@ symbol_stack limit t x s f h long free =
       sorts = λ m e. h.sorts m (sym (sort_before (signature_of s) (of_function (declared f) ∷ []) m refl) ∙ ap (λ g. sort_as g m) (sym (signature_last s (of_function (declared f)))) ∙ e);
       inside = AreIn-kept t new grows x.assertions.ids h.inside;
       terms = clause_at-kept t new grows x.assertions.ids h.inside ∙ h.terms;
+      written = h.written;
       starts = h.starts;
       in_reach = h.in_reach;
       reached = marks_kept t new grows x.reached h.reached;

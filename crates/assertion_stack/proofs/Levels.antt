@@ -1,26 +1,16 @@
 -- Assertions and names that come last.
-use Rattle.std.proofs.Common.{◌≡◌, ◌+◌, Bool, true, false, ◌&&◌, List, [], ◌∷◌, ◌++◌, length, map, Some, refl, sym, ap, ◌∙◌, if◌then◌else◌}
-use Rattle.std.proofs.lemmas.List.{map-append, append_assoc, append-nil}
+use Rattle.std.proofs.Common.{◌≡◌, ◌+◌, Bool, true, false, ◌&&◌, List, [], ◌∷◌, ◌++◌, length, map, Some, refl, ap, ◌∙◌, if◌then◌else◌}
+use Rattle.std.proofs.lemmas.List.{map-append}
 use Rattle.std.specs.Str.{bytes_eq}
 use Rattle.spec_text.specs.Bytes.{Name}
-use Rattle.spec_sorts.specs.Signatures.{Definition, Declaration, of_sort, of_function, Signature, sort_as, definition}
+use Rattle.spec_text.specs.Printed.{printed}
+use Rattle.spec_sorts.specs.Signatures.{Definition, of_sort, of_function, Signature, sort_as, definition}
 use Rattle.spec_sorts.specs.Signatures as signatures
-use Rattle.spec_commands.specs.Stack.{Assertion, Entry, Stack, signature_of, joined, terms_asserted, with_last, with_declaration, with_definitions, is_in_reach, all_in_reach}
-use Rattle.assertion_stack.specs.Assertions.{starts_of}
+use Rattle.spec_commands.specs.Stack.{Assertion, Stack, joined, terms_asserted, with_last, with_declaration, with_definitions, is_in_reach, all_in_reach}
+use Rattle.spec_commands.proofs.Kept.{joined_last}
+use Rattle.assertion_stack.specs.Assertions.{starts_of, texts_printed}
 
--- a declaration more is the last of the signature
-pub signature_last : (s : Stack) (d : Declaration) → signature_of (with_declaration s d) ≡ signature_of s ++ d ∷ []
-signature_last s d = map-append (λ (e : Entry). e.declaration) s.names _
-
--- definitions more are the last ones
-pub signature_with : (s : Stack) (ds : List Definition) → signature_of (with_definitions s ds) ≡ signatures.with_definitions (signature_of s) ds
-signature_with s [] = sym (append-nil (signature_of s))
-signature_with s (d ∷ ds) =
-    signature_with (with_declaration s (definition d)) ds
-    ∙ ap (λ x. x ++ map definition ds) (signature_last s (definition d))
-    ∙ append_assoc (signature_of s) (definition d ∷ []) (map definition ds)
-
--- and change nothing else
+-- definitions more change nothing but the names
 pub rest_with : (s : Stack) (ds : List Definition) → with_definitions s ds ≡ record s { names = (with_definitions s ds).names }
 rest_with s [] = refl
 rest_with s (d ∷ ds) = rest_with (with_declaration s (definition d)) ds
@@ -32,13 +22,7 @@ sorts_with [] (d ∷ ds) n = sorts_with [] ds n
 sorts_with (of_sort m r ∷ s) ds n = ap (λ o. if bytes_eq m n then Some r else o) (sorts_with s ds n)
 sorts_with (of_function k ∷ s) ds n = sorts_with s ds n
 
--- an assertion more is the last of all
-pub joined_last : (ls : List (List Assertion)) (a : Assertion) → joined (with_last ls a) ≡ joined ls ++ a ∷ []
-joined_last [] a = refl
-joined_last (l ∷ []) a = append-nil (l ++ a ∷ []) ∙ ap (λ x. x ++ a ∷ []) (sym (append-nil l))
-joined_last (l ∷ m ∷ ls) a = ap (λ x. l ++ x) (joined_last (m ∷ ls) a) ∙ sym (append_assoc l (joined (m ∷ ls)) (a ∷ []))
-
--- and opens no level
+-- an assertion more opens no level
 pub starts_last : (ls : List (List Assertion)) (a : Assertion) → starts_of (with_last ls a) ≡ starts_of ls
 starts_last [] a = refl
 starts_last (l ∷ []) a = refl
@@ -48,6 +32,10 @@ starts_last (l ∷ m ∷ n ∷ ls) a = ap (λ x. length l ∷ map (λ k. length 
 -- the terms with one more
 pub terms_last : (ls : List (List Assertion)) (a : Assertion) → terms_asserted (joined (with_last ls a)) ≡ terms_asserted (joined ls) ++ a.term ∷ []
 terms_last ls a = ap terms_asserted (joined_last ls a) ∙ map-append (λ (x : Assertion). x.term) (joined ls) (a ∷ [])
+
+-- and the texts
+pub texts_last : (ls : List (List Assertion)) (a : Assertion) → texts_printed (joined (with_last ls a)) ≡ texts_printed (joined ls) ++ printed a.text ∷ []
+texts_last ls a = ap texts_printed (joined_last ls a) ∙ map-append (λ (x : Assertion). printed x.text) (joined ls) (a ∷ [])
 
 one_more : (us : List Assertion) (a : Assertion) → all_in_reach (us ++ a ∷ []) ≡ (all_in_reach us && is_in_reach a.term)
 one_more [] a = go (is_in_reach a.term)

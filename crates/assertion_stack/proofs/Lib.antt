@@ -2,6 +2,7 @@
 pub mod Known
 pub mod SortLists
 pub mod Levels
+pub mod PrintedTrees
 pub mod Growing
 pub mod Naming
 pub mod Reaching

@@ -5,6 +5,7 @@ use Rattle.spec_text.specs.Bytes.{Name}
 use Rattle.spec_sorts.specs.Terms.{Sort, Symbol}
 use Rattle.spec_sorts.specs.Theory.{look_up}
 use Rattle.spec_sorts.specs.Signatures.{Known, declared, defined, of_sort, of_function, Signature, known_as, known_name, sort_as, symbols_in}
+use Rattle.spec_sorts.proofs.Signatures.{known_behind}
 use Rattle.spec_reading.proofs.WellSorted.{sort_keeps_sorts, symbol_keeps_sorts}
 use Rattle.term_core.specs.declared.sorts.Sort.{Sort as TableSort}
 use Rattle.term_core.specs.Symbols.{HasSortIn, sort_meant, symbol_named}
@@ -16,16 +17,7 @@ use Rattle.term_reader.proofs.NameStacks.{newest_push}
 use Rattle.term_reader.specs.Scopes.{ScopeView, sort_under, function_under, SortStands, FunctionStands, Stands}
 use Rattle.assertion_stack.proofs.Growing.{sort_grown, function_grown}
 
--- a name that is there is found there
-pub known_behind : (s t : Signature) (n : Name) → known_as s n ≡ None → known_as (s ++ t) n ≡ known_as t n
-known_behind [] t n e = refl
-known_behind (of_sort m r ∷ s) t n e = known_behind s t n e
-known_behind (of_function k ∷ s) t n e = go (bytes_eq (known_name k) n) e (known_behind s t n)
-  where
-    go : (b : Bool) → cond b (Some k) (known_as s n) ≡ None → (known_as s n ≡ None → known_as (s ++ t) n ≡ known_as t n) → cond b (Some k) (known_as (s ++ t) n) ≡ known_as t n
-    go true h rest = cc
-    go false h rest = rest h
-
+-- a sort that is there is found there
 sort_behind : (s t : Signature) (n : Name) → sort_as s n ≡ None → sort_as (s ++ t) n ≡ sort_as t n
 sort_behind [] t n e = refl
 sort_behind (of_function k ∷ s) t n e = sort_behind s t n e

@@ -2,7 +2,7 @@
 use Rattle.std.proofs.Common.{◌≡◌, ℕ, ◌+◌, Bool, true, false, not, ◌&&◌, List, [], ◌∷◌, ◌++◌, length, Some, refl, sym, ap, ◌∙◌, subst, arith, length-append}
 use Rattle.std.specs.Prelude.{Ok, Err, nat_le, nat_lt}
 use Rattle.std.proofs.lemmas.Bool.Decides.{nat_tests}
-use Rattle.std.proofs.lemmas.List.{map-append}
+use Rattle.std.proofs.lemmas.List.{map-append, length-map}
 use Rattle.std.proofs.lemmas.List.Elements.{All-push, All-nil}
 use Rattle.spec_text.specs.declared.Fault.TheVariants.{Reserved, UnknownLogic, WrongMode, Full}
 use Rattle.spec_text.specs.Bytes.{Name, among}
@@ -10,6 +10,7 @@ use Rattle.spec_text.specs.Faults.{Located}
 use Rattle.spec_text.specs.Shapes.{Word, is_reserved}
 use Rattle.spec_text.specs.Answers.{Answer, ◌>>=◌, refused, require}
 use Rattle.spec_text.specs.Trees.{Tree, Trees}
+use Rattle.spec_text.specs.Printed.{printed}
 use Rattle.spec_sorts.specs.Terms.{Sort, Truth, Declared, Term}
 use Rattle.spec_sorts.specs.Signatures.{Definition, Declaration, of_sort, of_function, declared, symbols_in, sort_as}
 use Rattle.spec_sorts.specs.Signatures as signatures
@@ -21,6 +22,7 @@ use Rattle.spec_reading.specs.Reading.{Reading, reading_of_sort}
 use Rattle.spec_reading.specs.Definitions.{Parts, definitions_in}
 use Rattle.spec_commands.specs.Commands.{SetLogic, DeclareSort, DefineSort, DeclareFun, DefineFun, Assert, CheckSat}
 use Rattle.spec_commands.specs.Stack.{Assertion, Stack, Key, check, did, empty_stack, signature_of, assertions_of, terms_asserted, begun, with_declaration, with_definitions, with_assertion, logics, with_option, is_in_reach, all_in_reach, roomy, terms_defined, performed}
+use Rattle.spec_commands.proofs.Kept.{signature_last, signature_with}
 use Rattle.term_core.specs.declared.ids.TermId.{TermId}
 use Rattle.term_core.specs.Tables.{TableView, term_at, IsIn, AreIn, clause_at}
 use Rattle.term_core.proofs.TermsExtend.{AreIn-kept, clause_at-kept}
@@ -34,12 +36,12 @@ use Rattle.sort_check.specs.Reads as parser
 use Rattle.sort_check.specs.Reads.{within, roomy_reading, roomy_definitions, Store, EndsTerm, EndsDefinition}
 use Rattle.assertion_stack.specs.declared.options.Options.{Options as CodeOptions}
 use Rattle.assertion_stack.specs.declared.stack.Stack.{Stack as CodeStack}
-use Rattle.assertion_stack.specs.Assertions.{starts_of}
+use Rattle.assertion_stack.specs.Assertions.{no_assertions, starts_of, texts_printed}
 use Rattle.assertion_stack.specs.Marks.{AreMarks}
 use Rattle.assertion_stack.specs.Views.{Fails}
-use Rattle.assertion_stack.specs.Stacks.{options_meant, standing, IsStack, with_term}
+use Rattle.assertion_stack.specs.Stacks.{options_meant, Standing, standing, IsStack, with_term}
 use Rattle.assertion_stack.proofs.Reaching.{no_marks, marks_kept}
-use Rattle.assertion_stack.proofs.Levels.{signature_last, signature_with, rest_with, sorts_with, starts_last, terms_last, reach_last}
+use Rattle.assertion_stack.proofs.Levels.{rest_with, sorts_with, starts_last, terms_last, texts_last, reach_last}
 
 -- a stack in a table that has terms more
 pub stack_grown : (limit : ℕ) (old new : TableView) (x : CodeStack) (s : Stack) → IsStack limit (standing old x) s → Keeps old new → IsStack limit (standing new x) s
@@ -50,6 +52,7 @@ stack_grown limit old new x s h k = record {
   sorts = λ n e. ap (λ d. among d.sorts n) k.declared ∙ h.sorts n e;
   inside = AreIn-kept old new k.extends x.assertions.ids h.inside;
   terms = clause_at-kept old new k.extends x.assertions.ids h.inside ∙ h.terms;
+  written = h.written;
   starts = h.starts;
   in_reach = h.in_reach;
   reached = marks_kept old new k.extends x.reached h.reached;
@@ -58,7 +61,7 @@ stack_grown limit old new x s h k = record {
 }
 
 -- the first stack
-pub first_stack : (limit : ℕ) (t : TableView) (x : CodeStack) → x.limit ≡ limit → Stands t x.scope [] → t.sorts ≡ [] → t.symbols ≡ [] → x.assertions ≡ record { ids = []; starts = []; in_reach = true } → x.reached ≡ [] → options_meant x.options ≡ empty_stack.options → x.started ≡ false → IsStack limit (standing t x) empty_stack
+pub first_stack : (limit : ℕ) (t : TableView) (x : CodeStack) → x.limit ≡ limit → Stands t x.scope [] → t.sorts ≡ [] → t.symbols ≡ [] → x.assertions ≡ no_assertions → x.reached ≡ [] → options_meant x.options ≡ empty_stack.options → x.started ≡ false → IsStack limit (standing t x) empty_stack
 first_stack limit t x l scope sorts symbols assertions marks options started = record {
   limit_is = l;
   scope = scope;
@@ -66,6 +69,7 @@ first_stack limit t x l scope sorts symbols assertions marks options started = r
   sorts = λ n e. ap (λ ns. among ns n) sorts;
   inside = subst (λ a. AreIn t a.ids) (sym assertions) (All-nil (IsIn t));
   terms = ap (λ a. clause_at t a.ids) assertions;
+  written = ap (λ a. a.texts) assertions;
   starts = ap (λ a. a.starts) assertions;
   in_reach = ap (λ a. a.in_reach) assertions;
   reached = subst (AreMarks t) (sym marks) (no_marks t);
@@ -83,6 +87,7 @@ module _ (limit : ℕ) (t : TableView) (x : CodeStack) (s : Stack) (h : IsStack 
     sorts = h.sorts;
     inside = h.inside;
     terms = h.terms;
+    written = h.written;
     starts = h.starts;
     in_reach = h.in_reach;
     reached = h.reached;
@@ -99,6 +104,7 @@ module _ (limit : ℕ) (t : TableView) (x : CodeStack) (s : Stack) (h : IsStack 
     sorts = h.sorts;
     inside = h.inside;
     terms = h.terms;
+    written = h.written;
     starts = h.starts;
     in_reach = h.in_reach;
     reached = h.reached;
@@ -286,6 +292,7 @@ module _ (limit : ℕ) (old new : TableView) (x : CodeStack) (s : Stack) (v : Sc
     sorts = λ n e. ap (λ d. among d.sorts n) k.declared ∙ h.sorts n (sym (sorts_with (signature_of s) ds n) ∙ ap (λ g. sort_as g n) (sym (signature_with s ds)) ∙ e);
     inside = AreIn-kept old new k.extends x.assertions.ids h.inside;
     terms = clause_at-kept old new k.extends x.assertions.ids h.inside ∙ h.terms ∙ ap (λ (y : Stack). terms_asserted (assertions_of y)) (sym (rest_with s ds));
+    written = h.written ∙ ap (λ (y : Stack). texts_printed (assertions_of y)) (sym (rest_with s ds));
     starts = h.starts ∙ ap (λ (y : Stack). starts_of y.levels) (sym (rest_with s ds));
     in_reach = h.in_reach ∙ ap (λ (y : Stack). all_in_reach (assertions_of y)) (sym (rest_with s ds));
     reached = marks_kept old new k.extends x.reached h.reached;
@@ -295,7 +302,7 @@ module _ (limit : ℕ) (old new : TableView) (x : CodeStack) (s : Stack) (v : Sc
 
 -- and an assertion more
 pub one_asserted : (limit : ℕ) (t : TableView) (x : CodeStack) (s : Stack) (tree : Tree) (u : Term) (id : TermId) (marks : List Bool) → IsStack limit (standing t x) s → Means t u id → AreMarks t marks
-    → IsStack limit (standing t (with_term x marks id (is_in_reach (term_at t id)))) (begun (with_assertion s tree u))
+    → IsStack limit (standing t (with_term x marks id (printed tree) (is_in_reach (term_at t id)))) (begun (with_assertion s tree u))
 one_asserted limit t x s tree u id marks h m reached =
     let a : Assertion = record { text = tree; term = u } in record {
       limit_is = h.limit_is;
@@ -304,9 +311,16 @@ one_asserted limit t x s tree u id marks h m reached =
       sorts = h.sorts;
       inside = All-push (IsIn t) x.assertions.ids id h.inside m.0;
       terms = map-append (term_at t) x.assertions.ids (id ∷ []) ∙ (λ i. h.terms i ++ m.1 i ∷ []) ∙ sym (terms_last s.levels a);
+      written = ap (λ ts. ts ++ printed tree ∷ []) h.written ∙ sym (texts_last s.levels a);
       starts = h.starts ∙ sym (starts_last s.levels a);
       in_reach = (λ i. h.in_reach i && is_in_reach (m.1 i)) ∙ sym (reach_last s.levels a);
       reached = reached;
       options = h.options;
       started = refl;
     }
+
+-- a text for each asserted term
+pub one_for_each : (limit : ℕ) (x : Standing) (s : Stack) → IsStack limit x s → length x.stack.assertions.texts ≡ length x.stack.assertions.ids
+one_for_each limit x s h =
+    ap length h.written ∙ length-map (assertions_of s) (λ (a : Assertion). printed a.text) ∙ sym (ap length h.terms ∙ length-map (assertions_of s) (λ (a : Assertion). a.term))
+    ∙ length-map x.stack.assertions.ids (term_at x.table)

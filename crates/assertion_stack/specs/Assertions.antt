@@ -1,5 +1,6 @@
--- What the list of assertions holds.
+-- What the list of assertions holds, and how their texts are printed.
 use Rattle.std.specs.Prelude.{ℕ, ◌+◌, Bool, true, List, [], ◌∷◌, length, map}
+use Rattle.spec_text.specs.Printed.{printed}
 use Rattle.spec_commands.specs.Stack.{Assertion}
 use Rattle.term_core.specs.declared.ids.TermId.{TermId}
 
@@ -7,6 +8,8 @@ use Rattle.term_core.specs.declared.ids.TermId.{TermId}
 pub record AssertionsView : Type 0 where
   -- the numbers of the terms, oldest first
   pub ids : List TermId
+  -- their texts as they are printed, in the same order
+  pub texts : List (List ℕ)
   -- how many assertions come before each level above the first
   pub starts : List ℕ
   -- the search reaches all of them
@@ -14,10 +17,14 @@ pub record AssertionsView : Type 0 where
 
 -- the first level, without assertions
 abbrev pub no_assertions : AssertionsView
-no_assertions = record { ids = []; starts = []; in_reach = true }
+no_assertions = record { ids = []; texts = []; starts = []; in_reach = true }
 
 -- how many assertions come before each level above the first
 abbrev pub starts_of : List (List Assertion) → List ℕ
 starts_of [] = []
 starts_of (l ∷ []) = []
 starts_of (l ∷ m ∷ ls) = length l ∷ map (λ n. length l + n) (starts_of (m ∷ ls))
+
+-- the texts of assertions as they are printed, in their order
+abbrev pub texts_printed : List Assertion → List (List ℕ)
+texts_printed assertions = map (λ (a : Assertion). printed a.text) assertions

@@ -19,7 +19,7 @@ use Rattle.assertion_stack.specs.declared.options.Options.{Options as CodeOption
 use Rattle.assertion_stack.specs.declared.stack.Stack.{Stack as CodeStack}
 use Rattle.assertion_stack.specs.declared.stack.Effect.{Effect as CodeEffect}
 use Rattle.assertion_stack.specs.declared.stack.Effect.TheVariants as effects
-use Rattle.assertion_stack.specs.Assertions.{starts_of}
+use Rattle.assertion_stack.specs.Assertions.{starts_of, texts_printed}
 use Rattle.assertion_stack.specs.Marks.{AreMarks}
 use Rattle.assertion_stack.specs.Views.{Fails}
 
@@ -60,6 +60,8 @@ pub record IsStack (limit : ℕ) (x : Standing) (s : Stack) : Type 0 where
   pub inside : AreIn x.table x.stack.assertions.ids
   -- they are those of the assertions
   pub terms : clause_at x.table x.stack.assertions.ids ≡ terms_asserted (assertions_of s)
+  -- the texts are those of the assertions, as they are printed
+  pub written : x.stack.assertions.texts ≡ texts_printed (assertions_of s)
   -- levels begin at the same places
   pub starts : x.stack.assertions.starts ≡ starts_of s.levels
   -- whether the search reaches all of them
@@ -89,10 +91,14 @@ with_function x n f = record x {
   started = true;
 }
 
--- an asserted term more, over these marks, by a command that ends the start
-abbrev pub with_term : CodeStack → List Bool → TermId → Bool → CodeStack
-with_term x marks id in_reach = record x {
-  assertions = record x.assertions { ids = x.assertions.ids ++ id ∷ []; in_reach = x.assertions.in_reach && in_reach };
+-- an asserted term and its text more, over these marks, by a command that ends the start
+abbrev pub with_term : CodeStack → List Bool → TermId → List ℕ → Bool → CodeStack
+with_term x marks id text in_reach = record x {
+  assertions = record x.assertions {
+    ids = x.assertions.ids ++ id ∷ [];
+    texts = x.assertions.texts ++ text ∷ [];
+    in_reach = x.assertions.in_reach && in_reach;
+  };
   reached = marks;
   started = true;
 }

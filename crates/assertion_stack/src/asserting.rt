@@ -1,6 +1,7 @@
 //! Assertions and definitions of functions: the commands that read terms.
 
 ghost use Rattle.std.specs.Prelude.{◌≡◌, ℕ, true, Bool, List, Some, OnErr, OnOk};
+ghost use Rattle.spec_text.specs.Printed.{printed};
 ghost use Rattle.spec_commands.specs.Commands.{Assert, DefineFun};
 ghost use Rattle.spec_commands.specs.Stack.{Stack as ScriptStack, is_in_reach, performed};
 ghost use Rattle.smt_sexpr.specs.Items.{tree_meant};
@@ -11,6 +12,7 @@ ghost use Rattle.assertion_stack.specs.Marks.{AreMarks};
 ghost use Rattle.assertion_stack.specs.Stacks.{standing, HasStack, IsStack, Performs, with_term};
 
 use crate::names::in_script;
+use crate::printing::print;
 use crate::stack::{Effect, Stack};
 use smt_command::Parts;
 use smt_sexpr::Trees;
@@ -18,7 +20,7 @@ use sort_check::{Room, define, term};
 use std::alloc::Global;
 use term_core::{Sort, TermId, TermTable};
 use term_reader::ReadError;
-use world_io::NoMemory;
+use world_io::{Bytes, NoMemory};
 
 /// Gives the room for the names and terms of a command at an offset.
 fn room(stack: &Stack, at: u64) -> Room
@@ -30,18 +32,18 @@ fn room(stack: &Stack, at: u64) -> Room
     }
 }
 
-/// Puts a term of the table among the assertions.
-fn add(stack: &mut Stack, table: &TermTable, id: TermId) -> Result<(), NoMemory>
+/// Puts a term of the table among the assertions, with its text.
+fn add(stack: &mut Stack, table: &TermTable, id: TermId, text: Bytes) -> Result<(), NoMemory>
     requires there { IsIn table.now id }
     requires marks { AreMarks table.now stack.old.reached }
     ensures added { OnOk result ((marks : List Bool) × AreMarks table.now marks
-        × (stack.new ≡ with_term stack.old marks id (is_in_reach (term_at table.now id)))) }
+        × (stack.new ≡ with_term stack.old marks id text (is_in_reach (term_at table.now id)))) }
     ensures same { OnErr result (stack.new ≡ stack.old) }
 {
     let marked = stack.reached.len();
     stack.reached.extend(table, id)?;
     let in_reach = stack.reached.tells(id);
-    match stack.assertions.add(id, in_reach) {
+    match stack.assertions.add(id, text, in_reach) {
         Ok(()) => {
             stack.started = true;
             Ok(())
@@ -53,9 +55,28 @@ fn add(stack: &mut Stack, table: &TermTable, id: TermId) -> Result<(), NoMemory>
     }
 }
 
+/// Prints the first tree, and puts its term of the table among the assertions.
+fn add_written(
+    stack: &mut Stack,
+    alloc: Global,
+    table: &TermTable,
+    id: TermId,
+    tree: Trees<'_>,
+) -> Result<(), NoMemory>
+    requires there { IsIn table.now id }
+    requires marks { AreMarks table.now stack.old.reached }
+    ensures added { OnOk result ((marks : List Bool) × AreMarks table.now marks
+        × (stack.new ≡ with_term stack.old marks id (printed (tree_meant tree.entry))
+        (is_in_reach (term_at table.now id)))) }
+    ensures same { OnErr result (stack.new ≡ stack.old) }
+{
+    let text = print(alloc, tree)?;
+    add(stack, table, id, text)
+}
+
 impl Stack {
-    /// Asserts the term that the first tree is, by an `assert` at an offset in bytes: `current` has it last, and the scope
-    /// the names that `:named` makes in it.
+    /// Asserts the term that the first tree is, by an `assert` at an offset in bytes: `current` has it last, `written` its
+    /// text, and the scope the names that `:named` makes in it.
     ///
     /// - `Fault` has the first fault, with its offset: of the term as `sort_check::term` tells it, `WrongSort` at the tree
     ///   where the term is not of sort Bool, then `Full` at the command where there are more names or different subterms
@@ -92,7 +113,7 @@ impl Stack {
             tree,
             room,
         ) {
-            Ok(id) => match add(self, table, id) {
+            Ok(id) => match add_written(self, alloc, table, id, tree) {
                 Ok(()) => Ok(Effect::Done),
                 Err(_) => {
                     self.scope.back(sorts, functions);

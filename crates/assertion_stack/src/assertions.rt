@@ -1,4 +1,4 @@
-//! The asserted terms, in their order, with the levels that they belong to.
+//! The asserted terms, in their order, with their texts and the levels that they belong to.
 
 ghost use Rattle.std.specs.Prelude.{◌≡◌, ◌&&◌, ◌++◌, [], ◌∷◌, length, OnErr, OnOk};
 ghost use Rattle.assertion_stack.specs.Assertions.{no_assertions};
@@ -6,15 +6,17 @@ ghost use Rattle.assertion_stack.specs.Assertions.{no_assertions};
 use std::alloc::Global;
 use std::marker::Model;
 use term_core::TermId;
-use world_io::NoMemory;
+use world_io::{Bytes, NoMemory};
 
-/// Holds the asserted terms by their numbers, oldest first, and whether the search reaches all of them.
+/// Holds the asserted terms by their numbers, oldest first, with the text of each, and whether the search reaches all of
+/// them.
 ///
 /// The first level begins with the first assertion. Each level above it begins at a place of its own.
 /// Source: SMT-LIB 2.6, section 4.1.4.
 #[derive(Drop)]
 pub struct Assertions {
     ids: Vec<TermId>,
+    texts: Vec<Bytes>,
     starts: Vec<u64>,
     in_reach: bool,
 }
@@ -24,7 +26,12 @@ impl Model for Assertions {
 
     ghost Value = { AssertionsView };
 
-    ghost view = { λ a. record { ids = a.ids.items; starts = a.starts.items; in_reach = a.in_reach } };
+    ghost view = { λ a. record {
+      ids = a.ids.items;
+      texts = a.texts.items;
+      starts = a.starts.items;
+      in_reach = a.in_reach;
+    } };
 }
 
 impl Assertions {
@@ -34,6 +41,7 @@ impl Assertions {
     {
         Assertions {
             ids: Vec::new(alloc),
+            texts: Vec::new(alloc),
             starts: Vec::new(alloc),
             in_reach: true,
         }
@@ -44,6 +52,13 @@ impl Assertions {
         ensures { result.now ≡ self.now.ids }
     {
         self.ids.as_slice()
+    }
+
+    /// Lends the texts of the asserted terms, oldest first.
+    pub fn texts(&self) -> &[Bytes]
+        ensures { result.now ≡ self.now.texts }
+    {
+        self.texts.as_slice()
     }
 
     /// Counts the levels above the first.
@@ -60,15 +75,21 @@ impl Assertions {
         self.in_reach
     }
 
-    /// Puts a term last, at the last level. `in_reach` tells whether the search reaches it.
+    /// Puts a term and its text last, at the last level. `in_reach` tells whether the search reaches the term.
     ///
-    /// `NoMemory` comes where its place finds no memory; then all is as it was.
-    pub fn add(&mut self, id: TermId, in_reach: bool) -> Result<(), NoMemory>
+    /// `NoMemory` comes where a place finds no memory; then all is as it was.
+    pub fn add(&mut self, id: TermId, text: Bytes, in_reach: bool) -> Result<(), NoMemory>
         ensures added { OnOk result (self.new
-            ≡ record self.old { ids = self.old.ids ++ id ∷ []; in_reach = self.old.in_reach && in_reach }) }
+            ≡ record self.old {
+              ids = self.old.ids ++ id ∷ [];
+              texts = self.old.texts ++ text ∷ [];
+              in_reach = self.old.in_reach && in_reach;
+            }) }
         ensures same { OnErr result (self.new ≡ self.old) }
     {
-        self.ids.push(id)?;
+        self.ids.reserve(1)?;
+        self.texts.push(text)?;
+        self.ids.push_reserved(id);
         self.in_reach = self.in_reach && in_reach;
         Ok(())
     }

@@ -11,6 +11,7 @@ mod faults;
 pub mod laws;
 mod names;
 mod options;
+mod printing;
 mod reach;
 mod settings;
 mod stack;

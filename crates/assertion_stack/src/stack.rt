@@ -18,6 +18,7 @@ use smt_sexpr::{Sexpr, offset};
 use std::alloc::Global;
 use term_core::{TermId, TermTable};
 use term_reader::{ReadError, Scope};
+use world_io::Bytes;
 
 /// The most names that a script may have, and the most different subterms that the terms of one command may have. It is own.
 pub const TERM_LIMIT: u64 = 1 << 24;
@@ -89,6 +90,16 @@ impl Stack {
         ensures { result.now ≡ self.now.assertions.ids }
     {
         self.assertions.as_slice()
+    }
+
+    /// Lends the texts of the asserted terms, in the order of `current` and one for each: the tree that was read for it, as
+    /// `smt_sexpr::print` prints it. Names that `:named` makes stand in them.
+    ///
+    /// Source: SMT-LIB 2.6, section 4.2.7.
+    pub fn written(&self) -> &[Bytes]
+        ensures { result.now ≡ self.now.assertions.texts }
+    {
+        self.assertions.texts()
     }
 
     /// Counts the levels above the first. No command opens one yet.

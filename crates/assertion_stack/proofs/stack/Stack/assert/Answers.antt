@@ -9,16 +9,16 @@ use Rattle.assertion_stack.proofs.Reaching.{marks_kept}
 use Rattle.assertion_stack.proofs.Stacks.{assert_done, assert_fails, named, one_asserted}
 use Rattle.assertion_stack.proofs.stack.Stack.assert.Goals as goal
 
-pub add-requires-clause-marks : goal.add-requires-clause-marks
-add-requires-clause-marks c = marks_kept c.args.table.now c.term.new.table c.in-Ok.ensures.grows.keeps.extends c.args.self.now.reached c.requires.2.reached
+pub add_written-requires-clause-marks : goal.add_written-requires-clause-marks
+add_written-requires-clause-marks c = marks_kept c.args.table.now c.term.new.table c.in-Ok.ensures.grows.keeps.extends c.args.self.now.reached c.requires.2.reached
 
-pub returns-in-Ok-add-clause-performs : goal.returns-in-Ok-add-clause-performs
-returns-in-Ok-add-clause-performs c limit s h =
+pub returns-in-Ok-add_written-clause-performs : goal.returns-in-Ok-add_written-clause-performs
+returns-in-Ok-add_written-clause-performs c limit s h =
     let r = c.in-Ok.ensures.ends (signature_of s) h.scope in
     let x = c.args.self.now in
     let t = c.term.new.table in
     let y = record x { scope = c.term.new.scope } in
-    let added = c.in-Ok-add.ensures.added in
+    let added = c.in-Ok-add_written.ensures.added in
     let tree = tree_meant c.args.tree in
     let room : room_meant c.room-room.result ≡ record { limit = Some limit; at = c.args.at } = ap room_meant c.room-room.ensures ∙ ap (λ l. record { limit = Some l; at = c.args.at }) h.limit_is in
     let next = begun (with_assertion (with_definitions s r.reading.made) tree r.reading.term) in (

@@ -1,0 +1,25 @@
+-- A list ends, an atom is printed, or a list opens.
+use Rattle.std.proofs.Common.{ap, arith, refl}
+use Rattle.smt_sexpr.specs.Items.{trees_meant, tree_meant}
+use Rattle.assertion_stack.specs.Printing.{open_left}
+use Rattle.assertion_stack.proofs.PrintedTrees.{left_pops, left_atom, left_list, less_end, less_list, open_left_push}
+use Rattle.assertion_stack.proofs.printing.print_all.Goals as goal
+
+pub trees-smaller-in_default : goal.trees-smaller-in_default
+trees-smaller-in_default c =
+    omega (arith, less_end (trees_meant c.trees.rest) (rw c.in_default.is at c.split.ensures.first), ap open_left c.in-Some-pop.ensures.items, open_left_push c.pop.new.self.items c.in-Some-pop.outer)
+
+pub trees-preserved-in_default : goal.trees-preserved-in_default
+trees-preserved-in_default c =
+    left_pops _ _ _ _ c.trees.invariant (rw c.in_default.is at c.split.ensures.first) c.pop.new.self.items c.in-Some-pop.outer c.in-Some-pop.ensures.items _ c.in_ok-end_list.ensures
+
+pub trees-preserved-in-Atom : goal.trees-preserved-in-Atom
+trees-preserved-in-Atom c = left_atom _ _ _ c.trees.open.items c.trees.invariant _ _ c.in-Some.ensures.first _ _ _ c.in-Atom.ensures.seen _ c.in_ok-add_atom-in-Atom.ensures
+
+pub trees-smaller : goal.trees-smaller
+trees-smaller c =
+    omega (arith, less_list (trees_meant c.trees.rest) (trees_meant c.in-Some.others) (tree_meant c.in-Some.first) c.in-Some.ensures.first _ _ (trees_meant c.in-List.inside) c.in-List.ensures.seen, ap open_left c.in_ok-push-in-List-2.ensures.items, open_left_push c.trees.open.items c.in-Some.others)
+
+pub trees-preserved : goal.trees-preserved
+trees-preserved c =
+    left_list _ _ _ _ c.trees.invariant _ _ c.in-Some.ensures.first _ _ _ c.in-List.ensures.seen c.in-Some.others refl _ c.in_ok-push-in-List-2.ensures.items _ c.in_ok-push-in-List.ensures.items
