@@ -1,0 +1,2 @@
+-- What the tables of the tests have.
+pub mod Tables
