@@ -1,9 +1,10 @@
 //! The log: clauses in the order in which they came.
 
-ghost use Rattle.std.specs.Prelude.{◌≡◌, ◌<◌, [], length, take, MatchOption};
+ghost use Rattle.std.specs.Prelude.{◌≡◌, ◌<◌, [], length, take, MatchOption, MatchResult};
+ghost use Rattle.spec_derivations.specs.Derivations.{FollowsFrom};
 ghost use Rattle.term_core.specs.Tables.{TableView};
-ghost use Rattle.proof_log.specs.Logs.{AreFormulasIn, IsLogOf, named, stepped, logged_at, IsAssumed, AreEarlier};
-ghost use Rattle.proof_log.specs.Adding.{Assumes, Adds, Judges, Collects};
+ghost use Rattle.proof_log.specs.Logs.{AreFormulasIn, IsLogOf, named, stepped, logged_at, inference_of, derivation_in, IsAssumed, AreEarlier};
+ghost use Rattle.proof_log.specs.Adding.{Assumes, Adds, IsAdded, Judges, Collects};
 
 use crate::entry::Entry;
 use crate::log_fault::LogFault;
@@ -111,6 +112,28 @@ impl ProofLog {
         ensures { Adds table.now self.old (stepped step.rule step.premises step.arguments step.clause) result self.new }
     {
         self.follows(table, &step)?;
+        let id = StepId(self.len());
+        self.entries.push(Entry::Stepped(step))?;
+        Ok(id)
+    }
+
+    /// Puts a step last that follows from the clauses up to here, and says its number, which is the next. Its clause must be one of
+    /// formulas.
+    ///
+    /// The step is not judged: that it follows by its rule is for the caller to show. So no clause of a premise is looked at, and it
+    /// takes the time of one push.
+    ///
+    /// `NoMemory` comes where its place finds no memory; then the log is as it was.
+    /// Source: Alethe specification, the command `step`.
+    pub fn add_right(&mut self, table: &TermTable, step: Step) -> Result<StepId, NoMemory>
+        requires log { IsLogOf table.now self.old }
+        requires clause { AreFormulasIn table.now step.clause }
+        requires follows { FollowsFrom (derivation_in table.now self.old)
+            (inference_of table.now (stepped step.rule step.premises step.arguments step.clause)) }
+        ensures { MatchResult result (λ id. IsAdded table.now self.old
+            (stepped step.rule step.premises step.arguments step.clause) id self.new) (λ _. self.new ≡ self.old) }
+    {
+        let _ = table;
         let id = StepId(self.len());
         self.entries.push(Entry::Stepped(step))?;
         Ok(id)
