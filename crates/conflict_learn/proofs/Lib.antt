@@ -1,8 +1,10 @@
 pub mod Places
 pub mod Meanings
 pub mod Marking
+pub mod Sorting
+pub mod Uip
 pub mod Following
-pub mod Resting
-pub mod Drawing
+pub mod Dropped
 pub mod Stating
-pub mod Drawn
+pub mod Concluding
+pub mod OnePoint

@@ -1,5 +1,6 @@
 -- One mark more, one level more.
 use Rattle.std.proofs.Common.{◌≡◌, ℕ, ◌<◌, ◌≤◌, Bool, true, false, List, [], ◌∷◌, ◌++◌, length, set, ◌⊎◌, inl, inr, refl, sym, ◌∙◌, subst, arith}
+use Rattle.std.proofs.lemmas.Bool.{cases_eq}
 use Rattle.std.proofs.lemmas.List.{length-set, get_or-set_same, get_or-set_other}
 use Rattle.std.proofs.lemmas.List.Elements.{Contains-push, Contains-push_cases, Contains-append_left}
 use Rattle.spec_text.proofs.Members.{none}
@@ -10,7 +11,7 @@ use Rattle.clause_literals.proofs.TableLiterals.{literals_apart}
 use Rattle.sat_trail.specs.Trails.{TrailView, AreApart}
 use Rattle.conflict_learn.specs.Conflicts.{Conflict, literals_in, IsFalseAt, IsConflictLevel}
 use Rattle.conflict_learn.specs.Analyses.{IsGreatestOf, IsMarked, Marks}
-use Rattle.conflict_learn.proofs.Places.{equal_or, one_level}
+use Rattle.conflict_learn.proofs.Places.{one_level}
 
 -- no level is reached by no literals
 pub greatest_none : (t : TableView) (v : TrailView) → IsGreatestOf t v [] 0
@@ -49,7 +50,7 @@ marks_more t ls old mid l there lt h = record {
     | inl was ↦ let a = h.added x was in (a.0, a.1, a.2, stays a.0.term.0 a.3)
     | inr e ↦ (l, there, e, here)
   ];
-  only = λ n m. elim (equal_or l.term.0 n) [
+  only = λ n m. elim (cases_eq l.term.0 n) [
     | inl e ↦ inr (l, there, Contains-push ls (literal_at t l), e)
     | inr ne ↦ elim (h.only n (sym (get_or-set_other mid l.term.0 n true false (λ e. ne (sym e))) ∙ m)) [
       | inl was ↦ inl was
@@ -62,10 +63,22 @@ marks_more t ls old mid l there lt h = record {
     here = get_or-set_same mid l.term.0 true false lt
 
     stays : (n : ℕ) → IsMarked mid n → IsMarked (set mid l.term.0 true) n
-    stays n m = elim (equal_or l.term.0 n) [
+    stays n m = elim (cases_eq l.term.0 n) [
       | inl e ↦ subst (IsMarked (set mid l.term.0 true)) e here
       | inr ne ↦ get_or-set_other mid l.term.0 n true false (λ e. ne (sym e)) ∙ m
     ]
+
+-- one that was marked
+pub marks_again : (t : TableView) (ls : List Literal) (old mid : List Bool) (l : Lit) → IsIn t l.term → IsMarked mid l.term.0 → Marks t ls old mid → Marks t (ls ++ literal_at t l ∷ []) old mid
+marks_again t ls old mid l there m h = record {
+  size = h.size;
+  kept = h.kept;
+  added = λ x i. elim (Contains-push_cases ls (literal_at t l) x i) [ inl was ↦ h.added x was | inr e ↦ (l, there, e, m) ];
+  only = λ n is. elim (h.only n is) [
+    | inl was ↦ inl was
+    | inr a ↦ inr (a.0, a.1, Contains-append_left ls (literal_at t l ∷ []) (literal_at t a.0) a.2, a.3)
+  ];
+}
 
 -- of the literals of the clash the greatest level is the conflict's
 pub greatest_level : (c : Conflict) (n : ℕ) → IsGreatestOf c.table c.trail (literals_in c.table c.log c.clash) n → IsConflictLevel c n

@@ -1,34 +1,10 @@
 -- Places of literals along a trail.
-use Rattle.std.proofs.Common.{◌≡◌, ◌≢◌, ℕ, ◌+◌, ◌<◌, ◌≤◌, ◌==◌, Bool, true, false, List, length, get_or, take, Contains, ◌⊎◌, inl, inr, refl, sym, ap, ◌∙◌, arith, true≢false}
-use Rattle.std.proofs.lemmas.Bool.{cases_lt, eqb-true, eq-eqb}
+use Rattle.std.proofs.Common.{◌≡◌, ℕ, ◌+◌, ◌<◌, ◌≤◌, List, length, get_or, take, Contains, ◌⊎◌, inl, inr, sym, ap, ◌∙◌, arith}
+use Rattle.std.proofs.lemmas.Bool.{cases_lt}
 use Rattle.std.proofs.lemmas.List.{get_or-take, length-take-le, get_or_default}
 use Rattle.term_core.specs.declared.ids.Lit.{Lit}
 use Rattle.sat_trail.specs.Trails.{TrailView, no_lit, AreApart}
 use Rattle.conflict_learn.specs.Conflicts.{IsFalseAt}
-
--- two numbers are one, or not
-pub equal_or : (a b : ℕ) → (a ≡ b) ⊎ (a ≢ b)
-equal_or a b = go (a == b) refl
-  where
-    go : (t : Bool) → (a == b) ≡ t → (a ≡ b) ⊎ (a ≢ b)
-    go true e = inl (eqb-true a b e)
-    go false e = inr (λ h. true≢false (sym (eq-eqb a b h) ∙ e))
-
--- two literals are one, or not
-pub same_or : (l m : Lit) → (l ≡ m) ⊎ (l ≢ m)
-same_or l m = elim (equal_or l.term.0 m.term.0) [
-  | inl e ↦ signs l.positive m.positive refl refl e
-  | inr n ↦ inr (λ e. n (ap (λ (x : Lit). x.term.0) e))
-]
-  where
-    made : (e : l.term.0 ≡ m.term.0) → l.positive ≡ m.positive → l ≡ m
-    made e f = λ i. record { term = record { 0 = e i }; positive = f i }
-
-    signs : (a b : Bool) → l.positive ≡ a → m.positive ≡ b → l.term.0 ≡ m.term.0 → (l ≡ m) ⊎ (l ≢ m)
-    signs true true p q e = inl (made e (p ∙ sym q))
-    signs false false p q e = inl (made e (p ∙ sym q))
-    signs true false p q e = inr (λ h. true≢false (sym p ∙ ap (λ (x : Lit). x.positive) h ∙ q))
-    signs false true p q e = inr (λ h. true≢false (sym q ∙ sym (ap (λ (x : Lit). x.positive) h) ∙ p))
 
 -- the place of a literal that is in a list
 pub place_of : (xs : List Lit) (l : Lit) → Contains xs l → (k : ℕ) × (k < length xs) × (get_or xs k no_lit ≡ l)

@@ -1,5 +1,5 @@
 -- That a step states a clause, and follows.
-use Rattle.std.proofs.Common.{◌≡◌, ℕ, ◌+◌, ◌<◌, Bool, true, false, List, [], ◌∷◌, ◌++◌, length, map, take, get_or, Contains, refl, sym, ap, ◌∙◌, subst}
+use Rattle.std.proofs.Common.{◌≡◌, ℕ, ◌+◌, ◌<◌, Bool, true, false, List, [], ◌∷◌, ◌++◌, length, map, take, get_or, Contains, sym, ap, ◌∙◌, subst}
 use Rattle.std.proofs.lemmas.List.{map-append, map_more}
 use Rattle.std.proofs.lemmas.List.Elements.{All-push}
 use Rattle.std.specs.Prelude.{Result, Ok, Err, IfOk}
@@ -16,6 +16,7 @@ use Rattle.term_core.specs.declared.ids.TermId.{TermId}
 use Rattle.term_core.specs.declared.ids.Lit.{Lit}
 use Rattle.term_core.specs.Symbols.{SymbolsView}
 use Rattle.term_core.specs.Tables.{TableView, IsIn, declared_in, term_at, literal_at, clause_at, positive_literal, Extends}
+use Rattle.term_core.proofs.TermsLiteral.{literal_of-negated}
 use Rattle.term_core.proofs.TermsExtend.{Extends-self, term_at-kept, literal_at-kept, clause_at-kept}
 use Rattle.proof_log.specs.declared.premises.StepId.{StepId}
 use Rattle.proof_log.specs.Logs.{IsFormulaIn, Logged, named, logged_at, AreOf, clauses_in, numbers_of, derivation_in}
@@ -25,11 +26,6 @@ use Rattle.clausify.proofs.Parts.{formula_kept, signed_in}
 use Rattle.conflict_learn.specs.Conflicts.{literals_in}
 use Rattle.conflict_learn.specs.Analyses.{IsBare, States, StateAll}
 
--- the literal of a negation
-negated_literal : (u : Term) → literal_of (negated u) ≡ complement (literal_of u)
-unfolding literal_of
-negated_literal u = refl
-
 -- a term that is no negation states its literal
 pub states_own : (t : TableView) (l : Lit) → IsBare t l → l.positive ≡ true → States t (literal_at t l) l.term
 states_own t l b e = ((b.there, b.formula), b.bare ∙ ap (λ (p : Bool). let x : Literal = record { atom = term_at t l.term; positive = p } in x) (sym e))
@@ -38,7 +34,7 @@ states_own t l b e = ((b.there, b.formula), b.bare ∙ ap (λ (p : Bool). let x 
 pub states_negation : (t u : TableView) → Widens t u → (l : Lit) (id : TermId) → IsBare t l → l.positive ≡ false → IsIn u id → term_at u id ≡ negated (term_at t l.term) → States u (literal_at t l) id
 states_negation t u wider l id b e there is = (
   signed_in t u wider false l.term id (b.there, b.formula) there is,
-  ap literal_of is ∙ negated_literal (term_at t l.term) ∙ ap complement b.bare ∙ ap (λ (p : Bool). let x : Literal = record { atom = term_at t l.term; positive = p } in x) (sym e),
+  ap literal_of is ∙ literal_of-negated (term_at t l.term) ∙ ap complement b.bare ∙ ap (λ (p : Bool). let x : Literal = record { atom = term_at t l.term; positive = p } in x) (sym e),
 )
 
 -- as a call puts it, where it does

@@ -1,5 +1,5 @@
--- How far a conflict was followed back, what is marked on the way, and the clause that is drawn from the marks.
-use Rattle.std.specs.Prelude.{◌≡◌, ◌≢◌, ◌⊎◌, ◌<◌, ◌≤◌, ℕ, Bool, true, false, List, length, get_or, Contains, Some, None}
+-- What comes up in the analysis of a conflict, how it is sorted, and how far the analysis has come.
+use Rattle.std.specs.Prelude.{◌≡◌, ◌≢◌, ◌⊎◌, ◌<◌, ◌≤◌, ◌&&◌, nat_eq, if◌then◌else◌, ℕ, zero, suc, Bool, true, false, List, length, get_or, Contains, Some, None}
 use Rattle.spec_sorts.specs.WellSorted.{IsFormulaOver}
 use Rattle.spec_sorts.specs.Literals.{Literal, literal_of, literals_of}
 use Rattle.term_core.specs.declared.ids.TermId.{TermId}
@@ -7,11 +7,13 @@ use Rattle.term_core.specs.declared.ids.Lit.{Lit}
 use Rattle.term_core.specs.Tables.{TableView, IsIn, term_at, literal_at, clause_at, positive_literal}
 use Rattle.clause_literals.specs.Literals.{lit_complement}
 use Rattle.proof_log.specs.declared.premises.StepId.{StepId}
-use Rattle.proof_log.specs.Logs.{AreOf, IsFormulaIn, AreFormulasIn}
-use Rattle.sat_trail.specs.Trails.{TrailView, no_lit}
-use Rattle.conflict_learn.specs.Conflicts.{Conflict, step_of, literals_in, IsFalseAt, IsNeeded, IsPremise}
+use Rattle.proof_log.specs.Logs.{IsFormulaIn, AreFormulasIn}
+use Rattle.sat_trail.specs.Trails.{TrailView, no_lit, AreApart}
+use Rattle.conflict_learn.specs.Conflicts.{Conflict, step_of, IsFalseAt}
+use Rattle.conflict_learn.specs.Points.{level_at, Falsifies, IsMet, IsPoint, IsDropped, IsResolved, IsUsed, IsUip}
+use Rattle.conflict_learn.specs.declared.meeting.Seen.{Seen}
 use Rattle.conflict_learn.specs.declared.analysis.Analysis.{Analysis}
-use Rattle.conflict_learn.specs.declared.decisions.Drawn.{Drawn}
+use Rattle.conflict_learn.specs.declared.dropping.Found.{Found}
 
 -- The greatest level since which literals of these meanings are false, or 0 where there are none.
 pub record IsGreatestOf (t : TableView) (v : TrailView) (ls : List Literal) (n : ℕ) : Type 0 where
@@ -43,85 +45,123 @@ pub record Marks (t : TableView) (ls : List Literal) (old new : List Bool) : Typ
   -- and no other
   pub only : (n : ℕ) → IsMarked new n → IsMarked old n ⊎ ((m : Lit) × IsIn t m.term × Contains ls (literal_at t m) × (m.term.0 ≡ n))
 
--- What a conflict rests on, where it was followed back to a place.
-pub record RestsAt (c : Conflict) (k : ℕ) (marks : List Bool) (premises : List StepId) : Type 0 where
-  -- the premises are steps of the log
-  pub in_log : AreOf c.log premises
-  -- the clash is one of them
-  pub has_clash : Contains premises c.clash
-  -- and each of its literals is marked
-  pub clash_marked : (x : Literal) → Contains (literals_in c.table c.log c.clash) x → IsMarkedFor c.table marks x
-  -- there are no other premises than the conflict has
-  pub no_others : (s : StepId) → Contains premises s → IsPremise c s
-  -- the conflict rests on what is marked
-  pub needed : (p : ℕ) → p < length c.trail.literals → IsMarkedAt c.trail marks p → IsNeeded c (get_or c.trail.literals p no_lit)
-  -- of what is marked from that place on the reason is one of the premises
-  pub has_reason : (p r : ℕ) → k ≤ p → p < length c.trail.literals → IsMarkedAt c.trail marks p → get_or c.trail.reasons p None ≡ Some r → Contains premises (step_of r)
-  -- and its literals are marked
-  pub reason_marked : (p r : ℕ) (x : Literal) → k ≤ p → p < length c.trail.literals → IsMarkedAt c.trail marks p → get_or c.trail.reasons p None ≡ Some r
-      → Contains (literals_in c.table c.log (step_of r)) x → IsMarkedFor c.table marks x
+-- a false literal came up before, or a place before one makes it false
+abbrev pub IsBefore : TrailView → ℕ → List Bool → Lit → Type 0
+IsBefore v k marks m = IsMarked marks m.term.0 ⊎ ((q : ℕ) × (q < k) × (get_or v.literals q no_lit ≡ lit_complement m))
 
--- so it is with what an analysis has found
-abbrev pub HasFound : Conflict → ℕ → Analysis → Type 0
-HasFound c k a = RestsAt c k a.marks.items a.premises.items
+-- how many marked literals of a level stand before a place
+abbrev pub count_before : TrailView → List Bool → ℕ → ℕ → ℕ
+count_before v marks n zero = 0
+count_before v marks n (suc k) = if get_or marks (get_or v.literals k no_lit).term.0 false && nat_eq (get_or v.levels k 0) n then suc (count_before v marks n k) else count_before v marks n k
 
--- The literal is the oldest of those of a level whose variable is marked.
-pub record IsOldest (v : TrailView) (marks : List Bool) (n : ℕ) (l : Lit) : Type 0 where
+-- The literal of a place is marked, and not of the level.
+pub record IsLower (v : TrailView) (n : ℕ) (marks : List Bool) (p : ℕ) : Type 0 where
+  pub within : p < length v.literals
+  pub is_marked : IsMarkedAt v marks p
+  pub of_other : get_or v.levels p 0 ≢ n
+
+-- What came up, and how it is sorted.
+pub record Sorting : Type 0 where
+  -- the marked variables
+  pub marks : List Bool
+  -- how many are of the level
+  pub many : ℕ
+  -- the others above level 0
+  pub lower : List Lit
+  -- their greatest level
+  pub back : ℕ
+  -- whether one is of level 0
+  pub fixed : Bool
+
+-- so it is with what an analysis has seen
+abbrev pub sorting_of : Seen → Sorting
+sorting_of a = record { marks = a.marks.items; many = a.many; lower = a.lower.items; back = a.back; fixed = a.fixed }
+
+-- What came up is sorted: counted, where it is of the level and stands before a place, and else listed, where it is above level 0.
+pub record Sorts (v : TrailView) (n k : ℕ) (a : Sorting) : Type 0 where
+  pub within : k ≤ length v.literals
+  pub counted : a.many ≡ count_before v a.marks n k
+  -- the list has each complement once
+  pub once : AreApart a.lower
+  pub all : (p : ℕ) → IsLower v n a.marks p → 0 < get_or v.levels p 0 → Contains a.lower (lit_complement (get_or v.literals p no_lit))
+  pub only : (m : Lit) → Contains a.lower m → (p : ℕ) × IsLower v n a.marks p × (0 < get_or v.levels p 0) × (get_or v.literals p no_lit ≡ lit_complement m)
+  -- the greatest level of these is known
+  pub bounded : (p : ℕ) → IsLower v n a.marks p → get_or v.levels p 0 ≤ a.back
+  pub reached : (a.back ≡ 0) ⊎ ((p : ℕ) × IsLower v n a.marks p × (get_or v.levels p 0 ≡ a.back))
+  -- and whether one is of level 0
+  pub has_fixed : (p : ℕ) → IsLower v n a.marks p → get_or v.levels p 0 ≡ 0 → a.fixed ≡ true
+
+-- so it is with what was seen
+abbrev pub AreSorted : TrailView → ℕ → ℕ → Seen → Type 0
+AreSorted v n k a = Sorts v n k (sorting_of a)
+
+-- a step is the clash, or the reason of a literal that was replaced
+abbrev pub IsPassed : Conflict → ℕ → StepId → Type 0
+IsPassed c k s = (s ≡ c.clash) ⊎ IsResolved c k s
+
+-- What is marked is what was met where literals from a place on were replaced, and the premises are the steps that were passed.
+pub record HasMet (c : Conflict) (k : ℕ) (marks : List Bool) (premises : List StepId) : Type 0 where
+  -- what is marked was met
+  pub marked : (p : ℕ) → p < length c.trail.literals → IsMarkedAt c.trail marks p → IsMet c k p
+  -- what was met is marked
+  pub met : (p : ℕ) → IsMet c k p → IsMarkedAt c.trail marks p
+  -- the premises are the clash and the reasons of what was replaced
+  pub used : (s : StepId) → IsPassed c k s → Contains premises s
+  pub no_others : (s : StepId) → Contains premises s → IsPassed c k s
+
+-- An analysis has come down to a place.
+pub record HasCome (c : Conflict) (n k : ℕ) (a : Sorting) (premises : List StepId) : Type 0 where
+  -- what it has met
+  pub reached : HasMet c k a.marks premises
+  -- that is sorted
+  pub sorted : Sorts c.trail n k a
+
+-- so it is with an analysis
+abbrev pub HasComeTo : Conflict → ℕ → ℕ → Analysis → Type 0
+HasComeTo c n k a = HasCome c n k (sorting_of a.seen) a.premises.items
+
+-- it has come to the point
+abbrev pub HasPassed : Conflict → ℕ → Analysis → Type 0
+HasPassed c n a = HasComeTo c n a.at a × IsPoint c n a.at
+
+-- The literal is the newest before a place whose variable is marked.
+pub record IsNewest (v : TrailView) (marks : List Bool) (k : ℕ) (l : Lit) : Type 0 where
   -- its place
   pub place : ℕ
-  pub within : place < length v.literals
+  pub before : place < k
   -- it stands there
   pub there : get_or v.literals place no_lit ≡ l
   -- it is marked
   pub is_marked : IsMarkedAt v marks place
-  -- it is of the level
-  pub of_level : get_or v.levels place 0 ≡ n
-  -- and each marked one of the level is no earlier
-  pub first : (p : ℕ) → p < place → IsMarkedAt v marks p → get_or v.levels p 0 ≢ n
+  -- and no later one is
+  pub newest : (p : ℕ) → place < p → p < k → IsMarkedAt v marks p → ⊥
 
--- no marked literal before a place is of the level
-abbrev pub HasNone : TrailView → List Bool → ℕ → ℕ → Type 0
-HasNone v marks n k = (p : ℕ) → p < k → IsMarkedAt v marks p → get_or v.levels p 0 ≢ n
+-- The literals of level 0 were dropped down to a place, where literals from another place on were replaced.
+pub record AreDropped (c : Conflict) (from k : ℕ) (marks : List Bool) (premises : List StepId) : Type 0 where
+  -- what was used on the way to the point is among the premises
+  pub used : (s : StepId) → IsPassed c from s → Contains premises s
+  -- which are all used
+  pub no_others : (s : StepId) → Contains premises s → IsUsed c from s
+  -- what is left of level 0 is marked
+  pub begun : (p : ℕ) → p < from → IsMet c from p → level_at c p ≡ 0 → IsMarkedAt c.trail marks p
+  -- what is marked of level 0 is dropped
+  pub marked : (p : ℕ) → p < length c.trail.literals → IsMarkedAt c.trail marks p → level_at c p ≡ 0 → IsDropped c from p
+  -- of what is marked from the place on the reason is among the premises
+  pub has_reason : (p r : ℕ) → k ≤ p → p < length c.trail.literals → IsMarkedAt c.trail marks p → level_at c p ≡ 0 → get_or c.trail.reasons p None ≡ Some r → Contains premises (step_of r)
+  -- and its literals are marked
+  pub reason_marked : (p r q : ℕ) → k ≤ p → p < length c.trail.literals → IsMarkedAt c.trail marks p → level_at c p ≡ 0 → get_or c.trail.reasons p None ≡ Some r
+      → Falsifies c q (step_of r) → IsMarkedAt c.trail marks q
 
--- From which marks a clause is drawn, for which level, and its literal of that level.
-pub record Source : Type 0 where
-  -- the literals that hold
-  pub trail : TrailView
-  -- the marked variables
-  pub marks : List Bool
-  -- the level
-  pub level : ℕ
-  -- the literal of the level
-  pub one : Lit
+-- The greatest level of a clause's literals that are not of a level, or 0 where there are none.
+pub record IsBack (v : TrailView) (n : ℕ) (clause : List Lit) (back : ℕ) : Type 0 where
+  -- none is false only since a greater one
+  pub bounded : (m : Lit) (k : ℕ) → Contains clause m → IsFalseAt v m k → k ≢ n → k ≤ back
+  -- and one is false since this one
+  pub reached : (back ≡ 0) ⊎ ((m : Lit) × Contains clause m × IsFalseAt v m back × (back ≢ n))
 
--- A literal is the complement of a marked one of a level above 0, at most the second number and below the source's.
-pub record IsBelow (s : Source) (level : ℕ) (m : Lit) : Type 0 where
-  -- the place of its complement
-  pub place : ℕ
-  pub within : place < length s.trail.literals
-  pub there : get_or s.trail.literals place no_lit ≡ lit_complement m
-  -- it is marked
-  pub is_marked : IsMarkedAt s.trail s.marks place
-  -- and of such a level
-  pub above_zero : 0 < get_or s.trail.levels place 0
-  pub below : get_or s.trail.levels place 0 < s.level
-  pub bounded : get_or s.trail.levels place 0 ≤ level
-
--- A clause is drawn from the places from one on.
-pub record DrawsAt (s : Source) (k : ℕ) (clause : List Lit) (level : ℕ) : Type 0 where
-  -- it has the literal of the level
-  pub has_one : Contains clause s.one
-  -- the others are complements of marked literals of lower levels
-  pub others : (m : Lit) → Contains clause m → m ≢ s.one → IsBelow s level m
-  -- the marked decisions of these are negated in it
-  pub decisions : (p : ℕ) → k ≤ p → p < length s.trail.literals → IsMarkedAt s.trail s.marks p → get_or s.trail.reasons p None ≡ None
-      → get_or s.trail.levels p 0 < s.level → Contains clause (lit_complement (get_or s.trail.literals p no_lit))
-  -- one of the others is of the greatest level, where there are any
-  pub reached : (level ≡ 0) ⊎ ((m : Lit) × Contains clause m × (m ≢ s.one) × IsFalseAt s.trail m level)
-
--- so it is with what was drawn
-abbrev pub HasDrawn : Source → ℕ → Drawn → Type 0
-HasDrawn s k d = DrawsAt s k d.literals.items d.level
+-- what was found is the clause of the point, with the level to go back to
+abbrev pub HasFound : Conflict → ℕ → Found → Type 0
+HasFound c n f = IsUip c n f.clause.items f.premises.items × IsBack c.trail n f.clause.items f.back
 
 -- A literal's term is a formula of the table's and no negation.
 pub record IsBare (t : TableView) (l : Lit) : Type 0 where

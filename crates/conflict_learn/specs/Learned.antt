@@ -10,6 +10,7 @@ use Rattle.proof_log.specs.declared.premises.StepId.{StepId}
 use Rattle.proof_log.specs.Logs.{Logged, stepped, IsLogOf}
 use Rattle.sat_trail.specs.Trails.{TrailView}
 use Rattle.conflict_learn.specs.Conflicts.{Conflict, IsFalseAt, IsConflictLevel, IsPremise}
+use Rattle.conflict_learn.specs.Points.{IsUip}
 use Rattle.conflict_learn.specs.declared.learned.Learned.{Learned}
 
 -- A step by resolution that states a clause is the log's last; its premises are the clash and reasons of literals on which that rests.
@@ -53,6 +54,8 @@ pub record IsLearned (c : Conflict) (t : TableView) (new : List Logged) (d : Lea
   pub one : HasOneAt c.trail d.clause level d.level
   -- its step is logged
   pub logged : IsLogged c t new d.clause d.step
+  -- it is that of the first unique implication point, and the step's premises are those used on the way there
+  pub uip : IsUip c level d.clause logged.premises
 
 -- the clause without literals is derived, or nothing is changed
 abbrev pub Refutes : Conflict → Result StepId NoMemory → List Logged → Type 0

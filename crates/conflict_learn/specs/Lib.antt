@@ -1,4 +1,7 @@
 -- What a clash and its reasons are, what a conflict rests on, and what is learned from it.
 pub mod Conflicts
+pub mod Points
+pub mod Rows
+pub mod FixedRows
 pub mod Learned
 pub mod Analyses

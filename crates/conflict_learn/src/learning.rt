@@ -6,13 +6,12 @@ ghost use Rattle.proof_log.specs.Logs.{IsLogOf};
 ghost use Rattle.conflict_learn.specs.Conflicts.{IsClash, AreReasons, IsAboveZero, IsOfZero};
 ghost use Rattle.conflict_learn.specs.Learned.{IsLearned, Refutes};
 
-use crate::analysis::analyze;
-use crate::decisions::{draw, oldest_of};
+use crate::dropping::{drop_fixed, find};
 use crate::learned::Learned;
 use crate::level::conflict_level;
 use crate::lits::Lits;
+use crate::marks::mark;
 use crate::stated::{log_step, terms_of};
-use clause_literals::negated;
 use proof_log::laws::logs_stand_in_grown_tables;
 use proof_log::{ProofLog, StepId};
 use sat_trail::SatTrail;
@@ -20,14 +19,22 @@ use std::alloc::Global;
 use term_core::TermTable;
 use world_io::NoMemory;
 
-/// Learns a clause from a conflict, and logs it as a step by `resolution` from the false clause and the reasons that it rests on.
+/// Learns the clause of a conflict's first unique implication point, and logs it as a step by `resolution`.
+///
+/// One begins with the false clause. While two or more of the literals are false only since the conflict's level, the one that became
+/// so last is replaced by the others of the reason for its complement. Those false since level 0 are dropped. The step's premises are
+/// exactly the false clause, the reasons that were used so, and those on which the dropped literals rest. The clause's literals stand
+/// in no special order.
+///
+/// It takes time in proportion to the trail from its end to the point, and to the clauses used; where literals are dropped, to the
+/// literals of level 0 too. Each call takes a mark for each variable.
 ///
 /// Three conditions: the clause of the step `clash` is false under the trail; one of its literals is so only since a level above 0;
 /// and each reason of the trail is a step of the log that has the implied literal and whose other literals are false by earlier
 /// literals of the trail. Negations that the clause needs come into the table.
 ///
 /// `NoMemory` comes where a list, a term or the step finds no memory; then table and log are as they were.
-/// Source: Marques Silva and Sakallah 1999, the analysis of conflicts.
+/// Source: Zhang, Madigan, Moskewicz and Malik, ICCAD 2001, the scheme 1UIP.
 pub fn learn(
     alloc: Global,
     table: &mut TermTable,
@@ -75,20 +82,16 @@ fn learned(
     ensures log { OnErr result (log.new ≡ log.old) }
 {
     trail.is_sound();
-    table.ids_are_unique();
+    table.terms_are_closed();
     logs_stand_in_grown_tables();
     let level = conflict_level(table, trail, log, clash);
-    let analysis = analyze(alloc, table, trail, log, clash)?;
-    let Some(oldest) = oldest_of(trail, &analysis.marks, level) else {
-        unreachable!()
-    };
-    let drawn = draw(alloc, trail, &analysis.marks, level, negated(oldest))?;
-    let terms = terms_of(alloc, table, &drawn.literals)?;
-    let step = log_step(alloc, table, log, analysis.premises, terms)?;
+    let found = find(alloc, table, trail, log, level, clash)?;
+    let terms = terms_of(alloc, table, &found.clause)?;
+    let step = log_step(alloc, table, log, found.premises, terms)?;
     Ok(Learned {
-        clause: Lits::from(drawn.literals),
+        clause: Lits::from(found.clause),
         step,
-        level: drawn.level,
+        level: found.back,
     })
 }
 
@@ -115,6 +118,12 @@ pub fn refute(
     ensures { Refutes (record { table = table.now; log = log.old; trail = trail.now; clash = clash }) result log.new }
 {
     trail.is_sound();
-    let analysis = analyze(alloc, table, trail, log, clash)?;
-    log_step(alloc, table, log, analysis.premises, Vec::new(alloc))
+    table.ids_are_unique();
+    table.terms_are_closed();
+    let mut marks = vec![in alloc; false; trail.vars() as usize]?;
+    let mut premises = Vec::new(alloc);
+    premises.push(clash)?;
+    mark(table, log.clause(clash), &mut marks);
+    drop_fixed(table, trail, log, &mut marks, &mut premises)?;
+    log_step(alloc, table, log, premises, Vec::new(alloc))
 }

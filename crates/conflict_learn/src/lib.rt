@@ -1,15 +1,17 @@
-//! Learning from conflicts: what a false clause rests on, and the clause that follows from it.
+//! Learning from conflicts: what a false clause rests on, and the clause of the first unique implication point.
 //!
-//! The analysis goes back over the trail to the decisions, and the clause is the negation of those on which the conflict rests.
+//! The analysis goes down the trail from its end to the point, and takes the reasons that it passes as premises.
 #![tactic(auto)]
 
 mod analysis;
-mod decisions;
+mod dropping;
+pub mod laws;
 mod learned;
 mod learning;
 mod level;
 mod lits;
 mod marks;
+mod meeting;
 mod stated;
 
 pub use learned::Learned;

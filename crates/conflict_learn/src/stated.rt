@@ -9,8 +9,7 @@ ghost use Rattle.proof_log.specs.Logs.{IsFormulaIn, AreFormulasIn, stepped, infe
 ghost use Rattle.proof_log.specs.Adding.{IsAdded};
 ghost use Rattle.conflict_learn.specs.Analyses.{IsBare, States, StateAll};
 
-use proof_log::{Clause, LogFault, Numbers, ProofLog, Rule, Step, StepId, StepIds};
-use spec_rules::laws::wide_steps_are_not_right;
+use proof_log::{Clause, Numbers, ProofLog, Rule, Step, StepId, StepIds};
 use std::alloc::Global;
 use term_core::{Head, Lit, Node, TermId, TermTable};
 use world_io::NoMemory;
@@ -75,17 +74,11 @@ pub(crate) fn log_step(
         (λ id. IsAdded table.now log.old (stepped Resolution premises.items [] clause.items) id log.new)
         (λ _. log.new ≡ log.old) }
 {
-    wide_steps_are_not_right();
     let step = Step {
         rule: Rule::Resolution,
         premises: StepIds::from(premises),
         arguments: Numbers::from(Vec::new(alloc)),
         clause: Clause::from(clause),
     };
-    match log.add(table, step) {
-        Ok(number) => Ok(number),
-        Err(LogFault::RuleFails) => unreachable!(),
-        Err(LogFault::Wide) => unreachable!(),
-        Err(LogFault::Memory) => Err(NoMemory),
-    }
+    log.add_right(table, step)
 }

@@ -1,43 +1,72 @@
--- That the conflict is followed back from the newest literal to the oldest.
-use Rattle.std.proofs.Common.{◌≡◌, ◌∙◌, ◌+◌, ◌-◌, ℕ, [], ◌∷◌, ◌++◌, Bool, false, List, length, replicate, sym, ap, subst, arith}
-use Rattle.std.proofs.lemmas.List.{length-replicate}
-use Rattle.spec_sorts.specs.Literals.{literals_of}
-use Rattle.term_core.specs.declared.ids.TermId.{TermId}
-use Rattle.term_core.specs.Tables.{clause_at}
-use Rattle.proof_log.specs.declared.premises.StepId.{StepId}
+-- That the analysis comes down to the point.
+use Rattle.std.proofs.Common.{◌≡◌, ◌∙◌, ◌+◌, ◌-◌, ℕ, sym, subst, inl, inr, arith}
+use Rattle.std.proofs.lemmas.Bool.{cases_lt}
 use Rattle.conflict_learn.specs.Conflicts.{Conflict}
-use Rattle.conflict_learn.specs.Analyses.{IsMarked, Marks, RestsAt, HasFound}
-use Rattle.conflict_learn.proofs.Following.{begins, unmarked}
+use Rattle.conflict_learn.specs.Points.{HasTwo}
+use Rattle.conflict_learn.specs.Analyses.{HasComeTo, sorting_of}
+use Rattle.conflict_learn.proofs.Sorting.{count_le}
+use Rattle.conflict_learn.proofs.Following.{has_two, has_no_two, of_level}
 use Rattle.conflict_learn.proofs.analysis.analyze.Goals as goal
 
 pub places-init : goal.places-init
 places-init c =
-    let t = c.args.table.now in
     let v = c.args.trail.now in
-    let x : Conflict = record { table = t; log = c.args.log.now; trail = v; clash = c.args.clash } in
-    let none = c.in_ok-marks.marks.items in
-    let marks = c.mark.new.marks.items in
-    let is : none ≡ replicate c.vars.result false = c.in_ok-marks.ensures.items_if_clones_equal (λ y same. same) in
-    let empty : (n : ℕ) → IsMarked none n → ⊥ = λ n m. unmarked c.vars.result n (subst (λ (ms : List Bool). IsMarked ms n) is m) in
-    let more = subst (λ (ids : List TermId). Marks t (literals_of (clause_at t ids)) none marks) c.clause.ensures c.mark.ensures in
-    let h = begins x c.is_sound.ensures.once c.requires.clash none marks empty more in
-    let first = c.in_ok-push.ensures.items ∙ ap (λ (ps : List StepId). ps ++ c.args.clash ∷ []) c.new-premises.ensures.items in
+    let x : Conflict = record { table = c.args.table.now; log = c.args.log.now; trail = v; clash = c.args.clash } in
+    let a = c.in_ok-analysis.analysis in
+    let come = subst (λ (k : ℕ). HasComeTo x c.args.level k a) (c.in_ok-analysis.ensures.begun.0 ∙ sym c.len-at.ensures) c.in_ok-analysis.ensures.begun.1 in
     record {
-      size = c.mark.ensures.size ∙ ap length is ∙ length-replicate c.vars.result false ∙ c.vars.ensures;
-      found = subst (λ (k : ℕ). RestsAt x k marks c.push.new.self.items) (sym c.len-at.ensures) (subst (λ (ps : List StepId). RestsAt x (length v.literals) marks ps) (sym first) h);
+      there = omega (arith, c.len-at.ensures);
+      size = c.in_ok-analysis.ensures.size;
+      come = come;
+      above = λ k lt le. absurd (omega (arith, lt, le, c.len-at.ensures));
+      few = omega (arith, come.sorted.counted, count_le v c.args.level a.seen.marks.items c.len-at.result);
     }
+
+pub pass-requires-clause-of_level : goal.pass-requires-clause-of_level
+pass-requires-clause-of_level c m =
+    let x : Conflict = record { table = c.args.table.now; log = c.args.log.now; trail = c.args.trail.now; clash = c.args.clash } in
+    let a = sorting_of c.places.analysis.seen in
+    let ps = c.places.analysis.premises.items in
+    let once = c.is_sound.ensures.once in
+    let leveled = c.is_sound.ensures.leveled in
+    let r = c.places.invariant.come in
+    let two = has_two x once c.ids_are_unique.ensures leveled c.requires.clash c.requires.reasons c.args.level c.places.at a ps r c.places-test.true in
+    of_level x once c.ids_are_unique.ensures leveled c.requires.clash c.requires.reasons c.args.level c.places.at a ps r c.requires.level two.one (c.places.at - 1)
+    (omega (arith, two.apart, two.before)) (omega (arith, two.before, c.places.invariant.there)) two.one_level m
 
 pub places-preserved : goal.places-preserved
 places-preserved c =
-    let x : Conflict = record { table = c.args.table.now; log = c.args.log.now; trail = c.args.trail.now; clash = c.args.clash } in
-    let next : c.places.at ≡ (c.places.at - 1) + 1 = omega (arith, c.places-test.true) in
+    let v = c.args.trail.now in
+    let x : Conflict = record { table = c.args.table.now; log = c.args.log.now; trail = v; clash = c.args.clash } in
+    let a = sorting_of c.places.analysis.seen in
+    let ps = c.places.analysis.premises.items in
+    let n = c.args.level in
+    let less = c.places.at - 1 in
+    let next : c.places.at ≡ less + 1 = omega (arith, c.places-test.true, c.places.invariant.few) in
+    let r = c.places.invariant.come in
+    let two = has_two x c.is_sound.ensures.once c.ids_are_unique.ensures c.is_sound.ensures.leveled c.requires.clash c.requires.reasons n c.places.at a ps r c.places-test.true in
+    let come = c.in_ok-pass.ensures.passed c.args.clash c.requires.clash (subst (λ (k : ℕ). HasComeTo x n k c.places.analysis) next r) in
     record {
-      size = c.follow.ensures.size;
-      found = c.in_ok-follow.ensures.found c.args.clash (subst (λ (k : ℕ). HasFound x k c.places.analysis) next c.places.invariant.found);
+      there = omega (arith, c.places.invariant.there);
+      size = c.pass.ensures.size;
+      come = come;
+      above = λ k lt le. elim (cases_lt c.places.at k) [
+        | inl more ↦ c.places.invariant.above k more le
+        | inr ge ↦ let is : k ≡ c.places.at = omega (arith, lt, ge, next) in subst (HasTwo x n) (sym is) two
+      ];
+      few = omega (arith, come.sorted.counted, count_le v n c.pass.new.analysis.seen.marks.items less);
     }
 
-pub returns-clause-found : goal.returns-clause-found
-returns-clause-found c =
+pub returns-clause-passed : goal.returns-clause-passed
+returns-clause-passed c =
     let x : Conflict = record { table = c.args.table.now; log = c.args.log.now; trail = c.args.trail.now; clash = c.args.clash } in
-    let end : c.places.at ≡ 0 = omega (arith, c.places-test.false) in
-    subst (λ (k : ℕ). HasFound x k c.places.analysis) end c.places.invariant.found
+    let a = sorting_of c.places.analysis.seen in
+    let ps = c.places.analysis.premises.items in
+    let r = c.places.invariant.come in (
+      r,
+      record {
+        within = c.places.invariant.there;
+        above = c.places.invariant.above;
+        here = has_no_two x c.is_sound.ensures.once c.ids_are_unique.ensures c.is_sound.ensures.leveled c.requires.clash c.requires.reasons c.args.level c.places.at a ps r (omega (arith, c.places-test.false));
+      },
+    )

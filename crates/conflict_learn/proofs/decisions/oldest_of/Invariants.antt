@@ -1,6 +1,0 @@
--- None of the level is marked up to here.
-use Rattle.conflict_learn.specs.Analyses.{HasNone}
-use Rattle.conflict_learn.proofs.decisions.oldest_of.Given as goal
-
-abbrev pub invariant-loop-at : goal.invariant-loop-at
-invariant-loop-at l = HasNone l.trail l.marks l.level l.at
