@@ -1,0 +1,2 @@
+-- Lemmas on rows of variables.
+pub mod Rows
