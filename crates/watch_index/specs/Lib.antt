@@ -1,0 +1,2 @@
+-- Lists of numbers by the codes of literals.
+pub mod Indexes

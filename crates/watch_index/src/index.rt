@@ -1,0 +1,141 @@
+//! Numbers by literals.
+
+ghost use Rattle.std.specs.Prelude.{◌≡◌, ◌<◌, [], OnOk, OnErr, MatchOption, length, map, get_or, Contains};
+ghost use Rattle.watch_index.specs.Indexes.{code, list_of, below, IsPut, IsTakenOut, IsMoved, IsMovedOf};
+
+use crate::lists::{code_of, drop_all_from, place_of, put_at, take_out};
+use std::alloc::Global;
+use std::marker::Model;
+use term_core::Lit;
+use world_io::NoMemory;
+
+/// What the term of a literal must be below, to have a list.
+const MOST: u64 = 1 << 62;
+
+/// Gives the last place of a number in a list.
+fn last_of(list: &[u64], number: u64) -> Option<usize>
+    ensures { MatchOption result (Contains list.now number → ⊥)
+        (λ at. (at < length list.now) × (get_or list.now at 0 ≡ number)) }
+{
+    let mut at = list.len();
+    'entries: while at > 0 {
+        at -= 1;
+        if list[at] == number {
+            return Some(at);
+        }
+    }
+    None
+}
+
+/// Holds for each literal a list of numbers of clauses.
+///
+/// Contracts see the lists by the codes of literals: twice the number of the term, and one more for the term as it stands. Past
+/// the last one all lists are empty.
+#[derive(Drop)]
+pub struct WatchIndex {
+    alloc: Global,
+    all: Vec<Vec<u64>>,
+}
+
+impl Model for WatchIndex {
+    ghost use Rattle.std.specs.Prelude.{ℕ, List};
+
+    ghost Value = { List (List ℕ) };
+
+    ghost use Rattle.clause_literals.specs.Literals.{lists};
+
+    ghost view = { λ w. lists w.all.items };
+}
+
+impl WatchIndex {
+    /// Makes the index of no lists, which takes no memory before the first entry.
+    pub fn new(alloc: Global) -> WatchIndex
+        ensures { result ≡ [] }
+    {
+        WatchIndex {
+            alloc,
+            all: Vec::new(alloc),
+        }
+    }
+
+    /// Lends the list of a literal. It takes no memory.
+    pub fn list(&self, lit: Lit) -> &[u64]
+        ensures { result.now ≡ list_of self.now lit }
+    {
+        match place_of(&self.all, lit) {
+            Some(place) => self.all[place].as_slice(),
+            None => &[],
+        }
+    }
+
+    /// Puts a number last into the list of a literal.
+    ///
+    /// `NoMemory` comes where the list, or the lists before it, find no memory; then the index is as it was.
+    pub fn add(&mut self, lit: Lit, clause: u64) -> Result<(), NoMemory>
+        ensures ok { OnOk result (IsPut self.old (code lit) clause self.new) }
+        ensures err { OnErr result (self.new ≡ self.old) }
+    {
+        if lit.term.0 >= MOST {
+            return Err(NoMemory);
+        }
+        let len = self.all.len();
+        match put_at(&mut self.all, self.alloc, code_of(lit), clause) {
+            Ok(()) => Ok(()),
+            Err(NoMemory) => {
+                self.all.truncate(len);
+                Err(NoMemory)
+            }
+        }
+    }
+
+    /// Takes the entry at a place out of a literal's list; the last one stands there then. It takes no memory.
+    pub fn take_out(&mut self, from: Lit, at: usize)
+        requires { at < length (list_of self.old from) }
+        ensures { IsTakenOut self.old (code from) at self.new }
+    {
+        match place_of(&self.all, from) {
+            Some(place) => take_out(&mut self.all, place, at),
+            None => {}
+        }
+    }
+
+    /// Moves the entry at a place of one literal's list to the end of another's. The last entry of the one stands there then.
+    ///
+    /// `NoMemory` comes where the other list finds no memory; then the index is as it was.
+    pub fn move_at(&mut self, from: Lit, at: usize, to: Lit) -> Result<(), NoMemory>
+        requires { at < length (list_of self.old from) }
+        ensures ok { OnOk result (IsMoved self.old from at to self.new) }
+        ensures err { OnErr result (self.new ≡ self.old) }
+    {
+        let number = self.list(from)[at];
+        match self.add(to, number) {
+            Ok(()) => {
+                self.take_out(from, at);
+                Ok(())
+            }
+            Err(NoMemory) => Err(NoMemory),
+        }
+    }
+
+    /// Moves the last entry of a number in one literal's list to the end of another's. It takes time in proportion to how many
+    /// entries come after it.
+    ///
+    /// `NoMemory` comes where the other list finds no memory; then the index is as it was.
+    pub fn move_to(&mut self, from: Lit, to: Lit, clause: u64) -> Result<(), NoMemory>
+        requires { Contains (list_of self.old from) clause }
+        ensures ok { OnOk result (IsMovedOf self.old from clause to self.new) }
+        ensures err { OnErr result (self.new ≡ self.old) }
+    {
+        match last_of(self.list(from), clause) {
+            Some(at) => self.move_at(from, at, to),
+            None => Ok(()),
+        }
+    }
+
+    /// Takes out all entries of a number and of those above it, and keeps the order of the others. It takes no memory.
+    pub fn drop_above(&mut self, clause: u64)
+        ensures { self.new ≡ map (below clause) self.old }
+    {
+        drop_all_from(&mut self.all, clause);
+    }
+}

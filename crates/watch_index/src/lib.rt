@@ -1,0 +1,13 @@
+//! For each literal the numbers of the clauses that watch it.
+//!
+//! The lists stand in one array by the literals' codes, two for each term. An entry is taken out by its place: the last one
+//! stands there then.
+#![tactic(auto)]
+
+mod index;
+mod lists;
+#[cfg(test)]
+mod tests;
+
+pub use index::WatchIndex;
+pub use term_core::{Lit, TermId};
