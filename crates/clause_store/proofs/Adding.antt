@@ -1,15 +1,15 @@
 -- What propagation adds to a trail, literal by literal.
-use Rattle.std.proofs.Common.{◌≡◌, ℕ, ◌+◌, ◌-◌, ◌<◌, List, [], ◌∷◌, ◌++◌, length, get_or, take, map, Contains, Option, Some, None, inl, inr, refl, sym, ap, ◌∙◌, subst, arith, zero, suc}
+use Rattle.std.proofs.Common.{◌≡◌, ◌≢◌, ℕ, ◌+◌, ◌-◌, ◌<◌, ◌≤◌, List, [], ◌∷◌, ◌++◌, length, get_or, take, map, Contains, Option, Some, None, inl, inr, refl, sym, ap, ◌∙◌, subst, arith, zero, suc}
 use Rattle.std.proofs.lemmas.Bool.{cases_lt}
 use Rattle.std.proofs.lemmas.List.{length-append, append-nil, append_assoc, map-append, get_or_append_left, get_or-append-add, take-append-le}
+use Rattle.std.proofs.lemmas.List.Elements.{Contains-append_left}
 use Rattle.std.proofs.Math.Seq.{take-append-add}
 use Rattle.term_core.specs.declared.ids.Lit.{Lit}
 use Rattle.clause_literals.specs.Literals.{lit_complement}
-use Rattle.clause_literals.specs.Statuses.{IsUnit}
 use Rattle.proof_log.specs.declared.premises.StepId.{StepId}
 use Rattle.sat_trail.specs.Trails.{TrailView, no_lit, IsPushed}
 use Rattle.clause_store.specs.Stores.{StoreView, no_step}
-use Rattle.clause_store.specs.Propagating.{IsImplied, Adds}
+use Rattle.clause_store.specs.Propagating.{IsImplied, Adds, Advances}
 
 -- nothing is added
 pub adds_none : (s : StoreView) (t : TrailView) → Adds s t t
@@ -66,9 +66,10 @@ module _ (s : StoreView) (a b c : TrailView) (one : Adds s a b) (two : Adds s b 
     vars = two.vars ∙ one.vars;
   }
 
--- a unit clause implies its literal
-pub adds_one : (s : StoreView) (a b : TrailView) (n : ℕ) (l : Lit) (step : StepId) → n < length s.clauses → IsUnit a.literals (get_or s.clauses n []) l → step ≡ get_or s.steps n no_step → IsPushed a l (Some step.0) a.level b → Adds s a b
-adds_one s a b n l step lt u e p = record {
+-- a clause all but one of whose literals are false implies this one
+pub adds_one : (s : StoreView) (a b : TrailView) (n : ℕ) (l : Lit) (step : StepId) → n < length s.clauses → Contains (get_or s.clauses n []) l → ((m : Lit) → Contains (get_or s.clauses n []) m → m ≢ l → Contains a.literals (lit_complement m))
+    → step ≡ get_or s.steps n no_step → IsPushed a l (Some step.0) a.level b → Adds s a b
+adds_one s a b n l step lt there others e p = record {
   more = l ∷ [];
   why = Some step.0 ∷ [];
   literals = p.literals;
@@ -85,10 +86,49 @@ adds_one s a b n l step lt u e p = record {
       number = n;
       there = lt;
       reason_is = ap (λ (x : StepId). Some x.0) e;
-      has_it = u.there;
-      others_false = λ m c d. subst (λ (xs : List Lit). Contains xs (lit_complement m)) (sym (append-nil a.literals)) (u.others_false m c d);
+      has_it = there;
+      others_false = λ m c d. subst (λ (xs : List Lit). Contains xs (lit_complement m)) (sym (append-nil a.literals)) (others m c d);
     }
 
     one : (k : ℕ) → k < 1 → IsImplied s (a.literals ++ take k (l ∷ [])) (get_or (l ∷ []) k no_lit) (get_or (Some step.0 ∷ []) k None)
     one zero lt = first
     one (suc k) lt = absurd (omega (arith, lt))
+
+-- ---- and marks none
+
+pub advances_none : (s : StoreView) (t : TrailView) → Advances s t t
+advances_none s t = (adds_none s t, refl)
+
+pub advances_on : (s : StoreView) (a b c : TrailView) → Advances s a b → Advances s b c → Advances s a c
+advances_on s a b c one two = (adds_on s a b c one.0 two.0, two.1 ∙ one.1)
+
+-- what held holds
+pub holds_on : (s : StoreView) (a b : TrailView) → Adds s a b → (l : Lit) → Contains a.literals l → Contains b.literals l
+holds_on s a b g l x = subst (λ (xs : List Lit). Contains xs l) (sym g.literals) (Contains-append_left a.literals g.more l x)
+
+-- a front that was there is the same
+pub same_front : (s : StoreView) (a b : TrailView) (n : ℕ) → Adds s a b → n ≤ length a.literals → take n b.literals ≡ take n a.literals
+same_front s a b n g le = ap (take n) g.literals ∙ take-append-le n a.literals g.more le
+
+-- clauses and steps alone tell what is implied
+pub adds_same : (s t : StoreView) (a b : TrailView) → t.clauses ≡ s.clauses → t.steps ≡ s.steps → Adds t a b → Adds s a b
+adds_same s t a b ec es g = record {
+  more = g.more;
+  why = g.why;
+  literals = g.literals;
+  reasons = g.reasons;
+  paired = g.paired;
+  levels = g.levels;
+  level = g.level;
+  implied = λ k lt. go (g.implied k lt);
+  vars = g.vars;
+}
+  where
+    go : {held : List Lit} {l : Lit} {r : Option ℕ} → IsImplied t held l r → IsImplied s held l r
+    go {held} {l} {r} i = record {
+      number = i.number;
+      there = omega (arith, i.there, ap length ec);
+      reason_is = i.reason_is ∙ ap (λ (xs : List StepId). Some (get_or xs i.number no_step).0) es;
+      has_it = subst (λ (cs : List (List Lit)). Contains (get_or cs i.number []) l) ec i.has_it;
+      others_false = subst (λ (cs : List (List Lit)). (m : Lit) → Contains (get_or cs i.number []) m → m ≢ l → Contains held (lit_complement m)) ec i.others_false;
+    }

@@ -1,4 +1,15 @@
 pub mod Adding
-pub mod Passing
 pub mod Seen
 pub mod Reasons
+pub mod Values
+pub mod Stored
+pub mod Indexing
+pub mod Resting
+pub mod Looking
+pub mod Walking
+pub mod Working
+pub mod Watches
+pub mod Atwork
+pub mod Settling
+pub mod Entering
+pub mod Again

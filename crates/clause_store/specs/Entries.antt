@@ -13,6 +13,6 @@ clauses_of es = map (λ e. e.literals.items) es
 abbrev pub steps_of : List Entry → List StepId
 steps_of es = map (λ e. e.step) es
 
--- the store of entries, which relies on nothing that was seen
-abbrev pub store_of : List Entry → StoreView
-store_of es = record { clauses = clauses_of es; steps = steps_of es; seen = [] }
+-- the store of entries, which relies on nothing that was seen and watches nothing
+abbrev pub bare : List Entry → StoreView
+bare es = record { clauses = clauses_of es; steps = steps_of es; seen = []; pairs = [] }

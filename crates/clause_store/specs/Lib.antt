@@ -1,5 +1,6 @@
--- What a store holds, what propagation does to a trail, and what a pass over all clauses comes to.
+-- What a store holds, what propagation does to a trail, and how clauses are watched and rest.
 pub mod Stores
 pub mod Entries
 pub mod Propagating
-pub mod Scanning
+pub mod Watching
+pub mod Resting

@@ -42,6 +42,10 @@ pub record Adds (s : StoreView) (old new : TrailView) : Type 0 where
   -- there are as many variables
   pub vars : new.vars ≡ old.vars
 
+-- literals are implied, and none is marked as propagated
+abbrev pub Advances : StoreView → TrailView → TrailView → Type 0
+Advances s old new = Adds s old new × (new.propagated ≡ old.propagated)
+
 -- Each reason along the trail is that of a clause whose others are false by earlier literals.
 pub record AreImplied (s : StoreView) (t : TrailView) : Type 0 where
   -- each literal has a reason or none

@@ -4,7 +4,6 @@ ghost use Rattle.std.specs.Prelude.{IfOk};
 ghost use Rattle.clause_store.specs.Stores.{AreKnown, HasSeen, HasSameClauses};
 ghost use Rattle.clause_store.specs.Propagating.{Adds, Ends};
 
-use crate::scan::{Pass, pass_over};
 use crate::store::ClauseStore;
 use proof_log::StepId;
 use sat_trail::SatTrail;
@@ -36,13 +35,9 @@ impl ClauseStore {
         ensures adds { Adds self.old trail.old trail.new }
         ensures ends { IfOk result (Ends self.old trail.new.literals) }
     {
-        trail.is_sound();
-        'passes: loop {
-            match pass_over(self, trail) {
-                Pass::Clash(step) => return Ok(Propagation::Clash(step)),
-                Pass::Added => trail.is_sound(),
-                Pass::Same => return Ok(Propagation::Quiet),
-            }
+        match self.parts.propagate(trail)? {
+            Some(n) => Ok(Propagation::Clash(self.step(n))),
+            None => Ok(Propagation::Quiet),
         }
     }
 }

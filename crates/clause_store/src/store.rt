@@ -1,25 +1,29 @@
 //! Clauses by their literals, each with the step that derives it.
 
-ghost use Rattle.std.specs.Prelude.{◌≡◌, ◌<◌, [], length, get_or, MatchResult};
+ghost use Rattle.std.specs.Prelude.{◌≡◌, ◌≢◌, ◌<◌, [], ℕ, length, get_or, Contains, MatchResult};
+ghost use Rattle.term_core.specs.declared.ids.Lit.{Lit as Literal};
 ghost use Rattle.proof_log.specs.Logs.{IsLogOf};
-ghost use Rattle.clause_store.specs.Stores.{StoreView, empty, no_step, IsAdded};
+ghost use Rattle.clause_store.specs.Stores.{StoreView, empty, no_step, no_pair, IsAdded, IsWatchedTwice, AreWatchedBy};
 
 use crate::entry::Entry;
+use crate::parts::Parts;
+use crate::watched::Watched;
 use clause_literals::literals_of;
 use proof_log::{ProofLog, StepId};
 use std::alloc::Global;
 use std::marker::Model;
 use term_core::{Lit, TermTable};
+use watch_index::WatchIndex;
 use world_io::NoMemory;
 
 /// Holds clauses by their literals, and of each the step that derives it, oldest first.
 ///
-/// Contracts see the lists of clauses and of steps. Literals are those of the table and steps those of the log that each call was
-/// given.
+/// Contracts see the lists of clauses and of steps, what was seen of a trail, and the two literals of each clause that watch it.
+/// Literals are those of the table and steps those of the log that each call was given.
 #[derive(Drop)]
 pub struct ClauseStore {
     alloc: Global,
-    entries: Vec<Entry>,
+    pub(crate) parts: Parts,
 }
 
 impl Model for ClauseStore {
@@ -27,9 +31,11 @@ impl Model for ClauseStore {
 
     ghost Value = { StoreView };
 
-    ghost use Rattle.clause_store.specs.Entries.{store_of};
+    ghost use Rattle.clause_store.specs.Resting.{store_of, IsKept};
 
-    ghost view = { λ s. store_of s.entries.items };
+    ghost view = { λ s. store_of s.parts };
+
+    ghost invariant = { λ s. IsKept s.parts };
 }
 
 impl ClauseStore {
@@ -39,7 +45,18 @@ impl ClauseStore {
     {
         ClauseStore {
             alloc,
-            entries: Vec::new(alloc),
+            parts: Parts {
+                watched: Watched {
+                    entries: Vec::new(alloc),
+                    pairs: Vec::new(alloc),
+                    index: WatchIndex::new(alloc),
+                    starts: Vec::new(alloc),
+                },
+                settled: 0,
+                short: Vec::new(alloc),
+                seen: Vec::new(alloc),
+                rests: Vec::new(alloc),
+            },
         }
     }
 
@@ -47,7 +64,7 @@ impl ClauseStore {
     pub fn len(&self) -> usize
         ensures { result ≡ length self.now.clauses }
     {
-        self.entries.len()
+        self.parts.watched.entries.len()
     }
 
     /// Lends the literals of a clause by its place, from 0 for the oldest. It takes no memory.
@@ -55,7 +72,7 @@ impl ClauseStore {
         requires { n < length self.now.clauses }
         ensures { result.now ≡ get_or self.now.clauses n [] }
     {
-        self.entries[n].literals.as_slice()
+        self.parts.watched.entries[n].literals.as_slice()
     }
 
     /// Gives the step of a clause by its place, from 0 for the oldest. It takes no memory.
@@ -63,7 +80,7 @@ impl ClauseStore {
         requires { n < length self.now.clauses }
         ensures { result ≡ get_or self.now.steps n no_step }
     {
-        self.entries[n].step
+        self.parts.watched.entries[n].step
     }
 
     /// Puts the clause of a step of the log last, by the literals of its terms.
@@ -76,14 +93,32 @@ impl ClauseStore {
             (λ _. self.new ≡ self.old) }
     {
         let literals = literals_of(self.alloc, table, log.clause(step))?;
-        self.entries.push(Entry { literals, step })?;
-        Ok(())
+        match self.parts.watched.add(Entry { literals, step }) {
+            Ok(()) => Ok(()),
+            Err(NoMemory) => Err(NoMemory),
+        }
+    }
+
+    /// Lends the numbers of the clauses that a literal watches. It takes no memory.
+    pub fn watches(&self, lit: Lit) -> &[u64]
+        ensures { AreWatchedBy self.now lit result.now }
+    {
+        self.parts.watched.index.list(lit)
+    }
+
+    /// States that two of its literals watch each clause that has two different ones.
+    pub fn are_watched_twice(&self)
+        ensures { (n : ℕ) (l m : Literal) → n < length self.now.clauses → Contains (get_or self.now.clauses n []) l
+            → Contains (get_or self.now.clauses n []) m → l ≢ m
+            → IsWatchedTwice (get_or self.now.clauses n []) (get_or self.now.pairs n no_pair) }
+    {
+        let _ = &self.parts;
     }
 
     /// States that each clause has a step.
     pub fn steps_are_paired(&self)
         ensures { length self.now.steps ≡ length self.now.clauses }
     {
-        let _ = &self.entries;
+        let _ = &self.parts;
     }
 }

@@ -1,14 +1,15 @@
--- That the passes end where nothing more follows.
-use Rattle.std.proofs.Common.{refl}
-use Rattle.clause_store.proofs.Adding.{adds_none}
-use Rattle.clause_store.proofs.Passing.{advances_on}
+-- The parts' clauses and steps are the store's.
+use Rattle.std.proofs.Common.{ap}
+use Rattle.clause_store.specs.Stores.{StoreView}
+use Rattle.clause_store.specs.Entries.{bare}
+use Rattle.clause_store.proofs.Adding.{adds_same}
 use Rattle.clause_store.proofs.store.ClauseStore.propagate.Goals as goal
 
-pub passes-init : goal.passes-init
-passes-init c = record { adds = (adds_none c.args.self.now c.args.trail.now, refl); within = c.is_sound.ensures.within }
+pub returns-in_err-n-clause-adds : goal.returns-in_err-n-clause-adds
+returns-in_err-n-clause-adds c = adds_same c.args.self.now (bare c.self.inside.parts.watched.entries.items) c.args.trail.now c.propagate.new.trail (ap (λ (s : StoreView). s.clauses) c.self.view_is) (ap (λ (s : StoreView). s.steps) c.self.view_is) c.propagate.ensures.adds
 
-pub returns-in-Clash-clause-adds : goal.returns-in-Clash-clause-adds
-returns-in-Clash-clause-adds c = (advances_on _ _ _ _ c.passes.invariant.adds c.in-Clash.ensures.0).0
+pub returns-in-Some-clause-adds : goal.returns-in-Some-clause-adds
+returns-in-Some-clause-adds c = adds_same c.args.self.now (bare c.self.inside.parts.watched.entries.items) c.args.trail.now c.propagate.new.trail (ap (λ (s : StoreView). s.clauses) c.self.view_is) (ap (λ (s : StoreView). s.steps) c.self.view_is) c.propagate.ensures.adds
 
-pub passes-preserved : goal.passes-preserved
-passes-preserved c = record { adds = advances_on _ _ _ _ c.passes.invariant.adds c.in-Added.ensures.0; within = c.is_sound-in-Added.ensures.within }
+pub returns-in-None-clause-adds : goal.returns-in-None-clause-adds
+returns-in-None-clause-adds c = adds_same c.args.self.now (bare c.self.inside.parts.watched.entries.items) c.args.trail.now c.propagate.new.trail (ap (λ (s : StoreView). s.clauses) c.self.view_is) (ap (λ (s : StoreView). s.steps) c.self.view_is) c.propagate.ensures.adds

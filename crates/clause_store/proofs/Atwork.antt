@@ -1,0 +1,176 @@
+-- The parts in the midst of propagation, and before and after it.
+use Rattle.std.proofs.Common.{◌≡◌, ℕ, ◌+◌, ◌-◌, ◌<◌, ◌≤◌, List, [], length, get_or, take, All, Contains, inl, inr, refl, sym, ap, ◌∙◌, subst, arith}
+use Rattle.std.proofs.lemmas.Bool.{cases_lt}
+use Rattle.std.proofs.lemmas.List.{length-append}
+use Rattle.term_core.specs.declared.ids.Lit.{Lit}
+use Rattle.sat_trail.specs.Trails.{TrailView}
+use Rattle.clause_store.specs.declared.entry.Entry.{Entry}
+use Rattle.clause_store.specs.declared.pair.Pair.{Pair}
+use Rattle.clause_store.specs.declared.parts.Parts.{Parts}
+use Rattle.clause_store.specs.declared.watched.Watched.{Watched}
+use Rattle.clause_store.specs.Stores.{StoreView, HasSeen, no_pair}
+use Rattle.clause_store.specs.Entries.{clauses_of, bare}
+use Rattle.clause_store.specs.Propagating.{Adds, Advances, IsQuiet}
+use Rattle.clause_store.specs.Watching.{IsWatched, ArePairs, AreKnownIn, Rests, AreResting, IsWithin, IsFresh, Goes}
+use Rattle.clause_store.specs.Resting.{store_of, IsFrontOf, HaveRested, AreSettled, IsKept, IsAtWork, WorksOn, IsSameBut}
+use Rattle.clause_store.proofs.Adding.{adds_on, advances_none, advances_on, holds_on, same_front}
+use Rattle.clause_store.proofs.Resting.{front_within, quiet, resting_on}
+use Rattle.clause_store.proofs.Seen.{seen_more}
+use Rattle.clause_store.proofs.Stored.{clause_count}
+use Rattle.clause_store.proofs.Working.{front_had, rested_by, rested_front, rested_goes, rested_more, settled_on}
+
+-- after propagation that ended early the parts fit by what was seen
+pub kept_by : (p : Parts) (t : TrailView) → IsAtWork p t → IsKept p
+kept_by p t w = record {
+  watched = w.watched;
+  settled = w.settled;
+  rests = rested_by p.rests.items p.settled p.watched.pairs.items t.propagated t.propagated (length p.seen.items) t.literals p.seen.items w.seen.same w.seen.within w.rests.within w.rests;
+}
+
+-- before it they fit by the trail, where no front is longer than what is marked
+pub work_by : (p : Parts) (t : TrailView) → IsWatched p.watched → AreSettled (clauses_of p.watched.entries.items) p.watched.pairs.items p.settled p.short.items → AreKnownIn p.watched t.vars → HasSeen (store_of p) t
+    → ((r : ℕ) → Contains p.rests.items r → r ≤ t.propagated) → HaveRested p.rests.items p.settled p.watched.pairs.items (length p.seen.items) p.seen.items → IsAtWork p t
+work_by p t w s k seen within h = record {
+  watched = w;
+  settled = s;
+  rests = rested_by p.rests.items p.settled p.watched.pairs.items (length p.seen.items) t.propagated t.propagated p.seen.items t.literals (sym seen.same) (omega arith) within h;
+  known = k;
+  seen = seen;
+}
+
+-- nothing is done
+pub works_none : (p : Parts) (t : TrailView) → WorksOn p p t t
+works_none p t = record { advances = advances_none _ t; entries = refl; seen = refl; fronts = λ F w h. h }
+
+pub works_on : (p q r : Parts) (t u v : TrailView) → WorksOn p q t u → WorksOn q r u v → WorksOn p r t v
+works_on p q r t u v g h = record {
+  advances = advances_on _ t u v g.advances (subst (λ (es : List Entry). Advances (bare es) u v) g.entries h.advances);
+  entries = h.entries ∙ g.entries;
+  seen = h.seen ∙ g.seen;
+  fronts = λ F w x. h.fronts F (λ l i. holds_on _ t u g.advances.0 l (w l i)) (g.fronts F w x);
+}
+
+-- the first pairs rest by what holds now
+pub resting_goes : (es : List Entry) (count : ℕ) (old new : Watched) (t u : TrailView) → Goes (bare es) count old.pairs.items new.pairs.items t u → (F : List Lit) → IsWithin F t.literals → AreResting count old.pairs.items F t.literals → AreResting count new.pairs.items F u.literals
+resting_goes es count old new t u g F w h = resting_on count new.pairs.items F t.literals u.literals (holds_on (bare es) t u g.advances.0) (g.fronts F t.literals w (λ l i. i) h)
+
+-- with one pair more
+resting_more : (count : ℕ) (pairs : List Pair) (F held : List Lit) → AreResting count pairs F held → Rests F held (get_or pairs count no_pair) → AreResting (count + 1) pairs F held
+resting_more count pairs F held h one n lt = elim (cases_lt n count) [
+  | inl before ↦ h n before
+  | inr last ↦ let is : count ≡ n = omega (arith, last, lt) in subst (λ (k : ℕ). Rests F held (get_or pairs k no_pair)) is one
+]
+
+-- ---- a part of propagation, from parts at work
+
+module _ (p q : Parts) (t u : TrailView) (le : t.propagated ≤ length t.literals) (ok : IsWatched q.watched) (es : q.watched.entries.items ≡ p.watched.entries.items) (se : q.seen.items ≡ p.seen.items)
+    (g : Goes (bare p.watched.entries.items) p.settled p.watched.pairs.items q.watched.pairs.items t u) (h : IsAtWork p t) where
+  known_now : AreKnownIn q.watched u.vars
+  known_now = subst (λ (es : List Entry). All (All (λ (l : Lit). l.term.0 < u.vars)) (clauses_of es)) (sym es) (subst (λ (n : ℕ). All (All (λ (l : Lit). l.term.0 < n)) (clauses_of p.watched.entries.items)) (sym g.advances.0.vars) h.known)
+
+  seen_now : HasSeen (store_of q) u
+  seen_now =
+      let x = seen_more (store_of p) t u g.advances.0.more le h.seen g.advances.0.literals g.advances.1 in
+      record { within = omega (arith, x.within, ap length se); same = x.same ∙ ap (take u.propagated) (sym se) }
+
+  -- the pairs are those of the clauses
+  pairs_now : ArePairs (clauses_of p.watched.entries.items) q.watched.pairs.items
+  pairs_now = subst (λ (es : List Entry). ArePairs (clauses_of es) q.watched.pairs.items) es ok.pairs_by
+
+  pub settled_now : AreSettled (clauses_of p.watched.entries.items) q.watched.pairs.items p.settled p.short.items
+  settled_now = settled_on (clauses_of p.watched.entries.items) p.settled p.short.items p.watched.pairs.items q.watched.pairs.items g.shapes pairs_now h.settled
+
+  rested_now : HaveRested p.rests.items p.settled q.watched.pairs.items u.propagated u.literals
+  rested_now = rested_goes (bare p.watched.entries.items) p.rests.items p.settled p.watched.pairs.items q.watched.pairs.items t u le g h.rests
+
+  -- no more was looked at
+  pub work_goes : q.settled ≡ p.settled → q.short.items ≡ p.short.items → q.rests.items ≡ p.rests.items → IsAtWork q u
+  work_goes st sh re = record {
+    watched = ok;
+    settled = subst (λ (es : List Entry). AreSettled (clauses_of es) q.watched.pairs.items q.settled q.short.items) (sym es)
+        (subst (λ (n : ℕ). AreSettled (clauses_of p.watched.entries.items) q.watched.pairs.items n q.short.items) (sym st)
+        (subst (AreSettled (clauses_of p.watched.entries.items) q.watched.pairs.items p.settled) (sym sh) settled_now));
+    rests = subst (λ (n : ℕ). HaveRested q.rests.items n q.watched.pairs.items u.propagated u.literals) (sym st)
+        (subst (λ (rs : List ℕ). HaveRested rs p.settled q.watched.pairs.items u.propagated u.literals) (sym re) rested_now);
+    known = known_now;
+    seen = seen_now;
+  }
+
+  pub works_goes : q.settled ≡ p.settled → WorksOn p q t u
+  works_goes st = record {
+    advances = g.advances;
+    entries = es;
+    seen = se;
+    fronts = λ F w x. subst (λ (n : ℕ). AreResting n q.watched.pairs.items F u.literals) (sym st) (resting_goes p.watched.entries.items p.settled p.watched q.watched t u g F w x);
+  }
+
+  -- one more was looked at, and the fronts that are left are safe for it
+  module _ (Safe : ℕ → Type 0) (st : q.settled ≡ p.settled + 1) (settled : AreSettled (clauses_of p.watched.entries.items) q.watched.pairs.items (p.settled + 1) q.short.items)
+      (fr : IsFresh (get_or (clauses_of p.watched.entries.items) p.settled []) u.literals (get_or q.watched.pairs.items p.settled no_pair) Safe)
+      (front : IsFrontOf q.rests.items p.rests.items) (safe : (r : ℕ) → Contains q.rests.items r → Safe r) where
+    pub work_one : IsAtWork q u
+    work_one = record {
+      watched = ok;
+      settled = subst (λ (es : List Entry). AreSettled (clauses_of es) q.watched.pairs.items q.settled q.short.items) (sym es)
+          (subst (λ (n : ℕ). AreSettled (clauses_of p.watched.entries.items) q.watched.pairs.items n q.short.items) (sym st) settled);
+      rests = subst (λ (n : ℕ). HaveRested q.rests.items n q.watched.pairs.items u.propagated u.literals) (sym st)
+          (rested_more q.rests.items p.settled q.watched.pairs.items u.propagated u.literals
+          (rested_front q.rests.items p.rests.items p.settled q.watched.pairs.items u.propagated u.literals front rested_now) one);
+      known = known_now;
+      seen = seen_now;
+    }
+      where
+        one : (r : ℕ) → Contains q.rests.items r → Rests (take r u.literals) (take r u.literals) (get_or q.watched.pairs.items p.settled no_pair)
+        one r c = fr.fronts r (omega (arith, rested_now.within r (front_had q.rests.items p.rests.items front r c), g.advances.1, le, ap length g.advances.0.literals, length-append t.literals g.advances.0.more)) (safe r c)
+
+    pub works_one : WorksOn p q t u
+    works_one = record {
+      advances = g.advances;
+      entries = es;
+      seen = se;
+      fronts = λ F w x. subst (λ (n : ℕ). AreResting n q.watched.pairs.items F u.literals) (sym st)
+          (resting_more p.settled q.watched.pairs.items F u.literals (resting_goes p.watched.entries.items p.settled p.watched q.watched t u g F w x)
+          (fr.now F (λ l i. holds_on (bare p.watched.entries.items) t u g.advances.0 l (w l i))));
+    }
+
+-- ---- where all were looked at
+
+module _ (p : Parts) (ok : IsWatched p.watched) (all : p.settled ≡ length p.watched.entries.items) where
+  pub count_settled : length p.watched.pairs.items ≡ p.settled
+  count_settled = omega (arith, all, ok.pairs_by.paired, clause_count p.watched.entries.items)
+
+  pub goes_settled : (new : List Pair) (t u : TrailView) → Goes (bare p.watched.entries.items) (length p.watched.pairs.items) p.watched.pairs.items new t u → Goes (bare p.watched.entries.items) p.settled p.watched.pairs.items new t u
+  goes_settled new t u g = subst (λ (n : ℕ). Goes (bare p.watched.entries.items) n p.watched.pairs.items new t u) count_settled g
+
+-- the parts with another count of those that were looked at
+abbrev pub looked : Parts → ℕ → Parts
+looked p n = record { watched = p.watched; settled = n; short = p.short; seen = p.seen; rests = p.rests }
+
+-- ---- the whole of propagation
+
+-- what is added by both parts
+pub adds_after : (p q r : Parts) (t u v : TrailView) → q.watched ≡ p.watched → Advances (bare p.watched.entries.items) t u → WorksOn q r u v → Adds (bare p.watched.entries.items) t v
+adds_after p q r t u v e a g = adds_on (bare p.watched.entries.items) t u v a.0 (subst (λ (w : Watched). Adds (bare w.entries.items) u v) e g.advances.0)
+
+-- then the literals are marked
+pub adds_marked : (s : StoreView) (t u v : TrailView) → Adds s t u → IsSameBut u v → Adds s t v
+adds_marked s t u v g e = record {
+  more = g.more;
+  why = g.why;
+  literals = e.same.literals ∙ g.literals;
+  reasons = e.same.reasons ∙ g.reasons;
+  paired = g.paired;
+  levels = e.same.levels ∙ g.levels;
+  level = e.same.level ∙ g.level;
+  implied = g.implied;
+  vars = e.vars ∙ g.vars;
+}
+
+-- a front that was there is left, and the pairs rest by it
+pub rested_still : (p q : Parts) (t u : TrailView) (n : ℕ) → n ≤ length t.literals → WorksOn p q t u → AreResting p.settled p.watched.pairs.items (take n t.literals) t.literals → AreResting q.settled q.watched.pairs.items (take n u.literals) u.literals
+rested_still p q t u n le g h = subst (λ (F : List Lit). AreResting q.settled q.watched.pairs.items F u.literals) (sym (same_front (bare p.watched.entries.items) t u n g.advances.0 le))
+    (g.fronts (take n t.literals) (front_within n t.literals le) h)
+
+-- where all rest, nothing follows
+pub quiet_by : (p : Parts) (t : TrailView) → IsAtWork p t → p.settled ≡ length p.watched.entries.items → AreResting p.settled p.watched.pairs.items t.literals t.literals → IsQuiet (clauses_of p.watched.entries.items) t.literals
+quiet_by p t w all h = quiet (clauses_of p.watched.entries.items) p.watched.pairs.items t.literals w.watched.pairs_by (λ n lt. w.settled.there n (omega (arith, lt, all, clause_count p.watched.entries.items))) (λ n lt. h n (omega (arith, lt, all, clause_count p.watched.entries.items)))

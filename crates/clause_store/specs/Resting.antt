@@ -1,0 +1,97 @@
+-- Fronts of what was seen at which the clauses rest.
+use Rattle.std.specs.Prelude.{◌≡◌, ◌+◌, ◌-◌, ◌<◌, ◌≤◌, ℕ, Bool, true, false, List, [], length, take, get_or, Contains}
+use Rattle.term_core.specs.declared.ids.Lit.{Lit}
+use Rattle.sat_trail.specs.Trails.{TrailView, HasSame}
+use Rattle.clause_store.specs.declared.pair.Pair.{Pair}
+use Rattle.clause_store.specs.declared.parts.Parts.{Parts}
+use Rattle.clause_store.specs.Stores.{StoreView, no_pair, HasSeen}
+use Rattle.clause_store.specs.Entries.{clauses_of, steps_of, bare}
+use Rattle.clause_store.specs.Propagating.{Advances}
+use Rattle.clause_store.specs.Watching.{IsWatched, IsWithin, IsFalseOf, AreResting, AreKnownIn}
+
+-- what the parts mean
+abbrev pub store_of : Parts → StoreView
+store_of p = record {
+  clauses = clauses_of p.watched.entries.items;
+  steps = steps_of p.watched.entries.items;
+  seen = p.seen.items;
+  pairs = p.watched.pairs.items;
+}
+
+-- the lengths rise
+abbrev pub AreRising : List ℕ → Type 0
+AreRising rests = (i j : ℕ) → i < j → j < length rests → get_or rests i 0 ≤ get_or rests j 0
+
+-- The first pairs rest by the fronts of these lengths, which are no longer than one.
+pub record HaveRested (rests : List ℕ) (count : ℕ) (pairs : List Pair) (most : ℕ) (held : List Lit) : Type 0 where
+  -- they rise
+  pub rising : AreRising rests
+  -- none is longer
+  pub within : (r : ℕ) → Contains rests r → r ≤ most
+  -- by each the pairs rest
+  pub rested : (r : ℕ) → Contains rests r → AreResting count pairs (take r held) (take r held)
+
+-- The first clauses were looked at: each has a literal, and those of one literal stand in a list.
+pub record AreSettled (clauses : List (List Lit)) (pairs : List Pair) (count : ℕ) (short : List ℕ) : Type 0 where
+  -- there are as many clauses
+  pub within : count ≤ length clauses
+  -- each has a literal
+  pub there : (n : ℕ) → n < count → Contains (get_or clauses n []) (get_or pairs n no_pair).first
+  -- those of one literal are in the list
+  pub listed : (n : ℕ) → n < count → (get_or pairs n no_pair).first ≡ (get_or pairs n no_pair).second → Contains short n
+  -- and no others
+  pub only : (n : ℕ) → Contains short n → (n < count) × ((get_or pairs n no_pair).first ≡ (get_or pairs n no_pair).second)
+
+-- the last length, or 0 where there is none
+abbrev pub last_of : List ℕ → ℕ
+last_of rests = get_or rests (length rests - 1) 0
+
+-- the first of some lengths
+abbrev pub IsFrontOf : List ℕ → List ℕ → Type 0
+IsFrontOf new old = (length new ≤ length old) × (new ≡ take (length new) old)
+
+-- The parts fit together.
+pub record IsKept (p : Parts) : Type 0 where
+  -- clauses, pairs and lists
+  pub watched : IsWatched p.watched
+  -- what was looked at
+  pub settled : AreSettled (clauses_of p.watched.entries.items) p.watched.pairs.items p.settled p.short.items
+  -- the fronts
+  pub rests : HaveRested p.rests.items p.settled p.watched.pairs.items (length p.seen.items) p.seen.items
+
+-- The parts fit together in the midst of propagation, where the fronts are those of the trail.
+pub record IsAtWork (p : Parts) (t : TrailView) : Type 0 where
+  -- clauses, pairs and lists
+  pub watched : IsWatched p.watched
+  -- what was looked at
+  pub settled : AreSettled (clauses_of p.watched.entries.items) p.watched.pairs.items p.settled p.short.items
+  -- the fronts
+  pub rests : HaveRested p.rests.items p.settled p.watched.pairs.items t.propagated t.literals
+  -- the terms are variables
+  pub known : AreKnownIn p.watched t.vars
+  -- what is marked was seen
+  pub seen : HasSeen (store_of p) t
+
+-- What a part of propagation does: it implies literals, and keeps clauses, what was seen and what was looked at.
+pub record WorksOn (old new : Parts) (before after : TrailView) : Type 0 where
+  -- literals are implied, and none is marked
+  pub advances : Advances (bare old.watched.entries.items) before after
+  -- the clauses are as they were
+  pub entries : new.watched.entries.items ≡ old.watched.entries.items
+  -- so is what was seen
+  pub seen : new.seen.items ≡ old.seen.items
+  -- where the clauses that were looked at rested by what holds, they rest
+  pub fronts : (F : List Lit) → IsWithin F before.literals → AreResting old.settled old.watched.pairs.items F before.literals
+      → AreResting new.settled new.watched.pairs.items F after.literals
+
+-- what a look at the next clause comes to: it is false, or it was looked at
+abbrev pub SettlesOne : Parts → Parts → List Lit → Bool → Type 0
+SettlesOne old new held true = (new.settled ≡ old.settled) × IsFalseOf (clauses_of new.watched.entries.items) held new.settled
+SettlesOne old new held false = new.settled ≡ old.settled + 1
+
+-- The trail is as it was, but for what is marked.
+pub record IsSameBut (before after : TrailView) : Type 0 where
+  -- literals, levels and reasons
+  pub same : HasSame before after
+  -- the variables
+  pub vars : after.vars ≡ before.vars

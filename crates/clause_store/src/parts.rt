@@ -1,0 +1,249 @@
+//! What a store has in hand: clauses, and at which fronts of what it saw they rest.
+
+ghost use Rattle.std.specs.Prelude.{◌≡◌, ◌+◌, ◌<◌, ◌≤◌, ◌⊎◌, [], ℕ, Contains, OnOk, OnErr, IfOk, MatchOption, length, take};
+ghost use Rattle.clause_store.specs.Entries.{clauses_of, bare};
+ghost use Rattle.clause_store.specs.Stores.{HasSeen};
+ghost use Rattle.clause_store.specs.Watching.{AreKnownIn, AreResting, IsFalseOf, Below};
+ghost use Rattle.clause_store.specs.Propagating.{Adds, Advances, IsQuiet};
+ghost use Rattle.clause_store.specs.Resting.{AreRising, IsFrontOf, last_of, IsKept, IsAtWork, WorksOn, SettlesOne, IsSameBut, store_of};
+
+use crate::fresh::Fresh;
+use crate::watched::Watched;
+use clause_literals::negated;
+use sat_trail::SatTrail;
+use term_core::Lit;
+use world_io::NoMemory;
+
+/// Holds clauses, and at which fronts of what was seen they rest: where one of two watched literals is false, the other holds.
+#[derive(Drop)]
+pub(crate) struct Parts {
+    /// The clauses.
+    pub(crate) watched: Watched,
+    /// How many of them were looked at.
+    pub(crate) settled: usize,
+    /// The numbers of those that have no second literal.
+    pub(crate) short: Vec<usize>,
+    /// What held when propagation was quiet last.
+    pub(crate) seen: Vec<Lit>,
+    /// The lengths of fronts of this at which those that were looked at rest, rising.
+    pub(crate) rests: Vec<usize>,
+}
+
+/// Drops the fronts that are longer than one.
+fn drop_longer(rests: &mut Vec<usize>, most: usize)
+    requires { AreRising rests.old.items }
+    ensures front { IsFrontOf rests.new.items rests.old.items }
+    ensures within { (r : ℕ) → Contains rests.new.items r → r ≤ most }
+{
+    'fronts: while rests.len() > 0 {
+        if rests[rests.len() - 1] <= most {
+            return;
+        }
+        rests.pop();
+    }
+}
+
+/// Drops the fronts of a trail that have literals of a level or of one above.
+fn drop_levels(rests: &mut Vec<usize>, level: u64, trail: &SatTrail)
+    requires rising { AreRising rests.old.items }
+    requires within { (r : ℕ) → Contains rests.old.items r → r ≤ length trail.now.literals }
+    ensures front { IsFrontOf rests.new.items rests.old.items }
+    ensures below { (r : ℕ) → Contains rests.new.items r → Below trail.now level r }
+{
+    trail.is_sound();
+    'fronts: while rests.len() > 0 {
+        let last = rests[rests.len() - 1];
+        if last == 0 || trail.level_of(last as u64 - 1) < level {
+            return;
+        }
+        rests.pop();
+    }
+}
+
+/// Keeps what a trail holds as what was seen; what is marked was seen before.
+fn see(seen: &mut Vec<Lit>, trail: &SatTrail) -> Result<(), NoMemory>
+    requires within { trail.now.propagated ≤ length seen.old.items }
+    requires same { take trail.now.propagated trail.now.literals ≡ take trail.now.propagated seen.old.items }
+    ensures within { trail.now.propagated ≤ length seen.new.items }
+    ensures same { seen.new.items ≡ take (length seen.new.items) trail.now.literals }
+    ensures ok { OnOk result (seen.new.items ≡ trail.now.literals) }
+{
+    trail.is_sound();
+    seen.truncate(trail.propagated() as usize);
+    'literals: while (seen.len() as u64) < trail.len() {
+        seen.push(trail.literal(seen.len() as u64))?;
+    }
+    Ok(())
+}
+
+/// Puts a length last, if it is not the last already.
+fn note(rests: &mut Vec<usize>, len: usize) -> Result<(), NoMemory>
+    requires rising { AreRising rests.old.items }
+    requires most { (r : ℕ) → Contains rests.old.items r → r ≤ len }
+    ensures rising { AreRising rests.new.items }
+    ensures each { (r : ℕ) → Contains rests.new.items r → Contains rests.old.items r ⊎ (r ≡ len) }
+    ensures err { OnErr result (rests.new.items ≡ rests.old.items) }
+{
+    if !rests.is_empty() && rests[rests.len() - 1] == len {
+        return Ok(());
+    }
+    match rests.push(len) {
+        Ok(()) => Ok(()),
+        Err(_) => Err(NoMemory),
+    }
+}
+
+impl Parts {
+    /// Looks again at the clauses without a second literal, and gives the number of one that is false.
+    fn look_again(&self, trail: &mut SatTrail) -> Option<usize>
+        requires { IsAtWork self.now trail.old }
+        ensures goes { Advances (bare self.now.watched.entries.items) trail.old trail.new }
+        ensures ends { MatchOption result (AreResting self.now.settled self.now.watched.pairs.items [] trail.new.literals)
+            (IsFalseOf (clauses_of self.now.watched.entries.items) trail.new.literals) }
+    {
+        for n in &self.short {
+            let l = self.watched.pairs[*n].first;
+            trail.is_sound();
+            match trail.value(l) {
+                Some(true) => {}
+                Some(false) => return Some(*n),
+                None => trail.imply(l, self.watched.entries[*n].step.0),
+            }
+        }
+        None
+    }
+
+    /// Looks at a clause for the first time, and tells whether it is false.
+    fn settle_next(&mut self, trail: &mut SatTrail) -> Result<bool, NoMemory>
+        requires work { IsAtWork self.old trail.old }
+        requires there { self.old.settled < length self.old.watched.entries.items }
+        ensures work { IsAtWork self.new trail.new }
+        ensures goes { WorksOn self.old self.new trail.old trail.new }
+        ensures ends { IfOk result (SettlesOne self.old self.new trail.new.literals) }
+    {
+        trail.is_sound();
+        let n = self.settled;
+        match self.watched.settle(n, trail)? {
+            Fresh::Clash => return Ok(true),
+            Fresh::Open => {}
+            Fresh::Forced(level) => drop_levels(&mut self.rests, level, trail),
+            Fresh::Single => {
+                self.short.push(n)?;
+                self.rests.clear();
+            }
+        }
+        self.settled = n + 1;
+        Ok(false)
+    }
+
+    /// Looks at the clauses that were not looked at yet, and gives the number of one that is false.
+    fn settle_all(&mut self, trail: &mut SatTrail) -> Result<Option<usize>, NoMemory>
+        requires { IsAtWork self.old trail.old }
+        ensures work { IsAtWork self.new trail.new }
+        ensures goes { WorksOn self.old self.new trail.old trail.new }
+        ensures ends { IfOk result (λ o. MatchOption o (self.new.settled ≡ length self.new.watched.entries.items)
+            (IsFalseOf (clauses_of self.new.watched.entries.items) trail.new.literals)) }
+    {
+        'clauses: while self.settled < self.watched.entries.len() {
+            if self.settle_next(trail)? {
+                return Ok(Some(self.settled));
+            }
+        }
+        Ok(None)
+    }
+
+    /// Goes through the lists of the literals from a place on, and gives the number of a clause that is false.
+    fn walk_from(&mut self, from: usize, trail: &mut SatTrail) -> Result<Option<usize>, NoMemory>
+        requires work { IsAtWork self.old trail.old }
+        requires all { self.old.settled ≡ length self.old.watched.entries.items }
+        requires from { from ≤ length trail.old.literals }
+        requires rested { AreResting self.old.settled self.old.watched.pairs.items (take from trail.old.literals) trail.old.literals }
+        ensures work { IsAtWork self.new trail.new }
+        ensures all { self.new.settled ≡ length self.new.watched.entries.items }
+        ensures goes { WorksOn self.old self.new trail.old trail.new }
+        ensures ends { IfOk result (λ o. MatchOption o
+            (AreResting self.new.settled self.new.watched.pairs.items trail.new.literals trail.new.literals)
+            (IsFalseOf (clauses_of self.new.watched.entries.items) trail.new.literals)) }
+    {
+        let mut done = from;
+        'literals: while (done as u64) < trail.len() {
+            trail.is_sound();
+            let f = negated(trail.literal(done as u64));
+            match self.watched.walk(f, trail)? {
+                Some(n) => return Ok(Some(n)),
+                None => done += 1,
+            }
+        }
+        Ok(None)
+    }
+
+    /// Drops the fronts that the trail left, and looks at the clauses without a second literal where none is left. It gives the
+    /// number of one that is false.
+    fn begin(&mut self, trail: &mut SatTrail) -> Option<usize>
+        requires kept { IsKept self.old }
+        requires known { AreKnownIn self.old.watched trail.old.vars }
+        requires seen { HasSeen (store_of self.old) trail.old }
+        ensures work { IsAtWork self.new trail.new }
+        ensures watched { self.new.watched ≡ self.old.watched }
+        ensures seen { self.new.seen.items ≡ self.old.seen.items }
+        ensures advances { Advances (bare self.old.watched.entries.items) trail.old trail.new }
+        ensures ends { MatchOption result (AreResting self.new.settled self.new.watched.pairs.items
+            (take (last_of self.new.rests.items) trail.new.literals) trail.new.literals)
+            (IsFalseOf (clauses_of self.new.watched.entries.items) trail.new.literals) }
+    {
+        trail.is_sound();
+        drop_longer(&mut self.rests, trail.propagated() as usize);
+        if self.rests.is_empty() {
+            return self.look_again(trail);
+        }
+        None
+    }
+
+    /// Keeps what holds as what was seen, with a front of its length, and marks the trail.
+    fn finish(&mut self, trail: &mut SatTrail) -> Result<(), NoMemory>
+        requires work { IsAtWork self.old trail.old }
+        requires rested { AreResting self.old.settled self.old.watched.pairs.items trail.old.literals trail.old.literals }
+        ensures kept { IsKept self.new }
+        ensures watched { self.new.watched ≡ self.old.watched }
+        ensures seen { HasSeen (store_of self.new) trail.new }
+        ensures same { IsSameBut trail.old trail.new }
+    {
+        trail.is_sound();
+        see(&mut self.seen, trail)?;
+        note(&mut self.rests, trail.len() as usize)?;
+        trail.mark_propagated();
+        Ok(())
+    }
+
+    /// Implies what the clauses force, and gives the number of one that is false.
+    pub(crate) fn propagate(&mut self, trail: &mut SatTrail) -> Result<Option<usize>, NoMemory>
+        requires kept { IsKept self.old }
+        requires known { AreKnownIn self.old.watched trail.old.vars }
+        requires seen { HasSeen (store_of self.old) trail.old }
+        ensures kept { IsKept self.new }
+        ensures entries { self.new.watched.entries.items ≡ self.old.watched.entries.items }
+        ensures seen { HasSeen (store_of self.new) trail.new }
+        ensures adds { Adds (bare self.old.watched.entries.items) trail.old trail.new }
+        ensures ends { IfOk result (λ o. MatchOption o
+            (IsQuiet (clauses_of self.old.watched.entries.items) trail.new.literals)
+            (IsFalseOf (clauses_of self.old.watched.entries.items) trail.new.literals)) }
+    {
+        if let Some(n) = self.begin(trail) {
+            return Ok(Some(n));
+        }
+        trail.is_sound();
+        let from = if self.rests.is_empty() {
+            0
+        } else {
+            self.rests[self.rests.len() - 1]
+        };
+        if let Some(n) = self.settle_all(trail)? {
+            return Ok(Some(n));
+        }
+        if let Some(n) = self.walk_from(from, trail)? {
+            return Ok(Some(n));
+        }
+        self.finish(trail)?;
+        Ok(None)
+    }
+}

@@ -1,0 +1,203 @@
+//! Clauses, the two literals of each that are watched, and the lists of those that a literal watches.
+
+ghost use Rattle.std.specs.Prelude.{◌≡◌, ◌≢◌, ◌+◌, ◌<◌, Contains, OnOk, OnErr, IfOk, MatchOption, get_or, length};
+ghost use Rattle.clause_literals.specs.Literals.{lit_complement};
+ghost use Rattle.watch_index.specs.Indexes.{list_of};
+ghost use Rattle.clause_store.specs.Entries.{clauses_of, bare};
+ghost use Rattle.clause_store.specs.Watching.{IsWatched, AreKnownIn, IsPairOf, HaveSameLists, IsEntered, IsEnteredIfTwo, IsOneMore, IsAsBefore, HaveAllPassed, IsFalseOf, Goes, Looks};
+
+use crate::entry::Entry;
+use crate::literals::{is_false, is_true, next_open};
+use crate::pair::{Pair, other_of};
+use clause_literals::same;
+use sat_trail::SatTrail;
+use term_core::{Lit, TermId};
+use watch_index::WatchIndex;
+use world_io::NoMemory;
+
+/// Holds clauses, of each the two literals that are watched, and for each literal the numbers of the clauses that watch it.
+#[derive(Drop)]
+pub(crate) struct Watched {
+    /// The clauses, oldest first.
+    pub(crate) entries: Vec<Entry>,
+    /// Of each the two that are watched.
+    pub(crate) pairs: Vec<Pair>,
+    /// For each literal the clauses that watch it.
+    pub(crate) index: WatchIndex,
+    /// For each clause the place at which its last watched literal was found. What else stands here costs time alone.
+    pub(crate) starts: Vec<usize>,
+}
+
+/// A literal for the pair of a clause that has none.
+const NO_LIT: Lit = Lit {
+    term: TermId(0),
+    positive: false,
+};
+
+/// What a look at a clause comes to.
+#[derive(Clone, Copy, Debug, PartialEq, Eq)]
+pub(crate) enum Step {
+    /// The literal still watches the clause.
+    Stays,
+    /// Another one does.
+    Moved,
+    /// The clause is false.
+    Clash,
+}
+
+/// Gives the first two different literals of a clause, or twice its only one.
+fn pair_of(clause: &[Lit]) -> Pair
+    ensures { IsPairOf clause.now result }
+{
+    let Some(first) = clause.first() else {
+        return Pair {
+            first: NO_LIT,
+            second: NO_LIT,
+        };
+    };
+    for l in clause {
+        if !same(*l, *first) {
+            return Pair {
+                first: *first,
+                second: *l,
+            };
+        }
+    }
+    Pair {
+        first: *first,
+        second: *first,
+    }
+}
+
+/// Puts the number of a clause into the lists of two different literals.
+///
+/// `NoMemory` comes where one of them finds no memory; then all lists are as they were.
+fn enter(index: &mut WatchIndex, pair: Pair, n: u64) -> Result<(), NoMemory>
+    requires { pair.first ≢ pair.second }
+    ensures ok { OnOk result (IsEntered index.old pair n index.new) }
+    ensures err { OnErr result (HaveSameLists index.old index.new) }
+{
+    match index.add(pair.first, n) {
+        Ok(()) => match index.add(pair.second, n) {
+            Ok(()) => Ok(()),
+            Err(NoMemory) => {
+                let at = index.list(pair.first).len() - 1;
+                index.take_out(pair.first, at);
+                Err(NoMemory)
+            }
+        },
+        Err(NoMemory) => Err(NoMemory),
+    }
+}
+
+/// Puts the number of a clause into the lists of a pair, if its literals are two.
+///
+/// `NoMemory` comes where one of them finds no memory; then all lists are as they were.
+fn enter_two(index: &mut WatchIndex, pair: Pair, n: u64) -> Result<(), NoMemory>
+    ensures ok { OnOk result (IsEnteredIfTwo index.old pair n index.new) }
+    ensures err { OnErr result (HaveSameLists index.old index.new) }
+{
+    if same(pair.first, pair.second) {
+        return Ok(());
+    }
+    match enter(index, pair, n) {
+        Ok(()) => Ok(()),
+        Err(NoMemory) => Err(NoMemory),
+    }
+}
+
+impl Watched {
+    /// Looks at the clause of a place of the list of a literal that came to be false.
+    fn take_up(
+        &mut self,
+        n: usize,
+        at: usize,
+        f: Lit,
+        trail: &mut SatTrail,
+    ) -> Result<Step, NoMemory>
+        requires watched { IsWatched self.old }
+        requires known { AreKnownIn self.old trail.old.vars }
+        requires fails { Contains trail.old.literals (lit_complement f) }
+        requires place { at < length (list_of self.old.index f) }
+        requires number { n ≡ get_or (list_of self.old.index f) at 0 }
+        ensures watched { IsWatched self.new }
+        ensures entries { self.new.entries.items ≡ self.old.entries.items }
+        ensures goes { Goes (bare self.old.entries.items) (length self.old.pairs.items) self.old.pairs.items
+            self.new.pairs.items trail.old trail.new }
+        ensures looks { IfOk result (Looks (record { number = n; place = at; literal = f }) self.old self.new
+            trail.new.literals) }
+    {
+        trail.is_sound();
+        let other = other_of(self.pairs[n], f);
+        if is_true(other, trail) {
+            return Ok(Step::Stays);
+        }
+        match next_open(&self.entries[n].literals, &mut self.starts, n, other, trail) {
+            Some(d) => match self.index.move_at(f, at, d) {
+                Ok(()) => {
+                    self.pairs[n] = Pair {
+                        first: other,
+                        second: d,
+                    };
+                    Ok(Step::Moved)
+                }
+                Err(NoMemory) => Err(NoMemory),
+            },
+            None => {
+                if is_false(other, trail) {
+                    return Ok(Step::Clash);
+                }
+                trail.imply(other, self.entries[n].step.0);
+                Ok(Step::Stays)
+            }
+        }
+    }
+
+    /// Goes through the list of a literal that came to be false, and gives the number of a clause that is false.
+    pub(crate) fn walk(&mut self, f: Lit, trail: &mut SatTrail) -> Result<Option<usize>, NoMemory>
+        requires watched { IsWatched self.old }
+        requires known { AreKnownIn self.old trail.old.vars }
+        requires fails { Contains trail.old.literals (lit_complement f) }
+        ensures watched { IsWatched self.new }
+        ensures entries { self.new.entries.items ≡ self.old.entries.items }
+        ensures goes { Goes (bare self.old.entries.items) (length self.old.pairs.items) self.old.pairs.items
+            self.new.pairs.items trail.old trail.new }
+        ensures ends { IfOk result (λ o. MatchOption o (HaveAllPassed self.new.pairs.items trail.new.literals f)
+            (IsFalseOf (clauses_of self.old.entries.items) trail.new.literals)) }
+    {
+        let mut at = 0;
+        'places: while at < self.index.list(f).len() {
+            let n = self.index.list(f)[at] as usize;
+            match self.take_up(n, at, f, trail)? {
+                Step::Clash => return Ok(Some(n)),
+                Step::Moved => {}
+                Step::Stays => at += 1,
+            }
+        }
+        Ok(None)
+    }
+
+    /// Puts a clause last, watched by its first two different literals, if it has two.
+    ///
+    /// `NoMemory` comes where there is no room; then clauses and pairs are as they were.
+    pub(crate) fn add(&mut self, entry: Entry) -> Result<(), NoMemory>
+        requires { IsWatched self.old }
+        ensures watched { IsWatched self.new }
+        ensures ok { OnOk result (IsOneMore self.old entry self.new) }
+        ensures err { OnErr result (IsAsBefore self.old self.new) }
+    {
+        self.entries.reserve(1)?;
+        self.pairs.reserve(1)?;
+        self.starts.reserve(1)?;
+        let pair = pair_of(&entry.literals);
+        match enter_two(&mut self.index, pair, self.entries.len() as u64) {
+            Ok(()) => {
+                self.entries.push_reserved(entry);
+                self.pairs.push_reserved(pair);
+                self.starts.push_reserved(0);
+                Ok(())
+            }
+            Err(NoMemory) => Err(NoMemory),
+        }
+    }
+}
