@@ -2,6 +2,7 @@
 pub mod SearchLists
 pub mod SearchValues
 pub mod SearchReasons
+pub mod SearchWaiting
 pub mod SearchLevels
 pub mod SearchStored
 pub mod SearchDecisions

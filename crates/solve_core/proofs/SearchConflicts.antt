@@ -1,5 +1,5 @@
 -- What is learned from a conflict is new and over atoms, and where the budget is spent there is such a clause.
-use Rattle.std.proofs.Common.{◌≡◌, ◌≢◌, ℕ, ◌+◌, ◌<◌, ◌≤◌, Bool, true, false, List, [], ◌++◌, length, get_or, take, map, All, Contains, inl, inr, refl, sym, ap, ◌∙◌, subst, arith, zero, suc}
+use Rattle.std.proofs.Common.{◌≡◌, ◌≢◌, ℕ, ◌<◌, ◌≤◌, Bool, true, false, List, [], ◌++◌, length, get_or, take, map, All, Contains, inl, inr, refl, sym, ap, ◌∙◌, subst, arith, zero, suc}
 use Rattle.std.specs.Prelude.{Option, Some, None}
 use Rattle.std.proofs.lemmas.Bool.{cases_lt}
 use Rattle.std.proofs.lemmas.List.{get_or_default}
@@ -26,7 +26,8 @@ use Rattle.conflict_learn.specs.Conflicts.{IsFalseAt, IsConflictLevel}
 use Rattle.conflict_learn.specs.Learned.{HasOneAt}
 use Rattle.conflict_learn.proofs.Places.{early_place, place_of}
 use Rattle.solve_core.specs.declared.search.Search.{Search}
-use Rattle.solve_core.specs.Search.{images, IsMentioned, IsReady, conflict_of}
+use Rattle.solve_core.specs.Waiting.{IsMentioned}
+use Rattle.solve_core.specs.Search.{images, IsReady, conflict_of}
 use Rattle.solve_core.specs.Rounds.{HasDerived}
 use Rattle.solve_core.proofs.SearchLists.{in_front}
 use Rattle.solve_core.proofs.SearchValues.{one_of_two}

@@ -2,11 +2,12 @@
 use Rattle.std.proofs.Common.{◌≡◌, ℕ, zero, suc, ◌<◌, Bool, true, false, List, [], ◌∷◌, length, get_or, map, All, Contains, inl, inr, refl, ap, ◌∙◌, arith}
 use Rattle.std.specs.Prelude.{Option, Some, None}
 use Rattle.spec_text.proofs.Members.{first, later, cases, none}
-use Rattle.spec_sorts.specs.Terms.{Term, negated}
+use Rattle.spec_sorts.specs.Terms.{Term}
 use Rattle.spec_sorts.specs.Literals.{Literal, complement, literal_of, literals_of}
 use Rattle.spec_rules.specs.Schemes.{signed}
 use Rattle.term_core.specs.declared.ids.Lit.{Lit}
 use Rattle.term_core.specs.Tables.{positive_literal}
+use Rattle.term_core.proofs.TermsLiteral.{literal_of-negated}
 use Rattle.sat_trail.specs.Trails.{no_lit}
 
 -- the literals that have no reason
@@ -40,13 +41,9 @@ decision_from (m ∷ ls) (Some r ∷ rs) l i = let h = decision_from ls rs l i i
 abbrev pub as_term : Literal → Term
 as_term l = signed l.positive l.atom
 
-negated_literal : (u : Term) → literal_of (negated u) ≡ complement (literal_of u)
-unfolding literal_of
-negated_literal u = refl
-
 literal_signed : (b : Bool) (u : Term) → literal_of u ≡ positive_literal u → literal_of (signed b u) ≡ record { atom = u; positive = b }
 literal_signed true u bare = bare
-literal_signed false u bare = negated_literal u ∙ ap complement bare
+literal_signed false u bare = literal_of-negated u ∙ ap complement bare
 
 -- the terms of literals whose own are no negations state these
 pub literals_stated : (ls : List Literal) → All (λ l. literal_of l.atom ≡ positive_literal l.atom) ls → literals_of (map as_term ls) ≡ ls

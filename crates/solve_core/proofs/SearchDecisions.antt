@@ -11,7 +11,8 @@ use Rattle.sat_trail.specs.Trails.{TrailView, no_lit, HasSame, empty as no_trail
 use Rattle.clause_store.specs.Stores.{StoreView}
 use Rattle.clause_store.specs.Propagating.{Adds, IsQuiet}
 use Rattle.conflict_learn.proofs.Following.{no_reason}
-use Rattle.solve_core.specs.Search.{IsMentioned, AreDecided}
+use Rattle.solve_core.specs.Waiting.{IsMentioned}
+use Rattle.solve_core.specs.Search.{AreDecided}
 
 -- a trail of no literals has no decision
 pub decided_first : (clauses : List (List Lit)) (v : TrailView) → HasSame no_trail v → AreDecided clauses v

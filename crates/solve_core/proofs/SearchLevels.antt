@@ -19,6 +19,13 @@ module _ (v : TrailView) (once : AreApart v.literals) (leveled : IsLeveled v) wh
       let d = leveled.begun (n - 1) (omega (arith, above, le)) in
       (d.0, d.1, d.2, omega (arith, d.3, above))
 
+  -- the level to go back to is one of the trail's
+  pub level_within : (clause : List Lit) (n level : ℕ) → HasOneAt v clause n level → level ≤ v.level
+  level_within clause n level h = elim h.reached [
+    | inl zero ↦ omega (arith, zero)
+    | inr m ↦ let top = leveled.topped m.3.place m.3.within in omega (arith, top, m.3.level)
+  ]
+
   -- before a decision
   module _ (p : ℕ) (within : p < length v.literals) (none : get_or v.reasons p None ≡ None) where
     -- all that is of a lower level stands

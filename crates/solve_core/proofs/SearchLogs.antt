@@ -13,9 +13,9 @@ use Rattle.spec_proofs.specs.declared.Rule.TheVariants.{Resolution}
 use Rattle.spec_derivations.specs.Base.{base_clauses}
 use Rattle.spec_derivations.specs.Learned.{IsNew}
 use Rattle.spec_derivations.specs.Spent.{IsLearnedFrom, IsOverAtoms}
+use Rattle.spec_derivations.proofs.Onward.{new_pushed}
 use Rattle.spec_derivations.proofs.Spending.{rests_there}
 use Rattle.solve_core.specs.Rounds.{IsByResolution, HasSteps, HasDerived}
-use Rattle.solve_core.proofs.SearchNew.{new_more}
 
 -- a derivation whose assumptions are all among terms
 module _ (problem : Problem) (d : Derivation) (right : IsDerivation d) (among : All (AssumesAmong (terms_of_problem problem)) d) where
@@ -94,6 +94,6 @@ module _ (problem : Problem) (d : Derivation) (cs ls : List (List Literal)) (h :
       ];
       derived = All-push (IsLearnedFrom problem (d ++ by_rule Resolution ps no_texts clause ∷ [])) ls (literals_of clause) derived_kept (record { number = length d; derived = last_derived; same = ap literals_of last_concludes });
       atoms = All-push (IsOverAtoms problem) ls (literals_of clause) h.atoms atoms;
-      new = new_more (map literals_of (base_clauses problem)) ls (literals_of clause) h.new new;
+      new = new_pushed (map literals_of (base_clauses problem)) ls (literals_of clause) h.new new;
       steps_made = steps_more problem d ls ps clause h.steps_made;
     }

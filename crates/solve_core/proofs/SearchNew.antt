@@ -1,10 +1,9 @@
 -- That a clause is new where propagation was quiet.
-use Rattle.std.proofs.Common.{◌≡◌, ◌≢◌, List, [], ◌∷◌, ◌++◌, map, Contains, inl, inr, refl, sym, ap, ◌∙◌, subst}
-use Rattle.std.proofs.lemmas.List.{append_assoc}
+use Rattle.std.proofs.Common.{◌≡◌, ◌≢◌, List, map, Contains, inl, inr, sym, ap, ◌∙◌, subst}
 use Rattle.spec_text.proofs.Members.{to_image, from_image}
 use Rattle.spec_sorts.specs.Literals.{Literal, complement}
 use Rattle.spec_proofs.specs.Resolution.{Derives, given, unit, Conflicts, false_clause, both_ways}
-use Rattle.spec_derivations.specs.Learned.{IsNew, AreNew}
+use Rattle.spec_derivations.specs.Learned.{IsNew}
 use Rattle.spec_derivations.specs.Quiet.{IsSettled, IsQuiet, IsConsistent}
 use Rattle.spec_derivations.proofs.Learned.{quiet_is_new}
 use Rattle.term_core.specs.declared.ids.Lit.{Lit}
@@ -23,15 +22,6 @@ module _ {L : Type 0} (negation : L → L) (ps qs : List (List L)) (within : (c 
   pub conflicts_more : Conflicts negation ps start → Conflicts negation qs start
   conflicts_more (both_ways l d e) = both_ways l (derives_more l d) (derives_more (negation l) e)
   conflicts_more (false_clause c c_in all) = false_clause c (within c c_in) (λ m i. derives_more (negation m) (all m i))
-
--- each of these is new, and one more after them
-pub new_more : (premises cs : List (List Literal)) (c : List Literal) → AreNew premises cs → IsNew (premises ++ cs) c → AreNew premises (cs ++ c ∷ [])
-new_more premises [] c h n = (subst (λ (ps : List (List Literal)). IsNew ps c) (no_more premises) n, tt)
-  where
-    no_more : (ps : List (List Literal)) → ps ++ [] ≡ ps
-    no_more [] = refl
-    no_more (p ∷ ps) = ap (λ (qs : List (List Literal)). p ∷ qs) (no_more ps)
-new_more premises (d ∷ ds) c h n = (h.0, new_more (premises ++ d ∷ []) ds c h.1 (subst (λ (ps : List (List Literal)). IsNew ps c) (sym (append_assoc premises (d ∷ []) ds)) n))
 
 module _ (t : TableView) (differ : AreDifferent t.terms) (front : List Lit) (there : (l : Lit) → Contains front l → IsIn t l.term) where
   -- the images of what holds

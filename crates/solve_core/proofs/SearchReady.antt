@@ -1,7 +1,7 @@
 -- That what a search has fits together: after propagation, with a decision more, and where a clause was learned.
-use Rattle.std.proofs.Common.{◌≡◌, ℕ, ◌<◌, List, [], ◌∷◌, ◌++◌, length, get_or, All, Contains, inl, inr, refl, sym, ap, ◌∙◌, subst, arith}
+use Rattle.std.proofs.Common.{◌≡◌, ℕ, ◌<◌, ◌≤◌, Bool, List, [], ◌∷◌, ◌++◌, length, get_or, All, Contains, inl, inr, refl, sym, ap, ◌∙◌, subst, arith}
 use Rattle.std.specs.Prelude.{Option, Some, None}
-use Rattle.std.proofs.lemmas.List.Elements.{All-push, All-contains, Contains-get_or}
+use Rattle.std.proofs.lemmas.List.Elements.{All-push, All-contains, Contains-get_or, Contains-append_left}
 use Rattle.std.proofs.lemmas.List.{get_or_default}
 use Rattle.spec_text.proofs.Members.{to_image}
 use Rattle.spec_sorts.specs.Terms.{Truth, sort_of}
@@ -11,6 +11,7 @@ use Rattle.term_core.specs.declared.ids.TermId.{TermId}
 use Rattle.term_core.specs.declared.ids.Lit.{Lit}
 use Rattle.term_core.specs.Tables.{TableView, IsIn, AreDifferent, Extends, term_at, clause_at, literal_at, positive_literal}
 use Rattle.clause_literals.specs.Literals.{AreOf, Means}
+use Rattle.clause_literals.proofs.LiteralLists.{decide}
 use Rattle.proof_log.specs.declared.premises.StepId.{StepId}
 use Rattle.proof_log.specs.Logs.{Logged, stepped, named, no_logged, logged_at, IsLogOf}
 use Rattle.sat_budget.specs.Budgets.{BudgetView}
@@ -20,20 +21,22 @@ use Rattle.clause_store.specs.Propagating.{Adds, AreImplied, IsQuiet}
 use Rattle.conflict_learn.specs.Conflicts.{IsFalseAt}
 use Rattle.conflict_learn.specs.Learned.{IsLearned}
 use Rattle.conflict_learn.specs.declared.learned.Learned.{Learned}
-use Rattle.conflict_learn.proofs.Places.{same_or}
+use Rattle.conflict_learn.proofs.Places.{place_of}
 use Rattle.conflict_learn.proofs.Meanings.{bare_in}
 use Rattle.solve_core.specs.declared.search.Search.{Search}
-use Rattle.solve_core.specs.Search.{IsMentioned, AreAllOf, Derives, AreDecided, IsReady, conflict_of}
+use Rattle.solve_core.specs.Waiting.{IsMentioned, AreMentioned, AreWaiting}
+use Rattle.solve_core.specs.Search.{AreAllOf, Derives, AreDecided, IsReady, conflict_of}
 use Rattle.solve_core.specs.Rounds.{IsNoted}
 use Rattle.solve_core.proofs.SearchLists.{means_one, of_kept}
 use Rattle.solve_core.proofs.SearchLevels.{settled_before}
+use Rattle.solve_core.proofs.SearchWaiting.{waiting_held, waiting_learned}
 use Rattle.solve_core.proofs.SearchStored.{derives_same, implied_same, derives_with, last_is, longer, derives_kept}
 use Rattle.solve_core.proofs.SearchDecisions.{decided_propagated, decided_more, decided_learned}
 
 -- propagation went on
-pub ready_propagated : (t : TableView) (x y : Search) → IsReady t x → y.log ≡ x.log → y.budget ≡ x.budget → HasSameClauses x.store y.store → HasSeen y.store y.trail
+pub ready_propagated : (t : TableView) (x y : Search) → IsReady t x → y.log ≡ x.log → y.budget ≡ x.budget → y.decider ≡ x.decider → HasSameClauses x.store y.store → HasSeen y.store y.trail
     → AreImplied x.store y.trail → Adds x.store x.trail y.trail → IsReady t y
-ready_propagated t x y r log budget same seen implied adds = record {
+ready_propagated t x y r log budget decider same seen implied adds = record {
   right = subst (IsLogOf t) (sym log) r.right;
   derives = subst (λ (l : List Logged). Derives t l y.store) (sym log) (derives_same x.store y.store same t x.log r.derives);
   known = subst (λ (cs : List (List Lit)). All (All (λ (l : Lit). l.term.0 < y.trail.vars)) cs) (sym same.clauses)
@@ -41,19 +44,40 @@ ready_propagated t x y r log budget same seen implied adds = record {
   seen = seen;
   implied = implied_same x.store y.store same y.trail implied;
   decided = subst (λ (cs : List (List Lit)). AreDecided cs y.trail) (sym same.clauses) (decided_propagated x.store x.trail y.trail r.implied.paired adds r.decided);
+  waiting = subst (λ (cs : List (List Lit)). AreWaiting cs y.trail.literals y.decider) (sym same.clauses)
+      (subst (AreWaiting x.store.clauses y.trail.literals) (sym decider)
+      (subst (λ (ls : List Lit). AreWaiting x.store.clauses ls x.decider) (sym adds.literals)
+      (waiting_held x.store.clauses x.trail.literals (x.trail.literals ++ adds.more) x.decider (λ l i. Contains-append_left x.trail.literals adds.more l i) r.waiting)));
+  sized = ap length decider ∙ r.sized ∙ sym adds.vars;
   learned = subst (λ (b : BudgetView). AreAllOf t b.learned) (sym budget) r.learned;
 }
 
+-- variables were taken from the order that have a value
+pub ready_waiting : (t : TableView) (x : Search) (ws : List Bool) → IsReady t x → AreWaiting x.store.clauses x.trail.literals ws → length ws ≡ length x.decider → IsReady t (record x { decider = ws })
+ready_waiting t x ws r waiting size = record {
+  right = r.right;
+  derives = r.derives;
+  known = r.known;
+  seen = r.seen;
+  implied = r.implied;
+  decided = r.decided;
+  waiting = waiting;
+  sized = size ∙ r.sized;
+  learned = r.learned;
+}
+
 -- a literal was decided
-pub ready_decided : (t : TableView) (x : Search) (v : TrailView) (l : Lit) (n : ℕ) → IsReady t x → IsPushed x.trail l None n v → HasSeen x.store v → AreImplied x.store v
-    → IsQuiet x.store.clauses x.trail.literals → IsMentioned x.store.clauses l.term → IsReady t (record x { trail = v })
-ready_decided t x v l n r pushed seen implied quiet mentioned = record {
+pub ready_decided : (t : TableView) (x : Search) (v : TrailView) (ws : List Bool) (l : Lit) (n : ℕ) → IsReady t x → IsPushed x.trail l None n v → HasSeen x.store v → AreImplied x.store v
+    → IsQuiet x.store.clauses x.trail.literals → IsMentioned x.store.clauses l.term → AreWaiting x.store.clauses (x.trail.literals ++ l ∷ []) ws → length ws ≡ length x.decider → IsReady t (record x { trail = v; decider = ws })
+ready_decided t x v ws l n r pushed seen implied quiet mentioned waiting size = record {
   right = r.right;
   derives = r.derives;
   known = subst (λ (n : ℕ). All (All (λ (l : Lit). l.term.0 < n)) x.store.clauses) (sym pushed.vars) r.known;
   seen = seen;
   implied = implied;
   decided = decided_more x.store.clauses x.trail v l n r.implied.paired pushed quiet mentioned r.decided;
+  waiting = subst (λ (ls : List Lit). AreWaiting x.store.clauses ls ws) (sym pushed.literals) waiting;
+  sized = size ∙ r.sized ∙ sym pushed.vars;
   learned = r.learned;
 }
 
@@ -64,6 +88,10 @@ mentioned_at t x r p lt = by (get_or x.trail.reasons p None) refl
     by : (o : Option ℕ) → get_or x.trail.reasons p None ≡ o → IsMentioned x.store.clauses (get_or x.trail.literals p no_lit).term
     by None e = r.decided.mentioned p lt e
     by (Some n) e = let i = r.implied.implied p n lt e in (get_or x.store.clauses i.number [], get_or x.trail.literals p no_lit, Contains-get_or x.store.clauses i.number [] i.there, i.has_it, refl)
+
+-- so is each literal that holds
+pub all_mentioned : (t : TableView) (x : Search) → IsReady t x → AreMentioned x.store.clauses x.trail.literals
+all_mentioned t x r l i = let p = place_of x.trail.literals l i in subst (λ (m : Lit). IsMentioned x.store.clauses m.term) p.2 (mentioned_at t x r p.0 p.1)
 
 -- what the clauses mention is of the table
 pub clauses_in : (t : TableView) (x : Search) → IsReady t x → (c : List Lit) (l : Lit) → Contains x.store.clauses c → Contains c l → IsIn t l.term
@@ -94,10 +122,10 @@ held_in t x r l i =
 
 -- a clause is learned
 module _ (t u : TableView) (g : Extends t u) (differ : AreDifferent u.terms) (x y : Search) (r : IsReady t x) (clash : StepId) (d : Learned) (l : IsLearned (conflict_of t x clash) u y.log d)
-    (noted : IsNoted d.clause x.budget y.budget) (a : IsAdded u y.log d.step x.store y.store) (cut : IsCutTo x.trail d.level y.trail) where
+    (noted : IsNoted d.clause x.budget y.budget) (a : IsAdded u y.log d.step x.store y.store) where
   -- its literals are false, each since a level above 0
   pub false_at : (m : Lit) → Contains d.clause m → (n : ℕ) × IsFalseAt x.trail m n × (0 < n)
-  false_at m i = elim (same_or m l.one.one) [
+  false_at m i = elim (decide m l.one.one) [
     | inl e ↦ (l.level, subst (λ (k : Lit). IsFalseAt x.trail k l.level) (sym e) l.one.of_level, l.above)
     | inr ne ↦ let b = l.one.below m i ne in (b.0, b.1, b.2)
   ]
@@ -122,8 +150,10 @@ module _ (t u : TableView) (g : Extends t u) (differ : AreDifferent u.terms) (x 
   more_clauses : y.store.clauses ≡ x.store.clauses ++ d.clause ∷ []
   more_clauses = a.clauses ∙ ap (λ (c : List Lit). x.store.clauses ++ c ∷ []) clause_is
 
-  pub ready_learned : AreApart x.trail.literals → IsLeveled x.trail → HasSeen y.store y.trail → AreImplied y.store y.trail → IsReady u y
-  ready_learned once leveled seen implied = record {
+  -- at its level, or back at a lower one
+  pub ready_learned : (n : ℕ) → n ≤ d.level → IsCutTo x.trail n y.trail → AreApart x.trail.literals → IsLeveled x.trail → HasSeen y.store y.trail → AreImplied y.store y.trail
+      → AreWaiting x.store.clauses y.trail.literals y.decider → length y.decider ≡ length x.decider → IsReady u y
+  ready_learned n low cut once leveled seen implied waiting size = record {
     right = l.logged.right;
     derives = derives_with u y.log d.step x.store y.store
         (derives_kept t u g x.log y.log (stepped Resolution l.logged.premises [] l.logged.terms) l.logged.last x.store r.right r.derives) a
@@ -134,8 +164,11 @@ module _ (t u : TableView) (g : Extends t u) (differ : AreDifferent u.terms) (x 
     seen = seen;
     implied = implied;
     decided = subst (λ (cs : List (List Lit)). AreDecided cs y.trail) (sym more_clauses)
-        (decided_learned x.store.clauses d.clause x.trail y.trail d.level leveled.levels_paired
-        (λ p within none le. settled_before x.trail once leveled p within none d.clause l.level d.level l.one le) cut r.decided);
+        (decided_learned x.store.clauses d.clause x.trail y.trail n leveled.levels_paired
+        (λ p within none le. settled_before x.trail once leveled p within none d.clause l.level d.level l.one (omega (arith, le, low))) cut r.decided);
+    waiting = subst (λ (cs : List (List Lit)). AreWaiting cs y.trail.literals y.decider) (sym more_clauses)
+        (waiting_learned x.store.clauses d.clause y.trail.literals y.decider mentioned_of waiting);
+    sized = size ∙ r.sized ∙ sym cut.vars;
     learned = subst (λ (b : BudgetView). AreAllOf u b.learned) (sym noted)
         (All-push (AreOf u) x.budget.learned d.clause (λ k e lt. of_kept t u g (get_or x.budget.learned k e) (r.learned k e lt)) l.logged.means.there);
   }

@@ -1,5 +1,5 @@
 -- One round of a search after another, and that the rounds end.
-use Rattle.std.proofs.Common.{◌≡◌, ℕ, ◌+◌, ◌-◌, ◌*◌, ◌<◌, ◌≤◌, List, refl, sym, ap, ◌∙◌, subst, arith}
+use Rattle.std.proofs.Common.{◌≡◌, ℕ, ◌+◌, ◌-◌, ◌*◌, ◌<◌, ◌≤◌, Bool, List, refl, sym, ap, ◌∙◌, subst, arith}
 use Rattle.std.specs.Prelude.{Option}
 use Rattle.term_core.specs.declared.ids.Lit.{Lit}
 use Rattle.term_core.specs.Tables.{TableView}
@@ -42,16 +42,16 @@ continues_on s t u a b c h k = record {
   search = λ problem x. k.search problem (h.search problem x);
 }
 
--- propagation went on
-abbrev pub propagated : Search → StoreView → TrailView → Search
-propagated x s v = record { alloc = x.alloc; log = x.log; store = s; trail = v; budget = x.budget }
+-- propagation went on, and it was looked for a decision
+abbrev pub propagated : Search → StoreView → TrailView → List Bool → Search
+propagated x s v ws = record x { store = s; trail = v; decider = ws }
 
 module _ (t u : TableView) (a x : Search) (s : StoreView) (v : TrailView) (h : Continues t u a x) (same : HasSameClauses x.store s) (adds : Adds x.store x.trail v) where
-  pub propagated_on : Continues t u a (propagated x s v)
-  propagated_on = continues_on t u u a x (propagated x s v) h (continues_same u x (propagated x s v) refl same.clauses refl adds.vars)
+  pub propagated_on : (ws : List Bool) → Continues t u a (propagated x s v ws)
+  propagated_on ws = continues_on t u u a x (propagated x s v ws) h (continues_same u x (propagated x s v ws) refl same.clauses refl adds.vars)
 
-  pub decided_on : (l : Lit) (r : Option ℕ) (n : ℕ) (w : TrailView) → IsPushed v l r n w → Continues t u a (propagated x s w)
-  decided_on l r n w p = continues_on t u u a (propagated x s v) (propagated x s w) propagated_on (continues_same u (propagated x s v) (propagated x s w) refl refl refl p.vars)
+  pub decided_on : (l : Lit) (r : Option ℕ) (n : ℕ) (w : TrailView) (ws : List Bool) → IsPushed v l r n w → Continues t u a (propagated x s w ws)
+  decided_on l r n w ws p = continues_on t u u a (propagated x s v ws) (propagated x s w ws) (propagated_on ws) (continues_same u (propagated x s v ws) (propagated x s w ws) refl refl refl p.vars)
 
 -- what an answer shows later on, it shows of the beginning
 pub shows_on : (s t u : TableView) (a b c : Search) (x : Answer) → Continues s t a b → Shows t u b c x → Shows s u a c x

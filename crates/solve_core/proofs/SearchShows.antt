@@ -30,7 +30,7 @@ use Rattle.proof_log.specs.declared.premises.StepId.{StepId}
 use Rattle.proof_log.specs.Logs.{Logged, stepped, numbers_of, inference_of, derivation_in, IsLogOf}
 use Rattle.clausify.proofs.Parts.{formula_kept}
 use Rattle.sat_budget.specs.declared.limits.Reason.TheVariants.{Conflicts}
-use Rattle.sat_trail.specs.Trails.{AreApart, IsLeveled, IsCutTo}
+use Rattle.sat_trail.specs.Trails.{AreApart, IsLeveled}
 use Rattle.clause_store.specs.Stores.{IsAdded}
 use Rattle.clause_store.specs.Propagating.{IsClash}
 use Rattle.conflict_learn.specs.Conflicts.{IsFalseAt, IsConflictLevel}
@@ -142,9 +142,9 @@ unsat_shows t x y clash id budget l problem s =
 -- where a clause was learned, what is in hand is still that of a search for the terms
 module _ (t u : TableView) (g : Extends t u) (differ : AreDifferent t.terms) (differ_then : AreDifferent u.terms) (declared : declared_in u ≡ declared_in t)
     (x y : Search) (r : IsReady t x) (once : AreApart x.trail.literals) (leveled : IsLeveled x.trail) (consistent : IsConsistent x.trail.literals) (same : derivation_in u x.log ≡ derivation_in t x.log)
-    (clash : StepId) (d : Learned) (l : IsLearned (conflict_of t x clash) u y.log d) (noted : IsNoted d.clause x.budget y.budget) (a : IsAdded u y.log d.step x.store y.store) (cut : IsCutTo x.trail d.level y.trail) where
+    (clash : StepId) (d : Learned) (l : IsLearned (conflict_of t x clash) u y.log d) (noted : IsNoted d.clause x.budget y.budget) (a : IsAdded u y.log d.step x.store y.store) where
   clause_in : AreOf t d.clause
-  clause_in k e lt = mentioned_in t x r (get_or d.clause k e).term (mentioned_of t u g differ_then x y r clash d l noted a cut (get_or d.clause k e) (Contains-get_or d.clause k e lt))
+  clause_in k e lt = mentioned_in t x r (get_or d.clause k e).term (mentioned_of t u g differ_then x y r clash d l noted a (get_or d.clause k e) (Contains-get_or d.clause k e lt))
 
   abbrev clause : Clause
   clause = clause_at u l.logged.terms
@@ -168,7 +168,7 @@ module _ (t u : TableView) (g : Extends t u) (differ : AreDifferent t.terms) (di
 
     -- each literal of the clause is false since a level above 0
     false_since : (k : ℕ) (e : Lit) → k < length d.clause → (n : ℕ) × IsFalseAt x.trail (get_or d.clause k e) n × (0 < n)
-    false_since k e lt = false_at t u g differ_then x y r clash d l noted a cut (get_or d.clause k e) (Contains-get_or d.clause k e lt)
+    false_since k e lt = false_at t u g differ_then x y r clash d l noted a (get_or d.clause k e) (Contains-get_or d.clause k e lt)
 
     atoms : All (λ (z : Literal). IsAtomOf problem z.atom) (map (literal_at t) d.clause)
     atoms = All-map (λ (z : Literal). IsAtomOf problem z.atom) (literal_at t) d.clause (λ k e lt.
@@ -200,7 +200,7 @@ module _ (t u : TableView) (g : Extends t u) (differ : AreDifferent t.terms) (di
         meant = ap asserting meant ∙ s.meant;
         derived = subst (λ (e : Derivation). HasDerived problem e (images u y.store.clauses) (images u y.budget.learned)) (sym (is problem s))
             (subst (λ (cs : List (List Literal)). HasDerived problem (derivation_in t x.log ++ by_rule Resolution (numbers_of l.logged.premises) no_texts clause ∷ []) cs (images u y.budget.learned))
-            (sym (last_image x.store.clauses y.store.clauses stored_in (a.clauses ∙ ap (λ (c : List Lit). x.store.clauses ++ c ∷ []) (clause_is t u g differ_then x y r clash d l noted a cut))))
+            (sym (last_image x.store.clauses y.store.clauses stored_in (a.clauses ∙ ap (λ (c : List Lit). x.store.clauses ++ c ∷ []) (clause_is t u g differ_then x y r clash d l noted a))))
             (subst (λ (ls : List (List Literal)). HasDerived problem (derivation_in t x.log ++ by_rule Resolution (numbers_of l.logged.premises) no_texts clause ∷ []) (images t x.store.clauses ++ literals_of clause ∷ []) ls)
             (sym (last_image x.budget.learned y.budget.learned r.learned (ap (λ b. b.learned) noted))) (more problem s)));
       }

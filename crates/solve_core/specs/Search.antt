@@ -1,18 +1,18 @@
 -- What a search keeps: clauses by their steps, and literals that hold with the reasons why.
 use Rattle.std.specs.Prelude.{◌≡◌, ◌<◌, ℕ, List, [], length, take, get_or, map, All, Contains, None}
 use Rattle.spec_sorts.specs.Literals.{Literal}
-use Rattle.term_core.specs.declared.ids.TermId.{TermId}
 use Rattle.term_core.specs.declared.ids.Lit.{Lit}
 use Rattle.term_core.specs.Tables.{TableView, clause_at, literal_at}
 use Rattle.clause_literals.specs.Statuses.{IsSatisfied}
 use Rattle.clause_literals.specs.Literals.{AreOf, Means}
 use Rattle.proof_log.specs.declared.premises.StepId.{StepId}
 use Rattle.proof_log.specs.Logs.{Logged, named, logged_at, IsLogOf}
-use Rattle.sat_trail.specs.Trails.{TrailView, no_lit, IsUnassigned, HasSame, empty as no_trail}
+use Rattle.sat_trail.specs.Trails.{TrailView, no_lit, HasSame, empty as no_trail}
 use Rattle.clause_store.specs.Stores.{StoreView, no_step, AreKnown, HasSeen}
 use Rattle.clause_store.specs.Propagating.{AreImplied, IsQuiet}
 use Rattle.conflict_learn.specs.Conflicts.{Conflict}
 use Rattle.solve_core.specs.declared.search.Search.{Search}
+use Rattle.solve_core.specs.Waiting.{IsMentioned, AreWaiting}
 
 -- the literals of lists, as the table means them
 abbrev pub images : TableView → List (List Lit) → List (List Literal)
@@ -22,31 +22,9 @@ images t cs = map (map (literal_at t)) cs
 abbrev pub AreAllOf : TableView → List (List Lit) → Type 0
 AreAllOf t cs = All (AreOf t) cs
 
--- a literal of the clauses has the term
-abbrev pub IsMentioned : List (List Lit) → TermId → Type 0
-IsMentioned clauses t = (c : List Lit) × (l : Lit) × Contains clauses c × Contains c l × (l.term ≡ t)
-
 -- of each clause a literal holds
 abbrev pub AreSatisfied : List (List Lit) → List Lit → Type 0
 AreSatisfied clauses held = (c : List Lit) → Contains clauses c → IsSatisfied held c
-
--- Of a clause this literal is unassigned.
-pub record IsUnassignedOf (held clause : List Lit) (l : Lit) : Type 0 where
-  -- the clause has it
-  pub there : Contains clause l
-  -- neither it holds nor its complement
-  pub unassigned : IsUnassigned held l
-
--- Of one of the clauses this literal is unassigned.
-pub record IsUnassignedIn (clauses : List (List Lit)) (held : List Lit) (l : Lit) : Type 0 where
-  -- the clause
-  pub clause : List Lit
-  -- it is one of them
-  pub has_clause : Contains clauses clause
-  -- it has the literal
-  pub there : Contains clause l
-  -- neither that holds nor its complement
-  pub unassigned : IsUnassigned held l
 
 -- Each clause has the literals of its step's.
 pub record Derives (t : TableView) (log : List Logged) (s : StoreView) : Type 0 where
@@ -94,6 +72,10 @@ pub record IsReady (t : TableView) (x : Search) : Type 0 where
   pub implied : AreImplied x.store x.trail
   -- each decision was made at quiet
   pub decided : AreDecided x.store.clauses x.trail
+  -- the variables without a value wait to be decided
+  pub waiting : AreWaiting x.store.clauses x.trail.literals x.decider
+  -- for each variable it is known whether it waits
+  pub sized : length x.decider ≡ x.trail.vars
   -- what was learned is over the table
   pub learned : AreAllOf t x.budget.learned
 

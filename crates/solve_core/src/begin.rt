@@ -8,6 +8,8 @@ ghost use Rattle.proof_log.specs.Logs.{IsLogOf, AreOf, AreFormulasIn};
 ghost use Rattle.solve_core.specs.Search.{IsStoreOf, IsBegun};
 ghost use Rattle.solve_core.specs.Rounds.{Begins};
 
+use crate::decider::Decider;
+use crate::restarts::Restarts;
 use crate::search::Search;
 use clause_store::ClauseStore;
 use clause_store::laws::{reasons_stay_right, what_is_marked_was_seen};
@@ -73,12 +75,15 @@ pub(crate) fn begin(
     let list = clauses_of_all(alloc, table, &mut log, roots)?;
     let store = store_of(alloc, table, &log, list.as_slice())?;
     let trail = trail_of(alloc, table)?;
+    let decider = Decider::new(alloc, &store, trail.vars())?;
     let budget = Budget::new(alloc, limits)?;
     Ok(Search {
         alloc,
         log,
         store,
         trail,
+        decider,
+        restarts: Restarts::new(),
         budget,
     })
 }

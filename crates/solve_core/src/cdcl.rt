@@ -6,14 +6,13 @@ ghost use Rattle.proof_log.specs.Logs.{IsLogOf};
 ghost use Rattle.solve_core.specs.Search.{IsReady};
 ghost use Rattle.solve_core.specs.Rounds.{Shows};
 
-use crate::decision::next_decision;
 use crate::search::Search;
 use clause_store::Propagation;
 use clause_store::laws::{reasons_stay_right, what_is_marked_was_seen};
 use conflict_learn::conflict_level;
 use proof_log::StepId;
 use sat_budget::Reason;
-use term_core::{Lit, TermTable};
+use term_core::TermTable;
 use term_walks::Interp;
 use world_io::NoMemory;
 
@@ -31,8 +30,7 @@ pub enum Answer {
 impl Search {
     /// Searches until the terms of the store's clauses are known to be satisfied or not, or the budget is spent.
     ///
-    /// Decisions are negative. Each round assigns a variable more, or learns a clause and takes one from the budget, which is asked
-    /// before the clause is logged.
+    /// Each round assigns a variable more, or learns a clause and takes one from the budget, which is asked before the clause is logged.
     pub(crate) fn run(&mut self, table: &mut TermTable) -> Result<Answer, NoMemory>
         requires ready { IsReady table.old self.old }
         ensures grown { Extends table.old table.new }
@@ -48,13 +46,10 @@ impl Search {
             match self.store.propagate(&mut self.trail)? {
                 Propagation::Quiet => {
                     self.trail.is_sound();
-                    let Some(l) = next_decision(&self.store, &self.trail) else {
+                    let Some(l) = self.decider.next(&self.trail) else {
                         return self.satisfied(table);
                     };
-                    self.trail.decide(Lit {
-                        term: l.term,
-                        positive: false,
-                    });
+                    self.trail.decide(l);
                     self.trail.is_sound();
                 }
                 Propagation::Clash(clash) => {

@@ -64,7 +64,7 @@ impl Search {
         Ok(Answer::Unsat(step))
     }
 
-    /// Learns a clause from a conflict above level 0, and goes back to the level at which it is unit.
+    /// Learns a clause from a conflict above level 0, and goes back to the level at which it is unit, or to level 0 at a restart.
     ///
     /// The budget must have room for it. The log grows by its one step, which is resolved from what the conflict rests on.
     pub(crate) fn learn_and_go_back(
@@ -90,8 +90,12 @@ impl Search {
         let learned = learn(self.alloc, table, &self.trail, &mut self.log, clash)?;
         table.ids_are_unique();
         note(&mut self.budget, learned.clause.as_slice())?;
+        self.decider
+            .learnt(table, &self.trail, &self.log, learned.step);
         self.store.add(table, &self.log, learned.step)?;
-        self.trail.back_to(learned.level);
+        let level = self.restarts.level_after(learned.level);
+        self.decider.put_back(&self.trail, level);
+        self.trail.back_to(level);
         Ok(())
     }
 }

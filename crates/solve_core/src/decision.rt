@@ -1,75 +1,49 @@
 //! What is decided next.
 
-ghost use Rattle.std.specs.Prelude.{◌<◌, ◌⊎◌, All, Contains, MatchBool, MatchOption};
-ghost use Rattle.clause_literals.specs.Literals.{lit_complement};
-ghost use Rattle.clause_literals.specs.Statuses.{IsSatisfied};
+ghost use Rattle.std.specs.Prelude.{◌≡◌, ◌<◌, length, List, IfSome};
 ghost use Rattle.term_core.specs.declared.ids.Lit.{Lit as Literal};
-ghost use Rattle.clause_store.specs.Stores.{AreKnown};
-ghost use Rattle.clause_store.specs.Propagating.{IsQuiet};
-ghost use Rattle.solve_core.specs.Search.{AreSatisfied, IsUnassignedOf, IsUnassignedIn};
+ghost use Rattle.solve_core.specs.Waiting.{AreWaiting, IsChoice, IsOpen, Chooses};
 
-use clause_store::ClauseStore;
 use sat_trail::SatTrail;
-use term_core::Lit;
+use term_core::{Lit, TermId};
+use variable_order::VariableOrder;
 
-/// Says whether a literal holds.
-fn holds(l: Lit, trail: &SatTrail) -> bool
-    requires known { l.term.0 < trail.now.vars }
-    ensures { MatchBool result (Contains trail.now.literals l) (Contains trail.now.literals l → ⊥) }
+/// Gives the literal of a variable that has no value, with the sign that it had last; nothing where it has one.
+fn choice_of(phases: &[bool], trail: &SatTrail, v: TermId) -> Option<Lit>
+    requires phase { v.0 < length phases.now }
+    requires known { v.0 < trail.now.vars }
+    ensures { IsChoice trail.now.literals v result }
 {
-    trail.is_sound();
+    let l = Lit {
+        term: v,
+        positive: phases[v.0 as usize],
+    };
     match trail.value(l) {
-        Some(sign) => sign,
-        None => false,
+        None => Some(l),
+        Some(_) => None,
     }
 }
 
-/// Says whether a literal of the clause holds.
-fn is_satisfied(clause: &[Lit], trail: &SatTrail) -> bool
-    requires known { All (λ l. l.term.0 < trail.now.vars) clause.now }
-    ensures { MatchBool result (IsSatisfied trail.now.literals clause.now)
-        ((l : Literal) → Contains clause.now l → Contains trail.now.literals l → ⊥) }
+/// Takes variables from the order until one has no value, and gives its literal with the sign that it had last; nothing where each has
+/// a value.
+pub(crate) fn next_decision(
+    order: &mut VariableOrder,
+    phases: &[bool],
+    trail: &SatTrail,
+) -> Option<Lit>
+    requires phases { length phases.now ≡ length order.old }
+    requires vars { length order.old ≡ trail.now.vars }
+    ensures size { length order.new ≡ length order.old }
+    ensures open { IfSome result (IsOpen trail.now) }
+    ensures choice { (clauses : List (List Literal)) → AreWaiting clauses trail.now.literals order.old
+        → Chooses clauses trail.now.literals order.new result }
 {
-    for l in clause {
-        if holds(*l, trail) {
-            return true;
-        }
-    }
-    false
-}
-
-/// Gives the first literal of the clause that has no value.
-fn unassigned_in(clause: &[Lit], trail: &SatTrail) -> Option<Lit>
-    requires known { All (λ l. l.term.0 < trail.now.vars) clause.now }
-    ensures { MatchOption result
-        ((l : Literal) → Contains clause.now l → Contains trail.now.literals l ⊎ Contains trail.now.literals (lit_complement l))
-        (IsUnassignedOf trail.now.literals clause.now) }
-{
-    for l in clause {
-        if trail.value(*l).is_none() {
-            return Some(*l);
-        }
-    }
-    None
-}
-
-/// Gives an unassigned literal of the oldest clause none of whose literals holds, or nothing where each clause has one that holds.
-///
-/// Propagation must be quiet.
-pub(crate) fn next_decision(store: &ClauseStore, trail: &SatTrail) -> Option<Lit>
-    requires known { AreKnown store.now trail.now.vars }
-    requires quiet { IsQuiet store.now.clauses trail.now.literals }
-    ensures { MatchOption result (AreSatisfied store.now.clauses trail.now.literals)
-        (IsUnassignedIn store.now.clauses trail.now.literals) }
-{
-    for n in 0..store.len() {
-        let clause = store.clause(n);
-        if is_satisfied(clause, trail) {
-            continue;
-        }
-        if let Some(l) = unassigned_in(clause, trail) {
+    'variables: loop {
+        let Some(v) = order.pop() else {
+            return None;
+        };
+        if let Some(l) = choice_of(phases, trail, v) {
             return Some(l);
         }
     }
-    None
 }

@@ -2,17 +2,24 @@
 //! answer.
 //!
 //! The loop of conflict-driven clause learning is here, and what it answers. The literals that hold are a `SatTrail`, propagation is
-//! that of a `ClauseStore`, and `learn` draws a clause from a conflict.
+//! that of a `ClauseStore`, and `learn` draws a clause from a conflict. A `Decider` says what is decided next, and `Restarts` when the
+//! search begins again from level 0; no answer rests on either.
 #![tactic(auto)]
 
+mod activity;
 mod begin;
 mod cdcl;
 mod conflict;
+mod decider;
 mod decision;
 mod model;
 mod outcome;
+mod restarts;
 mod search;
 mod solver;
+#[cfg(test)]
+mod tests;
+mod waiting;
 
 pub use cdcl::Answer;
 pub use outcome::{Outcome, decide};

@@ -1,5 +1,7 @@
 //! What a search has in hand.
 
+use crate::decider::Decider;
+use crate::restarts::Restarts;
 use clause_store::ClauseStore;
 use proof_log::ProofLog;
 use sat_budget::Budget;
@@ -17,6 +19,10 @@ pub(crate) struct Search {
     pub(crate) store: ClauseStore,
     /// The literals that hold.
     pub(crate) trail: SatTrail,
+    /// Which variables wait to be decided, and in which order.
+    pub(crate) decider: Decider,
+    /// When it begins again from level 0.
+    pub(crate) restarts: Restarts,
     /// The clauses that were learned, and how many may be.
     pub(crate) budget: Budget,
 }

@@ -1,25 +1,19 @@
--- Clause by clause.
-use Rattle.std.proofs.lemmas.List.{take_all}
-use Rattle.std.proofs.lemmas.List.Elements.{Contains-get_or}
-use Rattle.std.proofs.Common.{[], get_or, subst, sym, arith, length, ◌<◌}
-use Rattle.clause_literals.specs.Statuses.{IsSatisfied, IsSettled}
-use Rattle.solve_core.proofs.SearchValues.{more_items, none_open}
+-- What was taken from the order, and what is decided.
+use Rattle.std.proofs.Common.{subst, sym}
+use Rattle.solve_core.specs.Waiting.{AreWaiting, IsMentioned}
+use Rattle.solve_core.proofs.SearchWaiting.{all_assigned, taken_chosen}
 use Rattle.solve_core.proofs.decision.next_decision.Goals as goal
 
-pub loop-n-preserved-then-is_satisfied : goal.loop-n-preserved-then-is_satisfied
-loop-n-preserved-then-is_satisfied c =
+pub returns-in_default-clause-choice : goal.returns-in_default-clause-choice
+returns-in_default-clause-choice c clauses h =
+    let waits = c.variables.invariant.waiting clauses h in
     let held = c.args.trail.now.literals in
-    more_items (IsSatisfied held) c.args.store.now.clauses c.loop-n.n [] (omega (arith, c.loop-n-test.true, c.len-n-end.ensures)) c.loop-n.invariant (subst (IsSatisfied held) c.clause-clause.ensures c.if-is_satisfied.ensures)
+    (all_assigned clauses held c.variables.order waits c.in_default.ensures.0, subst (AreWaiting clauses held) (sym c.in_default.ensures.1) waits)
 
-pub loop-n-preserved : goal.loop-n-preserved
-loop-n-preserved c =
+pub returns-in-Some-choice_of-clause-choice : goal.returns-in-Some-choice_of-clause-choice
+returns-in-Some-choice_of-clause-choice c clauses h =
+    let waits = c.variables.invariant.waiting clauses h in
     let held = c.args.trail.now.literals in
-    let clauses = c.args.store.now.clauses in
-    let lt : c.loop-n.n < length clauses = omega (arith, c.loop-n-test.true, c.len-n-end.ensures) in
-    let settled = c.requires.quiet (get_or clauses c.loop-n.n []) (Contains-get_or clauses c.loop-n.n [] lt) in
-    absurd (none_open held c.clause-clause.result.now (subst (IsSettled held) (sym c.clause-clause.ensures) settled) c.if-is_satisfied.ensures c.in_default.ensures)
-
-pub returns : goal.returns
-returns c =
-    let all = take_all c.loop-n.n c.args.store.now.clauses (omega (arith, c.loop-n-test.false, c.len-n-end.ensures)) in
-    rw all at c.loop-n.invariant
+    let l = c.in-Some-choice_of.l in
+    let is = c.in-Some-choice_of.ensures.0 in
+    (subst (IsMentioned clauses) (sym is) (waits.only c.in-Some.v c.in-Some.ensures.was_in), taken_chosen c.variables.order c.pop.new.self c.in-Some.v c.in-Some.ensures clauses held waits l is)

@@ -1,7 +1,14 @@
--- Of each clause up to here a literal holds.
-use Rattle.std.proofs.Common.{take}
-use Rattle.solve_core.specs.Search.{AreSatisfied}
+-- What was taken has a value, and fewer variables wait.
+use Rattle.std.proofs.Common.{◌≡◌, length, List}
+use Rattle.term_core.specs.declared.ids.Lit.{Lit}
+use Rattle.solve_core.specs.Waiting.{AreWaiting, count}
 use Rattle.solve_core.proofs.decision.next_decision.Given as goal
 
-abbrev pub invariant-loop-n : goal.invariant-loop-n
-invariant-loop-n l = AreSatisfied (take l.n l.store.clauses) l.trail.literals
+abbrev pub invariant-variables : goal.invariant-variables
+invariant-variables l = record {
+  size : length l.order ≡ length l.fn.order;
+  waiting : (clauses : List (List Lit)) → AreWaiting clauses l.trail.literals l.fn.order → AreWaiting clauses l.trail.literals l.order;
+}
+
+abbrev pub decreases-variables : goal.decreases-variables
+decreases-variables l = count l.order

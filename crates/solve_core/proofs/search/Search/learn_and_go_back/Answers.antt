@@ -1,12 +1,16 @@
 -- That what the search has fits together with the clause that was learned.
-use Rattle.std.proofs.Common.{◌∙◌, ap, subst, length, List, ◌∷◌, []}
+use Rattle.std.proofs.Common.{◌≡◌, ◌∙◌, ap, subst, sym, arith, length, List, ◌∷◌, []}
 use Rattle.std.proofs.lemmas.List.{length-append}
+use Rattle.spec_proofs.specs.declared.Rule.TheVariants.{Resolution}
 use Rattle.term_core.specs.declared.ids.Lit.{Lit}
+use Rattle.proof_log.specs.Logs.{stepped}
 use Rattle.sat_budget.specs.Budgets.{BudgetView}
 use Rattle.solve_core.specs.declared.search.Search.{Search}
+use Rattle.solve_core.specs.Waiting.{AreWaiting}
 use Rattle.solve_core.specs.Rounds.{IsNoted}
 use Rattle.solve_core.proofs.SearchReasons.{clash_is, reasons_are}
-use Rattle.solve_core.proofs.SearchReady.{ready_learned}
+use Rattle.solve_core.proofs.SearchLevels.{level_within}
+use Rattle.solve_core.proofs.SearchReady.{all_mentioned, ready_learned}
 use Rattle.solve_core.proofs.SearchShows.{search_learned}
 use Rattle.solve_core.proofs.search.Search.learn_and_go_back.Goals as goal
 
@@ -20,6 +24,20 @@ learn-requires-clause-reasons c =
     let x = c.args.self.now in
     reasons_are c.args.table.now c.ids_are_unique.ensures x.log x.store c.requires.ready.derives x.trail c.requires.ready.implied
 
+pub learnt-requires-clause-step : goal.learnt-requires-clause-step
+learnt-requires-clause-step c =
+    let l = c.in_ok-learned.ensures.learned.logged in
+    omega (arith, l.number, ap length l.last, length-append c.args.self.now.log (stepped Resolution l.premises [] l.terms ∷ []))
+
+pub learnt-requires-clause-vars : goal.learnt-requires-clause-vars
+learnt-requires-clause-vars c = c.requires.ready.sized
+
+pub back_to-requires : goal.back_to-requires
+back_to-requires c =
+    let d = c.in_ok-learned.learned in
+    let l = c.in_ok-learned.ensures.learned in
+    record { there = omega (arith, c.level_after-level.ensures, level_within c.args.self.now.trail c.is_sound.ensures.once c.is_sound.ensures.leveled d.clause l.level d.level l.one) }
+
 pub returns-clause-learned : goal.returns-clause-learned
 returns-clause-learned c =
     let t = c.args.table.now in
@@ -29,26 +47,30 @@ returns-clause-learned c =
     let l = c.in_ok-learned.ensures.learned in
     let store = c.add.new.self in
     let trail = c.back_to.new.self in
+    let ws = c.put_back.new.self in
+    let n = c.level_after-level.result in
     let added = c.in_ok-add.ensures in
     let cut = c.back_to.ensures in
     let noted : IsNoted d.clause x.budget c.note.new.budget = subst (λ (ls : List Lit). IsNoted ls x.budget c.note.new.budget) c.as_slice.ensures c.in_ok-note.ensures in
-    let y : Search = record { alloc = x.alloc; log = c.learn.new.log; store = store; trail = trail; budget = c.note.new.budget } in
+    let y : Search = record { alloc = x.alloc; log = c.learn.new.log; store = store; trail = trail; decider = ws; restarts = c.level_after-level.new.self; budget = c.note.new.budget } in
     let r = c.requires.ready in
     let once = c.is_sound.ensures.once in
     let leveled = c.is_sound.ensures.leveled in
     let seen = c.what_is_marked_was_seen.ensures in
     let implied = c.reasons_stay_right.ensures in
+    let waiting : AreWaiting x.store.clauses trail.literals ws = c.put_back.ensures.waiting x.store.clauses trail (all_mentioned t x r) cut (subst (AreWaiting x.store.clauses x.trail.literals) (sym c.learnt.ensures) r.waiting) in
+    let size : length ws ≡ length x.decider = c.put_back.ensures.size ∙ ap length c.learnt.ensures in
     record {
-      ready = ready_learned t u c.learn.ensures.grown c.ids_are_unique-2.ensures x y r c.args.clash d l noted added cut once leveled
-          (seen.cut store x.trail trail d.level (seen.added u c.learn.new.log d.step x.store store x.trail r.seen added) cut)
-          (implied.cut store x.trail trail d.level (implied.added u c.learn.new.log d.step x.store store x.trail c.steps_are_paired.ensures r.implied added) cut);
+      ready = ready_learned t u c.learn.ensures.grown c.ids_are_unique-2.ensures x y r c.args.clash d l noted added n c.level_after-level.ensures cut once leveled
+          (seen.cut store x.trail trail n (seen.added u c.learn.new.log d.step x.store store x.trail r.seen added) cut)
+          (implied.cut store x.trail trail n (implied.added u c.learn.new.log d.step x.store store x.trail c.steps_are_paired.ensures r.implied added) cut) waiting size;
       continues = record {
         table = c.learn.ensures.grown;
         declared = c.learn.ensures.declared;
         limit = ap (λ (b : BudgetView). b.limit) noted;
         vars = cut.vars;
         search = search_learned t u c.learn.ensures.grown c.ids_are_unique.ensures c.ids_are_unique-2.ensures c.learn.ensures.declared x y r once leveled c.is_sound.ensures.consistent
-            (c.logs_stand_in_grown_tables.ensures.same t u x.log r.right c.learn.ensures.grown) c.args.clash d l noted added cut;
+            (c.logs_stand_in_grown_tables.ensures.same t u x.log r.right c.learn.ensures.grown) c.args.clash d l noted added;
       };
       learned = ap (λ (b : BudgetView). length b.learned) noted ∙ length-append x.budget.learned (d.clause ∷ []);
     }

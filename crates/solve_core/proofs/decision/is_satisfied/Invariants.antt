@@ -1,7 +1,0 @@
--- None of the literals up to here holds.
-use Rattle.std.proofs.Common.{take, Contains}
-use Rattle.term_core.specs.declared.ids.Lit.{Lit}
-use Rattle.solve_core.proofs.decision.is_satisfied.Given as goal
-
-abbrev pub invariant-loop-l : goal.invariant-loop-l
-invariant-loop-l l = (m : Lit) → Contains (take l.l-index l.clause) m → Contains l.trail.literals m → ⊥
