@@ -238,9 +238,9 @@ unsat
 ====
 1 smt_cli|check|script.smt2|proof.alethe
 ----
-(declare-const p Bool)(assert p)(check-sat) ; no term has a name yet, at the term
+(declare-const p Bool)(assert p)(check-sat) ; a name for a term is missing, at the term
 ----
-(assume h1 (! p :named n))
+(assume h1 (! p :named))
 
 ----
 (error \"1:12: BadShape\")

@@ -12,11 +12,11 @@ pub(crate) const SESSIONS: &str = "solve 1 1000
 (declare-const c Bool)|went 0|success
 (assert (or a b))|went 0|success
 (assert (or a (not b)))|went 0|success
-(check-sat)|went 1|sat
-(assert (or (not a) b c))|went 1|success
-(assert (or (not a) b (not c)))|went 1|success
-(assert (or (not a) (not b) c))|went 1|success
-(assert (or (not a) (not b) (not c)))|went 1|success
+(check-sat)|went 0|sat
+(assert (or (not a) b c))|went 0|success
+(assert (or (not a) b (not c)))|went 0|success
+(assert (or (not a) (not b) c))|went 0|success
+(assert (or (not a) (not b) (not c)))|went 0|success
 (check-sat)|went 1|unknown
 (assert d)|refused 1|(error \"1:9: UnknownSymbol\")
 (set-option :k v)|went 1|unsupported
@@ -34,6 +34,7 @@ solve 1 1000
 (define-fun f ((x Bool)) Bool (or p x))|went 0|success
 (assert (! (f q) :named n))|went 0|success
 (assert (f (not q)))|went 0|success
+(assert (or (not p) q))|went 0|success
 (check-sat)|went 1|sat
 (declare-const x Real)|went 1|success
 (assert (< x 1))|went 1|success
@@ -48,6 +49,7 @@ certify 0 1000
 (check-sat)|went 0|sat|(|  (define-fun f ((@x0 U) (@x1 Bool)) Real 0)|  (define-fun p () Bool false)|  (define-fun q () Bool false)|)
 (assert (or p q))|went 0|success
 (assert (or p (not q)))|went 0|success
+(assert (or (not p) q))|went 0|success
 (check-sat)|went 0|unknown|(conflicts 0)
 (set-option :print-success false)|went 0|-
 (assert false)|went 0|-
