@@ -19,7 +19,8 @@ use Rattle.proof_log.specs.declared.premises.StepId.{StepId}
 use Rattle.proof_log.specs.Logs.{AreOf, IsLogOf, IsFormulaIn, Logged, stepped, numbers_of, inference_of, derivation_in}
 use Rattle.proof_log.specs.Adding.{IsAdded}
 use Rattle.sat_trail.specs.Trails.{AreApart, IsLeveled}
-use Rattle.conflict_learn.specs.Conflicts.{Conflict, IsClash, AreReasons, IsConflictLevel, IsAboveZero, IsOfZero}
+use Rattle.proof_log.specs.Clashes.{IsClash}
+use Rattle.conflict_learn.specs.Conflicts.{Conflict, AreReasons, IsConflictLevel, IsAboveZero, IsOfZero}
 use Rattle.conflict_learn.specs.Points.{held_at, level_at, IsMet, IsUsed, IsUip}
 use Rattle.conflict_learn.specs.Learned.{Refutes}
 use Rattle.conflict_learn.specs.Analyses.{IsBare, StateAll}

@@ -10,7 +10,8 @@ use Rattle.clause_literals.specs.Literals.{lit_complement}
 use Rattle.clause_literals.proofs.LiteralLists.{negation_twice}
 use Rattle.proof_log.specs.declared.premises.StepId.{StepId}
 use Rattle.sat_trail.specs.Trails.{AreApart, IsLeveled}
-use Rattle.conflict_learn.specs.Conflicts.{Conflict, step_of, literals_in, IsClash, AreReasons, IsConflictLevel}
+use Rattle.proof_log.specs.Clashes.{literals_in, IsClash}
+use Rattle.conflict_learn.specs.Conflicts.{Conflict, step_of, AreReasons, IsConflictLevel}
 use Rattle.conflict_learn.specs.Points.{held_at, level_at, Falsifies, IsMet, IsPoint, IsDropped, of_point, of_dropped, IsUsed, IsLeft}
 use Rattle.conflict_learn.specs.Analyses.{IsMarkedAt, Marks, IsLower, Sorting, HasMet, HasCome, AreDropped, IsNewest, IsBack}
 use Rattle.conflict_learn.proofs.Places.{later_or_here, same_place, one_level}

@@ -11,7 +11,8 @@ use Rattle.clause_literals.proofs.LiteralLists.{decide}
 use Rattle.clause_literals.proofs.TableLiterals.{literals_apart}
 use Rattle.proof_log.specs.declared.premises.StepId.{StepId}
 use Rattle.sat_trail.specs.Trails.{TrailView, no_lit, AreApart, IsLeveled}
-use Rattle.conflict_learn.specs.Conflicts.{Conflict, step_of, literals_in, HasLit, IsClash, IsReason, AreReasons, IsConflictLevel}
+use Rattle.proof_log.specs.Clashes.{literals_in, HasLit, IsClash}
+use Rattle.conflict_learn.specs.Conflicts.{Conflict, step_of, IsReason, AreReasons, IsConflictLevel}
 use Rattle.conflict_learn.specs.Points.{held_at, level_at, Falsifies, IsMet, of_clash, of_reason, HasTwo, IsResolved}
 use Rattle.conflict_learn.specs.Analyses.{IsMarked, IsMarkedAt, IsMarkedFor, Marks, IsBefore, Sorting, Sorts, HasMet, HasCome}
 use Rattle.conflict_learn.proofs.Places.{place_of, early_place, later_or_here, same_place}

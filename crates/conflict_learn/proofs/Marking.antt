@@ -9,7 +9,8 @@ use Rattle.term_core.specs.declared.ids.Lit.{Lit}
 use Rattle.term_core.specs.Tables.{TableView, IsIn, AreDifferent, literal_at}
 use Rattle.clause_literals.proofs.TableLiterals.{literals_apart}
 use Rattle.sat_trail.specs.Trails.{TrailView, AreApart}
-use Rattle.conflict_learn.specs.Conflicts.{Conflict, literals_in, IsFalseAt, IsConflictLevel}
+use Rattle.proof_log.specs.Clashes.{literals_in}
+use Rattle.conflict_learn.specs.Conflicts.{Conflict, IsFalseAt, IsConflictLevel}
 use Rattle.conflict_learn.specs.Analyses.{IsGreatestOf, IsMarked, Marks}
 use Rattle.conflict_learn.proofs.Places.{one_level}
 

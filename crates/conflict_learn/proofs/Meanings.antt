@@ -14,7 +14,7 @@ use Rattle.clause_literals.specs.Literals.{lit_complement}
 use Rattle.proof_log.specs.declared.premises.StepId.{StepId}
 use Rattle.proof_log.specs.Logs.{Logged, named, no_logged, logged_at, IsLogOf, IsFormulaIn, AreFormulasIn}
 use Rattle.clausify.proofs.Parts.{formula_inside}
-use Rattle.conflict_learn.specs.Conflicts.{literals_in}
+use Rattle.proof_log.specs.Clashes.{literals_in}
 use Rattle.conflict_learn.specs.Analyses.{IsBare}
 
 -- the literals of one term more

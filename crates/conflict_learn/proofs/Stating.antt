@@ -23,7 +23,7 @@ use Rattle.proof_log.specs.Logs.{IsFormulaIn, Logged, named, logged_at, AreOf, c
 use Rattle.proof_log.proofs.Logged.{numbers_there, premises_there}
 use Rattle.clausify.specs.Stating.{Widens}
 use Rattle.clausify.proofs.Parts.{formula_kept, signed_in}
-use Rattle.conflict_learn.specs.Conflicts.{literals_in}
+use Rattle.proof_log.specs.Clashes.{literals_in}
 use Rattle.conflict_learn.specs.Analyses.{IsBare, States, StateAll}
 
 -- a term that is no negation states its literal

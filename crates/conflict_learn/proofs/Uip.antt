@@ -12,7 +12,8 @@ use Rattle.clause_literals.proofs.LiteralLists.{negation_twice, not_own_negation
 use Rattle.proof_log.specs.declared.premises.StepId.{StepId}
 use Rattle.proof_log.specs.Logs.{named, no_logged, logged_at, IsLogOf}
 use Rattle.sat_trail.specs.Trails.{AreApart, IsLeveled}
-use Rattle.conflict_learn.specs.Conflicts.{Conflict, step_of, literals_in, HasLit, IsClash, AreReasons, IsNeeded, by_clash, by_reason, IsConflictLevel, IsPremise, IsFalseAt}
+use Rattle.proof_log.specs.Clashes.{literals_in, HasLit, IsClash}
+use Rattle.conflict_learn.specs.Conflicts.{Conflict, step_of, AreReasons, IsNeeded, by_clash, by_reason, IsConflictLevel, IsPremise, IsFalseAt}
 use Rattle.conflict_learn.specs.Points.{held_at, level_at, Falsifies, IsMet, of_clash, of_reason, IsPoint, IsDropped, of_point, of_dropped, IsUsed, IsLeft}
 use Rattle.conflict_learn.specs.Learned.{HasOneAt}
 use Rattle.conflict_learn.specs.Analyses.{IsBare, IsBack}

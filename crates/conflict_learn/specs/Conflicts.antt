@@ -1,11 +1,11 @@
 -- Clashes and reasons: steps of a log whose clauses are false under a trail, or were unit.
 use Rattle.std.specs.Prelude.{◌≡◌, ◌≢◌, ◌⊎◌, ◌<◌, ◌≤◌, ℕ, List, length, take, get_or, Contains, Some, None}
-use Rattle.spec_sorts.specs.Literals.{Literal, literals_of}
 use Rattle.term_core.specs.declared.ids.Lit.{Lit}
-use Rattle.term_core.specs.Tables.{TableView, IsIn, clause_at, literal_at}
+use Rattle.term_core.specs.Tables.{TableView}
 use Rattle.clause_literals.specs.Literals.{lit_complement}
 use Rattle.proof_log.specs.declared.premises.StepId.{StepId}
-use Rattle.proof_log.specs.Logs.{Logged, named, logged_at}
+use Rattle.proof_log.specs.Logs.{Logged}
+use Rattle.proof_log.specs.Clashes.{HasLit}
 use Rattle.sat_trail.specs.Trails.{TrailView, no_lit}
 
 -- A clause that is false under a trail, by its step, with the table and the log in which the trail's reasons are.
@@ -22,24 +22,6 @@ pub record Conflict : Type 0 where
 -- the step of a reason
 abbrev pub step_of : ℕ → StepId
 step_of r = record { 0 = r }
-
--- the literals of a step's clause, as the table means them
-abbrev pub literals_in : TableView → List Logged → StepId → List Literal
-literals_in t log s = literals_of (clause_at t (named (logged_at log s)))
-
--- A step's clause has a literal.
-pub record HasLit (t : TableView) (log : List Logged) (s : StepId) (l : Lit) : Type 0 where
-  -- its term is one of the table's
-  pub in_table : IsIn t l.term
-  -- what it means is in the clause
-  pub there : Contains (literals_in t log s) (literal_at t l)
-
--- Each literal of a step's clause is false.
-pub record IsClash (t : TableView) (log : List Logged) (held : List Lit) (s : StepId) : Type 0 where
-  -- the step is one of the log's
-  pub in_log : s.0 < length log
-  -- the complements of its literals hold
-  pub fails : (m : Lit) → HasLit t log s m → Contains held (lit_complement m)
 
 -- A step's clause has a literal, and its others are false.
 pub record IsReason (t : TableView) (log : List Logged) (held : List Lit) (l : Lit) (s : StepId) : Type 0 where

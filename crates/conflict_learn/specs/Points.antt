@@ -4,7 +4,8 @@ use Rattle.term_core.specs.declared.ids.Lit.{Lit}
 use Rattle.clause_literals.specs.Literals.{lit_complement}
 use Rattle.proof_log.specs.declared.premises.StepId.{StepId}
 use Rattle.sat_trail.specs.Trails.{no_lit, AreApart}
-use Rattle.conflict_learn.specs.Conflicts.{Conflict, step_of, HasLit}
+use Rattle.proof_log.specs.Clashes.{HasLit}
+use Rattle.conflict_learn.specs.Conflicts.{Conflict, step_of}
 
 -- the literal that holds at a place of the trail
 abbrev pub held_at : Conflict → ℕ → Lit

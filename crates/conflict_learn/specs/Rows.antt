@@ -10,7 +10,8 @@ use Rattle.term_core.specs.Tables.{literal_at}
 use Rattle.clause_literals.specs.Literals.{lit_complement}
 use Rattle.proof_log.specs.declared.premises.StepId.{StepId}
 use Rattle.proof_log.specs.Logs.{Logged, stepped}
-use Rattle.conflict_learn.specs.Conflicts.{Conflict, step_of, literals_in}
+use Rattle.proof_log.specs.Clashes.{literals_in}
+use Rattle.conflict_learn.specs.Conflicts.{Conflict, step_of}
 use Rattle.conflict_learn.specs.Points.{held_at, level_at, Falsifies, IsMet, of_clash, of_reason, HasTwo, IsDropped, of_point, of_dropped, IsUsed, IsUip}
 
 -- the n-th variable

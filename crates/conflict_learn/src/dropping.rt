@@ -3,7 +3,8 @@
 ghost use Rattle.std.specs.Prelude.{◌≡◌, ◌<◌, ◌≤◌, ◌+◌, ℕ, length, get_or, OnOk, IfOk};
 ghost use Rattle.proof_log.specs.declared.premises.StepId.{StepId as Number};
 ghost use Rattle.proof_log.specs.Logs.{IsLogOf};
-ghost use Rattle.conflict_learn.specs.Conflicts.{IsClash, AreReasons, IsConflictLevel};
+ghost use Rattle.proof_log.specs.Clashes.{IsClash};
+ghost use Rattle.conflict_learn.specs.Conflicts.{AreReasons, IsConflictLevel};
 ghost use Rattle.conflict_learn.specs.Analyses.{HasPassed, AreDropped, HasFound};
 
 use crate::analysis::{Analysis, analyze, newest_before};

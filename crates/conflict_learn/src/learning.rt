@@ -3,7 +3,8 @@
 ghost use Rattle.std.specs.Prelude.{◌≡◌, IfOk, OnErr};
 ghost use Rattle.term_core.specs.Tables.{declared_in, Extends};
 ghost use Rattle.proof_log.specs.Logs.{IsLogOf};
-ghost use Rattle.conflict_learn.specs.Conflicts.{IsClash, AreReasons, IsAboveZero, IsOfZero};
+ghost use Rattle.proof_log.specs.Clashes.{IsClash};
+ghost use Rattle.conflict_learn.specs.Conflicts.{AreReasons, IsAboveZero, IsOfZero};
 ghost use Rattle.conflict_learn.specs.Learned.{IsLearned, Refutes};
 
 use crate::dropping::{drop_fixed, find};

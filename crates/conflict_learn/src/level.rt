@@ -5,7 +5,8 @@ ghost use Rattle.spec_sorts.specs.Literals.{Literal};
 ghost use Rattle.term_core.specs.Tables.{TableView, IsIn, AreDifferent, literal_at};
 ghost use Rattle.clause_literals.specs.Literals.{lit_complement};
 ghost use Rattle.proof_log.specs.Logs.{IsLogOf};
-ghost use Rattle.conflict_learn.specs.Conflicts.{IsClash, IsConflictLevel};
+ghost use Rattle.proof_log.specs.Clashes.{IsClash};
+ghost use Rattle.conflict_learn.specs.Conflicts.{IsConflictLevel};
 ghost use Rattle.conflict_learn.specs.Analyses.{IsGreatestOf};
 
 use proof_log::{ProofLog, StepId};

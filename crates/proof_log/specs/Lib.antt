@@ -3,3 +3,5 @@ pub mod Logs
 pub mod Entries
 pub mod Faults
 pub mod Adding
+pub mod Clashes
+pub mod Theories

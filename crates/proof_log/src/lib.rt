@@ -9,6 +9,7 @@ mod log_fault;
 mod numbers;
 mod premises;
 mod step;
+mod theory;
 
 pub use log::ProofLog;
 pub use log_fault::LogFault;
@@ -18,3 +19,4 @@ pub use ratio128::Ratio;
 pub use spec_proofs::Rule;
 pub use step::Step;
 pub use term_core::{Clause, TermId};
+pub use theory::{Theory, Verdict};

@@ -5,5 +5,5 @@ mod budget;
 mod limits;
 
 pub use budget::Budget;
-pub use limits::{BudgetStop, Limits, Reason};
+pub use limits::{BudgetStop, Limits, Reason, Stop};
 pub use term_core::{Lit, TermId};

@@ -4,6 +4,7 @@ ghost use Rattle.std.specs.Prelude.{◌≡◌};
 
 use std::alloc::{AllocError, AllocFailed};
 use thiserror::Error;
+use world_io::NoMemory;
 
 /// Limits what a check may spend, and how much a script may ask to be held.
 ///
@@ -28,6 +29,24 @@ pub struct Limits {
 pub enum Reason {
     /// So many conflicts were learned from, which is their limit.
     Conflicts(u64),
+}
+
+/// Says why a theory's call came to no end.
+#[derive(Clone, Copy, Debug, PartialEq, Eq, Error)]
+pub enum Stop {
+    /// Memory ran out.
+    #[error("out of memory")]
+    Memory,
+}
+
+impl From<NoMemory> for Stop {
+    ghost use Rattle.sat_budget.specs.declared.limits.Stop.TheVariants as stops;
+
+    ghost from_gives = { λ _ r. r ≡ stops.Memory };
+
+    fn from(_error: NoMemory) -> Stop {
+        Stop::Memory
+    }
 }
 
 /// Says why a clause is not learned.

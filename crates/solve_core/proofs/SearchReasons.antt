@@ -12,7 +12,8 @@ use Rattle.proof_log.specs.Logs.{Logged}
 use Rattle.sat_trail.specs.Trails.{TrailView, no_lit}
 use Rattle.clause_store.specs.Stores.{StoreView, no_step}
 use Rattle.clause_store.specs.Propagating.{IsClash as StoreClash, AreImplied}
-use Rattle.conflict_learn.specs.Conflicts.{HasLit, IsClash, IsReason, AreReasons, step_of}
+use Rattle.proof_log.specs.Clashes.{HasLit, IsClash}
+use Rattle.conflict_learn.specs.Conflicts.{IsReason, AreReasons, step_of}
 use Rattle.solve_core.specs.Search.{Derives}
 
 -- the number that an option has

@@ -1,7 +1,7 @@
 -- How far literals of level 0 were dropped.
 use Rattle.std.proofs.Common.{◌≡◌, ℕ, length}
 use Rattle.proof_log.specs.declared.premises.StepId.{StepId}
-use Rattle.conflict_learn.specs.Conflicts.{IsClash}
+use Rattle.proof_log.specs.Clashes.{IsClash}
 use Rattle.conflict_learn.specs.Analyses.{AreDropped}
 use Rattle.conflict_learn.proofs.dropping.drop_fixed.Given as goal
 

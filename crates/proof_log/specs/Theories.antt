@@ -1,0 +1,110 @@
+-- What a theory holds and watches, and what its calls come to.
+use Rattle.std.specs.Prelude.{◌≡◌, ℕ, zero, suc, ◌-◌, List, [], ◌∷◌, ◌++◌, length, take, map, get_or, All, Result, Ok, Err}
+use Rattle.spec_sorts.specs.Terms.{Term}
+use Rattle.spec_sorts.specs.Literals.{Literal, literal_of}
+use Rattle.spec_sorts.specs.WellSorted.{IsWellSorted}
+use Rattle.term_core.specs.declared.ids.TermId.{TermId}
+use Rattle.term_core.specs.declared.ids.Lit.{Lit}
+use Rattle.term_core.specs.Tables.{TableView, term_at, IsIn, clause_at, literal_at, positive_literal, declared_in, Extends}
+use Rattle.sat_budget.specs.declared.limits.Stop.{Stop}
+use Rattle.proof_log.specs.declared.theory.Verdict.{Verdict}
+use Rattle.proof_log.specs.declared.theory.Verdict.TheVariants.{Fine, Clash}
+use Rattle.proof_log.specs.Logs.{Logged, IsFormulaIn, IsLogOf}
+use Rattle.proof_log.specs.Clashes.{IsClash}
+
+-- How many literals and terms a theory had at a mark.
+pub record Mark : Type 0 where
+  -- the literals that it held
+  pub held : ℕ
+  -- the terms that it watched
+  pub watched : ℕ
+
+-- What a theory means: the literals that it holds and the terms that it watches, oldest first, and what these were at each mark, oldest mark first.
+pub record TheoryView : Type 0 where
+  -- the literals
+  pub held : List Lit
+  -- the terms
+  pub watched : List TermId
+  -- how many of both there were
+  pub marks : List Mark
+
+-- what no mark has
+abbrev pub no_mark : Mark
+no_mark = record { held = 0; watched = 0 }
+
+-- a mark of what is there now
+abbrev pub mark_now : TheoryView → Mark
+mark_now v = record { held = length v.held; watched = length v.watched }
+
+-- a literal more is held
+abbrev pub with_held : TheoryView → Lit → TheoryView
+with_held v l = record { held = v.held ++ l ∷ []; watched = v.watched; marks = v.marks }
+
+-- a term more is watched
+abbrev pub with_watched : TheoryView → TermId → TheoryView
+with_watched v id = record { held = v.held; watched = v.watched ++ id ∷ []; marks = v.marks }
+
+-- a mark more stands
+abbrev pub with_mark : TheoryView → TheoryView
+with_mark v = record { held = v.held; watched = v.watched; marks = v.marks ++ mark_now v ∷ [] }
+
+-- what there was at a mark, without it and those after it
+abbrev pub at_mark : TheoryView → ℕ → TheoryView
+at_mark v k =
+    let m = get_or v.marks k no_mark in
+    record { held = take m.held v.held; watched = take m.watched v.watched; marks = take k v.marks }
+
+-- after going back so many marks
+abbrev pub gone_back : ℕ → TheoryView → TheoryView
+gone_back zero v = v
+gone_back (suc n) v = at_mark v (length v.marks - suc n)
+
+-- the number is that of a term over the table's symbols
+abbrev pub IsTermIn : TableView → TermId → Type 0
+IsTermIn t id = IsIn t id × IsWellSorted t.symbols [] (term_at t id)
+
+-- the number is that of a formula that is no negation
+abbrev pub IsAtomIn : TableView → TermId → Type 0
+IsAtomIn t id = IsFormulaIn t id × (literal_of (term_at t id) ≡ positive_literal (term_at t id))
+
+-- What a theory watches are terms over the table's symbols, and what it holds are literals of atoms.
+pub record IsOver (t : TableView) (v : TheoryView) : Type 0 where
+  -- the watched terms
+  pub terms : All (IsTermIn t) v.watched
+  -- the terms of the held literals
+  pub atoms : All (λ (l : Lit). IsAtomIn t l.term) v.held
+
+-- the watched terms
+abbrev pub terms_watched : TableView → TheoryView → List Term
+terms_watched t v = clause_at t v.watched
+
+-- the held literals
+abbrev pub literals_held : TableView → TheoryView → List Literal
+literals_held t v = map (literal_at t) v.held
+
+-- A table with a log of its formulas.
+pub record Derived : Type 0 where
+  -- the table
+  pub table : TableView
+  -- the log
+  pub log : List Logged
+
+-- Terms and steps came, and each step is right.
+pub record Derives (old new : Derived) : Type 0 where
+  -- the table has all that it had
+  pub table : Extends old.table new.table
+  -- no sort and no symbol came
+  pub declared : declared_in new.table ≡ declared_in old.table
+  -- the steps that came
+  pub more : List Logged
+  -- they stand last
+  pub log : new.log ≡ old.log ++ more
+  -- the log is right over the table
+  pub right : IsLogOf new.table new.log
+
+-- what a check answers of literals: that nothing is wrong with them, with what it changes; or a step whose clause is false
+-- under them, and that something is; where it is stopped nothing is changed
+abbrev pub Checks : Type 0 → Type 0 → List Lit → Derived → Result Verdict Stop → Derived → Type 0
+Checks agrees refuses held old (Ok Fine) new = agrees × Derives old new
+Checks agrees refuses held old (Ok (Clash step)) new = refuses × Derives old new × IsClash new.table new.log held step
+Checks agrees refuses held old (Err stop) new = new ≡ old

@@ -1,0 +1,101 @@
+//! What the search asks of a theory.
+
+ghost use Rattle.std.specs.Prelude.{◌≡◌, ◌≤◌, List, length, Contains, MatchResult};
+ghost use Rattle.spec_sorts.specs.Terms.{Term};
+ghost use Rattle.spec_sorts.specs.Literals.{Literal};
+ghost use Rattle.term_core.specs.Tables.{TableView, Extends};
+ghost use Rattle.proof_log.specs.Logs.{IsLogOf};
+ghost use Rattle.proof_log.specs.Theories.{TheoryView, with_held, with_watched, with_mark, gone_back, IsTermIn, IsOver, terms_watched, literals_held, Checks};
+
+use crate::log::ProofLog;
+use crate::premises::StepId;
+use sat_budget::{Budget, Stop};
+use term_core::{Lit, TermId, TermTable};
+use world_io::NoMemory;
+
+/// What a theory says of the literals that it holds.
+#[derive(Clone, Copy, Debug, PartialEq, Eq)]
+pub enum Verdict {
+    /// Nothing is wrong with them.
+    Fine,
+    /// They cannot all be true: each literal of this step's clause is false under them.
+    Clash(StepId),
+}
+
+/// What the search asks of a theory: to watch terms, to hold literals of them, to find what is wrong with these, and to go
+/// back to a mark.
+///
+/// Contracts see it as the literals that it holds, the terms that it watches, and what these were at each mark. What it keeps
+/// of the terms goes with a table: it is right there, and stays so while the table grows.
+/// Source: Nieuwenhuis, Oliveras and Tinelli, Solving SAT and SAT modulo theories, JACM 2006.
+pub trait Theory {
+    /// What it holds and watches, and what it did at each mark.
+    ghost view: { Self → TheoryView };
+
+    /// What it keeps of the terms that it watches is right over this table.
+    ghost goes_with: { Self → TableView → Type 0 };
+
+    /// What a check shows that answers `Fine`, of the watched terms and the held literals.
+    ghost agrees: { Self → List Term → List Literal → Type 0 };
+
+    /// What a check shows of them that answers `Clash`.
+    ghost refuses: { Self → List Term → List Literal → Type 0 };
+
+    /// Watches a term that it does not watch yet, which must be one over the table's symbols. It takes the memory for literals of it, too.
+    ///
+    /// `Memory` comes where memory ran out; then it watches what it did.
+    fn watch_term(&mut self, table: &TermTable, id: TermId) -> Result<(), Stop>
+        requires term { IsTermIn table.now id }
+        requires new { Contains (view self.old).watched id → ⊥ }
+        requires with { goes_with self.old table.now }
+        ensures with { goes_with self.new table.now }
+        ensures watches { MatchResult result (λ _. view self.new ≡ with_watched (view self.old) id)
+            (λ _. view self.new ≡ view self.old) };
+
+    /// Holds a literal more, of a term that it watches. It takes no memory.
+    fn assume_lit(&mut self, lit: Lit)
+        requires watched { Contains (view self.old).watched lit.term }
+        requires new { Contains (view self.old).held lit → ⊥ }
+        ensures with { (t : TableView) → goes_with self.old t → goes_with self.new t }
+        ensures holds { view self.new ≡ with_held (view self.old) lit };
+
+    /// Checks whether something is wrong with the literals that it holds.
+    ///
+    /// It may put terms into the table and steps into the log. `Clash` names one of these, whose clause is false under the held
+    /// literals. `Memory` comes where memory ran out; then table and log are as they were. It spends nothing of the budget yet.
+    fn check(
+        &mut self,
+        table: &mut TermTable,
+        log: &mut ProofLog,
+        budget: &mut Budget,
+    ) -> Result<Verdict, Stop>
+        requires over { IsOver table.old (view self.old) }
+        requires with { goes_with self.old table.old }
+        requires log { IsLogOf table.old log.old }
+        ensures with { goes_with self.new table.new }
+        ensures same { view self.new ≡ view self.old }
+        ensures budget { budget.new ≡ budget.old }
+        ensures checks { Checks (agrees self.new (terms_watched table.old (view self.old)) (literals_held table.old (view self.old)))
+            (refuses self.old (terms_watched table.old (view self.old)) (literals_held table.old (view self.old)))
+            (view self.old).held (record { table = table.old; log = log.old }) result
+            (record { table = table.new; log = log.new }) };
+
+    /// Marks what it holds and watches.
+    ///
+    /// `NoMemory` comes where the mark finds no memory; then all is as it was.
+    fn mark(&mut self) -> Result<(), NoMemory>
+        ensures with { (t : TableView) → goes_with self.old t → goes_with self.new t }
+        ensures marks { MatchResult result (λ _. view self.new ≡ with_mark (view self.old))
+            (λ _. view self.new ≡ view self.old) };
+
+    /// Goes back so many marks: it holds and watches what it did there. It takes no memory.
+    fn back(&mut self, marks: u32)
+        requires there { marks ≤ length (view self.old).marks }
+        ensures with { (t : TableView) → goes_with self.old t → goes_with self.new t }
+        ensures back { view self.new ≡ gone_back marks (view self.old) };
+
+    // what goes with a table goes with one that has more
+    ghost grown: { (x : Self) (t u : TableView) → Extends t u → goes_with x t → goes_with x u };
+    // nothing both agrees and is refused
+    ghost exact: { (x : Self) (ts : List Term) (ls : List Literal) → agrees x ts ls → refuses x ts ls → ⊥ };
+}
