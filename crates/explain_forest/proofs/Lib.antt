@@ -1,0 +1,10 @@
+pub mod Roots
+pub mod Levels
+pub mod Climbing
+pub mod Paths
+pub mod Leading
+pub mod Linking
+pub mod Room
+pub mod Showing
+pub mod Marks
+pub mod Keeping

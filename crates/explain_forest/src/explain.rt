@@ -1,0 +1,115 @@
+//! The path between two linked terms, part by part.
+
+ghost use Rattle.std.specs.Prelude.{◌≡◌, ◌<◌, ◌++◌, length, reverse, IfOk, OnOk};
+ghost use Rattle.explain_forest.specs.Forest.{Linked, path, numbered};
+ghost use Rattle.explain_forest.specs.Kept.{Shows};
+ghost use Rattle.explain_forest.specs.Telling.{step_of, halves, Turns};
+
+use crate::climb::top;
+use crate::types::{Edge, Part, Step};
+use std::alloc::Global;
+use term_core::TermId;
+use world_io::NoMemory;
+
+/// Gives the edge of a number.
+fn edge_of(edges: &[Edge], k: u64) -> Edge
+    requires { k < length edges.now }
+    ensures { result ≡ numbered (reverse edges.now) k }
+{
+    edges[k as usize]
+}
+
+/// Puts a part's step last, if there is one.
+fn tell(p: Part, out: &mut Vec<Step>) -> Result<(), NoMemory>
+    ensures { OnOk result (out.new.items ≡ out.old.items ++ step_of p) }
+{
+    if let Some(step) = p.step {
+        out.push(step)?;
+    }
+    Ok(())
+}
+
+/// Splits a part at the newest edge of its path, and puts the half that comes first last.
+fn split(
+    edges: &[Edge],
+    p: Part,
+    k: u64,
+    along: bool,
+    parts: &mut Vec<Part>,
+) -> Result<(), NoMemory>
+    requires { k < length edges.now }
+    ensures { OnOk result (parts.new.items ≡ parts.old.items ++ halves (numbered (reverse edges.now) k) k along p) }
+{
+    let e = edge_of(edges, k);
+    let (from, to) = if along { (e.a, e.b) } else { (e.b, e.a) };
+    let step = Step {
+        from,
+        to,
+        label: e.label,
+        edge: k,
+    };
+    parts.push(Part {
+        step: Some(step),
+        from: to,
+        to: p.to,
+    })?;
+    parts.push(Part {
+        step: None,
+        from: p.from,
+        to: from,
+    })?;
+    Ok(())
+}
+
+/// Tells one part: its step, and where its path has an edge, puts back the two halves.
+fn turn(
+    parents: &[u64],
+    stamps: &[u64],
+    edges: &[Edge],
+    p: Part,
+    parts: &mut Vec<Part>,
+    out: &mut Vec<Step>,
+) -> Result<(), NoMemory>
+    requires shows { Shows parents.now stamps.now edges.now }
+    requires part { (p.from.0 < length parents.now) × (p.to.0 < length parents.now)
+        × Linked (reverse edges.now) p.from.0 p.to.0 }
+    ensures { OnOk result (Turns (length parents.now) (reverse edges.now) p
+        (record { parts = parts.old.items; out = out.old.items })
+        (record { parts = parts.new.items; out = out.new.items })) }
+{
+    tell(p, out)?;
+    if p.from == p.to {
+        return Ok(());
+    }
+    let (k, along) = top(parents, stamps, edges, p.from.0, p.to.0);
+    split(edges, p, k, along, parts)?;
+    Ok(())
+}
+
+/// Gives the path from one term to another.
+pub(crate) fn explain(
+    alloc: Global,
+    parents: &[u64],
+    stamps: &[u64],
+    edges: &[Edge],
+    x: TermId,
+    y: TermId,
+) -> Result<Vec<Step>, NoMemory>
+    requires shows { Shows parents.now stamps.now edges.now }
+    requires x { x.0 < length parents.now }
+    requires y { y.0 < length parents.now }
+    requires linked { Linked (reverse edges.now) x.0 y.0 }
+    ensures { IfOk result (λ steps. steps.items ≡ path (reverse edges.now) x.0 y.0) }
+{
+    let mut out = Vec::new(alloc);
+    let mut parts = Vec::new(alloc);
+    parts.push(Part {
+        step: None,
+        from: x,
+        to: y,
+    })?;
+    'parts: while let Some(p) = parts.pop() {
+        turn(parents, stamps, edges, p, &mut parts, &mut out)?;
+    }
+    Ok(out)
+}
