@@ -1,0 +1,138 @@
+//! Looking at a listed term, and giving a literal.
+
+ghost use Rattle.std.specs.Prelude.{◌≡◌, ◌<◌, length, false, IfOk, MatchBool, MatchOption, Contains};
+ghost use Rattle.term_core.specs.declared.ids.TermId.{TermId as Number};
+ghost use Rattle.class_table.specs.Classes.{AreSame};
+ghost use Rattle.congruence_relation.specs.Relation.{IsEquality, truth_of};
+ghost use Rattle.congruence_closure.specs.Listed.{nth, equality_of};
+ghost use Rattle.congruence_closure.specs.Keys.{key_of, IsHeld};
+ghost use Rattle.congruence_closure.specs.State.{IsApart};
+ghost use Rattle.congruence_closure.specs.Changes.{Goes, IsAgainst, HasLooked, HasGiven};
+
+use crate::Conflict;
+use crate::key_table::key_of;
+use crate::parts::Parts;
+use crate::reading::sides_of;
+use crate::settling::Turn;
+use congruence_relation::Truths;
+use term_core::{Lit, TermId};
+use world_io::NoMemory;
+
+/// Gives the term of a truth value.
+fn truth_term(truths: Truths, positive: bool) -> TermId
+    ensures { result ≡ truth_of truths positive }
+{
+    if positive {
+        truths.true_term
+    } else {
+        truths.false_term
+    }
+}
+
+impl Parts {
+    /// Gives the sides of the listed term of a place, if it is an equality. It takes no memory.
+    fn sides_at(&self, place: u64) -> Option<(TermId, TermId)>
+        requires { place < length self.now.now.facts.listed }
+        ensures { MatchOption result
+            ((a b : Number) → (nth self.now.now.facts.listed place).shape ≡ equality_of a b → ⊥)
+            (λ sides. (nth self.now.now.facts.listed place).shape ≡ equality_of sides.0 sides.1) }
+    {
+        sides_of(&self.listing.at(place).node)
+    }
+
+    /// Tells whether the listed term of a place is an equality that is denied, with linked sides. It takes no memory.
+    fn is_against(&self, place: u64) -> bool
+        requires { place < length self.now.now.facts.listed }
+        ensures { MatchBool result (IsAgainst self.now.now place) (IsApart self.now.now place) }
+    {
+        self.are_kept();
+        match self.sides_at(place) {
+            Some((a, b)) => self.same(a, b) && self.holding.denies(self.listing.at(place).term),
+            None => false,
+        }
+    }
+
+    /// Looks at the listed term of a place: whether it is denied though its sides are linked, and whether another term has its key.
+    ///
+    /// `NoMemory` comes where the key, or what is to be looked at again, finds no memory.
+    pub(crate) fn look(&mut self, place: u64) -> Result<Turn, NoMemory>
+        requires { place < length self.old.now.facts.listed }
+        ensures goes { Goes self.old self.new }
+        ensures ok { IfOk result (HasLooked self.old place self.new) }
+    {
+        if self.is_against(place) {
+            return Ok(Turn::Against(Conflict::Sides(self.listing.at(place).term)));
+        }
+        let key = key_of(self.alloc, &self.classes, &self.listing.at(place).node)?;
+        match self.keys.look_up(key, place)? {
+            Some(holder) => self.meet(place, holder),
+            None => Ok(Turn::Quiet),
+        }
+    }
+
+    /// Joins the classes of two listed terms of one key, where they are two. The second one had the key first.
+    ///
+    /// `NoMemory` comes where what is to be looked at again finds no memory.
+    fn meet(&mut self, place: u64, holder: u64) -> Result<Turn, NoMemory>
+        requires there { place < length self.old.now.facts.listed }
+        requires held { IsHeld self.old.now.keys
+            (key_of self.old.now.numbers (nth self.old.now.facts.listed place).shape) holder }
+        requires apart { IsApart self.old.now place }
+        ensures goes { Goes self.old self.new }
+        ensures ok { IfOk result (HasLooked self.old place self.new) }
+    {
+        self.are_kept();
+        let later = self.listing.at(place).term;
+        let other = self.listing.at(holder).term;
+        if self.same(later, other) {
+            return Ok(Turn::Quiet);
+        }
+        self.join(later, other, None)?;
+        Ok(Turn::Joined)
+    }
+
+    /// Gives a literal: its term is in the class of its truth value, and the sides of an equality are in one class or in two.
+    ///
+    /// `NoMemory` comes where what is to be looked at again finds no memory.
+    pub(crate) fn give(&mut self, lit: Lit) -> Result<Turn, NoMemory>
+        requires { Contains self.old.now.facts.held lit }
+        ensures goes { Goes self.old self.new }
+        ensures ok { IfOk result (HasGiven self.old lit self.new) }
+    {
+        self.are_kept();
+        let truth = truth_term(self.truths, lit.positive);
+        if !self.same(lit.term, truth) {
+            self.join(lit.term, truth, Some(lit))?;
+            return Ok(Turn::Joined);
+        }
+        let Some(place) = self.listing.place_of(lit.term) else {
+            return Ok(Turn::Quiet);
+        };
+        match self.sides_at(place) {
+            Some((a, b)) => self.give_sides(lit, a, b),
+            None => Ok(Turn::Quiet),
+        }
+    }
+
+    /// Gives the sides of an equality: they are in one class where it is held as it stands, else in two.
+    ///
+    /// `NoMemory` comes where what is to be looked at again finds no memory.
+    fn give_sides(&mut self, lit: Lit, a: TermId, b: TermId) -> Result<Turn, NoMemory>
+        requires held { Contains self.old.now.facts.held lit }
+        requires sides { IsEquality self.old.now.facts.listed lit.term a b }
+        requires decided { AreSame self.old.now.numbers lit.term (truth_of self.old.now.facts.truths lit.positive) }
+        ensures goes { Goes self.old self.new }
+        ensures ok { IfOk result (HasGiven self.old lit self.new) }
+    {
+        self.are_kept();
+        let linked = self.same(a, b);
+        if linked == lit.positive {
+            return Ok(Turn::Quiet);
+        }
+        if linked {
+            return Ok(Turn::Against(Conflict::Sides(lit.term)));
+        }
+        self.join(a, b, Some(lit))?;
+        Ok(Turn::Joined)
+    }
+}
