@@ -1,0 +1,100 @@
+-- What steps show, and that it stays so.
+use Rattle.std.proofs.Common.{◌≡◌, ◌≢◌, ℕ, ◌<◌, ◌⊎◌, inl, inr, Bool, false, List, [], ◌∷◌, ◌++◌, map, length, get_or, refl, sym, ap, ◌∙◌, subst}
+use Rattle.std.specs.Prelude.{All, Contains, slice_index_or}
+use Rattle.std.proofs.lemmas.List.{map-append}
+use Rattle.std.proofs.lemmas.List.Elements.{All-contains, Contains-append_left, Contains-push, Contains-push_cases}
+use Rattle.spec_text.proofs.Members.{none, to_image, from_image}
+use Rattle.spec_sorts.specs.Literals.{Literal, complement}
+use Rattle.spec_proofs.specs.Resolution.{Derives as Propagates, given, unit, IsWithin}
+use Rattle.term_core.specs.Tables.{TableView}
+use Rattle.congruence_explain.specs.declared.claims.Said.{Said}
+use Rattle.congruence_explain.specs.Claims.{literal_said}
+use Rattle.congruence_explain.specs.Steps.{all_denied, Setting, Notes, said_by, IsNeeded, Shows, ShowsDenied, Grows, marked}
+use Rattle.congruence_explain.proofs.Marks.{length-marked, marked-kept, marked-other}
+
+-- unit propagation gives no less from more
+pub derives_more : (steps more : List (List Literal)) (a b : List Literal) → IsWithin steps more → IsWithin a b → (l : Literal) → Propagates complement steps a l → Propagates complement more b l
+derives_more steps more a b sw aw _ (given l h) = given l (aw l h)
+derives_more steps more a b sw aw _ (unit c l there has others) = unit c l (sw c there) has (λ m i d. derives_more steps more a b sw aw (complement m) (others m i d))
+
+-- a literal of a clause whose others are false
+pub by_clause : (steps : List (List Literal)) (a : List Literal) (c : List Literal) (l : Literal) → Contains steps c → Contains c l
+    → ((m : Literal) → Contains c m → (m ≡ l) ⊎ Propagates complement steps a (complement m)) → Propagates complement steps a l
+by_clause steps a c l there has each = unit c l there has (λ m i d. other m (each m i) d)
+  where
+    other : (m : Literal) → (m ≡ l) ⊎ Propagates complement steps a (complement m) → m ≢ l → Propagates complement steps a (complement m)
+    other m (inl e) d = absurd (d e)
+    other m (inr p) d = p
+
+-- all that a list has is in it with more
+pub within_more : {X : Type 0} (xs ys more : List X) → ys ≡ xs ++ more → IsWithin xs ys
+within_more xs ys more is x i = subst (λ zs. Contains zs x) (sym is) (Contains-append_left xs more x i)
+
+-- what denies is more
+pub denied_more : (t : TableView) (xs ys : List Said) → IsWithin xs ys → IsWithin (all_denied t xs) (all_denied t ys)
+denied_more t xs ys more l i =
+    let (m, m_in, m_is) = from_image complement (map (literal_said t) xs) l i in
+    let (x, x_in, x_is) = from_image (literal_said t) xs m m_in in
+    subst (Contains (all_denied t ys)) (ap complement x_is ∙ m_is) (to_image complement (map (literal_said t) ys) (literal_said t x) (to_image (literal_said t) ys x (more x x_in)))
+
+-- nothing more
+pub grows_none : (k : ℕ) (n : Notes) → Grows k n n
+grows_none k n = record { count = refl; kept = λ j h. h; same = λ j h. refl; steps = λ x i. i; stated = λ x i. i }
+
+pub grows_both : (k : ℕ) (a b c : Notes) → Grows k a b → Grows k b c → Grows k a c
+grows_both k a b c f g = record {
+  count = g.count ∙ f.count;
+  kept = λ j h. g.kept j (f.kept j h);
+  same = λ j h. g.same j h ∙ f.same j h;
+  steps = λ x i. g.steps x (f.steps x i);
+  stated = λ x i. g.stated x (f.stated x i);
+}
+
+-- more steps, and more that is needed
+pub grows_marked : (k : ℕ) (needed after : List Bool) (ks : List ℕ) (steps steps_after more : List (List Literal)) (stated : List Said) → after ≡ marked needed ks → All (λ i. i < k) ks → steps_after ≡ steps ++ more
+    → Grows k (record { needed = needed; steps = steps; stated = stated }) (record { needed = after; steps = steps_after; stated = stated })
+grows_marked k needed after ks steps steps_after more stated marks low is = record {
+  count = ap length marks ∙ length-marked needed ks;
+  kept = λ j h. ap (λ l. slice_index_or l j false) marks ∙ marked-kept needed ks j h;
+  same = λ j h. ap (λ l. slice_index_or l j false) marks ∙ marked-other needed ks k j low h;
+  steps = within_more steps steps_after more is;
+  stated = λ x i. i;
+}
+
+-- more steps
+pub grows_steps : (k : ℕ) (needed : List Bool) (steps after more : List (List Literal)) (stated : List Said) → after ≡ steps ++ more
+    → Grows k (record { needed = needed; steps = steps; stated = stated }) (record { needed = needed; steps = after; stated = stated })
+grows_steps k needed steps after more stated is = record { count = refl; kept = λ j h. h; same = λ j h. refl; steps = within_more steps after more is; stated = λ x i. i }
+
+-- with the same literals more
+pub grows_stated : (k : ℕ) (a b : Notes) (stated : List Said) → Grows k a b → Grows k (record { needed = a.needed; steps = a.steps; stated = stated }) (record { needed = b.needed; steps = b.steps; stated = stated })
+grows_stated k a b stated g = record { count = g.count; kept = g.kept; same = g.same; steps = g.steps; stated = λ x i. i }
+
+module _ (s : Setting) where
+  -- what is shown stays so
+  pub shows_more : (j k : ℕ) (old new : Notes) → Grows k old new → (g : Literal) → Shows s j old g → Shows s j new g
+  shows_more j k old new grows g h = λ steps assumed sw aw ih. h steps assumed (λ x i. sw x (grows.steps x i)) (λ x i. aw x (denied_more s.table old.stated new.stated grows.stated x i)) (λ i lt need. ih i lt (grows.kept i need))
+
+  pub shows_stated : (k : ℕ) (needed : List Bool) (steps : List (List Literal)) (stated : List Said) (g : Literal) → Shows s k (record { needed = needed; steps = steps; stated = [] }) g
+      → Shows s k (record { needed = needed; steps = steps; stated = stated }) g
+  shows_stated k needed steps stated g h = λ more assumed sw aw ih. h more assumed sw (λ x i. absurd (none x i)) ih
+
+  pub shows_each : (j k : ℕ) (old new : Notes) → Grows k old new → (clause : List Said) → ShowsDenied s j old clause → ShowsDenied s j new clause
+  shows_each j k old new grows clause h = λ i d lt. shows_more j k old new grows (complement (literal_said s.table (get_or clause i d))) (h i d lt)
+
+  -- the last literal of a clause of which what the others deny is shown
+  pub shows_last : (k : ℕ) (n : Notes) (clause : List Said) (goal : Said) → Contains n.steps (map (literal_said s.table) (clause ++ goal ∷ [])) → ShowsDenied s k n clause → Shows s k n (literal_said s.table goal)
+  shows_last k n clause goal there each = λ steps assumed sw aw ih.
+      by_clause steps assumed (map (literal_said s.table) clause ++ literal_said s.table goal ∷ []) (literal_said s.table goal)
+      (sw _ (subst (Contains n.steps) (map-append (literal_said s.table) clause (goal ∷ [])) there))
+      (Contains-push (map (literal_said s.table) clause) (literal_said s.table goal))
+      (λ m i. go steps assumed sw aw ih m (Contains-push_cases (map (literal_said s.table) clause) (literal_said s.table goal) m i))
+    where
+      go : (steps : List (List Literal)) (assumed : List Literal) → IsWithin n.steps steps → IsWithin (all_denied s.table n.stated) assumed
+          → ((i : ℕ) → i < k → IsNeeded n.needed i → Propagates complement steps assumed (said_by s i))
+          → (m : Literal) → Contains (map (literal_said s.table) clause) m ⊎ (literal_said s.table goal ≡ m) → (m ≡ literal_said s.table goal) ⊎ Propagates complement steps assumed (complement m)
+      go steps assumed sw aw ih m (inr e) = inl (sym e)
+      go steps assumed sw aw ih m (inl i) =
+          let (x, x_in, x_is) = from_image (literal_said s.table) clause m i in
+          inr (subst (λ l. Propagates complement steps assumed (complement l)) x_is
+          (All-contains (λ y. Shows s k n (complement (literal_said s.table y))) clause x each x_in steps assumed sw aw ih))

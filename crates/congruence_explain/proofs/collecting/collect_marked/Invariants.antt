@@ -1,0 +1,24 @@
+-- The start is the same, and all edges but the oldest are explained.
+use Rattle.std.proofs.Common.{◌≡◌, ◌≤◌, length}
+use Rattle.proof_log.specs.Theories.{Derives}
+use Rattle.congruence_explain.specs.declared.claims.Claim.TheVariants.{Equality}
+use Rattle.congruence_explain.specs.Claims.{literal_claimed}
+use Rattle.congruence_explain.specs.Steps.{derived, setting, notes, Going}
+use Rattle.congruence_explain.proofs.collecting.collect_marked.Given as goal
+
+abbrev pub ghost-tell : goal.ghost-tell
+ghost-tell g a = g.start
+
+abbrev pub ghost-turn : goal.ghost-turn
+ghost-turn g a = g.start
+
+abbrev pub invariant-edges : goal.invariant-edges
+invariant-edges g l = record {
+  derives : Derives g.start (derived l.table l.log);
+  within : l.k ≤ length l.forest.now.edges;
+  count : length l.needed ≡ length l.forest.now.edges;
+  going : Going (setting g.start.table l.truths l.forest.now) l.k (literal_claimed g.start.table (Equality l.fn.x l.fn.y)) (notes g.start (derived l.table l.log) l.needed l.stated.items);
+}
+
+abbrev pub decreases-edges : goal.decreases-edges
+decreases-edges g l = l.k

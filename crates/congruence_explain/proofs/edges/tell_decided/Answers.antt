@@ -1,0 +1,56 @@
+-- That both clauses are right, and come one after the other.
+use Rattle.std.proofs.Common.{◌≡◌, ◌++◌, ◌∷◌, [], List, map, sym, ◌∙◌, ap, subst}
+use Rattle.std.specs.Prelude.{All, not}
+use Rattle.spec_text.specs.Trees.{none}
+use Rattle.spec_sorts.specs.Literals.{Literal}
+use Rattle.spec_rules.specs.Rules.{IsRight}
+use Rattle.congruence_relation.specs.Relation.{truth_of}
+use Rattle.congruence_explain.specs.declared.claims.Said.{Said}
+use Rattle.congruence_explain.specs.Claims.{IsClaimIn, term_said, literal_said, equal, said_value}
+use Rattle.congruence_explain.specs.Steps.{derived, steps_since}
+use Rattle.congruence_explain.proofs.Decided.{value_in, value_right, decided_clause, decided_in, decided_right, two_more}
+use Rattle.congruence_explain.proofs.edges.tell_decided.Goals as goal
+
+pub put_alone-requires : goal.put_alone-requires
+put_alone-requires g c =
+    let t = g.start.table in
+    let ts = c.args.truths in
+    let p = c.args.l.positive in
+    let said : c.value_said.result ∷ [] ≡ said_value (truth_of ts p) p ∷ [] = (λ i. (c.value_said.ensures ∙ ap (λ v. said_value v p) c.truth-value.ensures) i ∷ []) in (
+      c.requires.0,
+      (
+        subst (λ (ss : List Said). All (λ s. IsClaimIn t s.claim) ss) (sym said) (value_in t ts c.requires.1.truths p p),
+        subst (λ (ss : List Said). IsRight c.rule_of_value.result [] none (map (term_said t) ss)) (sym said)
+            (subst (λ r. IsRight r [] none (map (term_said t) (said_value (truth_of ts p) p ∷ []))) (sym c.rule_of_value.ensures) (value_right t ts c.requires.1.truths p)),
+      ),
+    )
+
+pub put_alone-requires-2 : goal.put_alone-requires-2
+put_alone-requires-2 g c =
+    let t = g.start.table in
+    let ts = c.args.truths in
+    let l = c.args.l in
+    let said : c.equality.result ∷ c.denial.result ∷ c.value_said-2.result ∷ [] ≡ decided_clause t ts c.requires.1.truths l =
+    (λ i. (c.equality.ensures ∙ ap (equal l.term) c.truth-value.ensures) i ∷ c.denial.ensures i ∷ (c.value_said-2.ensures ∙ ap (λ v. said_value v (not l.positive)) c.truth-value.ensures) i ∷ []) in (
+      c.put_alone.ensures.derives,
+      (
+        subst (λ (ss : List Said). All (λ s. IsClaimIn t s.claim) ss) (sym said) (decided_in t ts c.requires.1.truths l c.requires.1.atom),
+        subst (λ (ss : List Said). IsRight c.rule_of_decided.result [] none (map (term_said t) ss)) (sym said)
+            (subst (λ r. IsRight r [] none (map (term_said t) (decided_clause t ts c.requires.1.truths l))) (sym c.rule_of_decided.ensures) (decided_right t ts c.requires.1.truths l c.requires.1.atom)),
+      ),
+    )
+
+pub returns-clause-steps : goal.returns-clause-steps
+returns-clause-steps g c =
+    let t = g.start.table in
+    let ts = c.args.truths in
+    let l = c.args.l in
+    let first : map (literal_said t) (c.value_said.result ∷ []) ≡ map (literal_said t) (said_value (truth_of ts l.positive) l.positive ∷ []) =
+    (λ i. literal_said t ((c.value_said.ensures ∙ ap (λ v. said_value v l.positive) c.truth-value.ensures) i) ∷ []) in
+    let second : map (literal_said t) (c.equality.result ∷ c.denial.result ∷ c.value_said-2.result ∷ []) ≡ map (literal_said t) (decided_clause t ts c.requires.1.truths l) =
+    (λ i. literal_said t ((c.equality.ensures ∙ ap (equal l.term) c.truth-value.ensures) i) ∷ literal_said t (c.denial.ensures i) ∷ literal_said t ((c.value_said-2.ensures ∙ ap (λ v. said_value v (not l.positive)) c.truth-value.ensures) i) ∷ []) in
+    let old = steps_since g.start (derived c.args.table.now c.args.log.now) in
+    let mid = steps_since g.start (derived c.put_alone.new.table c.put_alone.new.log) in
+    let new = steps_since g.start (derived c.put_alone-2.new.table c.put_alone-2.new.log) in
+    two_more {X = List Literal} old mid new (map (literal_said t) (said_value (truth_of ts l.positive) l.positive ∷ [])) (map (literal_said t) (decided_clause t ts c.requires.1.truths l))
+    (c.in_ok-put_alone.ensures.put.last ∙ ap (λ x. old ++ x ∷ []) first) (c.in_ok-put_alone-2.ensures.put.last ∙ ap (λ x. mid ++ x ∷ []) second)

@@ -1,0 +1,44 @@
+-- That the last clause follows.
+use Rattle.std.proofs.Common.{◌≡◌, [], List, refl, sym, subst}
+use Rattle.std.specs.Prelude.{All}
+use Rattle.spec_sorts.specs.Literals.{complement}
+use Rattle.spec_proofs.specs.Resolution.{Conflicts}
+use Rattle.congruence_explain.specs.declared.claims.Said.{Said}
+use Rattle.congruence_explain.specs.Claims.{IsClaimIn}
+use Rattle.congruence_explain.specs.Steps.{derived, setting, steps_since, all_denied, IsDenial}
+use Rattle.congruence_explain.proofs.Concluding.{start_derives, start_length, denials_in, resolution_follows, truths_conflict, explained_put, each_denied}
+use Rattle.congruence_explain.proofs.explaining.explain_truths.Goals as goal
+
+pub collect-requires : goal.collect-requires
+collect-requires g c = (start_derives g.start c.args.table.now c.args.log.now c.requires.0 c.requires.1.0, (c.requires.1.1.0, c.requires.1.1.1.1))
+
+pub put-requires : goal.put-requires
+put-requires g c =
+    let t = g.start.table in
+    let ts = c.args.truths in
+    let v = c.args.forest.now.now in
+    let f = c.requires.1.1.0.0 in
+    let b = c.requires.1.1.0.1 in
+    let u = c.tell_apart.new.table in
+    let log = c.tell_apart.new.log in
+    let stated = c.in_ok-stated.stated.items in
+    let collected = c.in_ok-stated.ensures.collected in
+    let whole : c.deref.result.now ≡ stated = c.deref.ensures.value in
+    let claims = subst (λ (ss : List Said). All (λ s. IsClaimIn t s.claim) ss) (sym whole) (denials_in t ts v f b stated collected.held) in
+    let s = setting t ts v in
+    let conflict = truths_conflict s (steps_since g.start (derived c.collect.new.table c.collect.new.log)) (steps_since g.start (derived u log)) stated collected c.in_ok-tell_apart.ensures.steps in (
+      c.tell_apart.ensures.derives,
+      (
+        claims,
+        resolution_follows g.start u log c.len-from.result c.in_ok-premises.premises.items c.deref.result.now (start_length g.start c.args.table.now c.args.log.now c.requires.0 c.requires.1.0 c.len-from.result c.len-from.ensures)
+            c.in_ok-premises.ensures claims (subst (λ (ss : List Said). Conflicts complement (steps_since g.start (derived u log)) (all_denied t ss)) (sym whole) conflict),
+      ),
+    )
+
+pub returns-clause-step : goal.returns-clause-step
+returns-clause-step g c =
+    let v = c.args.forest.now.now in
+    let s = setting g.start.table c.args.truths v in
+    let stated = c.in_ok-stated.stated.items in
+    let each = each_denied s [] c.deref.result.now (subst (λ (ss : List Said). All (IsDenial s) ss) (sym c.deref.ensures.value) c.in_ok-stated.ensures.collected.held) in
+    explained_put s g.start (derived c.tell_apart.new.table c.tell_apart.new.log) (derived c.put.new.table c.put.new.log) c.deref.result.now [] refl each c.put.result c.put.ensures.put

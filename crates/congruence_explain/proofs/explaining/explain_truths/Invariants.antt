@@ -1,0 +1,11 @@
+-- The start is the same.
+use Rattle.congruence_explain.proofs.explaining.explain_truths.Given as goal
+
+abbrev pub ghost-collect : goal.ghost-collect
+ghost-collect g a = g.start
+
+abbrev pub ghost-tell_apart : goal.ghost-tell_apart
+ghost-tell_apart g a = g.start
+
+abbrev pub ghost-put : goal.ghost-put
+ghost-put g a = g.start

@@ -1,0 +1,46 @@
+-- That the three clauses are right, and come one after the other.
+use Rattle.std.proofs.Common.{◌≡◌, ◌∷◌, [], List, map, true, false, sym, subst}
+use Rattle.std.specs.Prelude.{All}
+use Rattle.spec_text.specs.Trees.{none}
+use Rattle.spec_proofs.specs.declared.Rule.TheVariants as rules
+use Rattle.spec_rules.specs.Rules.{IsRight}
+use Rattle.congruence_explain.specs.declared.claims.Said.{Said}
+use Rattle.congruence_explain.specs.Claims.{IsClaimIn, term_said, said_value}
+use Rattle.congruence_explain.proofs.Decided.{value_in, value_right, apart_clause, apart_in, apart_right}
+use Rattle.congruence_explain.proofs.explaining.tell_apart.Goals as goal
+
+pub put_alone-requires : goal.put_alone-requires
+put_alone-requires g c =
+    let t = g.start.table in
+    let ts = c.args.truths in
+    let said : c.unequality.result ∷ c.value_said.result ∷ c.value_said-2.result ∷ [] ≡ apart_clause t ts c.requires.1 = (λ i. c.unequality.ensures i ∷ c.value_said.ensures i ∷ c.value_said-2.ensures i ∷ []) in (
+      c.requires.0,
+      (
+        subst (λ (ss : List Said). All (λ s. IsClaimIn t s.claim) ss) (sym said) (apart_in t ts c.requires.1),
+        subst (λ (ss : List Said). IsRight rules.EquivPos2 [] none (map (term_said t) ss)) (sym said) (apart_right t ts c.requires.1),
+      ),
+    )
+
+pub put_alone-requires-2 : goal.put_alone-requires-2
+put_alone-requires-2 g c =
+    let t = g.start.table in
+    let ts = c.args.truths in
+    let said : c.value_said-3.result ∷ [] ≡ said_value ts.true_term true ∷ [] = (λ i. c.value_said-3.ensures i ∷ []) in (
+      c.put_alone.ensures.derives,
+      (
+        subst (λ (ss : List Said). All (λ s. IsClaimIn t s.claim) ss) (sym said) (value_in t ts c.requires.1 true true),
+        subst (λ (ss : List Said). IsRight rules.True [] none (map (term_said t) ss)) (sym said) (value_right t ts c.requires.1 true),
+      ),
+    )
+
+pub put_alone-requires-3 : goal.put_alone-requires-3
+put_alone-requires-3 g c =
+    let t = g.start.table in
+    let ts = c.args.truths in
+    let said : c.value_said-4.result ∷ [] ≡ said_value ts.false_term false ∷ [] = (λ i. c.value_said-4.ensures i ∷ []) in (
+      c.put_alone-2.ensures.derives,
+      (
+        subst (λ (ss : List Said). All (λ s. IsClaimIn t s.claim) ss) (sym said) (value_in t ts c.requires.1 false false),
+        subst (λ (ss : List Said). IsRight rules.False [] none (map (term_said t) ss)) (sym said) (value_right t ts c.requires.1 false),
+      ),
+    )

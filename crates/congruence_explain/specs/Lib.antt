@@ -1,0 +1,5 @@
+-- What an explanation rests on, what its clauses say, and when it is one.
+pub mod Claims
+pub mod Rules
+pub mod Basis
+pub mod Steps

@@ -1,0 +1,193 @@
+-- What the steps of an explanation derive.
+use Rattle.std.specs.Prelude.{◌≡◌, ℕ, ◌+◌, ◌<◌, ◌≤◌, ◌⊎◌, Bool, true, false, not, List, [], ◌∷◌, ◌++◌, map, length, drop, All, Contains, slice_index_or, slice_set}
+use Rattle.spec_sorts.specs.Literals.{Literal, literals_of, complement}
+use Rattle.spec_proofs.specs.Resolution.{Derives as Propagates, IsWithin}
+use Rattle.term_core.specs.declared.ids.TermId.{TermId}
+use Rattle.term_core.specs.declared.ids.Lit.{Lit}
+use Rattle.term_core.specs.Tables.{TableView, clause_at}
+use Rattle.explain_forest.specs.declared.types.Edge.{Edge}
+use Rattle.explain_forest.specs.declared.types.Step.{Step}
+use Rattle.explain_forest.specs.declared.types.Label.TheVariants.{Held}
+use Rattle.explain_forest.specs.Forest.{ForestState, Linked, numbered, older}
+use Rattle.congruence_relation.specs.declared.Truths.{Truths}
+use Rattle.congruence_relation.specs.declared.Conflict.{Conflict}
+use Rattle.congruence_relation.specs.declared.Conflict.TheVariants as conflicts
+use Rattle.congruence_relation.specs.Relation.{truth_of}
+use Rattle.congruence_relation.specs.Edges.{roots}
+use Rattle.proof_log.specs.declared.premises.StepId.{StepId}
+use Rattle.proof_log.specs.Logs.{Logged, named, logged_at}
+use Rattle.proof_log.specs.Clashes.{literals_in}
+use Rattle.proof_log.specs.Theories.{Derived}
+use Rattle.congruence_explain.specs.declared.claims.Claim.TheVariants.{Equality}
+use Rattle.congruence_explain.specs.declared.claims.Said.{Said}
+use Rattle.congruence_explain.specs.Claims.{literal_said, literal_claimed, equal, unequal, denied, said_value, edge_says, all_unequal}
+
+-- a table with a log
+abbrev pub derived : TableView → List Logged → Derived
+derived t log = record { table = t; log = log }
+
+-- the literals of a logged clause
+abbrev pub literals_logged : TableView → Logged → List Literal
+literals_logged t l = literals_of (clause_at t (named l))
+
+-- the clauses that came since the start
+abbrev pub steps_since : Derived → Derived → List (List Literal)
+steps_since start now = drop (length start.log) (map (literals_logged now.table) now.log)
+
+-- A clause is logged last.
+pub record HasPut (start old new : Derived) (clause : List Literal) (id : StepId) : Type 0 where
+  -- its number
+  pub there : id.0 < length new.log
+  -- is that of the clause
+  pub clause_is : literals_in new.table new.log id ≡ clause
+  -- which is the only one that came
+  pub last : steps_since start new ≡ steps_since start old ++ clause ∷ []
+
+-- What does not change during an explanation: the terms as they were, the terms of the truth values, and the edges, newest first.
+pub record Setting : Type 0 where
+  -- the table
+  pub table : TableView
+  -- `true` and `false`
+  pub truths : Truths
+  -- the edges
+  pub edges : List Edge
+
+-- the setting of a forest
+abbrev pub setting : TableView → Truths → ForestState → Setting
+setting t ts v = record { table = t; truths = ts; edges = v.edges }
+
+-- What is done of an explanation: which edges are needed, the clauses that were logged, and the literals of the last clause.
+pub record Notes : Type 0 where
+  -- for each edge by its number whether it is needed
+  pub needed : List Bool
+  -- the clauses
+  pub steps : List (List Literal)
+  -- the literals, which deny what is held
+  pub stated : List Said
+
+-- what is done since the start
+abbrev pub notes : Derived → Derived → List Bool → List Said → Notes
+notes start now needed stated = record { needed = needed; steps = steps_since start now; stated = stated }
+
+-- what the edge of a number says
+abbrev pub said_by : Setting → ℕ → Literal
+said_by s k = literal_claimed s.table (edge_says s.truths (numbered s.edges k))
+
+-- the edge of a number is needed
+abbrev pub IsNeeded : List Bool → ℕ → Type 0
+IsNeeded needed k = slice_index_or needed k false ≡ true
+
+-- what holds where the literals are denied
+abbrev pub all_denied : TableView → List Said → List Literal
+all_denied t stated = map complement (map (literal_said t) stated)
+
+-- A literal is derived once what the needed ones of the k oldest edges say is, from all steps that are logged, where the last clause is denied.
+abbrev pub Shows : Setting → ℕ → Notes → Literal → Type 0
+Shows s k n goal = (steps : List (List Literal)) (assumed : List Literal) → IsWithin n.steps steps → IsWithin (all_denied s.table n.stated) assumed
+    → ((i : ℕ) → i < k → IsNeeded n.needed i → Propagates complement steps assumed (said_by s i)) → Propagates complement steps assumed goal
+
+-- More of the k oldest edges is needed, and more is logged and stated.
+pub record Grows (k : ℕ) (old new : Notes) : Type 0 where
+  -- there are as many marks
+  pub count : length new.needed ≡ length old.needed
+  -- what was needed is
+  pub kept : (j : ℕ) → IsNeeded old.needed j → IsNeeded new.needed j
+  -- newer edges are as they were
+  pub same : (j : ℕ) → k ≤ j → slice_index_or new.needed j false ≡ slice_index_or old.needed j false
+  -- the steps stand
+  pub steps : IsWithin old.steps new.steps
+  -- and so do the literals
+  pub stated : IsWithin old.stated new.stated
+
+-- the edges of these numbers are marked
+abbrev pub marked : List Bool → List ℕ → List Bool
+marked needed [] = needed
+marked needed (k ∷ ks) = marked (slice_set needed k true) ks
+
+-- the numbers of a path's edges
+abbrev pub edges_on : List Step → List ℕ
+edges_on path = map (λ (s : Step). s.edge) path
+
+-- that two terms are equal is shown, whichever of the oldest edges link them
+abbrev pub TellsPair : Setting → Notes → Notes → TermId → TermId → Type 0
+TellsPair s old new x y = (k : ℕ) → k ≤ length s.edges → Linked (older s.edges k) x.0 y.0
+    → Grows k old new × Shows s k new (literal_claimed s.table (Equality x y))
+
+-- what a clause denies is shown
+abbrev pub ShowsDenied : Setting → ℕ → Notes → List Said → Type 0
+ShowsDenied s k n clause = All (λ m. Shows s k n (complement (literal_said s.table m))) clause
+
+-- what a clause denies of terms that are linked to others, one by one, is shown, whichever of the oldest edges link them
+abbrev pub TellsClause : Setting → Notes → Notes → List TermId → List TermId → List Said → Type 0
+TellsClause s old new xs ys clause = (k : ℕ) → k ≤ length s.edges → roots (older s.edges k) xs ≡ roots (older s.edges k) ys → Grows k old new × ShowsDenied s k new clause
+
+-- so it is of all that differ
+abbrev pub TellsPairs : Setting → Notes → Notes → List TermId → List TermId → Type 0
+TellsPairs s old new xs ys = TellsClause s old new xs ys (all_unequal xs ys)
+
+-- what the edge of a number says is shown
+abbrev pub TellsEdge : Setting → ℕ → Notes → Notes → Type 0
+TellsEdge s k old new = Grows k old new × Shows s k new (said_by s k)
+
+-- the clauses by which a literal's term is equal to its truth value: the truth value, and that the term has it
+abbrev pub decision : TableView → Truths → Lit → List (List Literal)
+decision t ts l =
+    (literal_said t (said_value (truth_of ts l.positive) l.positive) ∷ [])
+    ∷ (literal_said t (equal l.term (truth_of ts l.positive)) ∷ literal_said t (denied l) ∷ literal_said t (said_value (truth_of ts l.positive) (not l.positive)) ∷ [])
+    ∷ []
+
+-- the clauses by which `true` and `false` are not equal
+abbrev pub apart : TableView → Truths → List (List Literal)
+apart t ts =
+    (literal_said t (unequal ts.true_term ts.false_term) ∷ literal_said t (said_value ts.true_term false) ∷ literal_said t (said_value ts.false_term true) ∷ [])
+    ∷ (literal_said t (said_value ts.true_term true) ∷ [])
+    ∷ (literal_said t (said_value ts.false_term false) ∷ [])
+    ∷ []
+
+-- a literal of the last clause denies a literal that is the label of an edge
+abbrev pub IsDenial : Setting → Said → Type 0
+IsDenial s m = (l : Lit) × (k : ℕ) × (k < length s.edges) × ((numbered s.edges k).label ≡ Held l) × (m ≡ denied l)
+
+-- What is so once all edges but the k oldest are explained.
+pub record Going (s : Setting) (k : ℕ) (goal : Literal) (n : Notes) : Type 0 where
+  -- there is a mark for each edge
+  pub count : length n.needed ≡ length s.edges
+  -- what a needed newer edge says is shown by those before it
+  pub explained : (j : ℕ) → k ≤ j → j < length s.edges → IsNeeded n.needed j → Shows s j n (said_by s j)
+  -- what is to be explained is shown by all
+  pub shown : Shows s (length s.edges) n goal
+  -- the last clause denies held literals alone
+  pub held : All (IsDenial s) n.stated
+
+-- one edge more is explained
+abbrev pub GoesOn : Setting → ℕ → Notes → Notes → Type 0
+GoesOn s k old new = (goal : Literal) → Going s (k + 1) goal old → Going s k goal new
+
+-- That two terms are equal is derived, where the last clause is denied, which denies held literals alone.
+pub record IsCollected (s : Setting) (steps : List (List Literal)) (x y : TermId) (stated : List Said) : Type 0 where
+  -- it is derived
+  pub shown : Propagates complement steps (all_denied s.table stated) (literal_claimed s.table (Equality x y))
+  -- from what is held
+  pub held : All (IsDenial s) stated
+
+-- The clause of a step denies held literals, and has no others but these.
+pub record IsExplained (s : Setting) (now : Derived) (others : List Said) (id : StepId) : Type 0 where
+  -- the step is one of the log's
+  pub there : id.0 < length now.log
+  -- its literals
+  pub clause : List Said
+  pub literals : literals_in now.table now.log id ≡ map (literal_said s.table) clause
+  -- each denies a held literal, or is one of the others
+  pub each : All (λ m. IsDenial s m ⊎ Contains others m) clause
+
+-- the literals of a conflict's clause that deny nothing that is held: the equality whose negation is
+abbrev pub others_of : Conflict → List Said
+others_of conflicts.Truths = []
+others_of (conflicts.Sides e) = said_value e true ∷ []
+
+-- Numbers of a log's steps from one on.
+pub record AreNumbersFrom (log : List Logged) (from : ℕ) (ids : List StepId) : Type 0 where
+  -- each is one of the log's
+  pub there : All (λ id. id.0 < length log) ids
+  -- and they are all
+  pub all : map (logged_at log) ids ≡ drop from log

@@ -1,0 +1,101 @@
+//! What the literals of a clause say, before their terms are put.
+
+ghost use Rattle.std.specs.Prelude.{◌≡◌};
+ghost use Rattle.congruence_relation.specs.Relation.{truth_of};
+ghost use Rattle.congruence_explain.specs.Claims.{says, equal, unequal, said_value, denied, joins};
+
+use congruence_relation::{Label, Truths};
+use term_core::{Lit, TermId};
+
+/// A formula of a literal.
+#[derive(Clone, Copy, Debug, PartialEq, Eq)]
+pub(crate) enum Claim {
+    /// The equality of two terms, in this order.
+    Equality(TermId, TermId),
+    /// A term that is no negation.
+    Atom(TermId),
+}
+
+/// A literal: a formula as it stands, or its negation.
+#[derive(Clone, Copy, Debug, PartialEq, Eq)]
+pub(crate) struct Said {
+    /// The formula.
+    pub(crate) claim: Claim,
+    /// Whether it is meant as it stands.
+    pub(crate) positive: bool,
+}
+
+/// Says that two terms are equal.
+pub(crate) fn equality(a: TermId, b: TermId) -> Said
+    ensures { result ≡ equal a b }
+{
+    Said {
+        claim: Claim::Equality(a, b),
+        positive: true,
+    }
+}
+
+/// Says that two terms are not equal.
+pub(crate) fn unequality(a: TermId, b: TermId) -> Said
+    ensures { result ≡ unequal a b }
+{
+    Said {
+        claim: Claim::Equality(a, b),
+        positive: false,
+    }
+}
+
+/// Says the complement of a literal.
+pub(crate) fn denial(l: Lit) -> Said
+    ensures { result ≡ denied l }
+{
+    Said {
+        claim: Claim::Atom(l.term),
+        positive: !l.positive,
+    }
+}
+
+/// Says the term of a truth value, or its negation.
+pub(crate) fn value_said(term: TermId, positive: bool) -> Said
+    ensures { result ≡ said_value term positive }
+{
+    Said {
+        claim: Claim::Atom(term),
+        positive,
+    }
+}
+
+/// Gives the term of a truth value.
+pub(crate) fn truth(truths: Truths, value: bool) -> TermId
+    ensures { result ≡ truth_of truths value }
+{
+    if value {
+        truths.true_term
+    } else {
+        truths.false_term
+    }
+}
+
+/// Tells whether an edge between two terms is one between these.
+pub(crate) fn is_between(a: TermId, b: TermId, x: TermId, y: TermId) -> bool
+    ensures { result ≡ joins a b x y }
+{
+    a.0 == x.0 && b.0 == y.0 || a.0 == y.0 && b.0 == x.0
+}
+
+/// Says what an edge between two terms does, by its label, in either direction.
+pub(crate) fn claim_of(truths: Truths, label: Label, a: TermId, b: TermId) -> Claim
+    ensures { result ≡ says truths label a b }
+{
+    match label {
+        Label::Arguments(x, y) => Claim::Equality(x, y),
+        Label::Held(l) => {
+            let value = truth(truths, l.positive);
+            if is_between(a, b, l.term, value) {
+                Claim::Equality(l.term, value)
+            } else {
+                Claim::Atom(l.term)
+            }
+        }
+    }
+}

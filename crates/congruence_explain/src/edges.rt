@@ -1,0 +1,167 @@
+//! Why an edge is there, as steps.
+
+ghost use Rattle.std.specs.Prelude.{◌≡◌, ℕ, ◌<◌, true, false, Bool, List, [], ◌∷◌, ◌++◌, length, All, IfOk, OnOk};
+ghost use Rattle.spec_sorts.specs.Subsets.{arguments_of};
+ghost use Rattle.term_core.specs.Tables.{term_at, IsIn, clause_at};
+ghost use Rattle.explain_forest.specs.declared.types.Edge.{Edge as EdgeView};
+ghost use Rattle.explain_forest.specs.Forest.{numbered};
+ghost use Rattle.congruence_relation.specs.Relation.{truth_of};
+ghost use Rattle.explain_forest.specs.declared.types.Label.TheVariants.{Held};
+ghost use Rattle.proof_log.specs.Theories.{Derived, Derives};
+ghost use Rattle.congruence_explain.specs.Claims.{denied, joins};
+ghost use Rattle.congruence_explain.specs.Basis.{HasBasis, IsDecided, IsByArguments};
+ghost use Rattle.congruence_explain.specs.Steps.{derived, setting, notes, steps_since, decision, TellsEdge, GoesOn};
+
+use crate::claims::{Said, denial, equality, is_between, truth, value_said};
+use crate::paths::tell_pairs;
+use crate::putting::put_alone;
+use crate::rules::{rule_of_arguments, rule_of_decided, rule_of_value};
+use congruence_relation::{Edge, Label, Truths};
+use explain_forest::Forest;
+use proof_log::ProofLog;
+use std::alloc::Global;
+use term_core::{Lit, TermId, TermTable};
+use world_io::NoMemory;
+
+/// Copies the arguments of a term.
+fn arguments_of(alloc: Global, table: &TermTable, id: TermId) -> Result<Vec<TermId>, NoMemory>
+    requires { IsIn table.now id }
+    ensures there { IfOk result (λ ids. All (λ x. x.0 < id.0) ids.items) }
+    ensures means { IfOk result (λ ids. clause_at table.now ids.items ≡ arguments_of (term_at table.now id)) }
+{
+    let copy = Vec::from_slice(alloc, table.node(id).arguments.as_slice())?;
+    Ok(copy)
+}
+
+/// Logs that two terms are equal whose arguments are linked, and that these are.
+///
+/// The step is one by `eq_congruent`. Terms without arguments are one, by `eq_reflexive`.
+fn tell_arguments(
+    alloc: Global,
+    table: &mut TermTable,
+    log: &mut ProofLog,
+    forest: &Forest,
+    truths: Truths,
+    k: u64,
+    needed: &mut [bool],
+) -> Result<(), NoMemory>
+    ghost start: { Derived }
+    requires derives { Derives start (derived table.old log.old) }
+    requires basis { HasBasis start.table truths forest.now.now }
+    requires k { k < length forest.now.now.edges }
+    requires label { IsByArguments forest.now.now.edges k }
+    requires count { length needed.old ≡ length forest.now.now.edges }
+    ensures derives { Derives start (derived table.new log.new) }
+    ensures count { length needed.new ≡ length needed.old }
+    ensures told { OnOk result (TellsEdge (setting start.table truths forest.now.now) k
+        (notes start (derived table.old log.old) needed.old [])
+        (notes start (derived table.new log.new) needed.new [])) }
+{
+    table.ids_are_unique();
+    let edge = forest.edge(k);
+    let xs = arguments_of(alloc, table, edge.a)?;
+    let ys = arguments_of(alloc, table, edge.b)?;
+    let mut clause = tell_pairs(alloc, table, log, forest, truths, &xs, &ys, needed)?;
+    clause.push(equality(edge.a, edge.b))?;
+    put_alone(alloc, table, log, rule_of_arguments(&xs), &clause)?;
+    Ok(())
+}
+
+/// Logs that the term of a literal is equal to its truth value, or that the literal does not hold.
+///
+/// The value is stated by `true` or `false`. That the term has it is by `equiv_neg1` or `equiv_neg2`.
+fn tell_decided(
+    alloc: Global,
+    table: &mut TermTable,
+    log: &mut ProofLog,
+    truths: Truths,
+    l: Lit,
+) -> Result<(), NoMemory>
+    ghost start: { Derived }
+    requires derives { Derives start (derived table.old log.old) }
+    requires decided { IsDecided start.table truths l }
+    ensures derives { Derives start (derived table.new log.new) }
+    ensures steps { OnOk result (steps_since start (derived table.new log.new)
+        ≡ steps_since start (derived table.old log.old) ++ decision start.table truths l) }
+{
+    let value = truth(truths, l.positive);
+    let holds = [value_said(value, l.positive)];
+    put_alone(alloc, table, log, rule_of_value(l.positive), &holds)?;
+    let clause = [
+        equality(l.term, value),
+        denial(l),
+        value_said(value, !l.positive),
+    ];
+    put_alone(alloc, table, log, rule_of_decided(l.positive), &clause)?;
+    Ok(())
+}
+
+/// Denies a held literal, which explains the edge that it labels.
+///
+/// Such an edge is between the literal's term and its truth value, or between the sides of an equality.
+fn tell_held(
+    alloc: Global,
+    table: &mut TermTable,
+    log: &mut ProofLog,
+    truths: Truths,
+    edge: Edge,
+    l: Lit,
+    stated: &mut Vec<Said>,
+) -> Result<(), NoMemory>
+    ghost start: { Derived }
+    requires derives { Derives start (derived table.old log.old) }
+    requires decided { IsDecided start.table truths l }
+    requires label { edge.label ≡ Held l }
+    requires positive { joins edge.a edge.b l.term (truth_of truths l.positive) ≡ false → l.positive ≡ true }
+    ensures derives { Derives start (derived table.new log.new) }
+    ensures stated { OnOk result (stated.new.items ≡ stated.old.items ++ denied l ∷ []) }
+    ensures told { OnOk result ((es : List EdgeView) (k : ℕ) (needed : List Bool) → numbered es k ≡ edge
+        → TellsEdge (record { table = start.table; truths = truths; edges = es }) k
+        (notes start (derived table.old log.old) needed stated.old.items)
+        (notes start (derived table.new log.new) needed stated.new.items)) }
+{
+    stated.push(denial(l))?;
+    if !is_between(edge.a, edge.b, l.term, truth(truths, l.positive)) {
+        return Ok(());
+    }
+    tell_decided(alloc, table, log, truths, l)?;
+    Ok(())
+}
+
+/// Explains the edge of a number, if it is needed.
+pub(crate) fn turn(
+    alloc: Global,
+    table: &mut TermTable,
+    log: &mut ProofLog,
+    forest: &Forest,
+    truths: Truths,
+    k: u64,
+    needed: &mut [bool],
+    stated: &mut Vec<Said>,
+) -> Result<(), NoMemory>
+    ghost start: { Derived }
+    requires derives { Derives start (derived table.old log.old) }
+    requires basis { HasBasis start.table truths forest.now.now }
+    requires k { k < length forest.now.now.edges }
+    requires count { length needed.old ≡ length forest.now.now.edges }
+    ensures derives { Derives start (derived table.new log.new) }
+    ensures count { length needed.new ≡ length needed.old }
+    ensures on { OnOk result (GoesOn (setting start.table truths forest.now.now) k
+        (notes start (derived table.old log.old) needed.old stated.old.items)
+        (notes start (derived table.new log.new) needed.new stated.new.items)) }
+{
+    if !needed[k as usize] {
+        return Ok(());
+    }
+    let edge = forest.edge(k);
+    match edge.label {
+        Label::Arguments(_, _) => {
+            tell_arguments(alloc, table, log, forest, truths, k, needed)?;
+            Ok(())
+        }
+        Label::Held(l) => {
+            tell_held(alloc, table, log, truths, edge, l, stated)?;
+            Ok(())
+        }
+    }
+}

@@ -1,0 +1,177 @@
+//! Steps that say that linked terms are equal, where the edges between them are explained.
+
+ghost use Rattle.std.specs.Prelude.{◌≡◌, ℕ, ◌<◌, true, [], ◌∷◌, ◌++◌, map, length, get_or, All, IfOk, OnOk};
+ghost use Rattle.spec_equality.specs.Reasons.{equal as equal_terms};
+ghost use Rattle.term_core.specs.Tables.{term_at, IsIn};
+ghost use Rattle.proof_log.specs.Theories.{Derived, Derives};
+ghost use Rattle.congruence_explain.specs.Claims.{IsClaimIn, IsOneEquality, denied_step, all_unequal, no_term_id};
+ghost use Rattle.congruence_explain.specs.Basis.{HasBasis, AreLinkedIn, AreLinkedOr};
+ghost use Rattle.congruence_explain.specs.Steps.{derived, setting, notes, marked, edges_on, TellsPair, TellsPairs};
+
+use crate::claims::{Claim, Said, claim_of, equality, unequality};
+use crate::putting::put_alone;
+use crate::rules::rule_of_path;
+use congruence_relation::Truths;
+use explain_forest::{Forest, Step};
+use proof_log::ProofLog;
+use std::alloc::Global;
+use term_core::{Head, TermId, TermTable};
+use world_io::NoMemory;
+
+/// Denies what the edges of a path say, and marks these as needed.
+fn deny_path(
+    alloc: Global,
+    truths: Truths,
+    path: &[Step],
+    needed: &mut [bool],
+) -> Result<Vec<Said>, NoMemory>
+    requires there { All (λ s. s.edge < length needed.old) path.now }
+    ensures count { length needed.new ≡ length needed.old }
+    ensures clause { IfOk result (λ c. c.items ≡ map (denied_step truths) path.now) }
+    ensures needed { OnOk result (needed.new ≡ marked needed.old (edges_on path.now)) }
+{
+    let mut clause = Vec::new(alloc);
+    'path: for s in path {
+        clause.push(Said {
+            claim: claim_of(truths, s.label, s.from, s.to),
+            positive: false,
+        })?;
+        needed[s.edge as usize] = true;
+    }
+    Ok(clause)
+}
+
+/// Tells whether a term is the equality of two others, in this order.
+fn is_equality(table: &TermTable, id: TermId, x: TermId, y: TermId) -> bool
+    requires { IsIn table.now id }
+    ensures { result ≡ true → term_at table.now id ≡ equal_terms (term_at table.now x) (term_at table.now y) }
+{
+    let node = table.node(id);
+    match (node.head, node.arguments.as_slice()) {
+        (Head::Equal, [a, b]) => a.0 == x.0 && b.0 == y.0,
+        _ => false,
+    }
+}
+
+/// Tells whether a clause has one literal, whose formula is the equality of two terms, in this order.
+fn is_said(table: &TermTable, clause: &[Said], x: TermId, y: TermId) -> bool
+    requires { All (λ s. IsClaimIn table.now s.claim) clause.now }
+    ensures { result ≡ true → IsOneEquality table.now clause.now x y }
+{
+    match clause {
+        [said] => match said.claim {
+            Claim::Equality(a, b) => a.0 == x.0 && b.0 == y.0,
+            Claim::Atom(id) => is_equality(table, id, x, y),
+        },
+        _ => false,
+    }
+}
+
+/// Logs that two linked terms are equal, and marks the edges between them as needed.
+///
+/// The step is one by `eq_transitive`, for a term with itself by `eq_reflexive`. There is none where the path is an edge that says so.
+pub(crate) fn tell(
+    alloc: Global,
+    table: &mut TermTable,
+    log: &mut ProofLog,
+    forest: &Forest,
+    truths: Truths,
+    x: TermId,
+    y: TermId,
+    needed: &mut [bool],
+) -> Result<(), NoMemory>
+    ghost start: { Derived }
+    requires derives { Derives start (derived table.old log.old) }
+    requires basis { HasBasis start.table truths forest.now.now }
+    requires linked { AreLinkedIn start.table forest.now.now x y }
+    requires count { length needed.old ≡ length forest.now.now.edges }
+    ensures derives { Derives start (derived table.new log.new) }
+    ensures count { length needed.new ≡ length needed.old }
+    ensures told { OnOk result (TellsPair (setting start.table truths forest.now.now)
+        (notes start (derived table.old log.old) needed.old [])
+        (notes start (derived table.new log.new) needed.new []) x y) }
+{
+    forest.paths_lead();
+    let path = forest.explain(x, y)?;
+    let mut clause = deny_path(alloc, truths, &path, needed)?;
+    if is_said(table, &clause, x, y) {
+        return Ok(());
+    }
+    clause.push(equality(x, y))?;
+    put_alone(alloc, table, log, rule_of_path(x, y), &clause)?;
+    Ok(())
+}
+
+/// Logs that one argument is equal to another, and denies it in the clause, unless the two are one.
+fn tell_pair(
+    alloc: Global,
+    table: &mut TermTable,
+    log: &mut ProofLog,
+    forest: &Forest,
+    truths: Truths,
+    x: TermId,
+    y: TermId,
+    needed: &mut [bool],
+    clause: &mut Vec<Said>,
+) -> Result<(), NoMemory>
+    ghost start: { Derived }
+    requires derives { Derives start (derived table.old log.old) }
+    requires basis { HasBasis start.table truths forest.now.now }
+    requires linked { AreLinkedOr start.table forest.now.now x y }
+    requires count { length needed.old ≡ length forest.now.now.edges }
+    ensures derives { Derives start (derived table.new log.new) }
+    ensures count { length needed.new ≡ length needed.old }
+    ensures clause { OnOk result (clause.new.items ≡ clause.old.items ++ all_unequal (x ∷ []) (y ∷ [])) }
+    ensures told { OnOk result (TellsPairs (setting start.table truths forest.now.now)
+        (notes start (derived table.old log.old) needed.old [])
+        (notes start (derived table.new log.new) needed.new []) (x ∷ []) (y ∷ [])) }
+{
+    if x.0 == y.0 {
+        return Ok(());
+    }
+    tell(alloc, table, log, forest, truths, x, y, needed)?;
+    clause.push(unequality(x, y))?;
+    Ok(())
+}
+
+/// Logs that arguments are equal to others, one by one, and gives the clause that denies it of each two that differ.
+pub(crate) fn tell_pairs(
+    alloc: Global,
+    table: &mut TermTable,
+    log: &mut ProofLog,
+    forest: &Forest,
+    truths: Truths,
+    xs: &[TermId],
+    ys: &[TermId],
+    needed: &mut [bool],
+) -> Result<Vec<Said>, NoMemory>
+    ghost start: { Derived }
+    requires derives { Derives start (derived table.old log.old) }
+    requires basis { HasBasis start.table truths forest.now.now }
+    requires lengths { length xs.now ≡ length ys.now }
+    requires linked { (i : ℕ) → i < length xs.now → AreLinkedOr start.table forest.now.now
+        (get_or xs.now i no_term_id) (get_or ys.now i no_term_id) }
+    requires count { length needed.old ≡ length forest.now.now.edges }
+    ensures derives { Derives start (derived table.new log.new) }
+    ensures count { length needed.new ≡ length needed.old }
+    ensures clause { IfOk result (λ c. c.items ≡ all_unequal xs.now ys.now) }
+    ensures told { OnOk result (TellsPairs (setting start.table truths forest.now.now)
+        (notes start (derived table.old log.old) needed.old [])
+        (notes start (derived table.new log.new) needed.new []) xs.now ys.now) }
+{
+    let mut clause = Vec::new(alloc);
+    'pairs: for i in 0..xs.len() {
+        tell_pair(
+            alloc,
+            table,
+            log,
+            forest,
+            truths,
+            xs[i],
+            ys[i],
+            needed,
+            &mut clause,
+        )?;
+    }
+    Ok(clause)
+}

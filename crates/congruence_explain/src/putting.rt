@@ -1,0 +1,126 @@
+//! Steps of the log, whose terms are put with them.
+
+ghost use Rattle.std.specs.Prelude.{◌≡◌, List, [], map, All, IfOk};
+ghost use Rattle.spec_text.specs.Trees.{none};
+ghost use Rattle.spec_rules.specs.Rules.{IsRight};
+ghost use Rattle.spec_rules.specs.Schemes.{signed};
+ghost use Rattle.spec_derivations.specs.Derivations.{by_rule, FollowsFrom};
+ghost use Rattle.term_core.specs.Tables.{term_at, clause_at};
+ghost use Rattle.proof_log.specs.Logs.{IsFormulaIn, AreFormulasIn, numbers_of, derivation_in, IsLogOf};
+ghost use Rattle.proof_log.specs.Theories.{Derived, Derives};
+ghost use Rattle.clausify.specs.Stating.{Widens};
+ghost use Rattle.congruence_explain.specs.Claims.{IsClaimIn, IsPut, term_claimed, term_said, literal_said};
+ghost use Rattle.congruence_explain.specs.Steps.{derived, HasPut};
+
+use crate::claims::{Claim, Said};
+use proof_log::{Clause, Numbers, ProofLog, Rule, Step, StepId, StepIds};
+use std::alloc::Global;
+use term_core::{Head, Node, TermId, TermTable};
+use world_io::NoMemory;
+
+/// Puts the formula of a claim, or finds it.
+fn formula_of(alloc: Global, table: &mut TermTable, claim: Claim) -> Result<TermId, NoMemory>
+    requires { IsClaimIn table.old claim }
+    ensures wider { Widens table.old table.new }
+    ensures means { IfOk result (IsPut table.new (term_claimed table.old claim)) }
+{
+    match claim {
+        Claim::Atom(id) => Ok(id),
+        Claim::Equality(a, b) => {
+            let node = Node::new(alloc, Head::Equal, &[a, b])?;
+            table.put(node)
+        }
+    }
+}
+
+/// Gives a formula as it stands, or puts its negation.
+fn signed_of(
+    alloc: Global,
+    table: &mut TermTable,
+    id: TermId,
+    positive: bool,
+) -> Result<TermId, NoMemory>
+    requires { IsFormulaIn table.old id }
+    ensures wider { Widens table.old table.new }
+    ensures means { IfOk result (IsPut table.new (signed positive (term_at table.old id))) }
+{
+    if positive {
+        return Ok(id);
+    }
+    let node = Node::new(alloc, Head::Not, &[id])?;
+    table.put(node)
+}
+
+/// Puts the term of a literal, or finds it.
+fn term_of(alloc: Global, table: &mut TermTable, said: Said) -> Result<TermId, NoMemory>
+    requires { IsClaimIn table.old said.claim }
+    ensures wider { Widens table.old table.new }
+    ensures means { IfOk result (IsPut table.new (term_said table.old said)) }
+{
+    let formula = formula_of(alloc, table, said.claim)?;
+    signed_of(alloc, table, formula, said.positive)
+}
+
+/// Puts the terms of literals, in their order.
+fn terms_of(alloc: Global, table: &mut TermTable, clause: &[Said]) -> Result<Vec<TermId>, NoMemory>
+    requires { All (λ s. IsClaimIn table.old s.claim) clause.now }
+    ensures wider { Widens table.old table.new }
+    ensures means { IfOk result (λ ids. AreFormulasIn table.new ids.items
+        × (clause_at table.new ids.items ≡ map (term_said table.old) clause.now)) }
+{
+    let mut terms = Vec::new(alloc);
+    for said in clause {
+        let term = term_of(alloc, table, *said)?;
+        terms.push(term)?;
+    }
+    Ok(terms)
+}
+
+/// Logs a clause that follows by a rule from premises, and gives the step's number.
+///
+/// `NoMemory` comes where a term or the step finds no memory. Then the table may have more terms.
+pub(crate) fn put(
+    alloc: Global,
+    table: &mut TermTable,
+    log: &mut ProofLog,
+    rule: Rule,
+    premises: Vec<StepId>,
+    clause: &[Said],
+) -> Result<StepId, NoMemory>
+    ghost start: { Derived }
+    requires derives { Derives start (derived table.old log.old) }
+    requires clause { All (λ s. IsClaimIn start.table s.claim) clause.now }
+    requires follows { FollowsFrom (derivation_in table.old log.old)
+        (by_rule rule (numbers_of premises.items) none (map (term_said start.table) clause.now)) }
+    ensures derives { Derives start (derived table.new log.new) }
+    ensures put { IfOk result (HasPut start (derived table.old log.old) (derived table.new log.new)
+        (map (literal_said start.table) clause.now)) }
+{
+    let terms = terms_of(alloc, table, clause)?;
+    let step = Step {
+        rule,
+        premises: StepIds::from(premises),
+        arguments: Numbers::from(Vec::new(alloc)),
+        clause: Clause::from(terms),
+    };
+    log.add_right(table, step)
+}
+
+/// Logs a clause that is right by a rule without premises, and gives the step's number. It is `put` else.
+pub(crate) fn put_alone(
+    alloc: Global,
+    table: &mut TermTable,
+    log: &mut ProofLog,
+    rule: Rule,
+    clause: &[Said],
+) -> Result<StepId, NoMemory>
+    ghost start: { Derived }
+    requires derives { Derives start (derived table.old log.old) }
+    requires clause { All (λ s. IsClaimIn start.table s.claim) clause.now }
+    requires right { IsRight rule [] none (map (term_said start.table) clause.now) }
+    ensures derives { Derives start (derived table.new log.new) }
+    ensures put { IfOk result (HasPut start (derived table.old log.old) (derived table.new log.new)
+        (map (literal_said start.table) clause.now)) }
+{
+    put(alloc, table, log, rule, Vec::new(alloc), clause)
+}
