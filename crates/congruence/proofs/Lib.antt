@@ -1,0 +1,5 @@
+-- What calls of a closure are as calls of a theory.
+pub mod Views
+pub mod Terms
+pub mod Conflicts
+pub mod Checking

@@ -1,0 +1,2 @@
+-- What a closure means as a theory.
+pub mod Views

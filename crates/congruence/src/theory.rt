@@ -1,0 +1,112 @@
+//! Congruence closure as a theory.
+
+ghost use Rattle.std.specs.Prelude.{◌≡◌, ◌-◌, ◌≤◌, ◌++◌, ◌∷◌, [], true, length, get_or, take, MatchResult, OnOk, Ok};
+ghost use Rattle.spec_congruence.specs.Congruence.{IsFine, IsRefuted};
+ghost use Rattle.term_core.specs.Tables.{TableView};
+ghost use Rattle.proof_log.specs.declared.theory.Verdict.TheVariants.{Fine};
+ghost use Rattle.proof_log.specs.Logs.{IsLogOf};
+ghost use Rattle.proof_log.specs.Theories.{with_mark, gone_back, IsOver, terms_watched, literals_held, Checks};
+ghost use Rattle.congruence_relation.specs.Relation.{AreOf};
+ghost use Rattle.congruence.specs.Views.{theory_of};
+
+use crate::congruence::Congruence;
+use congruence_explain::explain;
+use congruence_relation::{facts_stay_over_more_terms, refutations_agree};
+use proof_log::{ProofLog, Theory, Verdict};
+use sat_budget::{Budget, Stop};
+use term_core::{Lit, TermId, TermTable};
+use world_io::NoMemory;
+
+impl Theory for Congruence {
+    ghost use Rattle.spec_congruence.specs.Congruence.{IsFine, IsRefuted};
+    ghost use Rattle.congruence_relation.specs.Relation.{AreOf};
+    ghost use Rattle.congruence.specs.Views.{theory_of};
+    ghost use Rattle.congruence_relation.proofs.Kept.{of_more};
+
+    ghost view = { theory_of };
+
+    ghost goes_with = { λ c t. AreOf t c.now.facts };
+
+    ghost agrees = { λ c ts ls. IsFine ts ls };
+
+    ghost refuses = { λ c ts ls. IsRefuted ts ls };
+
+    fn watch_term(&mut self, table: &TermTable, id: TermId) -> Result<(), Stop> {
+        self.closure.watch(id, table.node(id))?;
+        Ok(())
+    }
+
+    fn assume_lit(&mut self, lit: Lit) {
+        self.closure.hold(lit);
+    }
+
+    /// Checks the held literals: `Clash` comes exactly where their congruence joins `true` and `false`, or the sides of a held negated
+    /// equality. After `Fine` it is settled. It costs about the users of the classes that are renumbered, and, where there is a clash,
+    /// what `explain` costs.
+    fn check(
+        &mut self,
+        table: &mut TermTable,
+        log: &mut ProofLog,
+        budget: &mut Budget,
+    ) -> Result<Verdict, Stop>
+        requires over { IsOver table.old (theory_of self.old) }
+        requires with { AreOf table.old self.old.now.facts }
+        requires log { IsLogOf table.old log.old }
+        ensures with { AreOf table.new self.new.now.facts }
+        ensures same { theory_of self.new ≡ theory_of self.old }
+        ensures budget { budget.new ≡ budget.old }
+        ensures settled { result ≡ Ok Fine → self.new.now.settled ≡ true }
+        ensures checks { Checks (IsFine (terms_watched table.old (theory_of self.old)) (literals_held table.old (theory_of self.old)))
+            (IsRefuted (terms_watched table.old (theory_of self.old)) (literals_held table.old (theory_of self.old)))
+            self.old.now.facts.held (record { table = table.old; log = log.old }) result
+            (record { table = table.new; log = log.new }) }
+    {
+        let _ = budget;
+        facts_stay_over_more_terms();
+        refutations_agree();
+        table.ids_are_unique();
+        table.symbols().are_declared();
+        let found = self.closure.settle()?;
+        self.closure.is_right();
+        let Some(conflict) = found else {
+            return Ok(Verdict::Fine);
+        };
+        let step = explain(
+            self.alloc,
+            table,
+            log,
+            self.closure.forest(),
+            self.closure.truths(),
+            conflict,
+        )?;
+        Ok(Verdict::Clash(step))
+    }
+
+    /// Marks what it holds and watches, and whether it is settled. `NoMemory` comes where the mark finds no memory; then all is as it was.
+    fn mark(&mut self) -> Result<(), NoMemory>
+        ensures with { (t : TableView) → AreOf t self.old.now.facts → AreOf t self.new.now.facts }
+        ensures marks { MatchResult result (λ _. theory_of self.new ≡ with_mark (theory_of self.old))
+            (λ _. theory_of self.new ≡ theory_of self.old) }
+        ensures now { self.new.now ≡ self.old.now }
+        ensures states { OnOk result (self.new.marks ≡ self.old.marks ++ self.old.now ∷ []) }
+    {
+        self.closure.mark()
+    }
+
+    /// Goes back so many marks: it holds and watches what it did there, and is settled if it was. It takes no memory.
+    fn back(&mut self, marks: u32)
+        requires there { marks ≤ length (theory_of self.old).marks }
+        ensures with { (t : TableView) → AreOf t self.old.now.facts → AreOf t self.new.now.facts }
+        ensures back { theory_of self.new ≡ gone_back marks (theory_of self.old) }
+        ensures now { self.new.now ≡ get_or self.old.marks (length self.old.marks - marks) self.old.now }
+        ensures marks { self.new.marks ≡ take (length self.old.marks - marks) self.old.marks }
+    {
+        self.closure.marks_are_fronts();
+        self.closure.back(marks);
+        self.closure.is_right();
+    }
+
+    ghost grown = { λ c t u more with. of_more t u more c.now.facts with };
+
+    ghost exact = { λ c ts ls fine refuted. fine refuted };
+}
