@@ -15,7 +15,7 @@ use Rattle.spec_reading.specs.Sorts.{sort_in, sorts_in}
 use Rattle.spec_reading.specs.Reading.{reading_of_sort}
 use Rattle.spec_reading.specs.Definitions.{definitions_in}
 use Rattle.spec_commands.specs.Commands.{Command, SetLogic, SetOption, SetInfo, DeclareSort, DefineSort, DeclareFun, DefineFun, Assert, CheckSat, Echo, Exit, command_of}
-use Rattle.spec_commands.specs.Stack.{Stack, Key, Effect, done, unsupported, check, say, leave, Taken, signature_of, assertions_of, logics, key_named, truth_in, option_set, all_in_reach, roomy, terms_defined, performed, step}
+use Rattle.spec_commands.specs.Stack.{Stack, Key, Effect, done, unsupported, check, say, leave, Taken, signature_of, logics, key_named, truth_in, option_set, roomy, terms_defined, performed, step}
 use Rattle.spec_commands.specs.Checks.{Check, this_or, after_effect, after_command, current_at}
 
 module _ (limit : ℕ) where
@@ -57,8 +57,7 @@ module _ (limit : ℕ) where
         in_turn LeavesFew (λ _. tt) (definitions_in script (signature_of s) d) _ λ ds _. roomy_few (terms_defined ds) _
     performed_few s (Assert t) h =
         in_turn LeavesFew (λ _. tt) (reading_of_sort script (signature_of s) [] Truth t) _ λ r _. roomy_few (r.term ∷ []) _
-    performed_few s (CheckSat place) h =
-        in_turn LeavesFew (λ _. tt) (require (all_in_reach (assertions_of s)) place UnknownLogic) _ λ reached _. h
+    performed_few s (CheckSat place) h = h
     performed_few s (Echo text) h = h
     performed_few s Exit h = h
 
@@ -72,7 +71,7 @@ module _ (limit : ℕ) where
   this_few here (suc (suc k)) rest c few e later = later (suc k) e
 
   effect_few : (x : Effect) (s : Stack) (k : ℕ) (rest : Stack → ℕ → Option Check) (c : Check) → AreFew s → after_effect x s k rest ≡ Some c → ((n : ℕ) → rest s n ≡ Some c → AreFew c.stack) → AreFew c.stack
-  effect_few (check assumptions) s k rest c few e later = this_few (record { stack = s; assumptions = assumptions }) k (rest s) c few e later
+  effect_few (check place assumptions) s k rest c few e later = this_few (record { stack = s; assumptions = assumptions }) k (rest s) c few e later
   effect_few leave s k rest c few e later = cc
   effect_few done s k rest c few e later = later k e
   effect_few unsupported s k rest c few e later = later k e

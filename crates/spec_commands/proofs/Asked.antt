@@ -15,12 +15,12 @@ use Rattle.spec_reading.specs.Sorts.{sort_in, sorts_in}
 use Rattle.spec_reading.specs.Reading.{reading_of_sort}
 use Rattle.spec_reading.specs.Definitions.{definitions_in}
 use Rattle.spec_commands.specs.Commands.{Command, SetLogic, SetOption, SetInfo, DeclareSort, DefineSort, DeclareFun, DefineFun, Assert, CheckSat, Echo, Exit, command_of}
-use Rattle.spec_commands.specs.Stack.{Assertion, Stack, Key, Effect, done, unsupported, check, say, leave, Taken, signature_of, assertions_of, logics, key_named, truth_in, option_set, all_in_reach, roomy, terms_defined, performed, step}
+use Rattle.spec_commands.specs.Stack.{Assertion, Stack, Key, Effect, done, unsupported, check, say, leave, Taken, signature_of, assertions_of, logics, key_named, truth_in, option_set, roomy, terms_defined, performed, step}
 use Rattle.spec_commands.specs.Checks.{Check, asked, this_or, after_effect, after_command, current_at}
 
 -- a check has no assumptions
 abbrev IsBare : Effect → Type 0
-IsBare (check assumptions) = assumptions ≡ []
+IsBare (check place assumptions) = assumptions ≡ []
 IsBare effect = Unit {0}
 
 -- a command that is taken asks for no other check
@@ -57,8 +57,7 @@ module _ (limit at : ℕ) where
       in_turn TakesBare (λ _. tt) (definitions_in script (signature_of s) d) _ λ ds _. roomy_bare (terms_defined ds) _
   performed_bare s (Assert t) =
       in_turn TakesBare (λ _. tt) (reading_of_sort script (signature_of s) [] Truth t) _ λ r _. roomy_bare (r.term ∷ []) _
-  performed_bare s (CheckSat place) =
-      in_turn TakesBare (λ _. tt) (require (all_in_reach (assertions_of s)) place UnknownLogic) _ λ reached _. refl
+  performed_bare s (CheckSat place) = refl
   performed_bare s (Echo text) = tt
   performed_bare s Exit = tt
 
@@ -73,7 +72,7 @@ module _ (limit : ℕ) where
   this_bare here (suc (suc k)) rest c bare e later = later (suc k) e
 
   effect_bare : (x : Effect) (s : Stack) (k : ℕ) (rest : Stack → ℕ → Option Check) (c : Check) → IsBare x → after_effect x s k rest ≡ Some c → ((n : ℕ) → rest s n ≡ Some c → c.assumptions ≡ []) → c.assumptions ≡ []
-  effect_bare (check assumptions) s k rest c bare e later = this_bare (record { stack = s; assumptions = assumptions }) k (rest s) c bare e later
+  effect_bare (check place assumptions) s k rest c bare e later = this_bare (record { stack = s; assumptions = assumptions }) k (rest s) c bare e later
   effect_bare leave s k rest c bare e later = cc
   effect_bare done s k rest c bare e later = later k e
   effect_bare unsupported s k rest c bare e later = later k e

@@ -156,9 +156,7 @@ module _ (limit : ℕ) where
       let room = (and_parts (nat_le (length (signature_of named)) limit) (nat_le (length (subterms_of (r.term ∷ []))) limit) b.0).1 in
       subst (λ (x : Taken). IsKept limit x.stack) b.1
       (kept_asserted named t r.term (record { read = was; sort = sorted; room = room }) (kept_with s r.made (fine script sig [] t r read (h.names, tt)).0 (text_keeps_sorts script sig [] t r h.sorts read) h))
-  performed_kept at s (CheckSat place) d e h =
-      let a = went _ _ d e in
-      subst (λ (x : Taken). IsKept limit x.stack) (answer (Ok _) d a.then) (record { names = h.names; sorts = h.sorts; assertions = h.assertions })
+  performed_kept at s (CheckSat place) d e h = subst (λ (x : Taken). IsKept limit x.stack) (answer (Ok _) d e) (record { names = h.names; sorts = h.sorts; assertions = h.assertions })
   performed_kept at s (Echo text) d e h = subst (λ (x : Taken). IsKept limit x.stack) (answer (Ok _) d e) h
   performed_kept at s Exit d e h = subst (λ (x : Taken). IsKept limit x.stack) (answer (Ok _) d e) h
 
@@ -176,7 +174,7 @@ module _ (limit : ℕ) where
   this_kept s assumptions (suc (suc k)) rest c h e later = later (suc k) e
 
   effect_kept : (x : Effect) (s : Stack) (k : ℕ) (rest : Stack → ℕ → Option Check) (c : Check) → IsKept limit s → after_effect x s k rest ≡ Some c → ((n : ℕ) → rest s n ≡ Some c → IsKept limit c.stack) → IsKept limit c.stack
-  effect_kept (check assumptions) s k rest c h e later = this_kept s assumptions k (rest s) c h e later
+  effect_kept (check place assumptions) s k rest c h e later = this_kept s assumptions k (rest s) c h e later
   effect_kept leave s k rest c h e later = cc
   effect_kept done s k rest c h e later = later k e
   effect_kept unsupported s k rest c h e later = later k e

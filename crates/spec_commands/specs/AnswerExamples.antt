@@ -39,6 +39,11 @@ pub others : answers (
     codes "(declare-sort U 0)(define-sort V () U)(declare-const c V)(declare-fun f (U) V)(define-fun g () U (f c))" ∷
     codes "(assert true)(assert g)" ∷
     codes "(echo \"a \"\"b\"\"\")(echo \"\")" ∷
-    codes "(check-sat)(exit)" ∷ []) ≡ done ∷ done ∷ done ∷ done ∷ done ∷ done ∷ done ∷ done ∷ say (codes "a \"\"b\"\"") ∷ say [] ∷ check [] ∷ leave ∷ []
+    codes "(check-sat)(exit)" ∷ []) ≡ done ∷ done ∷ done ∷ done ∷ done ∷ done ∷ done ∷ done ∷ say (codes "a \"\"b\"\"") ∷ say [] ∷ check 195 [] ∷ leave ∷ []
 unfolding commands_on_literals answers_after
 others = refl
+
+-- a check is asked for at its word, whether the search reaches what is asserted or not
+pub checks : answers (codes "(check-sat)(assert (= 1 1.0))( check-sat)" ∷ []) ≡ check 1 [] ∷ done ∷ check 31 [] ∷ []
+unfolding commands_on_literals answers_after
+checks = refl

@@ -35,7 +35,7 @@ names_at k text = option_map (λ (c : Check). map {B = ℕ × Name} (λ (e : Ent
 abbrev pub options_at : ℕ → List ℕ → Option Options
 options_at k text = option_map (λ (c : Check). c.stack.options) (check_of k text)
 
--- declarations, before an assertion of a term of sort Bool and a check: what is asserted has no number, so that the check reaches it
+-- declarations, before an assertion of a term of sort Bool and a check
 abbrev pub with_truth : List ℕ → List ℕ
 with_truth t = codes "(declare-const p Bool)(declare-const q Bool)(declare-const r Bool)(define-fun g ((z Bool)) Bool (not z))(define-fun two ((y Bool) (z Bool)) Bool (=> y z))(assert " ++ t ++ codes ")(check-sat)"
 
@@ -161,15 +161,15 @@ pub no_third : count_at 3 (codes "(declare-const p Bool)(assert p)(check-sat)(as
 unfolding commands_on_literals
 no_third = refl
 
--- a check that is refused for its reach is no check
-pub refused_check_is_none : count_at 1 (codes "(declare-const x Real)(declare-const p Bool)(assert p)(assert (< x 1))(check-sat)") ≡ None
+-- a check that the search does not reach is one, and asks about all that is asserted before it
+pub unreached_check_is_one : count_at 1 (codes "(declare-const x Real)(declare-const p Bool)(assert p)(assert (< x 1))(check-sat)") ≡ Some 2
 unfolding commands_on_literals
-refused_check_is_none = refl
+unreached_check_is_one = refl
 
--- and is not counted: the check before it is the first, and there is no second
-pub refused_check_is_passed : count_at 2 (codes "(declare-const x Real)(check-sat)(assert (< x 1))(check-sat)") ≡ None
+-- and is counted: it is the second after the one before it
+pub unreached_check_is_counted : count_at 2 (codes "(declare-const x Real)(check-sat)(assert (< x 1))(check-sat)") ≡ Some 1
 unfolding commands_on_literals
-refused_check_is_passed = refl
+unreached_check_is_counted = refl
 
 -- what follows `exit` is not looked at
 pub exit_ends : count_at 1 (codes "(exit)(check-sat)") ≡ None

@@ -28,7 +28,7 @@ this_or c (suc (suc k)) rest = rest (suc k)
 
 -- go on after a command that was taken, with as many checks to come
 abbrev pub after_effect : Effect → Stack → ℕ → (Stack → ℕ → Option Check) → Option Check
-after_effect (check assumptions) s k rest = this_or (record { stack = s; assumptions = assumptions }) k (rest s)
+after_effect (check place assumptions) s k rest = this_or (record { stack = s; assumptions = assumptions }) k (rest s)
 after_effect leave s k rest = None
 after_effect effect s k rest = rest s k
 

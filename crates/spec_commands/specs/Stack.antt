@@ -1,4 +1,4 @@
--- What stands after commands, and what they answer. Source: SMT-LIB 2.6, sections 4.1.4 and 4.2; the order of faults, the limits and the reach of a check are own.
+-- What stands after commands, and what they answer. Source: SMT-LIB 2.6, sections 4.1.4 and 4.2; the order of faults, the limits and the reach of the search are own.
 use Rattle.std.specs.Prelude.{ℕ, suc, Bool, true, false, not, ◌&&◌, List, [], ◌∷◌, ◌++◌, map, Option, Some, None, Ok, codes, if◌then◌else◌}
 use Rattle.std.specs.Str.{bytes_eq}
 use Rattle.spec_text.specs.declared.Fault.TheVariants.{BadShape, Reserved, UnknownLogic, WrongMode, Full}
@@ -144,8 +144,8 @@ with_option assertions_key b o = record o { assertions = b }
 pub data Effect : Type 0 where
   -- it is done; its option is not known
   done unsupported : Effect
-  -- a check is asked for, with these assumptions
-  check : List Assertion → Effect
+  -- a check is asked for by the word at an offset, with these assumptions
+  check : ℕ → List Assertion → Effect
   -- a text is to be written, without its quotes
   say : List ℕ → Effect
   -- the script ends
@@ -168,7 +168,7 @@ option_set at s (Some k) (Some b) = Ok (did (record s { options = with_option k 
 option_set at s (Some k) None = refused at BadShape
 option_set at s None value = Ok (record { effect = unsupported; stack = s })
 
--- a head that a check reaches: theory Core, and Bool constants
+-- a head that the search reaches: theory Core, and Bool constants
 abbrev pub head_in_reach : Head → Bool
 head_in_reach True = true
 head_in_reach False = true
@@ -238,9 +238,7 @@ performed limit at s (DefineFun d) =
 performed limit at s (Assert t) =
     reading_of_sort script (signature_of s) [] Truth t >>= λ r.
     roomy limit at (r.term ∷ []) (begun (with_assertion (with_definitions s r.made) t r.term))
-performed limit at s (CheckSat place) =
-    require (all_in_reach (assertions_of s)) place UnknownLogic >>= λ reached.
-    Ok (record { effect = check []; stack = begun s })
+performed limit at s (CheckSat place) = Ok (record { effect = check place []; stack = begun s })
 performed limit at s (Echo text) = Ok (record { effect = say text; stack = s })
 performed limit at s Exit = Ok (record { effect = leave; stack = s })
 

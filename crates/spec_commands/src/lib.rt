@@ -14,13 +14,19 @@ ghost use Rattle.spec_sorts.specs.Values.{truth, Interpretation, Interprets};
 ghost use Rattle.spec_sorts.specs.Signatures.{symbols_in};
 ghost use Rattle.spec_sorts.specs.TermValues.{value_at};
 ghost use Rattle.spec_sorts.specs.Meaning.{value_under};
-ghost use Rattle.spec_commands.specs.Stack.{Assertion, Stack, Taken, empty_stack, signature_of, assertions_of, step};
+ghost use Rattle.spec_commands.specs.Stack.{Assertion, Stack, check, Taken, empty_stack, signature_of, assertions_of, step};
 ghost use Rattle.spec_commands.specs.Checks.{Check, asked, IsCurrent, HasNoCheck};
 ghost use Rattle.spec_commands.specs.Kept.{IsKept};
 
 /// States that the fault of a command of a script stands at the offset of one of its atoms or lists.
 pub fn faults_stand_in_their_command()
     ensures { (limit : ℕ) (s : Stack) (t : Tree) (f : Located) → step limit s t ≡ Err f → HasOffset t f.offset }
+{}
+
+/// States that a command of a script asks for a check at the offset of one of its atoms or lists.
+pub fn checks_stand_in_their_command()
+    ensures { (limit : ℕ) (s : Stack) (t : Tree) (d : Taken) (place : ℕ) (assumptions : List Assertion)
+        → step limit s t ≡ Ok d → d.effect ≡ check place assumptions → HasOffset t place }
 {}
 
 /// States that commands leave what they should, under any limit: nothing is declared or asserted at first. After a

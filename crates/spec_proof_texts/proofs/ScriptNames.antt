@@ -381,9 +381,7 @@ module _ (limit at size extra : ℕ) where
       let read = subst (λ (z : Reading). reading script g [] t ≡ Ok z) (answer (Ok x.first) r y.then) x.was in
       let k = several_more size extra s r.made (omega (arith, text_few script g [] t r read, p, le)) (text_named script g [] t r refl read h.names) h in
       subst (λ (x : Taken). IsNamed (size + extra) x.stack) (roomy_is (r.term ∷ []) (begun (with_assertion (with_definitions s r.made) t r.term)) d a.then) (record { names = k.names; few = k.few })
-  performed_named parts le s (CheckSat place) d p e h =
-      let a = went _ _ d e in
-      subst (λ (x : Taken). IsNamed (size + extra) x.stack) (answer (Ok _) d a.then) (record { names = h.names; few = omega (arith, h.few) })
+  performed_named parts le s (CheckSat place) d p e h = subst (λ (x : Taken). IsNamed (size + extra) x.stack) (answer (Ok _) d e) (record { names = h.names; few = omega (arith, h.few) })
   performed_named parts le s (Echo text) d p e h = subst (λ (x : Taken). IsNamed (size + extra) x.stack) (answer (Ok _) d e) (more_named size extra s h)
   performed_named parts le s Exit d p e h = subst (λ (x : Taken). IsNamed (size + extra) x.stack) (answer (Ok _) d e) (more_named size extra s h)
 
@@ -402,7 +400,7 @@ module _ (limit : ℕ) where
   this_named size s assumptions (suc (suc k)) rest c h e later = later (suc k) e
 
   effect_named : (size : ℕ) (x : Effect) (s : Stack) (k : ℕ) (rest : Stack → ℕ → Option Check) (c : Check) → IsNamed size s → after_effect x s k rest ≡ Some c → ((n : ℕ) → rest s n ≡ Some c → IsNamed size c.stack) → IsNamed size c.stack
-  effect_named size (check assumptions) s k rest c h e later = this_named size s assumptions k (rest s) c h e later
+  effect_named size (check place assumptions) s k rest c h e later = this_named size s assumptions k (rest s) c h e later
   effect_named size leave s k rest c h e later = cc
   effect_named size done s k rest c h e later = later k e
   effect_named size unsupported s k rest c h e later = later k e

@@ -80,7 +80,7 @@ module _ (g : Signature) (own : AreScriptNames g) where
     sort = sort_there (app h ts) w.sorted w.heads;
   }
 
--- what a check reaches has no number and no product
+-- what the search reaches has no number and no product
 pub in_reach : (t : Term) → head_in_reach (head_of t) ≡ true → IsReadable t
 in_reach (app True ts) e = record { text = tt; linear = refl }
 in_reach (app False ts) e = record { text = tt; linear = refl }

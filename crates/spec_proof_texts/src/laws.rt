@@ -36,7 +36,7 @@ pub fn planned_lines_are_right()
 {}
 
 /// States which terms can be printed: well-sorted ones over the symbols of a script, whose heads can be read before their
-/// arguments. So it is with each head that a check reaches, for now.
+/// arguments. So it is with each head that the search reaches, for now.
 pub fn well_sorted_terms_are_printable()
     ensures term { (g : Signature) (t : Term) → AreScriptNames g → IsWellSorted (symbols_in g) [] t → IsReadable t
         → IsPrintable g t }
@@ -51,7 +51,7 @@ pub fn literals_are_decimals()
         → is_wide (ds ++ 46 ∷ f ∷ fs) ≡ false → is_decimal (literal_value (ds ++ 46 ∷ f ∷ fs)) ≡ true }
 {}
 
-/// States that the lines of a plan print no number where each term that is printed has a head that a check reaches. So each
+/// States that the lines of a plan print no number where each term that is printed has a head that the search reaches. So each
 /// proof has room for its terms, for now.
 pub fn lines_in_reach_have_no_numbers()
     ensures { (terms : List Term) (d : Derivation) (n : ℕ) (plan : Plan) → IsPlan terms d n plan

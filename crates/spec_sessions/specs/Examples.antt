@@ -1,16 +1,17 @@
 -- Small scripts with what is written for them, where so much was found at their checks.
-use Rattle.std.specs.Prelude.{ℕ, true, false, List, [], ◌∷◌, Ok, Err, codes, if◌then◌else◌}
+use Rattle.std.specs.Prelude.{ℕ, Bool, true, false, List, [], ◌∷◌, Ok, Err, codes, if◌then◌else◌}
 use Rattle.std.specs.Str.{bytes_eq}
+use Rattle.spec_text.specs.declared.Fault.TheVariants.{UnknownLogic}
 use Rattle.spec_text.specs.Bytes.{among}
 use Rattle.spec_text.specs.Answers.{Answer}
 use Rattle.spec_text.specs.Trees.{Trees, none, more}
 use Rattle.spec_numbers.specs.Fractions.{zero_fraction}
 use Rattle.spec_sorts.specs.Values.{Value, truth, number, element, Table, Interpretation}
-use Rattle.spec_commands.specs.Stack.{Stack, Effect, done, unsupported, check, say, leave, Taken, step}
-use Rattle.spec_commands.specs.Checks.{term_limit}
+use Rattle.spec_commands.specs.Stack.{Stack, Effect, done, unsupported, check, say, leave, Taken, all_in_reach, step}
+use Rattle.spec_commands.specs.Checks.{Check, asked, term_limit}
 use Rattle.spec_commands.specs.Examples.{lines}
 use Rattle.spec_sessions.specs.Evidence.{Limits, Found, proof}
-use Rattle.spec_sessions.specs.Responses.{success, not_supported, answered, said, ended, rejected, Answered}
+use Rattle.spec_sessions.specs.Responses.{success, not_supported, answered, said, ended, rejected, unreached, Answered}
 
 -- what is meant by default
 abbrev pub limits : Limits
@@ -26,11 +27,18 @@ abbrev pub later_found : List Found → List Found
 later_found [] = []
 later_found (f ∷ fs) = fs
 
--- what a command that was taken is answered, and what those after it are, where this was found at the checks
+-- what a check by the word at an offset is answered, and what those after it are: whether the search reaches what it asks about
+abbrev pub answers_check : Bool → ℕ → Check → List Found → (List Found → List Answered) → List Answered
+answers_check true place c fs rest = record { response = answered (record { check = c; found = next_found fs }); stack = c.stack } ∷ rest (later_found fs)
+answers_check false place c fs rest = record { response = unreached (record { offset = place; fault = UnknownLogic }); stack = c.stack } ∷ rest fs
+
+-- what a command that was taken is answered, and what those after it are, where this was found at the checks in reach
 abbrev pub answers_after : Effect → Stack → List Found → (List Found → List Answered) → List Answered
 answers_after done s fs rest = record { response = success; stack = s } ∷ rest fs
 answers_after unsupported s fs rest = record { response = not_supported; stack = s } ∷ rest fs
-answers_after (check assumptions) s fs rest = record { response = answered (record { check = record { stack = s; assumptions = assumptions }; found = next_found fs }); stack = s } ∷ rest (later_found fs)
+answers_after (check place assumptions) s fs rest =
+    let c : Check = record { stack = s; assumptions = assumptions } in
+    answers_check (all_in_reach (asked c)) place c fs rest
 answers_after (say text) s fs rest = record { response = said text; stack = s } ∷ rest fs
 answers_after leave s fs rest = record { response = ended; stack = s } ∷ []
 

@@ -35,7 +35,7 @@ model_here = record {
 
 justified : All (IsJustified limits) (checks_in (answers_of limits empty_stack (trees_in functions) (model tables ∷ [])))
 unfolding commands_on_literals answers_of
-justified = one_check (IsJustified limits) (checks_in (answers_of limits empty_stack (trees_in functions) (model tables ∷ []))) refl model_here
+justified = one_check limits (checks_in (answers_of limits empty_stack (trees_in functions) (model tables ∷ []))) refl model_here
 
 pub returns : goal.returns
 unfolding commands_on_literals answers_of numeral

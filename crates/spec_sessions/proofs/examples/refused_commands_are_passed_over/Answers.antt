@@ -32,7 +32,7 @@ refusals_model = record { interprets = λ k d l. absurd (omega (arith, l)); each
 
 refusals_justified : All (IsJustified limits) (checks_in (answers_of limits empty_stack (trees_in refusals) (model tables ∷ [])))
 unfolding commands_on_literals answers_of
-refusals_justified = one_check (IsJustified limits) (checks_in (answers_of limits empty_stack (trees_in refusals) (model tables ∷ []))) refl refusals_model
+refusals_justified = one_check limits (checks_in (answers_of limits empty_stack (trees_in refusals) (model tables ∷ []))) refl refusals_model
 
 pub returns-clause-names : goal.returns-clause-names
 unfolding commands_on_literals answers_of digits
@@ -42,7 +42,7 @@ numbers_read : IsReadUpTo numbers (trees_in numbers) None
 unfolding commands_on_literals
 numbers_read = record { rest = []; trees = record { split = refl; within = omega arith }; stop = None; stops = refl; is = refl }
 
--- its check, where one number is declared
+-- its first check, where one number is declared
 abbrev numbers_check : Checked
 numbers_check = first_of (checks_in (answers_of limits empty_stack (trees_in numbers) (model tables ∷ [])))
 
@@ -55,7 +55,7 @@ numbers_model = record {
 
 numbers_justified : All (IsJustified limits) (checks_in (answers_of limits empty_stack (trees_in numbers) (model tables ∷ [])))
 unfolding commands_on_literals answers_of
-numbers_justified = one_check (IsJustified limits) (checks_in (answers_of limits empty_stack (trees_in numbers) (model tables ∷ []))) refl numbers_model
+numbers_justified = All-from_recursion (IsJustified limits) (checks_in (answers_of limits empty_stack (trees_in numbers) (model tables ∷ []))) (numbers_model, (tt, tt))
 
 pub returns-clause-numbers : goal.returns-clause-numbers
 unfolding commands_on_literals answers_of digits
@@ -78,7 +78,7 @@ large_model = record {
 
 large_justified : All (IsJustified four) (checks_in (answers_of four empty_stack (trees_in large) (model tables ∷ [])))
 unfolding commands_on_literals answers_of
-large_justified = one_check (IsJustified four) (checks_in (answers_of four empty_stack (trees_in large) (model tables ∷ []))) refl large_model
+large_justified = one_check four (checks_in (answers_of four empty_stack (trees_in large) (model tables ∷ []))) refl large_model
 
 pub returns-clause-large : goal.returns-clause-large
 unfolding commands_on_literals answers_of digits
