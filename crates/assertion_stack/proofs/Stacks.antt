@@ -20,8 +20,8 @@ use Rattle.spec_reading.specs.Names.{Setting, script, new_name, is_function, is_
 use Rattle.spec_reading.specs.Sorts.{sort_in, sorts_in}
 use Rattle.spec_reading.specs.Reading.{Reading, reading_of_sort}
 use Rattle.spec_reading.specs.Definitions.{Parts, definitions_in}
-use Rattle.spec_commands.specs.Commands.{SetLogic, DeclareSort, DefineSort, DeclareFun, DefineFun, Assert, CheckSat}
-use Rattle.spec_commands.specs.Stack.{Assertion, Stack, Key, check, did, empty_stack, signature_of, assertions_of, terms_asserted, begun, with_declaration, with_definitions, with_assertion, logics, with_option, is_in_reach, all_in_reach, roomy, terms_defined, performed}
+use Rattle.spec_commands.specs.Commands.{SetLogic, DeclareSort, DefineSort, DeclareFun, DefineFun, Assert}
+use Rattle.spec_commands.specs.Stack.{Assertion, Stack, Key, did, empty_stack, signature_of, assertions_of, terms_asserted, begun, with_declaration, with_definitions, with_assertion, logics, with_option, is_in_reach, all_in_reach, roomy, terms_defined, performed}
 use Rattle.spec_commands.proofs.Kept.{signature_last, signature_with}
 use Rattle.term_core.specs.declared.ids.TermId.{TermId}
 use Rattle.term_core.specs.Tables.{TableView, term_at, IsIn, AreIn, clause_at}
@@ -133,16 +133,6 @@ module _ (limit at : ℕ) (s : Stack) (w : Word) where
   pub logic_set : is_reserved w.kind ≡ false → among logics w.bytes ≡ true → s.started ≡ false → performed limit at s (SetLogic w) ≡ Ok (did (begun s))
   unfolding require ◌>>=◌
   logic_set e f g = logic_by false true false e f g
-
--- checking, by the reach of the search
-module _ (limit at place : ℕ) (s : Stack) where
-  pub check_refused : all_in_reach (assertions_of s) ≡ false → performed limit at s (CheckSat place) ≡ refused place UnknownLogic
-  unfolding require ◌>>=◌
-  check_refused e = ap (λ b. require b place UnknownLogic >>= λ reached. Ok (record { effect = check []; stack = begun s })) e
-
-  pub check_begun : all_in_reach (assertions_of s) ≡ true → performed limit at s (CheckSat place) ≡ Ok (record { effect = check []; stack = begun s })
-  unfolding require ◌>>=◌
-  check_begun e = ap (λ b. require b place UnknownLogic >>= λ reached. Ok (record { effect = check []; stack = begun s })) e
 
 -- declaring and defining sorts, by their parts
 module _ (limit at : ℕ) (s : Stack) (w : Word) where

@@ -31,7 +31,7 @@ options_meant o = record { print_success = o.print_success; models = o.models; p
 abbrev pub effect_meant : CodeEffect → Effect
 effect_meant effects.Done = done
 effect_meant effects.Unsupported = unsupported
-effect_meant effects.Check = check []
+effect_meant (effects.Check at) = check at []
 effect_meant (effects.Say text) = say text.now
 effect_meant effects.Exit = leave
 
@@ -117,5 +117,5 @@ Steps limit left x new (Err refusals.Memory) = Unit {0}
 
 -- a check leaves the table, and of the stack it changes no more than that it ends the start
 abbrev pub KeepsAtCheck : {E : Type 0} → Result CodeEffect E → Standing → Standing → Type 0
-KeepsAtCheck (Ok effects.Check) old new = new ≡ standing old.table (record old.stack { started = true })
+KeepsAtCheck (Ok (effects.Check at)) old new = new ≡ standing old.table (record old.stack { started = true })
 KeepsAtCheck _ old new = Unit {0}

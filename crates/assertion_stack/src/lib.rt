@@ -17,6 +17,7 @@ mod settings;
 mod stack;
 
 pub use assertions::Assertions;
+pub use faults::unreached_check;
 pub use options::Options;
 pub use reach::Reached;
 pub use stack::{Effect, Stack, TERM_LIMIT};

@@ -1,6 +1,6 @@
 //! Logics, options, and the beginning of a check.
 
-ghost use Rattle.std.specs.Prelude.{◌≡◌, ℕ, true, OnErr, OnOk};
+ghost use Rattle.std.specs.Prelude.{◌≡◌, ℕ, true, Ok, OnErr};
 ghost use Rattle.spec_commands.specs.Commands.{SetLogic, SetOption, CheckSat};
 ghost use Rattle.spec_commands.specs.Stack.{Stack as ScriptStack, performed};
 ghost use Rattle.smt_sexpr.specs.Items.{tree_meant};
@@ -60,16 +60,12 @@ pub(crate) fn set_option<'a>(
     Ok(Effect::Done)
 }
 
-/// Begins a check, by a command whose word stands at a place: the search has to reach all assertions.
-pub(crate) fn begin_check<'a>(stack: &mut Stack, place: u64) -> Result<Effect<'a>, ReadError>
+/// Begins a check, by a command whose word stands at a place.
+pub(crate) fn begin_check<'a>(stack: &mut Stack, place: u64) -> Effect<'a>
     ensures performs { (limit at : ℕ) (t : TableView) (s : ScriptStack) → IsStack limit (standing t stack.old) s
-        → Performs limit (performed limit at s (CheckSat place)) (standing t stack.new) result }
-    ensures begun { OnOk result (stack.new ≡ record stack.old { started = true }) }
-    ensures same { OnErr result (stack.new ≡ stack.old) }
+        → Performs limit (performed limit at s (CheckSat place)) (standing t stack.new) (Ok result) }
+    ensures begun { stack.new ≡ record stack.old { started = true } }
 {
-    if !stack.assertions.are_in_reach() {
-        return Err(refused(place, Fault::UnknownLogic));
-    }
     stack.started = true;
-    Ok(Effect::Check)
+    Effect::Check(place)
 }

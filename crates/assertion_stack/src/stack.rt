@@ -1,7 +1,7 @@
 //! The stack of a script: its names, assertions and options, and what each command makes of them.
 
 ghost use Rattle.std.specs.Prelude.{◌≡◌, ℕ, [], length, OnErr, OnOk};
-ghost use Rattle.spec_commands.specs.Stack.{Stack as ScriptStack, empty_stack, performed, step};
+ghost use Rattle.spec_commands.specs.Stack.{Stack as ScriptStack, empty_stack, assertions_of, all_in_reach, performed, step};
 ghost use Rattle.smt_command.specs.Commands.{command_view};
 ghost use Rattle.smt_sexpr.specs.Items.{tree_of};
 ghost use Rattle.term_core.specs.Tables.{TableView, Extends};
@@ -52,8 +52,8 @@ pub enum Effect<'a> {
     Done,
     /// Its option is not known: the answer is `unsupported`.
     Unsupported,
-    /// It asks for a check of what is asserted.
-    Check,
+    /// It asks for a check of what is asserted, by its word at this offset.
+    Check(u64),
     /// It asks for a text to be written, which stands between its quotes.
     Say(&'a [u8]),
     /// It ends the script.
@@ -102,6 +102,15 @@ impl Stack {
         self.assertions.texts()
     }
 
+    /// Tells whether the search reaches all current assertions. It takes no memory, and the same time for all stacks.
+    pub fn are_in_reach(&self) -> bool
+        ensures mark { result ≡ self.now.assertions.in_reach }
+        ensures reach { (limit : ℕ) (t : TableView) (s : ScriptStack) → IsStack limit (standing t self.now) s
+            → result ≡ all_in_reach (assertions_of s) }
+    {
+        self.assertions.are_in_reach()
+    }
+
     /// Counts the levels above the first. No command opens one yet.
     pub fn levels(&self) -> u64
         ensures { result ≡ length self.now.assertions.starts }
@@ -115,11 +124,12 @@ impl Stack {
     ///   shape (`BadShape` at its parenthesis), then its parts in reading order. These are for a new name `Reserved` and
     ///   `Twice`; for a sort `UnknownSort`, `Reserved` and `BadShape`; for a term those of `term_reader::term`. Then come
     ///   `WrongMode` of `set-logic` and `BadShape` of an option's value at the parenthesis, and `UnknownLogic` at the name
-    ///   of a logic, or at the word of a check that the search does not reach. `Full` at the parenthesis comes last.
+    ///   of a logic. `Full` at the parenthesis comes last.
     /// - `Memory` may come at any allocation, and says nothing of the command.
     ///
-    /// After each of these stack and table are as they were. A check changes no more than that it ends the start. Its time
-    /// goes with no assertion that was made before. Source: SMT-LIB 2.6, sections 3.9 and 4.2.
+    /// After each of these stack and table are as they were. A check is taken whether the search reaches it or not, and
+    /// changes no more than that it ends the start. Its time goes with no assertion that was made before. Source: SMT-LIB
+    /// 2.6, sections 3.9 and 4.2.
     pub fn command<'a>(
         &mut self,
         alloc: Global,
@@ -177,7 +187,7 @@ fn perform<'a>(
         }
         Command::DefineFun(parts) => stack.define(alloc, table, at, parts),
         Command::Assert(tree) => stack.assert(alloc, table, at, tree),
-        Command::CheckSat(place) => begin_check(stack, place),
+        Command::CheckSat(place) => Ok(begin_check(stack, place)),
         Command::Echo(text) => Ok(Effect::Say(text)),
         Command::Exit => Ok(Effect::Exit),
     }

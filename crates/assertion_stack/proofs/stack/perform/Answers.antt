@@ -9,7 +9,7 @@ use Rattle.smt_command.specs.Commands.{parts_view}
 use Rattle.term_core.specs.Tables.{Extends}
 use Rattle.term_core.proofs.TermsExtend.{Extends-self}
 use Rattle.assertion_stack.proofs.Steps.{anyway}
-use Rattle.assertion_stack.proofs.Checking.{not_asked, begins_check}
+use Rattle.assertion_stack.proofs.Checking.{not_asked}
 use Rattle.assertion_stack.proofs.stack.perform.Goals as goal
 
 pub returns-in-SetLogic-clause-kept : goal.returns-in-SetLogic-clause-kept
@@ -40,7 +40,7 @@ pub returns-in-CheckSat-clause-performs : goal.returns-in-CheckSat-clause-perfor
 returns-in-CheckSat-clause-performs c limit s h = rw c.in-CheckSat.is (c.begin_check.ensures.performs limit c.args.at c.args.table.now s h)
 
 pub returns-in-CheckSat-clause-kept : goal.returns-in-CheckSat-clause-kept
-returns-in-CheckSat-clause-kept c = anyway c.begin_check.result (Extends c.args.table.now c.args.table.now) (Extends-self c.args.table.now)
+returns-in-CheckSat-clause-kept c = Extends-self c.args.table.now
 
 pub returns-in-Echo-clause-performs : goal.returns-in-Echo-clause-performs
 returns-in-Echo-clause-performs c limit s h = rw c.in-Echo.is (record { effect = say c.in-Echo.text.now; stack = s }, refl, refl, h)
@@ -77,6 +77,3 @@ returns-in-DefineFun-clause-check c = not_asked c.requires.0 c.args.at c.require
 
 pub returns-in-Assert-clause-check : goal.returns-in-Assert-clause-check
 returns-in-Assert-clause-check c = not_asked c.requires.0 c.args.at c.requires.1 (Assert (tree_meant c.in-Assert.tree)) (λ no. no) _ _ c.assert.result (c.assert.ensures.performs c.requires.0 c.requires.1 c.requires.2)
-
-pub returns-in-CheckSat-clause-check : goal.returns-in-CheckSat-clause-check
-returns-in-CheckSat-clause-check c = begins_check c.args.table.now c.args.stack.now c.begin_check.new.stack c.begin_check.result c.begin_check.ensures.begun
