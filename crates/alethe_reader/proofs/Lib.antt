@@ -7,3 +7,6 @@ pub mod PremiseLists
 pub mod Rooms
 pub mod ReadParts
 pub mod ReadCommands
+pub mod Rows
+pub mod Remains
+pub mod Readers

@@ -3,8 +3,10 @@
 ghost use Rattle.std.specs.Prelude.{◌≡◌};
 ghost use Rattle.alethe_reader.specs.declared.errors.CommandError.TheVariants as errors;
 
+use smt_lexer::Place;
 use spec_proofs::ProofKind;
 use std::alloc::{AllocError, AllocFailed};
+use thiserror::Error;
 use world_io::NoMemory;
 
 /// A fault of a proof with its offset in bytes.
@@ -22,6 +24,26 @@ pub enum CommandError {
     /// It has this fault.
     Fault(LocatedFault),
     /// Memory ran out.
+    Memory,
+}
+
+/// Why a proof is not accepted, and where: a place of the proof.
+#[derive(Clone, Copy, Debug, PartialEq, Eq)]
+pub struct ProofFault {
+    /// The place in the proof.
+    pub place: Place,
+    /// What is wrong.
+    pub kind: ProofKind,
+}
+
+/// Why a check did not answer that the proof is accepted.
+#[derive(Clone, Copy, Debug, Error, PartialEq, Eq)]
+pub enum ProofStop {
+    /// The first fault of the proof.
+    #[error("{0:?}")]
+    Fault(ProofFault),
+    /// Out of memory, which says nothing of the proof.
+    #[error("out of memory")]
     Memory,
 }
 
