@@ -9,8 +9,8 @@ use Rattle.assertion_stack.specs.Stacks.{Standing}
 use Rattle.alethe_reader.specs.declared.errors.LocatedFault.{LocatedFault}
 use Rattle.alethe_reader.specs.Holding.{known_on}
 use Rattle.alethe_reader.specs.Reads.{located_view}
-use Rattle.alethe_check.specs.declared.ProofStop.{ProofStop}
-use Rattle.alethe_check.specs.declared.ProofStop.TheVariants as stops
+use Rattle.alethe_reader.specs.declared.errors.ProofStop.{ProofStop}
+use Rattle.alethe_reader.specs.declared.errors.ProofStop.TheVariants as stops
 use Rattle.alethe_check.specs.Judging.{IsJudgedFrom}
 use Rattle.alethe_check.specs.Loads.{bare, IsLoaded}
 use Rattle.alethe_check.specs.Verdicts.{Answers, Refuses, fault_view}

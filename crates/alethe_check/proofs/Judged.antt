@@ -1,47 +1,43 @@
 -- Commands judged one after the other.
-use Rattle.std.proofs.Common.{◌≡◌, ◌≤◌, ℕ, false, List, [], length, Option, Some, inl, inr, refl, sym, ap, subst, arith}
-use Rattle.std.specs.Prelude.{◌⊎◌, Ok, Err}
-use Rattle.spec_text.specs.declared.Place.{Place}
-use Rattle.spec_text.specs.Lexemes.{Lexeme, lexemes_from}
+use Rattle.std.proofs.Common.{◌≡◌, ℕ, List, length, Option, Some, None, inl, inr, refl, sym, ap, ◌∙◌, subst}
+use Rattle.std.specs.Prelude.{◌⊎◌, ◌↔◌, Result, Ok, Err, IsErrAnd}
 use Rattle.spec_text.specs.Trees.{Tree, Trees, none, more}
-use Rattle.spec_text.specs.Faults.{nesting_limit}
-use Rattle.spec_text.specs.Readings.{AreTrees, StopsAt, kept, is_long}
+use Rattle.spec_text.specs.Readings.{is_long}
 use Rattle.spec_commands.specs.Checks.{term_limit}
 use Rattle.spec_proofs.specs.Faults.{Fault, Read}
+use Rattle.spec_proofs.specs.Texts.{Ending, IsProofText, ending_fault}
 use Rattle.spec_checking.specs.Commands.{Known, Command}
 use Rattle.spec_checking.specs.Reading.{command_of}
-use Rattle.spec_checking.specs.Judging.{with_command, FaultBy, FirstFault}
+use Rattle.spec_checking.specs.Judging.{with_command, EndsBy, FaultBy, FirstFault}
 use Rattle.smt_sexpr.specs.declared.sexpr.Sexpr.{Sexpr}
 use Rattle.smt_sexpr.specs.Items.{tree_of}
-use Rattle.smt_sexpr.specs.Reads.{Reads, Closes}
-use Rattle.smt_sexpr.specs.Limited.{IsStopped}
-use Rattle.smt_lexer.specs.declared.Refusal.{Refusal}
 use Rattle.alethe_reader.specs.declared.proof_state.ProofState.{ProofState}
 use Rattle.alethe_reader.specs.declared.errors.CommandError.{CommandError}
 use Rattle.alethe_reader.specs.declared.errors.CommandError.TheVariants as errors
+use Rattle.alethe_reader.specs.declared.reader.Reader.{Reader}
 use Rattle.alethe_reader.specs.Holding.{IsKnown}
 use Rattle.alethe_reader.specs.Reads.{located_view}
-use Rattle.alethe_check.specs.declared.judge.SequenceEnd.{SequenceEnd}
-use Rattle.alethe_check.specs.declared.judge.SequenceEnd.TheVariants as ends
+use Rattle.alethe_reader.specs.Remaining.{text_of, AreRemaining, HasRead, IsOver, ReadsOn}
 use Rattle.alethe_check.specs.Stating.{IsWrong}
-use Rattle.alethe_check.specs.Judging.{IsTaken, IsRefused, JudgesOne, JudgesSequence, SequenceEnds, Follows, HasFault}
-use Rattle.alethe_check.proofs.Rows.{nothing_first, read_first}
+use Rattle.alethe_check.specs.Judging.{IsTaken, IsRefused, JudgesOne, JudgesCommands, AreRight, AreWrong, Finishes, IsJudgedFrom, JudgesAll}
 
 -- the first fault of commands under what is known now is that of others under what was known
 abbrev pub Goes : Known → Trees → Known → Trees → Type 0
 Goes k ts now us = (end : ℕ) (ending found : Option Fault) → FirstFault (Some term_limit) now end ending us found → FirstFault (Some term_limit) k end ending ts found
 
--- Commands were judged up to an offset: each reading from there on is one of all, and has its first fault.
-pub record Going (text : List ℕ) (n : ℕ) (xs : List (ℕ × Lexeme)) (k : Known) (h : ProofState) (at : ℕ) : Type 0 where
+-- Commands were judged: each reading of those that are to come is one of all, and has its first fault.
+pub record Going (old : Reader) (k : Known) (h : ProofState) (now_at : Reader) : Type 0 where
   -- what is known now
   pub now : Known
   -- the state stands for it
   pub known : IsKnown h now
+  -- the text is the same
+  pub same : text_of now_at ≡ text_of old
   -- what comes after
-  pub onward : (us : Trees) (rest : List (ℕ × Lexeme)) → AreTrees n (lexemes_from text at) us rest → (ts : Trees) × AreTrees n xs ts rest × Goes k ts now us
+  pub onward : (us : Trees) (e : Ending) → AreRemaining now_at us e → (ts : Trees) × AreRemaining old ts e × Goes k ts now us
 
-pub going_begins : (text : List ℕ) (n : ℕ) (k : Known) (h : ProofState) (at : ℕ) → IsKnown h k → Going text n (lexemes_from text at) k h at
-going_begins text n k h at stands = record { now = k; known = stands; onward = λ us rest a. (us, a, λ end ending found f. f) }
+pub going_begins : (r : Reader) (k : Known) (h : ProofState) → IsKnown h k → Going r k h r
+going_begins r k h stands = record { now = k; known = stands; same = refl; onward = λ us e a. (us, a, λ end ending found f. f) }
 
 module _ (k : Known) (read : Read Command) (rest : Known → Type 0) where
   -- a command that is right
@@ -62,44 +58,106 @@ goes_right : (k : Known) (t : Tree) (us : Trees) (new : ProofState) (j : IsTaken
 unfolding FirstFault
 goes_right k t us new j end ending found h = first_right k (command_of (Some term_limit) k t) (λ next. FirstFault (Some term_limit) next end ending us found) found new j h
 
-wrong_here : (k : Known) (t : Tree) (us : Trees) (f : Fault) → (command_of (Some term_limit) k t ≡ Err f) ⊎ IsRefused k (command_of (Some term_limit) k t) f → HasFault k (more t us) f
+wrong_here : (k : Known) (t : Tree) (us : Trees) (f : Fault) → (command_of (Some term_limit) k t ≡ Err f) ⊎ IsRefused k (command_of (Some term_limit) k t) f → (end : ℕ) (ending : Option Fault) → FirstFault (Some term_limit) k end ending (more t us) (Some f)
 unfolding FirstFault
 wrong_here k t us f j end ending = first_wrong k (command_of (Some term_limit) k t) (λ next. FirstFault (Some term_limit) next end ending us (Some f)) f j
 
-follows_none : (k now : Known) (ts : Trees) (h : ProofState) → IsKnown h now → Goes k ts now none → Follows k ts h
+ends_none : (k : Known) (end : ℕ) (ending found : Option Fault) → EndsBy k end ending found → FirstFault (Some term_limit) k end ending none found
 unfolding FirstFault
-follows_none k now ts h stands g = record { now = now; known = stands; fault = λ end ending found e. g end ending found e }
+ends_none k end ending found e = e
 
-module _ (text : List ℕ) (n : ℕ) (xs : List (ℕ × Lexeme)) (k : Known) (h : ProofState) (from : Place) (few : n ≤ nesting_limit) (g : Going (kept text) n xs k h from.offset) where
-  -- the sequence ends here
-  sequence_ends : (end : SequenceEnd) → SequenceEnds text n end (lexemes_from (kept text) from.offset) → JudgesSequence text n xs k (Ok end) h
-  sequence_ends end e =
-      let o = g.onward none (lexemes_from (kept text) from.offset) (nothing_first n (lexemes_from (kept text) from.offset) few) in
-      (o.0, lexemes_from (kept text) from.offset, o.1, e, follows_none k g.now o.0 h g.known o.2)
+module _ (old : Reader) (k : Known) (h : ProofState) (r : Reader) (g : Going old k h r) where
+  -- nothing is to come, and nothing ends it with a fault
+  pub commands_right : IsOver r None → AreRight old k h
+  commands_right over =
+      let o = g.onward none over.ending over.left in
+      record {
+        commands = o.0;
+        ending = over.ending;
+        read = o.1;
+        ends = subst (λ (t : List ℕ). ending_fault (is_long t) over.ending ≡ None) g.same over.is;
+        after = record { now = g.now; known = g.known; fault = λ end ending found e. o.2 end ending found (ends_none g.now end ending found e) };
+      }
 
-  pub sequence_closes : (after : Place) → Closes (kept text) from n after → JudgesSequence text n xs k (Ok (ends.Close after)) h
-  sequence_closes after c = sequence_ends (ends.Close after) (λ zero_is. omega (arith, c.some, zero_is), c.at, c.first, c.place)
+  -- nothing is to come, and a fault ends it
+  over_wrong : (f : Fault) → IsOver r (Some f) → AreWrong old k f
+  over_wrong f over =
+      let o = g.onward none over.ending over.left in
+      let is : Some f ≡ ending_fault (is_long (text_of old)) over.ending = sym (subst (λ (t : List ℕ). ending_fault (is_long t) over.ending ≡ Some f) g.same over.is) in
+      record {
+        commands = o.0;
+        ending = over.ending;
+        read = o.1;
+        fault = λ end. subst (λ (x : Option Fault). FirstFault (Some term_limit) k end x o.0 (Some f)) is (o.2 end (Some f) (Some f) (ends_none g.now end (Some f) (Some f) refl));
+      }
 
-  pub sequence_finishes : n ≡ 0 → lexemes_from (kept text) from.offset ≡ [] → is_long text ≡ false → JudgesSequence text n xs k (Ok ends.End) h
-  sequence_finishes none_open nothing short = sequence_ends ends.End (none_open, nothing, short)
+  read_stops : (e : CommandError) (new : Reader) (s : ProofState) → ReadsOn r (Err e) new → JudgesCommands old k (Err e) s
+  read_stops errors.Memory new s j = tt
+  read_stops (errors.Fault f) new s j = over_wrong (located_view f) j.1
 
-  pub sequence_breaks : (r : Refusal) → IsStopped text n (lexemes_from (kept text) from.offset) r → JudgesSequence text n xs k (Ok (ends.Broken r)) h
-  sequence_breaks r b = sequence_ends (ends.Broken r) b
+  -- what is to come cannot be read
+  pub reading_stops : (e : CommandError) (new : Reader) (s : ProofState) (result : Result (Unit {0}) CommandError) → ReadsOn r (Err e) new → IsErrAnd result (λ x. x ≡ e) → JudgesCommands old k result s
+  reading_stops e new s (Ok u) j is = absurd is
+  reading_stops e new s (Err x) j is = subst (λ (y : CommandError). JudgesCommands old k (Err y) s) (sym is) (read_stops e new s j)
 
-  module _ (s : Sexpr) (after : Place) (r : Reads (kept text) from n s after) where
-    pub goes_on : (u : Unit {0}) (new : ProofState) → JudgesOne g.now (command_of (Some term_limit) g.now (tree_of s)) (Ok u) new → Going (kept text) n xs k new after.offset
-    goes_on u new j = record {
+  module _ (s : Sexpr) (next : Reader) (read : HasRead r s next) where
+    -- a command is right
+    pub goes_on : (u : Unit {0}) (new : ProofState) → text_of next ≡ text_of r → JudgesOne g.now (command_of (Some term_limit) g.now (tree_of s)) (Ok u) new → Going old k new next
+    goes_on u new same j = record {
       now = with_command g.now j.command;
       known = j.known;
-      onward = λ us rest b.
-          let o = g.onward (more (tree_of s) us) rest (read_first (kept text) from n s after few r us rest b) in
+      same = same ∙ g.same;
+      onward = λ us e a.
+          let o = g.onward (more (tree_of s) us) e (read.first us e a) in
           (o.0, o.1, λ end ending found f. o.2 end ending found (goes_right g.now (tree_of s) us new j end ending found f));
     }
 
-    pub sequence_stops : (e : CommandError) (new : ProofState) → JudgesOne g.now (command_of (Some term_limit) g.now (tree_of s)) (Err e) new
-        → (ts : Trees) × (rest : List (ℕ × Lexeme)) × AreTrees n (lexemes_from (kept text) after.offset) ts rest × StopsAt (length (kept text)) n rest
-        → JudgesSequence text n xs k (Err e) new
-    sequence_stops errors.Memory new j b = tt
-    sequence_stops (errors.Fault f) new j b =
-        let o = g.onward (more (tree_of s) b.0) b.1 (read_first (kept text) from n s after few r b.0 b.1 b.2) in
-        (o.0, b.1, o.1, b.3, λ end ending. o.2 end ending (Some (located_view f)) (wrong_here g.now (tree_of s) b.0 (located_view f) j end ending))
+    one_stops : (e : CommandError) (new : ProofState) → JudgesOne g.now (command_of (Some term_limit) g.now (tree_of s)) (Err e) new → JudgesCommands old k (Err e) new
+    one_stops errors.Memory new j = tt
+    one_stops (errors.Fault f) new j =
+        let o = g.onward (more (tree_of s) read.others) read.ending (read.first read.others read.ending read.remain) in
+        record {
+          commands = o.0;
+          ending = read.ending;
+          read = o.1;
+          fault = λ end.
+              let ending = ending_fault (is_long (text_of old)) read.ending in
+              o.2 end ending (Some (located_view f)) (wrong_here g.now (tree_of s) read.others (located_view f) j end ending);
+        }
+
+    -- a command is not read, or not right
+    pub judging_stops : (e : CommandError) (new : ProofState) (result : Result (Unit {0}) CommandError) → JudgesOne g.now (command_of (Some term_limit) g.now (tree_of s)) (Err e) new → IsErrAnd result (λ x. x ≡ e) → JudgesCommands old k result new
+    judging_stops e new (Ok u) j is = absurd is
+    judging_stops e new (Err x) j is = subst (λ (y : CommandError). JudgesCommands old k (Err y) new) (sym is) (one_stops e new j)
+
+-- all commands of a text that a reader has to give are its own
+abbrev AreAll : Reader → List ℕ → Type 0
+AreAll r text = (ts : Trees) (e : Ending) → AreRemaining r ts e ↔ IsProofText text ts e
+
+module _ (r : Reader) (text : List ℕ) (k : Known) (new : ProofState) (same : text_of r ≡ text) (all : AreAll r text) where
+  whole : (last : Option Fault) (j : AreRight r k new) → EndsBy j.after.now (length text) None last → IsJudgedFrom k text last
+  whole last j f = record {
+    commands = j.commands;
+    ending = j.ending;
+    read = (all j.commands j.ending).0 j.read;
+    fault = subst (λ (e : Option Fault). FirstFault (Some term_limit) k (length text) e j.commands last) (sym (subst (λ (t : List ℕ). ending_fault (is_long t) j.ending ≡ None) same j.ends))
+        (j.after.fault (length text) None last f);
+  }
+
+  pub text_judged : (result : Result (Unit {0}) CommandError) (j : AreRight r k new) → Finishes j.after.now text result → JudgesAll text k result
+  text_judged (Ok u) j f = whole None j f
+  text_judged (Err (errors.Fault e)) j f = whole (Some (located_view e)) j f
+  text_judged (Err errors.Memory) j f = tt
+
+  text_wrong : (e : CommandError) → JudgesCommands r k (Err e) new → JudgesAll text k (Err e)
+  text_wrong errors.Memory j = tt
+  text_wrong (errors.Fault f) j = record {
+    commands = j.commands;
+    ending = j.ending;
+    read = (all j.commands j.ending).0 j.read;
+    fault = subst (λ (t : List ℕ). FirstFault (Some term_limit) k (length text) (ending_fault (is_long t) j.ending) j.commands (Some (located_view f))) same (j.fault (length text));
+  }
+
+  pub text_stops : (e : CommandError) (result : Result (Unit {0}) CommandError) → JudgesCommands r k (Err e) new → IsErrAnd result (λ x. x ≡ e) → JudgesAll text k result
+  text_stops e (Ok u) j is = absurd is
+  text_stops e (Err x) j is = subst (λ (y : CommandError). JudgesAll text k (Err y)) (sym is) (text_wrong e j)

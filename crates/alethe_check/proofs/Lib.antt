@@ -3,10 +3,8 @@ pub mod Numbers
 pub mod Within
 pub mod FewPremises
 pub mod OneLiterals
-pub mod Rows
 pub mod Commands
 pub mod Judged
-pub mod AllCommands
 pub mod Empties
 pub mod Loading
 pub mod Answering

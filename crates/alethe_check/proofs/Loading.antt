@@ -20,8 +20,8 @@ use Rattle.smt_sexpr.proofs.Limits.{stops_in}
 use Rattle.assertion_stack.specs.declared.stack.Effect.{Effect as CodeEffect}
 use Rattle.assertion_stack.specs.declared.stack.Effect.TheVariants as effects
 use Rattle.assertion_stack.specs.Stacks.{Standing, IsStack, Steps, effect_meant}
+use Rattle.alethe_reader.proofs.Rows.{nothing_first, read_first}
 use Rattle.alethe_check.specs.Loads.{bare, IsLoaded}
-use Rattle.alethe_check.proofs.Rows.{nothing_first, read_first}
 
 -- A script was read up to an offset: each reading from there on is one of all, and has its check.
 pub record Loading (bytes : List ℕ) (k : ℕ) (x : Standing) (at left : ℕ) : Type 0 where
@@ -61,10 +61,10 @@ after_same : (e f : Effect) (s : Stack) (left : ℕ) (rest : Stack → ℕ → O
 after_same e f s left rest h = ap (λ x. after_effect x s left rest) (sym h)
 
 -- one check less is to come
-pub one_less : (left next : ℕ) → (left ≡ 1 → ⊥) → next ≡ left - 1 → (s : Stack) (rest : Stack → ℕ → Option Check) → after_effect (check []) s left rest ≡ rest s next
-one_less zero next other e s rest = let n : next ≡ 0 = omega (arith, e) in ap (rest s) (sym n)
-one_less (suc zero) next other e s rest = absurd (other refl)
-one_less (suc (suc k)) next other e s rest = let n : next ≡ suc k = omega (arith, e) in ap (rest s) (sym n)
+pub one_less : (place left next : ℕ) → (left ≡ 1 → ⊥) → next ≡ left - 1 → (s : Stack) (rest : Stack → ℕ → Option Check) → after_effect (check place []) s left rest ≡ rest s next
+one_less place zero next other e s rest = let n : next ≡ 0 = omega (arith, e) in ap (rest s) (sym n)
+one_less place (suc zero) next other e s rest = absurd (other refl)
+one_less place (suc (suc k)) next other e s rest = let n : next ≡ suc k = omega (arith, e) in ap (rest s) (sym n)
 
 module _ (text : List ℕ) (k : ℕ) (x : Standing) (from : Place) (left : ℕ) (l : Loading (kept text) k x from.offset left) where
   -- the script ends here
@@ -91,11 +91,11 @@ module _ (text : List ℕ) (k : ℕ) (x : Standing) (from : Place) (left : ℕ) 
     Stepped answer new = Steps term_limit (step term_limit l.stack (tree_of s)) s new (Ok answer)
 
     -- the check, or the end of the script
-    pub check_here : (new : Standing) → left ≡ 1 → Stepped effects.Check new → EachIsRead (kept text) after.offset → IsLoaded text k new
-    check_here new one d b =
+    pub check_here : (place : ℕ) (new : Standing) → left ≡ 1 → Stepped (effects.Check place) new → EachIsRead (kept text) after.offset → IsLoaded text k new
+    check_here place new one d b =
         let o = next_tree b.0 b.1 b.2 in
         let stop = stop_of (length (kept text)) b.1 b.3 in
-        let here = taken_is l.stack (tree_of s) b.0 left d.0 (Some (bare d.0.stack)) d.1 (after_same (check []) d.0.effect d.0.stack left _ d.2 ∙ ap (λ n. after_effect (check []) d.0.stack n (λ next m. current_at term_limit next m b.0)) one) in
+        let here = taken_is l.stack (tree_of s) b.0 left d.0 (Some (bare d.0.stack)) d.1 (after_same (check place []) d.0.effect d.0.stack left _ d.2 ∙ ap (λ n. after_effect (check place []) d.0.stack n (λ next m. current_at term_limit next m b.0)) one) in
         record {
           stack = d.0.stack;
           current = record { commands = o.0; end = limited (is_long text) stop.0; read = read_whole text o.0 b.1 stop.0 o.1 stop.1; here = o.2 ∙ here };

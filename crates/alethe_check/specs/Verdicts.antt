@@ -4,9 +4,9 @@ use Rattle.spec_text.specs.Places.{IsPlaceOf}
 use Rattle.spec_proofs.specs.declared.ProofKind.{ProofKind}
 use Rattle.spec_proofs.specs.Faults.{Fault, fault_at}
 use Rattle.spec_checking.specs.Accepted.{IsVerdict}
-use Rattle.alethe_check.specs.declared.ProofFault.{ProofFault}
-use Rattle.alethe_check.specs.declared.ProofStop.{ProofStop}
-use Rattle.alethe_check.specs.declared.ProofStop.TheVariants as stops
+use Rattle.alethe_reader.specs.declared.errors.ProofFault.{ProofFault}
+use Rattle.alethe_reader.specs.declared.errors.ProofStop.{ProofStop}
+use Rattle.alethe_reader.specs.declared.errors.ProofStop.TheVariants as stops
 
 -- the fault by its offset
 abbrev pub fault_view : ProofFault → Fault

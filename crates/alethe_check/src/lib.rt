@@ -17,33 +17,13 @@ mod premises;
 mod rules;
 
 use alethe_reader::{CommandError, ProofState};
+pub use alethe_reader::{ProofFault, ProofStop};
 use judge::judge;
 use load::{Script, current_at};
 use smt_lexer::place_at;
 pub use spec_proofs::ProofKind;
 pub use spec_text::Place;
 use std::alloc::Global;
-use thiserror::Error;
-
-/// Why a proof is not accepted, and where: a place of the proof.
-#[derive(Clone, Copy, Debug, PartialEq, Eq)]
-pub struct ProofFault {
-    /// The place in the proof.
-    pub place: Place,
-    /// What is wrong.
-    pub kind: ProofKind,
-}
-
-/// Why a check did not answer that the proof is accepted.
-#[derive(Clone, Copy, Debug, Error, PartialEq, Eq)]
-pub enum ProofStop {
-    /// The first fault of the proof.
-    #[error("{0:?}")]
-    Fault(ProofFault),
-    /// Out of memory, which says nothing of the proof.
-    #[error("out of memory")]
-    Memory,
-}
 
 /// Judges a proof against the `at`-th check of a script, counted from 1.
 ///

@@ -45,7 +45,7 @@ fn reaches_check(
             Err(Refused::Memory) => return Err(NoMemory),
         };
         match stack.command(alloc, table, &sexpr) {
-            Ok(Effect::Check) => {
+            Ok(Effect::Check(_)) => {
                 if left == 1 {
                     return Ok(true);
                 }

@@ -1,16 +1,12 @@
 -- A whole proof, by its commands and what is answered after them.
-use Rattle.std.proofs.Common.{ℕ, List, subst}
-use Rattle.std.specs.Prelude.{Ok, Err}
-use Rattle.alethe_check.proofs.AllCommands.{JudgesText, text_judged, text_stops}
+use Rattle.alethe_check.proofs.Judged.{text_judged, text_stops}
 use Rattle.alethe_check.proofs.judge.judge.Goals as goal
-
-pub returns-in-Ok : goal.returns-in-Ok
-returns-in-Ok c k known =
-    let new = c.judge_commands.new.state in
-    let j = subst (λ (t : List ℕ). JudgesText t k new (Ok c.in-Ok.found)) c.new.ensures (c.in-Ok.ensures.judged k known) in
-    text_judged c.args.text.now k new c.in-Ok.found c.finish.result j (c.finish.ensures j.4.now j.4.known)
 
 pub returns : goal.returns
 returns c k known =
-    let new = c.judge_commands.new.state in
-    text_stops c.args.text.now k new c.in-Err.error (subst (λ (t : List ℕ). JudgesText t k new (Err c.in-Err.error)) c.new.ensures (c.in-Err.ensures.judged k known))
+    let j = c.in_ok-judge_commands.ensures k known in
+    text_judged c.new-reader.result c.args.text.now k c.judge_commands.new.state c.new-reader.ensures.text c.new-reader.ensures.all c.finish.result j (c.finish.ensures j.after.now j.after.known)
+
+pub returns-in_err-judge_commands : goal.returns-in_err-judge_commands
+returns-in_err-judge_commands c k known =
+    text_stops c.new-reader.result c.args.text.now k c.judge_commands.new.state c.new-reader.ensures.text c.new-reader.ensures.all _ c.from_residual.result (c.in_err-judge_commands.ensures k known) c.from_residual.ensures.1

@@ -1,21 +1,34 @@
--- Commands from after the word on, in a list or not.
-use Rattle.std.proofs.Common.{ℕ, List, subst}
-use Rattle.spec_text.specs.Places.{IsPlaceOf}
-use Rattle.smt_sexpr.specs.Limited.{whole_of}
-use Rattle.alethe_check.proofs.AllCommands.{text_listed, text_plain}
+-- One command more, or what ends them, or a fault.
+use Rattle.alethe_check.proofs.Judged.{commands_right, goes_on, going_begins, judging_stops, reading_stops}
 use Rattle.alethe_check.proofs.judge.judge_commands.Goals as goal
 
-pub judge_listed-requires-clause-place : goal.judge_listed-requires-clause-place
-judge_listed-requires-clause-place c = subst (λ (b : List ℕ). IsPlaceOf b c.in-Some.inside) c.bytes-bytes.ensures c.in-Some.ensures.2
+pub commands-init : goal.commands-init
+commands-init c = record {
+  known = c.requires;
+  going = λ k known. going_begins c.args.reader.now k c.args.state.now known;
+}
 
-pub judge_plain-requires-clause-place : goal.judge_plain-requires-clause-place
-judge_plain-requires-clause-place c = subst (λ (b : List ℕ). IsPlaceOf b c.after_unsat-at.result) c.bytes-bytes.ensures c.after_unsat-at.ensures.place
+pub returns-in_err-sexpr : goal.returns-in_err-sexpr
+returns-in_err-sexpr c k known =
+    reading_stops c.args.reader.now k c.commands.state c.commands.reader (c.commands.invariant.going k known) _ c.next.new.self c.commands.state c.from_residual.result c.in_err-sexpr.ensures.next c.from_residual.ensures.1
 
-pub returns-in-Some-clause-judged : goal.returns-in-Some-clause-judged
-returns-in-Some-clause-judged c k known =
-    let h = c.in-Some.ensures in
-    text_listed (whole_of c.args.text) k c.judge_listed.new.state c.judge_listed.result c.bytes-bytes.result.now c.after_unsat-at.result.offset c.in-Some.inside.offset h.1.0 c.bytes-bytes.ensures c.after_unsat-at.ensures.lexemes h.0 h.1.1 (c.judge_listed.ensures.judged h.1.0 k known)
+pub returns-in_err-judge_one : goal.returns-in_err-judge_one
+returns-in_err-judge_one c k known =
+    let read = rw c.in-Some.is at c.in_ok-sexpr.ensures.next in
+    let g = c.commands.invariant.going k known in
+    judging_stops c.args.reader.now k c.commands.state c.commands.reader g c.in-Some.sexpr c.next.new.self read _ c.judge_one.new.state c.from_residual-in_err-judge_one.result (c.in_err-judge_one.ensures.judged g.now g.known) c.from_residual-in_err-judge_one.ensures.1
 
-pub returns-in-None-clause-judged : goal.returns-in-None-clause-judged
-returns-in-None-clause-judged c k known =
-    text_plain (whole_of c.args.text) k c.judge_plain.new.state c.judge_plain.result c.bytes-bytes.result.now c.after_unsat-at.result.offset c.bytes-bytes.ensures c.after_unsat-at.ensures.lexemes c.in-None.ensures (c.judge_plain.ensures.judged k known)
+pub commands-preserved : goal.commands-preserved
+commands-preserved c =
+    let read = rw c.in-Some.is at c.in_ok-sexpr.ensures.next in
+    record {
+      known = c.in_ok-judge_one.ensures.known;
+      going = λ k known.
+          let g = c.commands.invariant.going k known in
+          goes_on c.args.reader.now k c.commands.state c.commands.reader g c.in-Some.sexpr c.next.new.self read _ c.judge_one.new.state c.in_ok-sexpr.ensures.text (c.in_ok-judge_one.ensures.judged g.now g.known);
+    }
+
+pub returns : goal.returns
+returns c k known =
+    let over = rw c.in_default.is at c.in_ok-sexpr.ensures.next in
+    commands_right c.args.reader.now k c.commands.state c.commands.reader (c.commands.invariant.going k known) over.1

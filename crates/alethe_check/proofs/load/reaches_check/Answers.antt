@@ -31,7 +31,7 @@ returns-then-left-eq1 c =
     let r = rw c.in-Ok-Some.field-0-is at c.in-Ok-Some.ensures in
     let l = c.commands.invariant.loading in
     let d = rw c.in-Ok-Check.field-0-is at (c.in-Ok-Check.ensures.steps term_limit l.stack l.stands) in
-    check_here (whole_of c.args.text) _ _ c.commands.place _ l c.in-Ok-Some.read.0 c.in-Ok-Some.read.1 r (standing c.command.new.table c.command.new.self) c.if-left-eq1.true d (c.each_text_is_read.ensures (kept (whole_of c.args.text)) c.in-Ok-Some.read.1.offset 0 (omega arith))
+    check_here (whole_of c.args.text) _ _ c.commands.place _ l c.in-Ok-Some.read.0 c.in-Ok-Some.read.1 r c.in-Ok-Check.field-0-0 (standing c.command.new.table c.command.new.self) c.if-left-eq1.true d (c.each_text_is_read.ensures (kept (whole_of c.args.text)) c.in-Ok-Some.read.1.offset 0 (omega arith))
 
 pub returns-in-Ok-Exit : goal.returns-in-Ok-Exit
 returns-in-Ok-Exit c =
@@ -50,7 +50,7 @@ commands-preserved c =
       loading = elim c.match-command.branch [
         | in-Ok-Check+else-left-eq1 w ↦
             let d = rw w.in-Ok-Check.field-0-is at (w.in-Ok-Check.ensures.steps term_limit l.stack l.stands) in
-            taken_here (whole_of c.args.text) _ _ c.commands.place _ l c.in-Ok-Some.read.0 c.in-Ok-Some.read.1 r effects.Check c.match-command.left new (one_less c.commands.left c.match-command.left w.if-left-eq1.false (w.left-is ∙ w.saturating_sub-left.ensures)) d
+            taken_here (whole_of c.args.text) _ _ c.commands.place _ l c.in-Ok-Some.read.0 c.in-Ok-Some.read.1 r (effects.Check w.in-Ok-Check.field-0-0) c.match-command.left new (one_less w.in-Ok-Check.field-0-0 c.commands.left c.match-command.left w.if-left-eq1.false (w.left-is ∙ w.saturating_sub-left.ensures)) d
         | in-Ok-Done w ↦
             let d = rw w.in-Ok-Done.field-0-is at (w.in-Ok-Done.ensures.steps term_limit l.stack l.stands) in
             taken_here (whole_of c.args.text) _ _ c.commands.place _ l c.in-Ok-Some.read.0 c.in-Ok-Some.read.1 r effects.Done c.match-command.left new (λ s rest. ap (rest s) (sym w.left-is)) d
