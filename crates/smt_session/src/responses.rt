@@ -36,6 +36,8 @@ pub(crate) enum Response<'a> {
     Ended,
     /// It was refused.
     Rejected(Refusal),
+    /// It is a check that is not decided, since the search does not reach what it asks about.
+    Unreached(Refusal),
 }
 
 /// Tells what comes after a command that is answered so.
@@ -47,7 +49,7 @@ pub(crate) fn after_of(response: &Response<'_>) -> After
         Response::Success | Response::Unsupported | Response::Answered(_) | Response::Said(_) =>
             After::Went,
         Response::Ended => After::Ended,
-        Response::Rejected(_) => After::Refused,
+        Response::Rejected(_) | Response::Unreached(_) => After::Refused,
     }
 }
 
@@ -105,7 +107,9 @@ fn write_response<K: Sink>(
         Response::Unsupported => word(Word::Unsupported, out),
         Response::Answered(evidence) => send_check(mode, table, evidence, out),
         Response::Said(text) => send_string(text, out),
-        Response::Rejected(refusal) => error(refusal.place, refusal.fault.name().as_bytes(), out),
+        Response::Rejected(refusal) | Response::Unreached(refusal) => {
+            error(refusal.place, refusal.fault.name().as_bytes(), out)
+        }
     }
 }
 

@@ -8,8 +8,8 @@ use Rattle.spec_text.specs.Readings.{text_limit, front}
 use Rattle.spec_commands.specs.Checks.{HasNoModel, term_limit}
 use Rattle.spec_proofs.specs.Faults.{Fault}
 use Rattle.spec_checking.specs.Accepted.{IsAccepted, IsVerdict}
-use Rattle.alethe_check.specs.declared.ProofStop.{ProofStop}
-use Rattle.alethe_check.specs.declared.ProofStop.TheVariants as stops
+use Rattle.alethe_reader.specs.declared.errors.ProofStop.{ProofStop}
+use Rattle.alethe_reader.specs.declared.errors.ProofStop.TheVariants as stops
 use Rattle.alethe_check.specs.Verdicts.{Answers, fault_view}
 use Rattle.smt_top.specs.Ends.{IsValid}
 use Rattle.smt_top.specs.Calls.{Judges}

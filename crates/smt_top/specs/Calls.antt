@@ -3,7 +3,7 @@ use Rattle.std.specs.Prelude.{◌≡◌, ℕ, List, Option, Some, None, Result, 
 use Rattle.world_io.specs.Writing.{SinkView, HasRoom, NotSent}
 use Rattle.spec_proofs.specs.Faults.{Fault}
 use Rattle.spec_checking.specs.Accepted.{IsVerdict}
-use Rattle.alethe_check.specs.declared.ProofStop.{ProofStop}
+use Rattle.alethe_reader.specs.declared.errors.ProofStop.{ProofStop}
 use Rattle.alethe_check.specs.Verdicts.{Answers}
 use Rattle.smt_session.specs.declared.status.Status.{Status}
 use Rattle.smt_session.specs.declared.status.Status.TheVariants.{Done, Refused, Memory, WriteFault}

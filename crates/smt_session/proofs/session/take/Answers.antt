@@ -1,11 +1,11 @@
 -- By what the command came to.
-use Rattle.std.proofs.Common.{[], refl, sym, ap, ◌∙◌, subst}
+use Rattle.std.proofs.Common.{[], inl, refl, sym, ap, ◌∙◌, subst}
 use Rattle.spec_commands.specs.Stack.{done, unsupported, check, say, leave}
 use Rattle.spec_sessions.specs.Responses.{success, not_supported, answered, said, ended}
 use Rattle.smt_sexpr.specs.Items.{tree_of}
 use Rattle.assertion_stack.specs.Stacks.{Standing, standing}
 use Rattle.check_evidence.specs.Evidence.{limits_meant, checked_on, IsHeld, IsEvidence}
-use Rattle.smt_session.proofs.Taking.{kept_on, taken_as, reached, back, refused_as, refused_keeps}
+use Rattle.smt_session.proofs.Taking.{kept_on, taken_as, unreached_as, back, refused_as, refused_keeps}
 use Rattle.smt_session.proofs.session.take.Goals as goal
 
 pub returns-in-Ok-Done-clause-takes : goal.returns-in-Ok-Done-clause-takes
@@ -49,11 +49,15 @@ check-requires-clause-held c =
     let d = rw c.in-Ok-Check.field-0-is at (c.in-Ok-Check.ensures.steps terms c.requires.0 h.stack) in
     (d.0.stack, record { stack = d.3; kept = kept_on c.commands_keep_stacks.ensures.next c.commands_leave_script_names.ensures.next terms c.requires.0 x d.0 d.1 h.kept })
 
-pub check-requires-clause-reach : goal.check-requires-clause-reach
-check-requires-clause-reach c =
-    let terms = c.args.limits.now.terms in
-    let d = rw c.in-Ok-Check.field-0-is at (c.in-Ok-Check.ensures.steps terms c.requires.0 c.requires.1.stack) in
-    reached terms c.requires.0 (tree_of c.args.command.now) d.0 (standing c.command.new.table c.command.new.self) d.1 d.2 d.3
+pub returns-then-not-are_in_reach-clause-takes : goal.returns-then-not-are_in_reach-clause-takes
+returns-then-not-are_in_reach-clause-takes c = λ s h.
+    let x = c.args.command.now in
+    let l = limits_meant c.args.limits.now in
+    let d = rw c.in-Ok-Check.field-0-is at (c.in-Ok-Check.ensures.steps l.terms s h.stack) in
+    let kept = kept_on c.commands_keep_stacks.ensures.next c.commands_leave_script_names.ensures.next l.terms s x d.0 d.1 h.kept in
+    let far = sym (c.if-not-are_in_reach.ensures.reach l.terms c.command.new.table d.0.stack d.3) in
+    let r = c.unreached_check in
+    unreached_as l s x c.in-Ok-Check.at d.0 (standing c.command.new.table c.command.new.self) c.args.budget.now r.result d.1 d.2 far r.ensures.fault r.ensures.place (r.ensures.offset l.terms s d.0 d.1 d.2) (record { stack = d.3; kept = kept })
 
 pub returns-in-Ok-clause-takes : goal.returns-in-Ok-clause-takes
 returns-in-Ok-clause-takes c = λ s h.
@@ -66,7 +70,7 @@ returns-in-Ok-clause-takes c = λ s h.
     let evidence = subst (λ b. IsEvidence c.check.new.table b c.in-Ok.evidence k.shown.0) (sym k.budget_is) k.shown.2 in
     record {
       a = record { response = answered found; stack = d.0.stack };
-      answers = taken_as l s (tree_of x) (answered found) (check []) d.0 d.1 d.2 (k.shown.0, k.shown.1, refl {a = answered found});
+      answers = taken_as l s (tree_of x) (answered found) (check c.in-Ok-Check.at []) d.0 d.1 d.2 (inl (k.shown.0, k.shown.1, refl {a = answered found}));
       is = (found, evidence, refl {a = answered found});
       asked = refl;
       held = k.held;
