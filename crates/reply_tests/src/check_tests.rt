@@ -1,6 +1,7 @@
 //! What `check` answers: on scripts with several checks, on proofs right and damaged, on a step by each rule, and at its limits.
 
 use crate::check_rows::{CHECKS, DEFINITIONS, PROOFS, RULES};
+use crate::congruence_rows::{CONGRUENCE, CONGRUENCES, UNREACHED};
 use crate::rule_rows::{SCRIPT, STEPS};
 use alethe_check::{ProofStop, check};
 use std::alloc::{AllocError, Global};
@@ -116,5 +117,12 @@ fn proofs_are_answered_as_their_rows_say(rt: HostRuntime) -> Result<(), Fail> {
     for row in DEPTHS.lines() {
         assert!(rt; is_nested_so(rt.alloc(), row)?, "{row}");
     }
+    Ok(())
+}
+
+#[test]
+fn checks_out_of_reach_are_judged(rt: HostRuntime) -> Result<(), Fail> {
+    assert_eq!(rt; first_other(rt.alloc(), UNREACHED, "", REFUTATION)?, None);
+    assert_eq!(rt; first_other(rt.alloc(), CONGRUENCES, CONGRUENCE, "")?, None);
     Ok(())
 }

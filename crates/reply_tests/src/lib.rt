@@ -6,4 +6,6 @@ mod check_rows;
 #[cfg(test)]
 mod check_tests;
 #[cfg(test)]
+mod congruence_rows;
+#[cfg(test)]
 mod rule_rows;

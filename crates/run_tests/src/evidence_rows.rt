@@ -86,7 +86,7 @@ sat
 ====
 1 smt_cli|certify
 ----
-(set-option :print-success false) ; a check that is refused has no model, and the next one has none
+(set-option :print-success false) ; a check that is out of reach has no model, and the next one has none
 (declare-const x Real)
 (check-sat)
 (assert (< 0 x))

@@ -294,7 +294,7 @@ valid
 ====
 1 smt_cli|check|script.smt2|proof.alethe
 ----
-(declare-const x Real)(assert (< x 1))(check-sat) ; no check, before everything
+(declare-const x Real)(assert (< x 1)) ; no check, before everything
 ----
 \"
 
@@ -303,12 +303,22 @@ valid
 ====
 1 smt_cli|check|--at|2|script.smt2|proof.alethe
 ----
-(declare-const p Bool)(assert p)(check-sat true)(check-sat)(assert (= 1 1))(check-sat) ; checks that are refused do not count
+(declare-const p Bool)(assert p)(check-sat true)(check-sat) ; a check that is refused does not count
 ----
 (assume h1 p)
 
 ----
 (error \"1:1: NoSuchCheck\")
+====
+1 smt_cli|check|--at|2|script.smt2|proof.alethe
+----
+(declare-const p Bool)(assert p)(check-sat true)(check-sat)(assert (= 1 1))(check-sat) ; one that the search does not reach does
+----
+(assume h1 p)
+(assume h2 (= 1 1))
+
+----
+(error \"3:1: NoEmptyClause\")
 ====
 1 smt_cli|check|--at|2|script.smt2|proof.alethe
 ----

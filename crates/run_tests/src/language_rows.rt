@@ -343,7 +343,7 @@ unsat
 ====
 1 smt_cli|solve
 ----
-(set-option :print-success false) ; a check that is refused counts for none, and the run goes on
+(set-option :print-success false) ; a check that the search does not reach is not decided, and the run goes on
 (declare-fun f (Real) Bool)
 (declare-const p Bool)
 (assert (=> p (f 1)))
