@@ -8,8 +8,9 @@ there is none), `=` what is written, by `check` where there is a proof and else 
 
 from antt import lines_written
 from judging import predict_check
+from language import read_script
 from proof_rows import LEXICAL, statement
-from script_rows import FAULT
+from script_rows import faults_in
 from sessions import predict_solve
 
 FIRST_LINE = b"(set-option :print-success false)\n"
@@ -45,7 +46,7 @@ def read_rows(path):
 
 def script_row(number, row):
     """Returns the statement of a script's faults, with counts; nothing where it cannot be cut into commands."""
-    faults = FAULT.findall(row.wanted)
+    faults = faults_in(read_script(row.script, row.limit)[0])
     if any(name in LEXICAL for _, _, name in faults):
         return None
     wanted = "".join("(%s, %s, %s) ∷ " % tuple(part.decode() for part in fault) for fault in faults)

@@ -374,9 +374,9 @@ class State:
         """Returns a reader of terms for one command, which may define a name of its own."""
         return Reader(self, own)
 
-    def at_check(self):
-        """Returns what is current now, apart from what later commands state."""
-        return Check(self)
+    def at_check(self, place):
+        """Returns what is current now, at a check by the word at an offset, apart from what later commands state."""
+        return Check(self, place)
 
     def new_function(self, item):
         """Returns a name that no function and no theory has."""
@@ -399,14 +399,20 @@ class State:
 
 
 class Check(State):
-    """What is current at a check in reach, with the names of its declared symbols in their order, and its answer."""
+    """What is current at a check: the offset of its word, its declared symbols in their order, and its answer in reach."""
 
-    def __init__(self, state):
+    def __init__(self, state, place):
         super().__init__(state.limit)
+        self.place = place
         self.terms = state.terms
         self.sorts, self.functions = dict(state.sorts), dict(state.functions)
         self.assertions = list(state.assertions)
         self.order = [name for name, known in self.functions.items() if not isinstance(known, Definition)]
+
+    @property
+    def is_in_reach(self):
+        """Tells whether the search reaches all assertions."""
+        return self.terms.are_in_reach(self.assertions)
 
     @property
     def is_satisfiable(self):
@@ -520,12 +526,10 @@ def assert_term(state, parts, start):
     return "success"
 
 
-def check_sat(state, parts, start):
-    """Performs `check-sat`, where its assertions are in reach."""
+def check_sat(_state, parts, start):
+    """Performs `check-sat`, whether its assertions are in reach or not."""
     if len(parts) != 1:
         raise Fault(start, b"BadShape")
-    if not state.terms.are_in_reach(state.assertions):
-        raise Fault(parts[0][2], b"UnknownLogic")
     return "check"
 
 
@@ -593,7 +597,7 @@ def read_script(text, limit=2**24):
         if answer == "unsupported":
             answers.append(b"unsupported\n")
         elif answer == "check":
-            answers.append(state.at_check())
+            answers.append(state.at_check(item[1][0][2]))
         elif isinstance(answer, bytes):
             answers.append(answer)
         elif state.options[b":print-success"]:

@@ -36,6 +36,11 @@ v{seed} = refl
 """
 
 
+def faults_in(answers):
+    """Returns the line, the column and the name of each fault of a command; a check out of reach has none of its own."""
+    return FAULT.findall(b"".join(answer for answer in answers if isinstance(answer, bytes)))
+
+
 def row_of(seed):
     """Returns the statements of a seed's script, and counts; or nothing where it is too long or shows too little."""
     random.seed(seed)
@@ -44,8 +49,7 @@ def row_of(seed):
     script = faulty.a_script() if random.random() < 0.4 else script
     limit = 100 if is_arithmetic else random.choice([100, 100, 100, 9, 14])
     answers, state = read_script(script, limit)
-    found = FAULT.findall(b"".join(answer for answer in answers if isinstance(answer, bytes)))
-    faults = [(int(line), int(column), name.decode()) for line, column, name in found]
+    faults = [(int(line), int(column), name.decode()) for line, column, name in faults_in(answers)]
     is_usual = {name for _, _, name in faults} <= USUAL
     if len(script) > LONGEST or (is_usual and not is_arithmetic and random.random() < 0.8):
         return None

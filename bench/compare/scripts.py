@@ -212,7 +212,7 @@ def assertion_in_reach(maker, lines):
     """Makes an assertion whose check is in reach, after the lines of a script."""
     while True:
         asserted = b"(assert %s)" % maker.of_sort(b"Bool", random.choice([1, 2, 4]), {})
-        if checks_of(read_script(b"\n".join([*lines, asserted, b"(check-sat)"]))[0]):
+        if checks_of(read_script(b"\n".join([*lines, asserted, b"(check-sat)"]))[0])[-1].is_in_reach:
             return asserted
 
 

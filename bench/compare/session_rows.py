@@ -6,7 +6,7 @@ from antt import listed, lines_written, read, world_written, written
 from language import Check
 from model_rows import definition_text
 from scripts import a_session
-from sessions import answer_word, run_script
+from sessions import answer_line, run_script
 from truths import Tables
 from values import some_tables
 
@@ -55,9 +55,10 @@ def row_of(seed):
     founds, solved, certified = [], b"", b""
     for answer in answers:
         is_check = isinstance(answer, Check)
-        line = answer_word(answer) if is_check else answer
-        found, shown = found_and_shown(answer) if is_check else (None, b"")
-        founds += [found] if is_check else []
+        is_answered = is_check and answer.is_in_reach
+        line = answer_line(script, answer) if is_check else answer
+        found, shown = found_and_shown(answer) if is_answered else (None, b"")
+        founds += [found] if is_answered else []
         solved += line
         certified += line + shown
     given = f"(answers_of limits empty_stack (trees_in o{seed}_script) o{seed}_found)"

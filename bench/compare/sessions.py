@@ -1,7 +1,8 @@
 """Foretells what `solve` writes for a script, and judges what `certify` writes.
 
 It follows docs/FORMATS.md. A check is in reach where its assertions have constants of sort Bool and heads of theory
-Core alone; these are decided by truth tables. Every other check is refused, so what is left is foretold to the byte.
+Core alone; these are decided by truth tables. Every other check is refused, and counted as a check. So what is left is
+foretold to the byte.
 """
 
 from fractions import Fraction
@@ -9,26 +10,32 @@ from fractions import Fraction
 from judging import Judge
 from language import BOOL, REAL, Check, read_script
 from printed_proofs import Wrong, printed, proof_end
-from reading import Fault, printed_name, read_one
+from reading import Fault, error_line, printed_name, read_one
 from values import Values
 
 
-def answer_word(check):
-    """Returns the line that answers a check."""
+def answer_line(text, check):
+    """Returns the line that answers a check of a text."""
+    if not check.is_in_reach:
+        return error_line(text, Fault(check.place, b"UnknownLogic"))
     return b"sat\n" if check.is_satisfiable else b"unsat\n"
+
+
+def is_refusal(answer):
+    """Tells whether an answer is that of a command that is refused, or of a check out of reach."""
+    return not answer.is_in_reach if isinstance(answer, Check) else answer.startswith(b"(error ")
 
 
 def run_script(text, limit=2**24):
     """Returns the answers of a script, each a line or what is current at a check, and the status of the run."""
     answers, _ = read_script(text, limit)
-    refused = any(isinstance(answer, bytes) and answer.startswith(b"(error ") for answer in answers)
-    return answers, int(refused)
+    return answers, int(any(map(is_refusal, answers)))
 
 
 def predict_solve(text, limit=2**24):
     """Returns what `solve` is to print for a script, and its status."""
     answers, status = run_script(text, limit)
-    return b"".join(answer_word(answer) if isinstance(answer, Check) else answer for answer in answers), status
+    return b"".join(answer_line(text, answer) if isinstance(answer, Check) else answer for answer in answers), status
 
 
 def require(holds, what):
@@ -129,12 +136,12 @@ def judge_certify(script, output, status, limit=2**24):
     try:
         for answer in answers:
             is_check = isinstance(answer, Check)
-            line = answer_word(answer) if is_check else answer
+            line = answer_line(script, answer) if is_check else answer
             require(output.startswith(line, at), f"expected {line!r} at {at}, got {output[at : at + 60]!r}")
             at += len(line)
-            if not is_check:
+            number += is_check
+            if not is_check or not answer.is_in_reach:
                 continue
-            number += 1
             start = at
             at = model_end(answer, output, at) if answer.is_satisfiable else proof_end(Judge(answer), output, at)
             if not answer.is_satisfiable:
