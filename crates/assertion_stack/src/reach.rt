@@ -3,7 +3,7 @@
 ghost use Rattle.std.specs.Prelude.{◌≡◌, ◌<◌, [], length, slice_index_or, take, false, OnErr, OnOk};
 ghost use Rattle.spec_commands.specs.Stack.{head_in_reach, is_in_reach};
 ghost use Rattle.term_core.specs.Symbols.{IsSymbol, symbol_at};
-ghost use Rattle.spec_sorts.specs.Terms.{Apply};
+ghost use Rattle.spec_sorts.specs.Terms.{Number, same_sort};
 ghost use Rattle.term_core.specs.Tables.{head_meant, node_term, HasHead, IsIn, NamesBelow};
 ghost use Rattle.assertion_stack.specs.Marks.{AreMarks, Lengthens};
 
@@ -117,7 +117,7 @@ fn is_in_reach(table: &TermTable, node: &Node, marks: &[bool]) -> bool
     true
 }
 
-/// Tells whether the search reaches a head: those of theory Core, and constants of sort Bool.
+/// Tells whether the search reaches a head: those of theory Core, and symbols that do not give a number.
 fn is_head_in_reach(table: &TermTable, head: Head) -> bool
     requires { HasHead table.now head }
     ensures { result ≡ head_in_reach (head_meant table.now head) }
@@ -132,18 +132,15 @@ fn is_head_in_reach(table: &TermTable, head: Head) -> bool
         | Head::Implies
         | Head::Equal
         | Head::Ite => true,
-        Head::Apply(symbol) => is_truth(table, symbol),
+        Head::Apply(symbol) => !gives_a_number(table, symbol),
         _ => false,
     }
 }
 
-/// Tells whether a symbol is a constant of sort Bool.
-fn is_truth(table: &TermTable, symbol: SymbolId) -> bool
+/// Tells whether a symbol gives a number: its sort is Real.
+fn gives_a_number(table: &TermTable, symbol: SymbolId) -> bool
     requires { IsSymbol table.now.symbols symbol }
-    ensures { result ≡ head_in_reach (Apply (symbol_at table.now.symbols symbol)) }
+    ensures { result ≡ same_sort Number (symbol_at table.now.symbols symbol).result }
 {
-    let [] = table.symbols().parameters(symbol) else {
-        return false;
-    };
-    table.symbols().result(symbol) == Sort::Bool
+    table.symbols().result(symbol) == Sort::Real
 }

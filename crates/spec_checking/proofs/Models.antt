@@ -33,7 +33,7 @@ sort_of_it b Number = zero-reduced
 sort_of_it b (Declared n) = refl
 
 -- each declared symbol is what its name is known as
-found : (before ds : Signature) → AreSoundAfter before ds → (f : Symbol) → Contains (symbols_in ds) f → known_as (before ++ ds) f.name ≡ Some (declared f)
+pub found : (before ds : Signature) → AreSoundAfter before ds → (f : Symbol) → Contains (symbols_in ds) f → known_as (before ++ ds) f.name ≡ Some (declared f)
 found before [] h f here = absurd (All-contains (λ x. ⊥) [] f (All-nil (λ x. ⊥)) here)
 found before (of_sort n u ∷ ds) h f here = ap (λ s. known_as s f.name) (sym (append_assoc before (of_sort n u ∷ []) ds)) ∙ found (before ++ of_sort n u ∷ []) ds h.1 f here
 found before (of_function (defined d) ∷ ds) h f here = ap (λ s. known_as s f.name) (sym (append_assoc before (of_function (defined d) ∷ []) ds)) ∙ found (before ++ of_function (defined d) ∷ []) ds h.1 f here

@@ -308,11 +308,11 @@ pub logic_after_check : faults (
 unfolding commands_on_literals faults_after
 logic_after_check = refl
 
--- a check has no fault of its own, even where the search does not reach a function that is asserted
+-- a check has no fault of its own, even where the search does not reach a function that gives a number
 pub reach : faults (
     codes "(set-option :print-success false)" ∷
-    codes "(declare-const p Bool)(declare-fun f (Bool) Bool)(declare-const x Real)(assert p)(check-sat)" ∷
-    codes "(assert (f p))(check-sat)" ∷ []) ≡ []
+    codes "(declare-const p Bool)(declare-fun f (Bool) Real)(declare-const x Real)(assert p)(check-sat)" ∷
+    codes "(assert (< (f p) x))(check-sat)" ∷ []) ≡ []
 unfolding commands_on_literals faults_after
 reach = refl
 

@@ -6,7 +6,7 @@ use Rattle.spec_text.specs.Bytes.{Name, among}
 use Rattle.spec_text.specs.Shapes.{is_symbol, is_reserved}
 use Rattle.spec_text.specs.Answers.{Answer, ◌>>=◌, refused, require}
 use Rattle.spec_text.specs.Trees.{Tree, atom, list, offset_of}
-use Rattle.spec_sorts.specs.Terms.{Sort, Truth, Declared, Head, True, False, Not, And, Or, Xor, Implies, Equal, Ite, Apply, Term, Terms, app, nil, cons, same_sort}
+use Rattle.spec_sorts.specs.Terms.{Truth, Number, Declared, Head, True, False, Not, And, Or, Xor, Implies, Equal, Ite, Apply, Term, Terms, app, nil, cons, same_sort}
 use Rattle.spec_sorts.specs.Signatures.{Definition, Declaration, of_sort, of_function, declared, Signature, definition}
 use Rattle.spec_reading.specs.Names.{script, new_name, is_function, is_sort}
 use Rattle.spec_reading.specs.Sorts.{sort_in, sorts_in}
@@ -168,7 +168,7 @@ option_set at s (Some k) (Some b) = Ok (did (record s { options = with_option k 
 option_set at s (Some k) None = refused at BadShape
 option_set at s None value = Ok (record { effect = unsupported; stack = s })
 
--- a head that the search reaches: theory Core, and Bool constants
+-- a head that the search reaches: theory Core, and symbols that do not give a number
 abbrev pub head_in_reach : Head → Bool
 head_in_reach True = true
 head_in_reach False = true
@@ -179,14 +179,10 @@ head_in_reach Xor = true
 head_in_reach Implies = true
 head_in_reach Equal = true
 head_in_reach Ite = true
-head_in_reach (Apply f) = bare f.parameters && same_sort Truth f.result
-  where
-    bare : List Sort → Bool
-    bare [] = true
-    bare (s ∷ ss) = false
+head_in_reach (Apply f) = if same_sort Number f.result then false else true
 head_in_reach h = false
 
--- the search reaches each head of a term, for now
+-- the search reaches each head of a term
 unfoldable mutual
   -- in a term
   pub is_in_reach : Term → Bool
