@@ -16,3 +16,4 @@ pub mod Holding
 pub mod Over
 pub mod Asked
 pub mod Propagated
+pub mod SearchTerms

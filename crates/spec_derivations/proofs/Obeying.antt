@@ -31,7 +31,7 @@ equal_takes : (ss : List Sort) → head_takes [] Equal ss ≡ true → length ss
 equal_takes (s ∷ t ∷ []) e = refl
 equal_takes _ e = absurd (false≢true e)
 
-ite_takes : (ss : List Sort) → head_takes [] Ite ss ≡ true → length ss ≡ 3
+pub ite_takes : (ss : List Sort) → head_takes [] Ite ss ≡ true → length ss ≡ 3
 ite_takes (Truth ∷ s ∷ t ∷ []) e = refl
 ite_takes _ e = absurd (false≢true e)
 
@@ -61,7 +61,7 @@ is_formula (app h ts) = head_takes [] h (map sort_of (list_of ts)) && all_same T
 counted : (h : Head) (n : ℕ) (ts : Terms) → ((ss : List Sort) → head_takes [] h ss ≡ true → length ss ≡ n) → is_formula (app h ts) ≡ true → length (list_of ts) ≡ n
 counted h n ts takes f = sym (length-map (list_of ts) sort_of) ∙ takes (map sort_of (list_of ts)) (and_parts (head_takes [] h (map sort_of (list_of ts))) (all_same Truth (map sort_of (list_of ts))) f).0
 
-number_differs : Number ≡ Truth → ⊥
+pub number_differs : Number ≡ Truth → ⊥
 number_differs e = false≢true (ap (same_sort Truth) e)
 
 module _ (v : Truths) where

@@ -1,8 +1,9 @@
--- What a search over the whole language may answer: derivations, the clauses that it begins with, learned clauses, the budget that they spend, and models.
+-- What a search over the whole language may answer: derivations, the clauses that it begins with, learned clauses, the budget that they spend, and truths that meet clauses.
 pub mod Quiet
 pub mod Problems
 pub mod Derivations
 pub mod Base
+pub mod Lemmas
 pub mod Learned
 pub mod Spent
 pub mod Models

@@ -1,11 +1,10 @@
 -- Truths that meet clauses, and what they say of terms. Source: Tseitin 1968.
-use Rattle.std.specs.Prelude.{◌≡◌, Bool, true, ◌&&◌, List, [], map, All, Contains}
+use Rattle.std.specs.Prelude.{◌≡◌, Bool, true, ◌&&◌, List, [], map, All}
 use Rattle.std.specs.List.{list_any}
-use Rattle.spec_sorts.specs.Terms.{Symbol, Apply, Truth, Term, Terms, app, list_of, sort_of, same_sort, all_same, head_takes}
+use Rattle.spec_sorts.specs.Terms.{Apply, Truth, Term, app, list_of, sort_of, same_sort, all_same, head_takes}
 use Rattle.spec_sorts.specs.Values.{Value, truth, Interpretation}
-use Rattle.spec_sorts.specs.TermValues.{head_value, value_at}
+use Rattle.spec_sorts.specs.TermValues.{head_value}
 use Rattle.spec_sorts.specs.Literals.{Clause}
-use Rattle.spec_sorts.specs.Subterms.{subterms_of}
 use Rattle.spec_rules.specs.Truths.{Truths, term_true_by}
 use Rattle.spec_commands.specs.Stack.{is_in_reach}
 
@@ -29,7 +28,3 @@ value_by v t = truth (term_true_by v t)
 abbrev pub Obeys : Truths → Term → Type 0
 Obeys v (app (Apply s) ts) = Unit {0}
 Obeys v (app h ts) = (i : Interpretation) → value_by v (app h ts) ≡ head_value i h (map (value_by v) (list_of ts))
-
--- each application of a declared symbol of sort Bool has the value that the truths give it
-abbrev pub Realizes : Interpretation → Truths → List Term → Type 0
-Realizes i v terms = (s : Symbol) (ts : Terms) → Contains (subterms_of terms) (app (Apply s) ts) → s.result ≡ Truth → value_at i [] (app (Apply s) ts) ≡ truth (v (app (Apply s) ts))

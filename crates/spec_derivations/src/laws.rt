@@ -1,21 +1,20 @@
 //! What the definitions imply. Each law is a function whose contract is the law; it computes nothing.
 
 ghost use Rattle.std.specs.Prelude.{◌≡◌, ◌≢◌, ◌<◌, ℕ, true, List, [], ◌∷◌, ◌++◌, length, map, All, Contains};
-ghost use Rattle.spec_sorts.specs.Terms.{True, False, Truth, Symbol, Term, of, constant_term};
-ghost use Rattle.spec_sorts.specs.Values.{Interpretation, Interprets, truth, table_value};
+ghost use Rattle.spec_sorts.specs.Terms.{True, False, Symbol, Term, of};
+ghost use Rattle.spec_sorts.specs.Values.{Interpretation, Interprets, truth};
 ghost use Rattle.spec_sorts.specs.TermValues.{value_at};
 ghost use Rattle.spec_sorts.specs.WellSorted.{IsFormulaOver};
-ghost use Rattle.spec_sorts.specs.Subterms.{subterms_of};
 ghost use Rattle.spec_sorts.specs.Literals.{Clause, Literal, complement, literals_of};
 ghost use Rattle.spec_proofs.specs.Resolution.{IsWithin, Resolves};
 ghost use Rattle.spec_derivations.specs.Quiet.{IsQuiet, IsConsistent, OthersFail};
 ghost use Rattle.spec_rules.specs.Clauses.{term_true, clause_true};
-ghost use Rattle.spec_rules.specs.Truths.{Truths, term_true_by};
+ghost use Rattle.spec_rules.specs.Truths.{Truths};
 ghost use Rattle.spec_derivations.specs.Problems.{Problem, terms_of_problem, subterms_in};
 ghost use Rattle.spec_derivations.specs.Derivations.{Derivation, «assumption», conclusion};
 ghost use Rattle.spec_derivations.specs.Derivations.{inference_at, conclusion_at, IsDerivation, RestsOn};
 ghost use Rattle.spec_derivations.specs.Base.{base_clauses};
-ghost use Rattle.spec_derivations.specs.Models.{Meets, joins_formulas, AreInReach, value_by, Obeys, Realizes};
+ghost use Rattle.spec_derivations.specs.Models.{Meets, joins_formulas, Obeys};
 ghost use Rattle.spec_derivations.specs.Learned.{IsOpenIn, IsNew};
 ghost use Rattle.spec_derivations.specs.Spent.{IsOverAtoms, AreLearned, IsConflictBudgetSpent, IsConflict};
 ghost use Rattle.spec_derivations.specs.Examples.{asserting, eight, not_both, not_both_derived};
@@ -111,40 +110,18 @@ pub fn derivations_are_sound()
 pub fn learned_clauses_are_true()
     ensures { (symbols : List Symbol) (p : Problem) (d : Derivation) (learned : List (List Literal))
         → (i : Interpretation) → AreLearned p d learned → Interprets i symbols
-        → All (λ x. All (IsFormulaOver symbols) (conclusion x)) d → All (λ t. term_true i t ≡ true) (terms_of_problem p) → (c : List Literal) → Contains learned c
+        → All (λ x. All (IsFormulaOver symbols) (conclusion x)) d
+        → All (λ t. term_true i t ≡ true) (terms_of_problem p) → (c : List Literal) → Contains learned c
         → (clause : Clause) × (literals_of clause ≡ c) × (clause_true i clause ≡ true) }
 {
     derivations_are_sound();
 }
 
 /// States what truths that meet the base clauses of a check say of its terms. Each subterm that joins formulas has
-/// the value of its head at its arguments' values. Where the search reaches the terms, let an interpretation give
-/// the applications of declared symbols the truths that these have. Then it gives each subterm its truth. So the
-/// asserted terms are true, and the assumed ones where the truths make them true. Source: Tseitin 1968.
+/// the value of its head at its arguments' values. Source: Tseitin 1968.
 pub fn base_clauses_define_their_terms()
     ensures obey { (p : Problem) (v : Truths) → Meets v (base_clauses p)
         → (t : Term) → Contains (subterms_in p) t → joins_formulas t ≡ true → Obeys v t }
-    ensures values { (symbols : List Symbol) (p : Problem) (v : Truths) (i : Interpretation)
-        → All (IsFormulaOver symbols) (terms_of_problem p) → AreInReach (terms_of_problem p)
-        → Realizes i v (terms_of_problem p) → Meets v (base_clauses p)
-        → (t : Term) → Contains (subterms_in p) t → value_at i [] t ≡ value_by v t }
-    ensures model { (symbols : List Symbol) (p : Problem) (v : Truths) (i : Interpretation)
-        → All (IsFormulaOver symbols) (terms_of_problem p) → AreInReach (terms_of_problem p)
-        → Realizes i v (terms_of_problem p) → Meets v (base_clauses p)
-        → All (λ t. term_true_by v t ≡ true) p.assumed → All (λ t. value_at i [] t ≡ truth true) (terms_of_problem p) }
-{
-    spec_sorts::subterms::subterms_are_least();
-}
-
-/// States what is in reach: terms of which each subterm joins formulas. An interpretation that gives the constants
-/// of sort Bool their truths gives them to all applications of symbols there.
-pub fn terms_in_reach_join_formulas()
-    ensures joins { (symbols : List Symbol) (terms : List Term) → All (IsFormulaOver symbols) terms → AreInReach terms
-        → (t : Term) → Contains (subterms_of terms) t → joins_formulas t ≡ true }
-    ensures realized { (symbols : List Symbol) (terms : List Term) (v : Truths) (i : Interpretation)
-        → All (IsFormulaOver symbols) terms → AreInReach terms
-        → ((f : Symbol) → Contains symbols f → f.parameters ≡ [] → f.result ≡ Truth
-        → table_value i f.name [] ≡ truth (v (constant_term f))) → Realizes i v terms }
 {}
 
 /// States that base clauses are no stronger than the asserted terms. Each is true under an interpretation of the

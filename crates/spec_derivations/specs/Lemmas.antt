@@ -1,0 +1,21 @@
+-- Lemmas of a theory: inferences that rest on each other alone, over terms that a search speaks of. Source: Nieuwenhuis, Oliveras and Tinelli, Solving SAT and SAT modulo theories, JACM 2006; which terms they may be over is own.
+use Rattle.std.specs.Prelude.{ℕ, ◌≤◌, List, [], All, Contains}
+use Rattle.spec_sorts.specs.Terms.{True, False, Equal, Term, of, pair, negated}
+use Rattle.spec_derivations.specs.Derivations.{Inference, «assumption», by_rule}
+
+-- Terms that are made of some, by the truth values, equalities and negations.
+pub data IsMadeOf (ts : List Term) : Term → Type 0 where
+  -- one of these
+  given : (t : Term) → Contains ts t → IsMadeOf ts t
+  -- the truth values
+  is_true : IsMadeOf ts (of True [])
+  is_false : IsMadeOf ts (of False [])
+  -- an equality
+  is_equality : (t u : Term) → IsMadeOf ts t → IsMadeOf ts u → IsMadeOf ts (pair Equal t u)
+  -- a negation
+  is_negation : (t : Term) → IsMadeOf ts t → IsMadeOf ts (negated t)
+
+-- it is no assumption, its premises have numbers from one on, and the terms of its clause are made of these
+abbrev pub IsLemma : List Term → ℕ → Inference → Type 0
+IsLemma ts n («assumption» t) = ⊥
+IsLemma ts n (by_rule r ps arguments c) = All (λ m. n ≤ m) ps × All (IsMadeOf ts) c
