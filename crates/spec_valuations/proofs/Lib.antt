@@ -1,0 +1,12 @@
+-- The lemmas of this crate.
+pub mod SameValues
+pub mod Meeting
+pub mod Interpreting
+pub mod Joint
+pub mod Choices
+pub mod Closures
+pub mod Formulas
+pub mod Speaking
+pub mod Reach
+pub mod Rested
+pub mod Named

@@ -1,0 +1,19 @@
+-- By truths, numbers and classes that fit together: there are no numbers.
+use Rattle.spec_valuations.proofs.Rested.{interpreted, valued, asserted_valued, all_valued}
+use Rattle.spec_valuations.proofs.laws.resting_searches_have_models.Goals as goal
+
+pub returns-clause-interprets : goal.returns-clause-interprets
+returns-clause-interprets c symbols p terms held v class point i rests =
+    interpreted symbols p terms held v class point rests c.subterms_are_least.ensures.there c.subterms_are_least.ensures.closed i
+
+pub returns-clause-values : goal.returns-clause-values
+returns-clause-values c symbols p terms held v class point i rests =
+    valued symbols p terms held v class point rests c.subterms_are_least.ensures.there c.subterms_are_least.ensures.closed i
+
+pub returns-clause-asserted : goal.returns-clause-asserted
+returns-clause-asserted c symbols p terms held v class point i rests =
+    asserted_valued symbols p terms held v class point rests c.subterms_are_least.ensures.there c.subterms_are_least.ensures.closed i
+
+pub returns-clause-all : goal.returns-clause-all
+returns-clause-all c symbols p terms held v class point i rests =
+    all_valued symbols p terms held v class point rests c.subterms_are_least.ensures.there c.subterms_are_least.ensures.closed i

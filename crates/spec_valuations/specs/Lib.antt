@@ -1,0 +1,4 @@
+-- Values of listed terms, the interpretation that they give, values from classes, and where a search rests.
+pub mod Tables
+pub mod Classes
+pub mod Resting

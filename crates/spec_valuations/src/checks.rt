@@ -1,0 +1,29 @@
+//! What a search that rests says of a check of a script. Each law is a function whose contract is the law; it computes
+//! nothing.
+
+ghost use Rattle.std.specs.Prelude.{◌≡◌, ℕ, true, List, All};
+ghost use Rattle.spec_sorts.specs.Terms.{Term};
+ghost use Rattle.spec_sorts.specs.Values.{Interpretation};
+ghost use Rattle.spec_sorts.specs.Signatures.{symbols_in};
+ghost use Rattle.spec_sorts.specs.Literals.{Literal};
+ghost use Rattle.spec_commands.specs.Stack.{signature_of};
+ghost use Rattle.spec_commands.specs.Checks.{Check, IsCurrent, MakesTrue};
+ghost use Rattle.spec_rules.specs.Truths.{Truths, term_true_by};
+ghost use Rattle.spec_derivations.specs.Problems.{problem_of};
+ghost use Rattle.spec_valuations.specs.Resting.{Rests};
+
+use crate::laws::resting_searches_have_models;
+
+/// States that a check has a model where a search of its terms rests that makes true what the check assumes. So where a
+/// search rests, `sat` is right.
+pub fn resting_searches_give_current_checks_models()
+    ensures { (limit : ℕ) (script : List ℕ) (k : ℕ) (c : Check) (earlier terms : List Term) (held : List Literal)
+        (v : Truths) (class : Term → ℕ) → IsCurrent limit script k c
+        → Rests (symbols_in (signature_of c.stack)) (problem_of c earlier) terms held v class
+        → All (λ t. term_true_by v t ≡ true) (problem_of c earlier).assumed
+        → (i : Interpretation) × MakesTrue limit i script k }
+{
+    resting_searches_have_models();
+    spec_checking::laws::satisfied_scripts_have_a_model();
+    spec_commands::assertions_have_their_texts_value();
+}

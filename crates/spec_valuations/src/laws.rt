@@ -1,0 +1,79 @@
+//! What the definitions imply. Each law is a function whose contract is the law; it computes nothing.
+
+ghost use Rattle.std.specs.Prelude.{◌≡◌, ◌≢◌, ◌<◌, ℕ, Bool, true, List, [], length, get_or, All, Contains};
+ghost use Rattle.spec_numbers.specs.Fractions.{Fraction};
+ghost use Rattle.spec_sorts.specs.Terms.{Number, Symbol, Term, sort_of};
+ghost use Rattle.spec_sorts.specs.Values.{Interpretation, Interprets, truth};
+ghost use Rattle.spec_sorts.specs.TermValues.{value_at};
+ghost use Rattle.spec_sorts.specs.Literals.{Literal};
+ghost use Rattle.spec_rules.specs.Truths.{Truths, term_true_by};
+ghost use Rattle.spec_derivations.specs.Problems.{Problem, terms_of_problem};
+ghost use Rattle.spec_derivations.specs.Base.{search_terms};
+ghost use Rattle.spec_derivations.specs.Models.{AreInReach};
+ghost use Rattle.spec_valuations.specs.Tables.{Valuation, IsModelBy, AreListed, IsValuation};
+ghost use Rattle.spec_valuations.specs.Classes.{value_by, class_in};
+ghost use Rattle.spec_valuations.specs.Classes.{AreClasses, TellsNumbers, Chooses, AreJoint, AreDefined};
+ghost use Rattle.spec_valuations.specs.Resting.{Rests};
+
+/// States that under the interpretation that values of listed terms give, each of these terms has its value.
+pub fn values_are_met()
+    ensures { (i : Interpretation) (v : Valuation) (symbols : List Symbol) (terms : List Term)
+        → AreListed symbols terms → IsValuation v terms → IsModelBy i v symbols terms
+        → (t : Term) → Contains terms t → value_at i [] t ≡ v t }
+{}
+
+/// States that the interpretation that values of listed terms give has a table for each symbol.
+pub fn values_interpret()
+    ensures { (i : Interpretation) (v : Valuation) (symbols : List Symbol) (terms : List Term)
+        → AreListed symbols terms → IsValuation v terms → IsModelBy i v symbols terms → Interprets i symbols }
+{}
+
+/// States that truths, numbers and classes that fit together give values that do. Source: Nelson and Oppen 1979.
+pub fn joint_values_are_values()
+    ensures { (truths : Term → Bool) (point : Term → Fraction) (class : Term → ℕ) (symbols : List Symbol)
+        (terms shared : List Term) → AreListed symbols terms → AreJoint truths point class terms shared
+        → IsValuation (value_by truths point class) terms }
+{}
+
+/// States that where the clauses that define choices are met, each choice has the value of its branch.
+pub fn choices_have_their_branches_value()
+    ensures { (truths : Term → Bool) (point : Term → Fraction) (class : Term → ℕ) (terms : List Term)
+        → AreClasses truths class terms → TellsNumbers truths point terms → AreDefined truths terms
+        → Chooses truths (value_by truths point class) terms }
+{}
+
+/// States that a listed term has the class that is given for a place where it stands.
+pub fn listed_terms_have_their_places_class()
+    ensures { (terms : List Term) (classes : List ℕ) (t : Term) → Contains terms t
+        → (k : ℕ) × (k < length terms) × (get_or terms k t ≡ t) × (class_in terms classes t ≡ get_or classes k 0) }
+{}
+
+/// States that where a search over equality and functions rests, its truths and classes give a model. In it each symbol
+/// has its table, each listed term has its value, and each asserted term is true. The assumed terms are true where the
+/// truths make them so. None of the terms is a number, so their points do not matter. Source: Nelson and Oppen 1979.
+pub fn resting_searches_have_models()
+    ensures interprets { (symbols : List Symbol) (p : Problem) (terms : List Term) (held : List Literal) (v : Truths)
+        (class : Term → ℕ) (point : Term → Fraction) (i : Interpretation) → Rests symbols p terms held v class
+        → IsModelBy i (value_by (term_true_by v) point class) symbols terms → Interprets i symbols }
+    ensures values { (symbols : List Symbol) (p : Problem) (terms : List Term) (held : List Literal) (v : Truths)
+        (class : Term → ℕ) (point : Term → Fraction) (i : Interpretation) → Rests symbols p terms held v class
+        → IsModelBy i (value_by (term_true_by v) point class) symbols terms
+        → (t : Term) → Contains terms t → value_at i [] t ≡ value_by (term_true_by v) point class t }
+    ensures asserted { (symbols : List Symbol) (p : Problem) (terms : List Term) (held : List Literal) (v : Truths)
+        (class : Term → ℕ) (point : Term → Fraction) (i : Interpretation) → Rests symbols p terms held v class
+        → IsModelBy i (value_by (term_true_by v) point class) symbols terms
+        → All (λ t. value_at i [] t ≡ truth true) p.asserted }
+    ensures all { (symbols : List Symbol) (p : Problem) (terms : List Term) (held : List Literal) (v : Truths)
+        (class : Term → ℕ) (point : Term → Fraction) (i : Interpretation) → Rests symbols p terms held v class
+        → IsModelBy i (value_by (term_true_by v) point class) symbols terms
+        → All (λ t. term_true_by v t ≡ true) p.assumed
+        → All (λ t. value_at i [] t ≡ truth true) (terms_of_problem p) }
+{
+    spec_sorts::subterms::subterms_are_least();
+}
+
+/// States that where the search reaches the terms of a check, none of those that it speaks of is a number.
+pub fn terms_in_reach_have_no_numbers()
+    ensures { (p : Problem) → AreInReach (terms_of_problem p)
+        → (t : Term) → Contains (search_terms p) t → sort_of t ≢ Number }
+{}
