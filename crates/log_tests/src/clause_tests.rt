@@ -1,4 +1,5 @@
-//! The clauses that a search begins with: those of each head, of shared subterms, and of several terms.
+//! The clauses that a search begins with, and the terms of which it speaks: those of each head, of shared subterms, of
+//! several terms, and of choices between terms of another sort than Bool.
 
 ghost use Rattle.proof_log.specs.Logs.{IsLogOf};
 ghost use Rattle.log_tests.specs.Tables.{AreFree};
@@ -12,15 +13,20 @@ use std::test::Fail;
 use term_core::{Head, TermTable};
 use world_io::NoMemory;
 
-/// The letters of the terms of the table, in their order. A negation is printed as a hyphen before what it negates.
-const LETTERS: &[u8] = b"abctf-&|x>=ieosn";
+/// The letters of the terms of the table, in their order. A negation is printed as a hyphen before what it negates, and
+/// what is not among them as a question mark.
+const LETTERS: &[u8] = b"tf1p2qabc-&|x>=ieosnuvjyzgk";
 
-/// Each term by its letter, its head and its arguments.
-const TERMS: &str = "a const a
+/// Each term by its letter, its head and its arguments. The first six are those of which each search speaks.
+const TERMS: &str = "t true
+f false
+1 not t
+p = 1f
+2 not f
+q = 2t
+a const a
 b const b
 c const c
-t true
-f false
 - not a
 & and ab
 | or ab
@@ -31,28 +37,44 @@ i ite abc
 e and a
 o or b
 s and ||
-n not -";
+n not -
+u real u
+v real v
+j ite auv
+y = ju
+z = jv
+g ite buv
+k = gv";
 
-/// Terms by their letters, and the clauses of all of them together, with a space between them: an assumed one ends with a colon.
-const CLAUSES: &str = " 
-a a:
-t t:t;
-f f:-f;
-& &:-&a;-&b;&-a-b;
-| |:-|ab;|-a;|-b;
-x x:-xab;-x-a-b;xa-b;x-ab;
-> >:->-ab;>a;>-b;
-= =:-=a-b;-=-ab;=-a-b;=ab;
-i i:-iac;-i-ab;ia-c;i-a-b;
-- -a:
-n --a:---aa;
-e e:-ea;e-a;
-o o:-ob;o-b;
-s s:-|ab;|-a;|-b;-s|;-s|;s-|-|;
-ab a:b:
-|& |:&:-&a;-&b;&-a-b;-|ab;|-a;|-b;
-s| s:|:-|ab;|-a;|-b;-s|;-s|;s-|-|;
-az ?";
+/// The clauses of the first six terms, each ending with a semicolon.
+const FIRST_CLAUSES: &str = "t;-f;-p-t-f;-p--tf;p--t-f;p-tf;-q-f-t;-q--ft;q--f-t;q-ft;";
+
+/// The first six terms.
+const FIRST_TERMS: &str = "tf-tp-fq";
+
+/// Terms by their letters, and, with a space between each of these: their clauses, which end with a colon; the clauses
+/// after those of the first six terms; and the terms after these, in ascending order.
+const CLAUSES: &str = "
+a a:  a
+t t:
+f f:
+& &: -&a;-&b;&-a-b; ab&
+| |: -|ab;|-a;|-b; ab|
+x x: -xab;-x-a-b;xa-b;x-ab; abx
+> >: ->-ab;>a;>-b; ab>
+= =: -=a-b;-=-ab;=-a-b;=ab; ab=
+i i: -iac;-i-ab;ia-c;i-a-b; abci
+- -a:  a-a
+n --a: ---aa; a-a--a
+e e: -ea;e-a; ae
+o o: -ob;o-b; bo
+s s: -|ab;|-a;|-b;-s|;-s|;s-|-|; ab|s
+ab a:b:  ab
+|& |:&: -&a;-&b;&-a-b;-|ab;|-a;|-b; ab&|
+s| s:|: -|ab;|-a;|-b;-s|;-s|;s-|-|; ab|s
+y y: -ay;az; auvjyz
+k k: -b?;bk; buvgk?
+yk y:k: -ay;az;-b?;bk; abuvjyzgk?";
 
 /// Gives what a negation negates.
 fn negated(table: &TermTable, id: TermId) -> Option<TermId> {
@@ -103,7 +125,16 @@ fn print_clauses(
     Ok(())
 }
 
-/// Prints the clauses of terms, or a mark where they are no formulas of the table.
+/// Puts terms after a text.
+fn print_terms(text: &mut Vec<u8>, table: &TermTable, ids: &[TermId]) -> Result<(), NoMemory> {
+    for id in ids {
+        print_term(text, table, *id)?;
+    }
+    Ok(())
+}
+
+/// Prints the clauses of terms, and after a space the terms of which a search of them speaks; nothing where they are no
+/// formulas of the table.
 fn print(
     alloc: Global,
     table: &mut TermTable,
@@ -115,11 +146,12 @@ fn print(
     requires log { IsLogOf table.old log.old }
 {
     if !are_formulas_in(table, roots) {
-        text.push(b'?')?;
         return Ok(());
     }
-    let list = clauses_of_all(alloc, table, log, roots)?;
-    print_clauses(text, table, log, &list)
+    let stated = clauses_of_all(alloc, table, log, roots)?;
+    print_clauses(text, table, log, &stated.steps)?;
+    text.push(b' ')?;
+    print_terms(text, table, &stated.terms)
 }
 
 /// Prints the clauses of terms in a new log.
@@ -143,18 +175,33 @@ fn print_anew(alloc: Global, letters: &str, text: &mut Vec<u8>) -> Result<(), No
     print_in_log(alloc, &mut table, &roots, text)
 }
 
-/// Tells whether the terms of letters have these clauses.
-fn have_clauses(alloc: Global, letters: &str, clauses: &str) -> Result<bool, NoMemory> {
-    let mut text = Vec::new(alloc);
-    print_anew(alloc, letters, &mut text)?;
-    Ok(text.as_slice() == clauses.as_bytes())
+/// Puts what is to be printed for a row, without the letters, after a text.
+fn print_row(text: &mut Vec<u8>, said: &str) -> Result<(), NoMemory> {
+    let (units, rest) = said.split_once(' ').unwrap_or((said, ""));
+    let (clauses, terms) = rest.split_once(' ').unwrap_or((rest, ""));
+    text.extend_from_slice(units.as_bytes())?;
+    text.extend_from_slice(FIRST_CLAUSES.as_bytes())?;
+    text.extend_from_slice(clauses.as_bytes())?;
+    text.push(b' ')?;
+    text.extend_from_slice(FIRST_TERMS.as_bytes())?;
+    text.extend_from_slice(terms.as_bytes())?;
+    Ok(())
 }
 
-/// Gives the first row whose terms have other clauses, if there is one.
+/// Tells whether the terms of letters have the clauses and terms of a row.
+fn have_clauses(alloc: Global, letters: &str, said: &str) -> Result<bool, NoMemory> {
+    let mut text = Vec::new(alloc);
+    print_anew(alloc, letters, &mut text)?;
+    let mut wanted = Vec::new(alloc);
+    print_row(&mut wanted, said)?;
+    Ok(text.as_slice() == wanted.as_slice())
+}
+
+/// Gives the first row whose terms have other clauses, or speak of others, if there is one.
 fn first_other(alloc: Global, rows: &str) -> Result<Option<&str>, NoMemory> {
     for row in rows.lines() {
-        let (letters, clauses) = row.split_once(' ').unwrap_or(("", row));
-        if !have_clauses(alloc, letters, clauses)? {
+        let (letters, said) = row.split_once(' ').unwrap_or(("", row));
+        if !have_clauses(alloc, letters, said)? {
             return Ok(Some(row));
         }
     }

@@ -1,6 +1,7 @@
 //! Tables of terms without parameters, which rows mean by letters.
 
 ghost use Rattle.std.specs.Prelude.{◌≡◌, true, IfOk};
+ghost use Rattle.term_core.specs.Symbols.{HasSortIn};
 ghost use Rattle.proof_log.specs.Logs.{AreFormulasIn};
 ghost use Rattle.log_tests.specs.Tables.{AreFree};
 
@@ -41,15 +42,21 @@ fn put(
     Ok(())
 }
 
-/// Puts a constant of sort Bool, if its name is new.
-fn put_constant(alloc: Global, table: &mut TermTable, name: &[u8]) -> Result<(), NoMemory>
-    requires { AreFree table.old }
+/// Puts a constant of sort Bool or Real, if its name is new.
+fn put_constant(
+    alloc: Global,
+    table: &mut TermTable,
+    name: &[u8],
+    sort: Sort,
+) -> Result<(), NoMemory>
+    requires sort { HasSortIn table.old.sorts sort }
+    requires free { AreFree table.old }
     ensures { AreFree table.new }
 {
     if table.symbols().find(name) != None {
         return Ok(());
     }
-    let symbol = table.declare(name, &[], Sort::Bool)?;
+    let symbol = table.declare(name, &[], sort)?;
     put(alloc, table, Head::Apply(symbol), &[])
 }
 
@@ -99,7 +106,10 @@ fn put_row(alloc: Global, table: &mut TermTable, letters: &[u8], row: &str) -> R
     let (_, said) = row.split_once(' ').unwrap_or(("", ""));
     let (word, names) = said.split_once(' ').unwrap_or((said, ""));
     if word == "const" {
-        return put_constant(alloc, table, names.as_bytes());
+        return put_constant(alloc, table, names.as_bytes(), Sort::Bool);
+    }
+    if word == "real" {
+        return put_constant(alloc, table, names.as_bytes(), Sort::Real);
     }
     let Some(head) = head_of(word) else {
         return Ok(());

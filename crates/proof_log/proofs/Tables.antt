@@ -1,11 +1,13 @@
 -- Logs over tables that have the same terms by the numbers that the logs name.
-use Rattle.std.proofs.Common.{◌≡◌, ℕ, suc, ◌<◌, List, [], ◌∷◌, length, take, get_or, All, Contains, refl, sym, ap, ◌∙◌, subst, arith, length-append, length-take}
+use Rattle.std.proofs.Common.{◌≡◌, ℕ, suc, ◌<◌, List, [], ◌∷◌, ◌++◌, length, take, get_or, All, Contains, refl, sym, ap, ◌∙◌, subst, arith, length-append, length-take}
 use Rattle.std.proofs.lemmas.List.{get_or_append_left, get_or-take}
-use Rattle.std.proofs.lemmas.List.Elements.{Contains-append_left}
-use Rattle.spec_sorts.specs.Terms.{Symbol, no_term}
+use Rattle.std.proofs.Math.Seq.{drop-append_seam}
+use Rattle.std.proofs.lemmas.List.Elements.{All-drop, Contains-append_left}
+use Rattle.spec_sorts.specs.Terms.{Symbol, Term, no_term}
 use Rattle.spec_sorts.specs.WellSorted.{IsFormulaOver}
 use Rattle.spec_sorts.proofs.WellSorted.{sorted_over}
 use Rattle.spec_derivations.specs.Derivations.{Derivation, «assumption», by_rule, IsDerivation}
+use Rattle.spec_derivations.specs.Lemmas.{IsLemma}
 use Rattle.term_core.specs.declared.ids.TermId.{TermId}
 use Rattle.term_core.specs.Tables.{TableView, term_at, IsIn, clause_at, Extends}
 use Rattle.rule_bool.specs.Arguments.{texts_of}
@@ -80,3 +82,11 @@ module _ (t u : TableView) where
 
   pub cut_same : (n : ℕ) (log : List Logged) → IsLogOf t log → u.terms ≡ take n t.terms → u.symbols ≡ t.symbols → AreBelow n log → derivation_in u log ≡ derivation_in t log
   cut_same n log h front same below = derivation_kept log (cut n log h front below)
+
+  -- lemmas stay lemmas
+  pub grown_lemmas : (ts : List Term) (n : ℕ) (before more : List Logged) → IsLogOf t (before ++ more) → Extends t u → All (λ l. IsLemma ts n (inference_of t l)) more → All (λ l. IsLemma ts n (inference_of u l)) more
+  unfolding IsKept
+  grown_lemmas ts n before more h extends lemmas =
+      let kept : All (λ l. All IsKept (named l)) more =
+      subst (All (λ l. All IsKept (named l))) (drop-append_seam before more) (All-drop (λ l. All IsKept (named l)) (length before) (before ++ more) (grown (before ++ more) h extends)) in
+      λ k d lt. subst (IsLemma ts n) (sym (inference_kept (get_or more k d) (kept k d lt))) (lemmas k d lt)

@@ -3,13 +3,15 @@ use Rattle.std.specs.Prelude.{◌≡◌, ℕ, zero, suc, ◌-◌, List, [], ◌�
 use Rattle.spec_sorts.specs.Terms.{Term}
 use Rattle.spec_sorts.specs.Literals.{Literal, literal_of}
 use Rattle.spec_sorts.specs.WellSorted.{IsWellSorted}
+use Rattle.spec_sorts.specs.Subsets.{IsClosed}
+use Rattle.spec_derivations.specs.Lemmas.{IsLemma}
 use Rattle.term_core.specs.declared.ids.TermId.{TermId}
 use Rattle.term_core.specs.declared.ids.Lit.{Lit}
 use Rattle.term_core.specs.Tables.{TableView, term_at, IsIn, clause_at, literal_at, positive_literal, declared_in, Extends}
 use Rattle.sat_budget.specs.declared.limits.Stop.{Stop}
 use Rattle.proof_log.specs.declared.theory.Verdict.{Verdict}
 use Rattle.proof_log.specs.declared.theory.Verdict.TheVariants.{Fine, Clash}
-use Rattle.proof_log.specs.Logs.{Logged, IsFormulaIn, IsLogOf}
+use Rattle.proof_log.specs.Logs.{Logged, inference_of, IsFormulaIn, IsLogOf}
 use Rattle.proof_log.specs.Clashes.{IsClash}
 
 -- How many literals and terms a theory had at a mark.
@@ -67,13 +69,6 @@ IsTermIn t id = IsIn t id × IsWellSorted t.symbols [] (term_at t id)
 abbrev pub IsAtomIn : TableView → TermId → Type 0
 IsAtomIn t id = IsFormulaIn t id × (literal_of (term_at t id) ≡ positive_literal (term_at t id))
 
--- What a theory watches are terms over the table's symbols, and what it holds are literals of atoms.
-pub record IsOver (t : TableView) (v : TheoryView) : Type 0 where
-  -- the watched terms
-  pub terms : All (IsTermIn t) v.watched
-  -- the terms of the held literals
-  pub atoms : All (λ (l : Lit). IsAtomIn t l.term) v.held
-
 -- the watched terms
 abbrev pub terms_watched : TableView → TheoryView → List Term
 terms_watched t v = clause_at t v.watched
@@ -82,6 +77,15 @@ terms_watched t v = clause_at t v.watched
 abbrev pub literals_held : TableView → TheoryView → List Literal
 literals_held t v = map (literal_at t) v.held
 
+-- What a theory watches are terms over the table's symbols, with each its arguments, and what it holds are literals of atoms.
+pub record IsOver (t : TableView) (v : TheoryView) : Type 0 where
+  -- the watched terms
+  pub terms : All (IsTermIn t) v.watched
+  -- the arguments of a watched term are watched
+  pub closed : IsClosed (terms_watched t v)
+  -- the terms of the held literals
+  pub atoms : All (λ (l : Lit). IsAtomIn t l.term) v.held
+
 -- A table with a log of its formulas.
 pub record Derived : Type 0 where
   -- the table
@@ -89,8 +93,8 @@ pub record Derived : Type 0 where
   -- the log
   pub log : List Logged
 
--- Terms and steps came, and each step is right.
-pub record Derives (old new : Derived) : Type 0 where
+-- Terms and steps came, and each step is right. They are lemmas: they rest on each other alone, and speak of terms made of these.
+pub record Derives (ts : List Term) (old new : Derived) : Type 0 where
   -- the table has all that it had
   pub table : Extends old.table new.table
   -- no sort and no symbol came
@@ -101,10 +105,12 @@ pub record Derives (old new : Derived) : Type 0 where
   pub log : new.log ≡ old.log ++ more
   -- the log is right over the table
   pub right : IsLogOf new.table new.log
+  -- what came are lemmas
+  pub lemmas : All (λ l. IsLemma ts (length old.log) (inference_of new.table l)) more
 
--- what a check answers of literals: that nothing is wrong with them, with what it changes; or a step whose clause is false
--- under them, and that something is; where it is stopped nothing is changed
-abbrev pub Checks : Type 0 → Type 0 → List Lit → Derived → Result Verdict Stop → Derived → Type 0
-Checks agrees refuses held old (Ok Fine) new = agrees × Derives old new
-Checks agrees refuses held old (Ok (Clash step)) new = refuses × Derives old new × IsClash new.table new.log held step
-Checks agrees refuses held old (Err stop) new = new ≡ old
+-- what a check answers of what is held and watched: that nothing is wrong with the literals, with what it changes; or a step whose
+-- clause is false under them, and that something is; where it is stopped nothing is changed
+abbrev pub Checks : Type 0 → Type 0 → TheoryView → Derived → Result Verdict Stop → Derived → Type 0
+Checks agrees refuses v old (Ok Fine) new = agrees × Derives (terms_watched old.table v) old new
+Checks agrees refuses v old (Ok (Clash step)) new = refuses × Derives (terms_watched old.table v) old new × IsClash new.table new.log v.held step
+Checks agrees refuses v old (Err stop) new = new ≡ old

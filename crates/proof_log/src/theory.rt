@@ -61,8 +61,11 @@ pub trait Theory {
 
     /// Checks whether something is wrong with the literals that it holds.
     ///
-    /// It may put terms into the table and steps into the log. `Clash` names one of these, whose clause is false under the held
-    /// literals. `Memory` comes where memory ran out; then table and log are as they were. It spends nothing of the budget yet.
+    /// It may put terms into the table and steps into the log. These steps rest on each other alone, and their clauses are of terms
+    /// made of the watched ones. `Clash` names one of them, whose clause is false under the held literals. `Memory` comes where
+    /// memory ran out; then table and log are as they were. It spends nothing of the budget yet.
+    ///
+    /// Conditions: with each watched term its arguments are watched.
     fn check(
         &mut self,
         table: &mut TermTable,
@@ -77,7 +80,7 @@ pub trait Theory {
         ensures budget { budget.new ≡ budget.old }
         ensures checks { Checks (agrees self.new (terms_watched table.old (view self.old)) (literals_held table.old (view self.old)))
             (refuses self.old (terms_watched table.old (view self.old)) (literals_held table.old (view self.old)))
-            (view self.old).held (record { table = table.old; log = log.old }) result
+            (view self.old) (record { table = table.old; log = log.old }) result
             (record { table = table.new; log = log.new }) };
 
     /// Marks what it holds and watches.
