@@ -13,6 +13,7 @@ use Rattle.spec_equality.specs.Reasons.{equal as equal_terms, denied as term_den
 use Rattle.spec_proofs.specs.declared.Rule.TheVariants as rules
 use Rattle.spec_proofs.specs.Resolution.{Derives as Propagates}
 use Rattle.spec_rules.specs.Rules.{IsRight}
+use Rattle.spec_derivations.specs.Lemmas.{is_equality}
 use Rattle.term_core.specs.declared.ids.TermId.{TermId}
 use Rattle.term_core.specs.Tables.{TableView, term_at, IsIn}
 use Rattle.term_core.proofs.TermsExtend.{term_at-kept}
@@ -24,12 +25,12 @@ use Rattle.explain_forest.proofs.Linking.{older-linked, length-older}
 use Rattle.explain_forest.proofs.Leading.{path-leads, path-along}
 use Rattle.explain_forest.proofs.Paths.{path-none}
 use Rattle.congruence_relation.specs.declared.Truths.{Truths}
-use Rattle.congruence_relation.specs.Relation.{Facts}
+use Rattle.congruence_relation.specs.Relation.{Facts, terms_listed}
 use Rattle.congruence_explain.specs.declared.claims.Claim.{Claim}
 use Rattle.congruence_explain.specs.declared.claims.Claim.TheVariants.{Equality}
 use Rattle.congruence_explain.specs.declared.claims.Said.{Said}
 use Rattle.congruence_explain.specs.Rules.{path_rule}
-use Rattle.congruence_explain.specs.Claims.{term_claimed, term_said, literal_said, literal_claimed, IsClaimIn, equal, says, edge_says, IsOneEquality, denied_step}
+use Rattle.congruence_explain.specs.Claims.{term_claimed, term_said, literal_said, literal_claimed, IsClaimIn, IsClaimOf, equal, says, edge_says, IsOneEquality, denied_step}
 use Rattle.congruence_explain.specs.Basis.{IsBasis, AreLinkedIn}
 use Rattle.congruence_explain.specs.Steps.{Setting, Notes, IsNeeded, Shows, Grows, marked, edges_on, TellsPair}
 use Rattle.congruence_explain.proofs.Terms.{claim_same}
@@ -75,22 +76,22 @@ module _ (t : TableView) (ts : Truths) (v : ForestState) (f : Facts) (b : IsBasi
       turned (inr p) = inl p
 
   -- the equality of linked terms can be put
-  pub linked_in : (x y : TermId) → AreLinkedIn t v x y → IsClaimIn t (Equality x y)
-  linked_in x y h = (h.one, h.other, linked_sorts t ts v f b x.0 y.0 h.linked)
+  pub linked_in : (x y : TermId) → AreLinkedIn (terms_listed t f) t v x y → IsClaimOf (terms_listed t f) t (Equality x y)
+  linked_in x y h = ((h.one, h.other, linked_sorts t ts v f b x.0 y.0 h.linked), is_equality (term_at t x) (term_at t y) h.one_made h.other_made)
 
   -- what a path denies can be put
-  pub steps_in : (x y : TermId) → All (λ s. IsClaimIn t s.claim) (map (denied_step ts) (path v.edges x.0 y.0))
-  steps_in x y = All-map (λ (s : Said). IsClaimIn t s.claim) (denied_step ts) (path v.edges x.0 y.0) (λ k d lt. step_in (get_or (path v.edges x.0 y.0) k d) (path-along v.edges x.0 y.0 k d lt))
+  pub steps_in : (x y : TermId) → All (λ s. IsClaimOf (terms_listed t f) t s.claim) (map (denied_step ts) (path v.edges x.0 y.0))
+  steps_in x y = All-map (λ (s : Said). IsClaimOf (terms_listed t f) t s.claim) (denied_step ts) (path v.edges x.0 y.0) (λ k d lt. step_in (get_or (path v.edges x.0 y.0) k d) (path-along v.edges x.0 y.0 k d lt))
     where
-      step_in : (s : Step) → IsAlong v.edges s → IsClaimIn t (says ts s.label s.from s.to)
-      step_in s along = subst (IsClaimIn t) (sym (step_says ts v.edges s along)) (edge_in t ts v f b s.edge along.0)
+      step_in : (s : Step) → IsAlong v.edges s → IsClaimOf (terms_listed t f) t (says ts s.label s.from s.to)
+      step_in s along = subst (IsClaimOf (terms_listed t f) t) (sym (step_says ts v.edges s along)) (edge_in t ts v f b s.edge along.0)
 
   -- and so can its clause
-  pub path_in : (x y : TermId) → AreLinkedIn t v x y → All (λ s. IsClaimIn t s.claim) (path_clause ts (path v.edges x.0 y.0) x y)
-  path_in x y h = All-push (λ (s : Said). IsClaimIn t s.claim) (map (denied_step ts) (path v.edges x.0 y.0)) (equal x y) (steps_in x y) (linked_in x y h)
+  pub path_in : (x y : TermId) → AreLinkedIn (terms_listed t f) t v x y → All (λ s. IsClaimOf (terms_listed t f) t s.claim) (path_clause ts (path v.edges x.0 y.0) x y)
+  path_in x y h = All-push (λ (s : Said). IsClaimOf (terms_listed t f) t s.claim) (map (denied_step ts) (path v.edges x.0 y.0)) (equal x y) (steps_in x y) (linked_in x y h)
 
   -- which is right
-  pub path_right : (x y : TermId) → AreLinkedIn t v x y → IsRight (path_rule x y) [] none (map (term_said t) (path_clause ts (path v.edges x.0 y.0) x y))
+  pub path_right : (x y : TermId) → AreLinkedIn (terms_listed t f) t v x y → IsRight (path_rule x y) [] none (map (term_said t) (path_clause ts (path v.edges x.0 y.0) x y))
   path_right x y h = go (cases_eq x.0 y.0)
     where
       steps : List Step

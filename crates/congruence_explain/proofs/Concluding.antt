@@ -4,7 +4,7 @@ use Rattle.std.specs.Prelude.{All, Contains, Result, Ok, Err, IfOk}
 use Rattle.std.proofs.Math.Seq.{drop-cons}
 use Rattle.std.proofs.lemmas.Bool.{cases_eq}
 use Rattle.std.proofs.lemmas.List.{map-append, drop-map, drop_all}
-use Rattle.std.proofs.lemmas.List.Elements.{All-push, All-weaker, All-contains, All-head, All-tail, Contains-append_right, Contains-push}
+use Rattle.std.proofs.lemmas.List.Elements.{All-nil, All-push, All-weaker, All-contains, All-head, All-tail, Contains-append_right, Contains-push}
 use Rattle.spec_text.specs.Trees.{none}
 use Rattle.spec_text.proofs.Members.{first, later, only, cases, to_image, from_image, none as none_in}
 use Rattle.spec_sorts.specs.Terms.{True, False, Term, of}
@@ -14,6 +14,7 @@ use Rattle.spec_proofs.specs.declared.Rule.TheVariants.{Resolution}
 use Rattle.spec_proofs.specs.Resolution.{Derives as Propagates, given, Conflicts, both_ways}
 use Rattle.spec_rules.specs.Clauses.{IsResolvent}
 use Rattle.spec_derivations.specs.Derivations.{by_rule, FollowsFrom}
+use Rattle.spec_derivations.specs.Lemmas.{IsLemma}
 use Rattle.world_io.specs.declared.bytes.NoMemory.{NoMemory}
 use Rattle.term_core.specs.declared.ids.TermId.{TermId}
 use Rattle.term_core.specs.declared.ids.Lit.{Lit}
@@ -31,26 +32,33 @@ use Rattle.explain_forest.proofs.Leading.{path-leads, path-along}
 use Rattle.congruence_relation.specs.declared.Truths.{Truths}
 use Rattle.congruence_relation.specs.declared.Conflict.{Conflict}
 use Rattle.congruence_relation.specs.declared.Conflict.TheVariants as conflicts
-use Rattle.congruence_relation.specs.Relation.{Application, Facts}
+use Rattle.congruence_relation.specs.Relation.{Application, Facts, terms_listed}
 use Rattle.congruence_relation.specs.Edges.{IsReason, IsConflict}
 use Rattle.congruence_relation.proofs.Agree.{equality_term}
 use Rattle.proof_log.specs.declared.premises.StepId.{StepId}
-use Rattle.proof_log.specs.Logs.{Logged, logged_at, no_logged, clauses_in, numbers_of, derivation_in, IsLogOf}
+use Rattle.proof_log.specs.Logs.{Logged, logged_at, no_logged, clauses_in, numbers_of, inference_of, derivation_in, IsLogOf}
 use Rattle.proof_log.specs.Clashes.{HasLit, IsClash}
 use Rattle.proof_log.specs.Theories.{Derived, Derives}
 use Rattle.proof_log.proofs.Logged.{numbers_there, premises_there}
 use Rattle.congruence_explain.specs.declared.claims.Claim.TheVariants.{Equality}
 use Rattle.congruence_explain.specs.declared.claims.Said.{Said}
-use Rattle.congruence_explain.specs.Claims.{no_term_id, term_said, literal_said, literal_claimed, IsClaimIn, unequal, said_value}
+use Rattle.congruence_explain.specs.Claims.{no_term_id, term_said, literal_said, literal_claimed, IsClaimOf, unequal, said_value}
 use Rattle.congruence_explain.specs.Basis.{IsBasis, AreLinkedIn, IsEqualityIn, HasLinkedSides}
-use Rattle.congruence_explain.specs.Steps.{derived, literals_logged, steps_since, Setting, setting, HasPut, all_denied, apart, IsDenial, IsCollected, IsExplained, others_of, AreNumbersFrom}
-use Rattle.congruence_explain.proofs.Terms.{literals_put}
+use Rattle.congruence_explain.specs.Steps.{Start, derived, begun, spoken, Explains, literals_logged, steps_since, Setting, setting, HasPut, all_denied, apart, IsDenial, IsCollected, IsExplained, others_of, AreNumbersFrom}
+use Rattle.congruence_explain.proofs.Terms.{claims_in, literals_put}
 use Rattle.congruence_explain.proofs.Shown.{derives_more, by_clause, within_more, denied_more}
-use Rattle.congruence_explain.proofs.Facts.{id_same, reason_at, argument_term, held_atom, truths_in}
+use Rattle.congruence_explain.proofs.Facts.{id_same, reason_at, argument_term, argument_made, held_made, held_atom, truth_made, truths_in}
 
 -- a table with a log that is right, where nothing came
-pub derives_none : (t : TableView) (log : List Logged) → IsLogOf t log → Derives (derived t log) (derived t log)
-derives_none t log right = record { table = Extends-self t; declared = refl; more = []; log = sym (append-nil log); right = right }
+pub derives_none : (terms : List Term) (t : TableView) (log : List Logged) → IsLogOf t log → Derives terms (derived t log) (derived t log)
+derives_none terms t log right = record {
+  table = Extends-self t;
+  declared = refl;
+  more = [];
+  log = sym (append-nil log);
+  right = right;
+  lemmas = All-nil (λ l. IsLemma terms (length log) (inference_of t l));
+}
 
 -- numbers of steps, one more
 pub numbers_more : (log : List Logged) (ids all : List StepId) (n from : ℕ) (id : StepId) → id.0 ≡ n → n < length log → all ≡ ids ++ id ∷ [] → map (logged_at log) ids ++ drop n log ≡ drop from log → map (logged_at log) all ++ drop (n + 1) log ≡ drop from log
@@ -69,13 +77,13 @@ premise_literals t log [] = refl
 premise_literals t log (id ∷ ids) = ap (λ z. literals_logged t (logged_at log id) ∷ z) (premise_literals t log ids)
 
 -- from the steps since the start a clause follows by resolution
-pub resolution_follows : (start : Derived) (t : TableView) (log : List Logged) (from : ℕ) (ids : List StepId) (clause : List Said) → from ≡ length start.log → AreNumbersFrom log from ids → All (λ s. IsClaimIn start.table s.claim) clause
+pub resolution_follows : (start : Start) (t : TableView) (log : List Logged) (from : ℕ) (ids : List StepId) (clause : List Said) → from ≡ length start.log → AreNumbersFrom log from ids → All (λ s. IsClaimOf (spoken start) start.table s.claim) clause
     → Conflicts complement (steps_since start (derived t log)) (all_denied start.table clause) → FollowsFrom (derivation_in t log) (by_rule Resolution (numbers_of ids) none (map (term_said start.table) clause))
 resolution_follows start t log from ids clause from_is numbers claims conflict = (
   numbers_there t log ids numbers.there,
   subst (λ cs. IsResolvent cs (map (term_said start.table) clause)) (sym (premises_there t log ids numbers.there))
       (subst (λ ls. Conflicts complement ls (map complement (literals_of (map (term_said start.table) clause)))) (sym premises)
-      (subst (λ ls. Conflicts complement (steps_since start (derived t log)) (map complement ls)) (sym (literals_put start.table clause claims)) conflict)),
+      (subst (λ ls. Conflicts complement (steps_since start (derived t log)) (map complement ls)) (sym (literals_put start.table clause (claims_in (spoken start) start.table clause claims))) conflict)),
 )
   where
     premises : map literals_of (map (clause_at t) (clauses_in log ids)) ≡ steps_since start (derived t log)
@@ -191,31 +199,42 @@ module _ (t : TableView) (ts : Truths) (v : ForestState) (f : Facts) (b : IsBasi
   label_held k l lt label = (subst (IsReason f (older v.edges k) (numbered v.edges k)) label (reason_at f v.edges b.reasons k lt)).0
 
   -- so its denial can be put
-  pub denials_in : (stated : List Said) → All (IsDenial (setting t ts v)) stated → All (λ s. IsClaimIn t s.claim) stated
-  denials_in stated h = All-weaker (IsDenial (setting t ts v)) (λ (s : Said). IsClaimIn t s.claim) (λ m d. one m d) stated h
+  pub denials_in : (stated : List Said) → All (IsDenial (setting t ts v)) stated → All (λ s. IsClaimOf (terms_listed t f) t s.claim) stated
+  denials_in stated h = All-weaker (IsDenial (setting t ts v)) (λ (s : Said). IsClaimOf (terms_listed t f) t s.claim) (λ m d. one m d) stated h
     where
-      one : (m : Said) → IsDenial (setting t ts v) m → IsClaimIn t m.claim
-      one m (l, k, lt, label, is) = subst (λ (s : Said). IsClaimIn t s.claim) (sym is) (held_atom t ts v f b l (label_held k l lt label))
+      one : (m : Said) → IsDenial (setting t ts v) m → IsClaimOf (terms_listed t f) t m.claim
+      one m (l, k, lt, label, is) = let held = label_held k l lt label in subst (λ (s : Said). IsClaimOf (terms_listed t f) t s.claim) (sym is) (held_atom t ts v f b l held, held_made t ts v f b l held)
 
   -- `true` and `false`, where they are linked
-  pub truths_linked : Linked v.edges f.truths.true_term.0 f.truths.false_term.0 → AreLinkedIn t v ts.true_term ts.false_term
+  pub truths_linked : Linked v.edges f.truths.true_term.0 f.truths.false_term.0 → AreLinkedIn (terms_listed t f) t v ts.true_term ts.false_term
   truths_linked linked =
       let h = truths_in t ts v f b in
       let own = subst (λ (us : Truths). Linked v.edges us.true_term.0 us.false_term.0) b.truths linked in
       let different : ts.true_term.0 ≢ ts.false_term.0 = λ e. let same : of True [] ≡ of False [] = sym h.true_is ∙ ap (term_at t) (id_same ts.true_term ts.false_term e) ∙ h.false_is in cc in
       let low = ends_there v.terms v.edges b.ends ts.true_term.0 ts.false_term.0 own different in
-      record { one = h.true_term; other = h.false_term; one_there = low.0; other_there = low.1; linked = own }
+      record {
+        one = h.true_term;
+        other = h.false_term;
+        one_made = truth_made (terms_listed t f) t ts h true;
+        other_made = truth_made (terms_listed t f) t ts h false;
+        one_there = low.0;
+        other_there = low.1;
+        linked = own;
+      }
 
   -- the sides of an equality whose negation is held
-  pub sides_linked : (e : TermId) → IsConflict f v.edges (conflicts.Sides e) → HasLinkedSides t v e
+  pub sides_linked : (e : TermId) → IsConflict f v.edges (conflicts.Sides e) → HasLinkedSides (terms_listed t f) t v e
   sides_linked e (held, (a, c, q, linked)) = record {
     atom = held_atom t ts v f b (record { term = e; positive = false }) held;
+    made = held_made t ts v f b (record { term = e; positive = false }) held;
     one = a;
     other = c;
     equality = record { there = (held_atom t ts v f b (record { term = e; positive = false }) held).0.0; one_there = (argument_term t ts v f b q.at q.there a a_in).0; other_there = (argument_term t ts v f b q.at q.there c c_in).0; is = equality_term t f b.facts e a c q };
     linked = record {
       one = argument_term t ts v f b q.at q.there a a_in;
       other = argument_term t ts v f b q.at q.there c c_in;
+      one_made = argument_made t ts v f b q.at q.there a a_in;
+      other_made = argument_made t ts v f b q.at q.there c c_in;
       one_there = All-contains (λ (z : TermId). z.0 < v.terms) q.at.shape.arguments a low a_in;
       other_there = All-contains (λ (z : TermId). z.0 < v.terms) q.at.shape.arguments c low c_in;
       linked = linked;
@@ -262,7 +281,7 @@ module _ (t : TableView) (ts : Truths) (v : ForestState) (f : Facts) (b : IsBasi
               subst (Contains f.held) (sym (negation_twice l) ∙ ap lit_complement same) l_in
 
 -- the last clause as it is put
-pub explained_put : (s : Setting) (start old now : Derived) (clause others : List Said) → s.table ≡ start.table → All (λ m. IsDenial s m ⊎ Contains others m) clause
+pub explained_put : (s : Setting) (start : Start) (old now : Derived) (clause others : List Said) → s.table ≡ start.table → All (λ m. IsDenial s m ⊎ Contains others m) clause
     → (r : Result StepId NoMemory) → IfOk r (HasPut start old now (map (literal_said start.table) clause)) → IfOk r (IsExplained s now others)
 explained_put s start old now clause others same each (Ok id) put = record { there = put.there; clause = clause; literals = put.clause_is ∙ ap (λ (t : TableView). map (literal_said t) clause) (sym same); each = each }
 explained_put s start old now clause others same each (Err e) put = tt
@@ -274,20 +293,24 @@ each_denied s others stated h = All-weaker (IsDenial s) (λ m. IsDenial s m ⊎ 
 pub each_other : (s : Setting) (stated clause : List Said) (m : Said) → clause ≡ stated ++ m ∷ [] → All (IsDenial s) stated → All (λ x. IsDenial s x ⊎ Contains (m ∷ []) x) clause
 each_other s stated clause m is h = subst (All (λ x. IsDenial s x ⊎ Contains (m ∷ []) x)) (sym is) (All-push (λ x. IsDenial s x ⊎ Contains (m ∷ []) x) stated m (each_denied s (m ∷ []) stated h) (inr (first m [])))
 
-module _ (start : Derived) (t : TableView) (log : List Logged) (same : start ≡ derived t log) (right : IsLogOf t log) where
+-- the premises of the last clause came since the start
+pub premises_since : (start : Start) (log : List Logged) (from : ℕ) (ids : List StepId) → from ≡ length start.log → AreNumbersFrom log from ids → All (λ (p : StepId). length start.log ≤ p.0) ids
+premises_since start log from ids is numbers = subst (λ n. All (λ (p : StepId). n ≤ p.0) ids) is numbers.later
+
+module _ (start : Start) (t : TableView) (log : List Logged) (same : begun start ≡ derived t log) (right : IsLogOf t log) where
   -- the start is derived
-  pub start_derives : Derives start (derived t log)
-  start_derives = subst (λ (d : Derived). Derives d (derived t log)) (sym same) (derives_none t log right)
+  pub start_derives : Explains start (derived t log)
+  start_derives = subst (λ (d : Derived). Derives (spoken start) d (derived t log)) (sym same) (derives_none (spoken start) t log right)
 
   -- and its steps are those of the log
   pub start_length : (from : ℕ) → from ≡ length log → from ≡ length start.log
   start_length from e = e ∙ ap (λ (d : Derived). length d.log) (sym same)
 
   -- the sides of an equality that are linked, as they are found
-  pub sides_found : AreDifferent t.terms → (v : ForestState) (e a c : TermId) → HasLinkedSides start.table v e → IsEqualityIn t e a c → IsEqualityIn start.table e a c × AreLinkedIn start.table v a c
+  pub sides_found : AreDifferent t.terms → (v : ForestState) (e a c : TermId) → HasLinkedSides (spoken start) start.table v e → IsEqualityIn t e a c → IsEqualityIn start.table e a c × AreLinkedIn (spoken start) start.table v a c
   sides_found differ v e a c h q =
-      let moved : HasLinkedSides t v e = subst (λ (d : Derived). HasLinkedSides d.table v e) same h in
+      let moved : HasLinkedSides (spoken start) t v e = subst (λ (d : Derived). HasLinkedSides (spoken start) d.table v e) same h in
       let one = one_equality t differ e moved.one moved.other a c moved.equality q in (
         subst (λ (d : Derived). IsEqualityIn d.table e a c) (sym same) q,
-        subst (λ (d : Derived). AreLinkedIn d.table v a c) (sym same) (subst (λ z. AreLinkedIn t v z c) one.0 (subst (λ z. AreLinkedIn t v moved.one z) one.1 moved.linked)),
+        subst (λ (d : Derived). AreLinkedIn (spoken start) d.table v a c) (sym same) (subst (λ z. AreLinkedIn (spoken start) t v z c) one.0 (subst (λ z. AreLinkedIn (spoken start) t v moved.one z) one.1 moved.linked)),
       )

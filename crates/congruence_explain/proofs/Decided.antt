@@ -9,6 +9,7 @@ use Rattle.spec_sorts.specs.Literals.{Literal, literal_of, complement}
 use Rattle.spec_equality.specs.Reasons.{equal as equal_terms}
 use Rattle.spec_proofs.specs.declared.Rule.TheVariants as rules
 use Rattle.spec_proofs.specs.Resolution.{Derives as Propagates, given, IsWithin}
+use Rattle.spec_derivations.specs.Lemmas.{IsMadeOf, is_equality}
 use Rattle.spec_rules.specs.Rules.{IsRight}
 use Rattle.spec_rules.specs.Schemes.{Scheme, signed, rests_of, clauses_by, is_formula_of, equiv_pos2, equiv_neg1, equiv_neg2}
 use Rattle.term_core.specs.declared.ids.TermId.{TermId}
@@ -20,11 +21,11 @@ use Rattle.proof_log.specs.Theories.{IsAtomIn}
 use Rattle.congruence_explain.specs.declared.claims.Claim.TheVariants.{Equality, Atom}
 use Rattle.congruence_explain.specs.declared.claims.Said.{Said}
 use Rattle.congruence_explain.specs.Rules.{value_rule, decided_rule}
-use Rattle.congruence_explain.specs.Claims.{term_said, literal_said, literal_claimed, IsClaimIn, equal, unequal, denied, said_value}
+use Rattle.congruence_explain.specs.Claims.{term_said, literal_said, literal_claimed, IsClaimOf, equal, unequal, denied, said_value}
 use Rattle.congruence_explain.specs.Basis.{AreTruths}
 use Rattle.congruence_explain.specs.Steps.{Setting, Shows, all_denied, decision}
 use Rattle.congruence_explain.proofs.Shown.{by_clause}
-use Rattle.congruence_explain.proofs.Facts.{true_sort, false_sort}
+use Rattle.congruence_explain.proofs.Facts.{truth_made, true_sort, false_sort}
 
 true_atom : literal_of (of True []) ≡ positive_literal (of True [])
 unfolding literal_of
@@ -40,8 +41,8 @@ module _ (t : TableView) (ts : Truths) (h : AreTruths t ts) where
   value_atom true = ((h.true_term.0, record { term = h.true_term.1; sort = ap sort_of h.true_is ∙ true_sort }), subst (λ (x : Term). literal_of x ≡ positive_literal x) (sym h.true_is) true_atom)
   value_atom false = ((h.false_term.0, record { term = h.false_term.1; sort = ap sort_of h.false_is ∙ false_sort }), subst (λ (x : Term). literal_of x ≡ positive_literal x) (sym h.false_is) false_atom)
 
-  pub value_in : (p q : Bool) → All (λ s. IsClaimIn t s.claim) (said_value (truth_of ts p) q ∷ [])
-  value_in p q = All-cons (λ (s : Said). IsClaimIn t s.claim) (said_value (truth_of ts p) q) [] (value_atom p) (All-nil (λ (s : Said). IsClaimIn t s.claim))
+  pub value_in : (terms : List Term) (p q : Bool) → All (λ s. IsClaimOf terms t s.claim) (said_value (truth_of ts p) q ∷ [])
+  value_in terms p q = All-cons (λ (s : Said). IsClaimOf terms t s.claim) (said_value (truth_of ts p) q) [] (value_atom p, truth_made terms t ts h p) (All-nil (λ (s : Said). IsClaimOf terms t s.claim))
 
   -- a truth value is stated
   pub value_right : (p : Bool) → IsRight (value_rule p) [] none (map (term_said t) (said_value (truth_of ts p) p ∷ []))
@@ -62,13 +63,14 @@ module _ (t : TableView) (ts : Truths) (h : AreTruths t ts) where
   abbrev pub decided_clause : Lit → List Said
   decided_clause l = equal l.term (truth_of ts l.positive) ∷ denied l ∷ said_value (truth_of ts l.positive) (not l.positive) ∷ []
 
-  pub decided_in : (l : Lit) → IsAtomIn t l.term → All (λ s. IsClaimIn t s.claim) (decided_clause l)
-  decided_in l a =
-      let P : Said → Type 0 = λ s. IsClaimIn t s.claim in
+  pub decided_in : (terms : List Term) (l : Lit) → IsAtomIn t l.term → IsMadeOf terms (term_at t l.term) → All (λ s. IsClaimOf terms t s.claim) (decided_clause l)
+  decided_in terms l a made =
+      let P : Said → Type 0 = λ s. IsClaimOf terms t s.claim in
       let value = value_atom l.positive in
+      let value_made = truth_made terms t ts h l.positive in
       All-cons P (equal l.term (truth_of ts l.positive)) (denied l ∷ said_value (truth_of ts l.positive) (not l.positive) ∷ [])
-      ((a.0.0, a.0.1.term), (value.0.0, value.0.1.term), a.0.1.sort ∙ sym value.0.1.sort)
-      (All-cons P (denied l) (said_value (truth_of ts l.positive) (not l.positive) ∷ []) a (All-cons P (said_value (truth_of ts l.positive) (not l.positive)) [] value (All-nil P)))
+      (((a.0.0, a.0.1.term), (value.0.0, value.0.1.term), a.0.1.sort ∙ sym value.0.1.sort), is_equality (term_at t l.term) (term_at t (truth_of ts l.positive)) made value_made)
+      (All-cons P (denied l) (said_value (truth_of ts l.positive) (not l.positive) ∷ []) (a, made) (All-cons P (said_value (truth_of ts l.positive) (not l.positive)) [] (value, value_made) (All-nil P)))
 
   -- a formula is equal to its truth value
   pub decided_right : (l : Lit) → IsAtomIn t l.term → IsRight (decided_rule l.positive) [] none (map (term_said t) (decided_clause l))
@@ -84,13 +86,16 @@ module _ (t : TableView) (ts : Truths) (h : AreTruths t ts) where
   abbrev pub apart_clause : List Said
   apart_clause = unequal ts.true_term ts.false_term ∷ said_value ts.true_term false ∷ said_value ts.false_term true ∷ []
 
-  pub apart_in : All (λ s. IsClaimIn t s.claim) apart_clause
-  apart_in =
-      let P : Said → Type 0 = λ s. IsClaimIn t s.claim in
+  pub apart_in : (terms : List Term) → All (λ s. IsClaimOf terms t s.claim) apart_clause
+  apart_in terms =
+      let P : Said → Type 0 = λ s. IsClaimOf terms t s.claim in
       let yes = value_atom true in
       let off = value_atom false in
-      All-cons P (unequal ts.true_term ts.false_term) (said_value ts.true_term false ∷ said_value ts.false_term true ∷ []) (h.true_term, h.false_term, yes.0.1.sort ∙ sym off.0.1.sort)
-      (All-cons P (said_value ts.true_term false) (said_value ts.false_term true ∷ []) yes (All-cons P (said_value ts.false_term true) [] off (All-nil P)))
+      let yes_made = truth_made terms t ts h true in
+      let off_made = truth_made terms t ts h false in
+      All-cons P (unequal ts.true_term ts.false_term) (said_value ts.true_term false ∷ said_value ts.false_term true ∷ [])
+      ((h.true_term, h.false_term, yes.0.1.sort ∙ sym off.0.1.sort), is_equality (term_at t ts.true_term) (term_at t ts.false_term) yes_made off_made)
+      (All-cons P (said_value ts.true_term false) (said_value ts.false_term true ∷ []) (yes, yes_made) (All-cons P (said_value ts.false_term true) [] (off, off_made) (All-nil P)))
 
   -- where `true` is equal to `false`, this is true
   pub apart_right : IsRight rules.EquivPos2 [] none (map (term_said t) apart_clause)

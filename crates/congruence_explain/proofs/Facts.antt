@@ -1,14 +1,17 @@
 -- What edges say, by their reasons, and that linked terms have one sort.
-use Rattle.std.proofs.Common.{◌≡◌, ◌≢◌, ℕ, ◌<◌, ◌≤◌, ◌==◌, ◌&&◌, ◌||◌, ◌⊎◌, inl, inr, Bool, true, false, List, [], ◌∷◌, map, length, get_or, if◌then◌else◌, refl, sym, ap, ◌∙◌, subst, arith, true≢false}
+use Rattle.std.proofs.Common.{◌≡◌, ◌≢◌, ℕ, ◌<◌, ◌==◌, ◌&&◌, ◌||◌, ◌⊎◌, inl, inr, Bool, true, false, List, [], ◌∷◌, map, length, if◌then◌else◌, refl, sym, ap, ◌∙◌, subst, arith, true≢false}
 use Rattle.std.specs.Prelude.{Contains, Some}
 use Rattle.std.proofs.Math.Bool.{and_comm, or_comm}
 use Rattle.std.proofs.lemmas.Bool.{cases_eq, cases_Bool}
 use Rattle.std.proofs.lemmas.Bool.Decides.{nat_tests}
 use Rattle.std.proofs.lemmas.List.Elements.{All-contains}
+use Rattle.spec_text.proofs.Members.{to_image}
 use Rattle.spec_sorts.specs.Terms.{Sort, Truth, True, False, Term, terms_of, of, sort_of, sort_given, second_sort, same_sort}
+use Rattle.spec_sorts.specs.Subsets.{arguments_of}
 use Rattle.spec_sorts.specs.WellSorted.{IsWellSorted}
 use Rattle.spec_sorts.proofs.WellSorted.{same_sort_is}
 use Rattle.spec_equality.specs.Reasons.{equal as equal_terms, Joins}
+use Rattle.spec_derivations.specs.Lemmas.{IsMadeOf, «given», is_true, is_false, is_equality}
 use Rattle.spec_derivations.proofs.Below.{argument_sorted}
 use Rattle.term_core.specs.declared.ids.TermId.{TermId}
 use Rattle.term_core.specs.declared.ids.Lit.{Lit}
@@ -22,12 +25,12 @@ use Rattle.explain_forest.proofs.Roots.{root-under, root-beside}
 use Rattle.explain_forest.proofs.Linking.{older-all, older-later}
 use Rattle.explain_forest.proofs.Levels.{numbered-top, numbered-older}
 use Rattle.congruence_relation.specs.declared.Truths.{Truths}
-use Rattle.congruence_relation.specs.Relation.{Application, Facts, truth_of, IsEquality, States, decides, equates}
+use Rattle.congruence_relation.specs.Relation.{Application, Facts, truth_of, IsEquality, States, decides, equates, terms_listed}
 use Rattle.congruence_relation.specs.Edges.{roots, IsReason, AreReasons}
 use Rattle.congruence_relation.proofs.Agree.{equality_term}
 use Rattle.proof_log.specs.Theories.{IsTermIn, IsAtomIn}
 use Rattle.congruence_explain.specs.declared.claims.Claim.TheVariants.{Equality, Atom}
-use Rattle.congruence_explain.specs.Claims.{term_claimed, IsClaimIn, joins, says, edge_says}
+use Rattle.congruence_explain.specs.Claims.{term_claimed, IsClaimOf, joins, says, edge_says}
 use Rattle.congruence_explain.specs.Basis.{IsBasis, AreTruths}
 
 -- numbers of terms are what they are of
@@ -107,6 +110,11 @@ pub false_sort : sort_of (of False []) ≡ Truth
 unfolding sort_of
 false_sort = refl
 
+-- the truth values are made of any terms
+pub truth_made : (terms : List Term) (t : TableView) (ts : Truths) → AreTruths t ts → (p : Bool) → IsMadeOf terms (term_at t (truth_of ts p))
+truth_made terms t ts h true = subst (IsMadeOf terms) (sym h.true_is) is_true
+truth_made terms t ts h false = subst (IsMadeOf terms) (sym h.false_is) is_false
+
 module _ (t : TableView) (ts : Truths) (v : ForestState) (f : Facts) (b : IsBasis t ts v f) where
   -- what a table says of a listed term
   listed : (x : Application) → Contains f.listed x → IsIn t x.term × Fits t x.shape × (shape_term t x.shape ≡ term_at t x.term)
@@ -127,6 +135,24 @@ module _ (t : TableView) (ts : Truths) (v : ForestState) (f : Facts) (b : IsBasi
     All-contains (IsIn t) x.shape.arguments a (listed_fits x there).arguments i,
     argument_sorted t.symbols [] (shape_term t x.shape) (subst (IsWellSorted t.symbols []) (sym (listed_is x there)) (listed_term x there).1) (term_at t a) (argument_in t x.shape a i),
   )
+
+  -- a listed term is among the listed ones
+  listed_there : (x : Application) → Contains f.listed x → Contains (terms_listed t f) (term_at t x.term)
+  listed_there x there = to_image (λ (y : Application). term_at t y.term) f.listed x there
+
+  pub listed_made : (x : Application) → Contains f.listed x → IsMadeOf (terms_listed t f) (term_at t x.term)
+  listed_made x there = «given» (term_at t x.term) (listed_there x there)
+
+  -- and so are its arguments
+  pub argument_made : (x : Application) → Contains f.listed x → (a : TermId) → Contains x.shape.arguments a → IsMadeOf (terms_listed t f) (term_at t a)
+  argument_made x there a i = «given» (term_at t a) (b.closed (term_at t x.term) (listed_there x there) (term_at t a)
+      (subst (λ (u : Term). Contains (arguments_of u) (term_at t a)) (listed_is x there) (argument_in t x.shape a i)))
+
+  -- and the term of a held literal
+  pub held_made : (l : Lit) → Contains f.held l → IsMadeOf (terms_listed t f) (term_at t l.term)
+  held_made l there =
+      let (x, x_in, is) = All-contains (λ (m : Lit). (x : Application) × Contains f.listed x × (x.term ≡ m.term)) f.held l b.facts.held there in
+      subst (λ z. IsMadeOf (terms_listed t f) (term_at t z)) is (listed_made x x_in)
 
   pub held_atom : (l : Lit) → Contains f.held l → IsAtomIn t l.term
   held_atom l there = All-contains (λ (l : Lit). IsAtomIn t l.term) f.held l b.atoms there
@@ -207,17 +233,26 @@ module _ (t : TableView) (ts : Truths) (v : ForestState) (f : Facts) (b : IsBasi
       go (inr off) (inr h) = inr (ap (λ c. Some (term_claimed t c)) (said false off) ∙ ap Some (apart e.b e.a (joins_turned e.b e.a l.term value ∙ off) h))
 
   -- and can be put
-  says_in : (es : List Edge) (e : Edge) (l : Label) → IsReason f es e l → number_sort t e.a.0 ≡ number_sort t e.b.0 → IsClaimIn t (says ts l e.a e.b)
+  says_in : (es : List Edge) (e : Edge) (l : Label) → IsReason f es e l → number_sort t e.a.0 ≡ number_sort t e.b.0 → IsClaimOf (terms_listed t f) t (says ts l e.a e.b)
   says_in es e (Arguments x y) (x_is, y_is, m) sorts = (
-    subst (IsTermIn t) (m.one_is ∙ sym x_is) (listed_term m.one m.one_there),
-    subst (IsTermIn t) (m.other_is ∙ sym y_is) (listed_term m.other m.other_there),
-    ap (λ z. sort_of (term_at t z)) x_is ∙ sorts ∙ ap (λ z. sort_of (term_at t z)) (sym y_is),
+    (
+      subst (IsTermIn t) (m.one_is ∙ sym x_is) (listed_term m.one m.one_there),
+      subst (IsTermIn t) (m.other_is ∙ sym y_is) (listed_term m.other m.other_there),
+      ap (λ z. sort_of (term_at t z)) x_is ∙ sorts ∙ ap (λ z. sort_of (term_at t z)) (sym y_is),
+    ),
+    is_equality (term_at t x) (term_at t y) (subst (λ z. IsMadeOf (terms_listed t f) (term_at t z)) (m.one_is ∙ sym x_is) (listed_made m.one m.one_there))
+        (subst (λ z. IsMadeOf (terms_listed t f) (term_at t z)) (m.other_is ∙ sym y_is) (listed_made m.other m.other_there)),
   )
   says_in es e (Held l) (there, h) sorts = go (joins e.a e.b l.term (truth_of ts l.positive))
     where
-      go : (c : Bool) → IsClaimIn t (if c then Equality l.term (truth_of ts l.positive) else Atom l.term)
-      go true = let a = held_atom l there in ((a.0.0, a.0.1.term), truth_in l.positive, a.0.1.sort ∙ sym (truth_sort l.positive))
-      go false = held_atom l there
+      value_made : IsMadeOf (terms_listed t f) (term_at t (truth_of ts l.positive))
+      value_made = truth_made (terms_listed t f) t ts truths_in l.positive
+
+      go : (c : Bool) → IsClaimOf (terms_listed t f) t (if c then Equality l.term (truth_of ts l.positive) else Atom l.term)
+      go true =
+          let a = held_atom l there in
+          (((a.0.0, a.0.1.term), truth_in l.positive, a.0.1.sort ∙ sym (truth_sort l.positive)), is_equality (term_at t l.term) (term_at t (truth_of ts l.positive)) (held_made l there) value_made)
+      go false = (held_atom l there, held_made l there)
 
   -- so does the edge of each number
   pub edge_joins : (k : ℕ) → k < length v.edges → Joins (Some (term_claimed t (edge_says ts (numbered v.edges k)))) (term_at t (numbered v.edges k).a) (term_at t (numbered v.edges k).b)
@@ -231,7 +266,7 @@ module _ (t : TableView) (ts : Truths) (v : ForestState) (f : Facts) (b : IsBasi
       go true h = ok
       go false h = h
 
-  pub edge_in : (k : ℕ) → k < length v.edges → IsClaimIn t (edge_says ts (numbered v.edges k))
+  pub edge_in : (k : ℕ) → k < length v.edges → IsClaimOf (terms_listed t f) t (edge_says ts (numbered v.edges k))
   edge_in k h =
       let reason = reason_at f v.edges b.reasons k h in
       says_in (older v.edges k) (numbered v.edges k) (numbered v.edges k).label reason

@@ -14,7 +14,7 @@ use Rattle.explain_forest.specs.declared.types.Label.TheVariants.{Held, Argument
 use Rattle.explain_forest.specs.Forest.{ForestState, Linked, numbered, older}
 use Rattle.explain_forest.proofs.Linking.{older-all}
 use Rattle.congruence_relation.specs.declared.Truths.{Truths}
-use Rattle.congruence_relation.specs.Relation.{Facts, truth_of, States, decides, equates}
+use Rattle.congruence_relation.specs.Relation.{Facts, truth_of, terms_listed, States, decides, equates}
 use Rattle.congruence_relation.specs.Edges.{IsReason}
 use Rattle.congruence_explain.specs.declared.claims.Claim.TheVariants.{Equality, Atom}
 use Rattle.congruence_explain.specs.declared.claims.Said.{Said}
@@ -22,7 +22,7 @@ use Rattle.congruence_explain.specs.Claims.{literal_claimed, denied, joins, says
 use Rattle.congruence_explain.specs.Basis.{IsBasis, IsDecided, IsByArguments}
 use Rattle.congruence_explain.specs.Steps.{Setting, Notes, all_denied, said_by, IsNeeded, Shows, decision, IsDenial, TellsPair, TellsEdge, Going, GoesOn, IsCollected}
 use Rattle.congruence_explain.proofs.Shown.{within_more, grows_stated, shows_more, shows_stated}
-use Rattle.congruence_explain.proofs.Facts.{reason_at, held_atom, truths_in, joins_turned, same_joins}
+use Rattle.congruence_explain.proofs.Facts.{reason_at, held_atom, held_made, truths_in, joins_turned, same_joins}
 use Rattle.congruence_explain.proofs.Decided.{shows_itself, shows_decided}
 
 -- what a held literal says of the edge that it labels
@@ -100,8 +100,8 @@ module _ (t : TableView) (ts : Truths) (v : ForestState) (f : Facts) (b : IsBasi
       ap (λ z. z.label) (sym at) ∙ label ∙ (λ i. Arguments (r.0 i) (r.1 i)) ∙ (λ i. Arguments (at i).a (at i).b)
 
   -- a held label is one of an atom
-  pub held_decided : (l : Lit) → e.label ≡ Held l → IsDecided t ts l
-  held_decided l label = record { atom = held_atom t ts v f b l (reason (Held l) label).0; truths = truths_in t ts v f b }
+  pub held_decided : (l : Lit) → e.label ≡ Held l → IsDecided (terms_listed t f) t ts l
+  held_decided l label = record { atom = held_atom t ts v f b l (reason (Held l) label).0; made = held_made t ts v f b l (reason (Held l) label).0; truths = truths_in t ts v f b }
 
   -- and says itself only as it stands
   pub held_positive : (l : Lit) → e.label ≡ Held l → joins e.a e.b l.term (truth_of ts l.positive) ≡ false → l.positive ≡ true

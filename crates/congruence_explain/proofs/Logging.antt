@@ -3,11 +3,13 @@ use Rattle.std.proofs.Common.{◌≡◌, ℕ, ◌+◌, ◌<◌, ◌≤◌, List,
 use Rattle.std.specs.Prelude.{All, Result, Ok, Err, IfOk, MatchResult}
 use Rattle.std.proofs.lemmas.List.{map-append, map_more, drop-append-le, length-map}
 use Rattle.std.proofs.Math.Seq.{get_or-append_seam}
-use Rattle.std.proofs.lemmas.List.Elements.{All-head, All-tail, All-push}
+use Rattle.std.proofs.lemmas.List.Elements.{All-head, All-tail, All-map, All-push}
 use Rattle.spec_text.specs.Trees.{none}
+use Rattle.spec_sorts.specs.Terms.{Term}
 use Rattle.spec_sorts.specs.Literals.{literals_of}
 use Rattle.spec_proofs.specs.declared.Rule.{Rule}
 use Rattle.spec_derivations.specs.Derivations.{by_rule, Derivation, FollowsFrom}
+use Rattle.spec_derivations.specs.Lemmas.{IsMadeOf, IsLemma}
 use Rattle.world_io.specs.declared.bytes.NoMemory.{NoMemory}
 use Rattle.term_core.specs.declared.ids.TermId.{TermId}
 use Rattle.term_core.specs.Tables.{TableView, term_at, clause_at}
@@ -15,14 +17,13 @@ use Rattle.term_core.proofs.TermsExtend.{clause_at-kept, Extends-trans}
 use Rattle.proof_log.specs.declared.premises.StepId.{StepId}
 use Rattle.proof_log.specs.Logs.{Logged, stepped, named, logged_at, no_logged, numbers_of, derivation_in, inference_of, IsFormulaIn, AreFormulasIn, IsLogOf}
 use Rattle.proof_log.specs.Adding.{IsAdded}
-use Rattle.proof_log.specs.Theories.{Derived, Derives}
-use Rattle.proof_log.proofs.Tables.{grown_right, grown_same}
+use Rattle.proof_log.proofs.Tables.{grown_right, grown_same, grown_lemmas}
 use Rattle.clausify.specs.Stating.{Widens}
 use Rattle.clausify.proofs.Parts.{formula_kept}
 use Rattle.congruence_explain.specs.declared.claims.Said.{Said}
-use Rattle.congruence_explain.specs.Claims.{term_said, literal_said, IsClaimIn}
-use Rattle.congruence_explain.specs.Steps.{derived, literals_logged, HasPut}
-use Rattle.congruence_explain.proofs.Terms.{claim_kept, said_same, clause_same, literals_put}
+use Rattle.congruence_explain.specs.Claims.{term_said, literal_said, IsClaimIn, IsClaimOf}
+use Rattle.congruence_explain.specs.Steps.{Start, derived, spoken, Explains, literals_logged, HasPut}
+use Rattle.congruence_explain.proofs.Terms.{claims_in, said_made, claim_kept, said_same, clause_same, literals_put}
 
 -- a literal more is put
 pub terms_more : (t u w : TableView) → Widens t u → Widens u w → (clause : List Said) (i : ℕ) (d : Said) → i < length clause → All (λ s. IsClaimIn t s.claim) clause → (ids all : List TermId) (id : TermId) → all ≡ ids ++ id ∷ []
@@ -40,7 +41,7 @@ terms_more t u w wide wider clause i d lt claims ids all id is formulas same for
     last = one ∙ ap (λ x. x ∷ []) (said_same t u wide (get_or clause i d) (claims i d lt))
 
 -- the table of a start, and one that has more
-pub start_wide : (start : Derived) (t : TableView) (log : List Logged) → Derives start (derived t log) → Widens start.table t
+pub start_wide : (start : Start) (t : TableView) (log : List Logged) → Explains start (derived t log) → Widens start.table t
 start_wide start t log d = record { terms = d.table; declared = d.declared }
 
 -- the clauses mean the same over a wider table
@@ -50,30 +51,35 @@ logged_same t u wider (l ∷ log) h =
     let here = All-head (λ l. AreFormulasIn t (named l)) l log h in
     λ i. literals_of (clause_at-kept t u wider.terms (named l) (λ k d lt. (here k d lt).0) i) ∷ logged_same t u wider log (All-tail (λ l. AreFormulasIn t (named l)) l log h) i
 
-module _ (start : Derived) (t u : TableView) (log : List Logged) (derives : Derives start (derived t log)) (wider : Widens t u) where
+module _ (start : Start) (t u : TableView) (log : List Logged) (derives : Explains start (derived t log)) (wider : Widens t u) where
   -- the log is right over the wider table
   pub wider_right : IsLogOf u log
   wider_right = grown_right t u log derives.right wider.terms
 
+  -- what came are still lemmas
+  lemmas_wider : All (λ l. IsLemma (spoken start) (length start.log) (inference_of u l)) derives.more
+  lemmas_wider = grown_lemmas t u (spoken start) (length start.log) start.log derives.more (subst (IsLogOf t) derives.log derives.right) wider.terms derives.lemmas
+
   -- and still derived
-  pub derives_wider : Derives start (derived u log)
+  pub derives_wider : Explains start (derived u log)
   derives_wider = record {
     table = Extends-trans start.table t u derives.table wider.terms;
     declared = wider.declared ∙ derives.declared;
     more = derives.more;
     log = derives.log;
     right = wider_right;
+    lemmas = lemmas_wider;
   }
 
-  module _ (clause : List Said) (claims : All (λ s. IsClaimIn start.table s.claim) clause) where
+  module _ (clause : List Said) (claims : All (λ s. IsClaimOf (spoken start) start.table s.claim) clause) where
     -- the literals can be put into the table
     pub claims_wide : All (λ s. IsClaimIn t s.claim) clause
-    claims_wide = λ k d lt. claim_kept start.table t (start_wide start t log derives) (get_or clause k d).claim (claims k d lt)
+    claims_wide = λ k d lt. claim_kept start.table t (start_wide start t log derives) (get_or clause k d).claim (claims k d lt).0
 
     module _ (ids : List TermId) (means : clause_at u ids ≡ map (term_said t) clause) where
       -- the terms that are put are those of the clause
       pub terms_are : clause_at u ids ≡ map (term_said start.table) clause
-      terms_are = means ∙ clause_same start.table t (start_wide start t log derives) clause claims
+      terms_are = means ∙ clause_same start.table t (start_wide start t log derives) clause (claims_in (spoken start) start.table clause claims)
 
       -- so the step follows
       pub step_follows : (rule : Rule) (ps : List StepId) → FollowsFrom (derivation_in t log) (by_rule rule (numbers_of ps) none (map (term_said start.table) clause))
@@ -82,19 +88,26 @@ module _ (start : Derived) (t u : TableView) (log : List Logged) (derives : Deri
           subst (λ (d : Derivation). FollowsFrom d (by_rule rule (numbers_of ps) none (clause_at u ids))) (sym (grown_same t u log derives.right wider.terms))
           (subst (λ c. FollowsFrom (derivation_in t log) (by_rule rule (numbers_of ps) none c)) (sym terms_are) follows)
 
-      module _ (rule : Rule) (ps : List StepId) (id : StepId) (new : List Logged) (added : IsAdded u log (stepped rule ps [] ids) id new) where
+      -- and is made of the listed terms
+      terms_made : All (IsMadeOf (spoken start)) (clause_at u ids)
+      terms_made = subst (λ (c : List Term). All (IsMadeOf (spoken start)) c) (sym terms_are)
+          (All-map (IsMadeOf (spoken start)) (term_said start.table) clause (λ k d lt. said_made (spoken start) start.table (get_or clause k d) (claims k d lt)))
+
+      module _ (rule : Rule) (ps : List StepId) (since : All (λ (p : StepId). length start.log ≤ p.0) ps) (id : StepId) (new : List Logged) (added : IsAdded u log (stepped rule ps [] ids) id new) where
         -- it is derived
-        pub derives_step : Derives start (derived u new)
+        pub derives_step : Explains start (derived u new)
         derives_step = record {
           table = derives_wider.table;
           declared = derives_wider.declared;
           more = derives.more ++ stepped rule ps [] ids ∷ [];
           log = added.last ∙ ap (λ l. l ++ stepped rule ps [] ids ∷ []) derives.log ∙ append_assoc start.log derives.more (stepped rule ps [] ids ∷ []);
           right = added.right;
+          lemmas = All-push (λ l. IsLemma (spoken start) (length start.log) (inference_of u l)) derives.more (stepped rule ps [] ids) lemmas_wider
+              (All-map (λ m. length start.log ≤ m) (λ (p : StepId). p.0) ps since, terms_made);
         }
 
         literals_are : literals_of (clause_at u ids) ≡ map (literal_said start.table) clause
-        literals_are = ap literals_of terms_are ∙ literals_put start.table clause claims
+        literals_are = ap literals_of terms_are ∙ literals_put start.table clause (claims_in (spoken start) start.table clause claims)
 
         here : id.0 < length new
         here = omega (arith, added.number, ap length added.last, length-append log (stepped rule ps [] ids ∷ []))
@@ -116,7 +129,7 @@ module _ (start : Derived) (t u : TableView) (log : List Logged) (derives : Deri
             low = omega (arith, length-map log (literals_logged t), ap length derives.log, length-append start.log derives.more)
 
       -- whatever comes of adding it
-      pub put_result : (rule : Rule) (ps : List StepId) (new : List Logged) (r : Result StepId NoMemory) → MatchResult r (λ id. IsAdded u log (stepped rule ps [] ids) id new) (λ _. new ≡ log)
-          → Derives start (derived u new) × IfOk r (HasPut start (derived t log) (derived u new) (map (literal_said start.table) clause))
-      put_result rule ps new (Ok id) added = (derives_step rule ps id new added, put_last rule ps id new added)
-      put_result rule ps new (Err e) same = (subst (λ l. Derives start (derived u l)) (sym same) derives_wider, tt)
+      pub put_result : (rule : Rule) (ps : List StepId) → All (λ (p : StepId). length start.log ≤ p.0) ps → (new : List Logged) (r : Result StepId NoMemory) → MatchResult r (λ id. IsAdded u log (stepped rule ps [] ids) id new) (λ _. new ≡ log)
+          → Explains start (derived u new) × IfOk r (HasPut start (derived t log) (derived u new) (map (literal_said start.table) clause))
+      put_result rule ps since new (Ok id) added = (derives_step rule ps since id new added, put_last rule ps since id new added)
+      put_result rule ps since new (Err e) same = (subst (λ l. Explains start (derived u l)) (sym same) derives_wider, tt)

@@ -19,16 +19,16 @@ use Rattle.term_core.proofs.TermsExtend.{term_at-kept, clause_at-kept, IsIn-kept
 use Rattle.explain_forest.specs.Forest.{ForestState, root, numbered, older}
 use Rattle.explain_forest.proofs.Linking.{older-linked}
 use Rattle.congruence_relation.specs.declared.Truths.{Truths}
-use Rattle.congruence_relation.specs.Relation.{Application, Facts}
+use Rattle.congruence_relation.specs.Relation.{Application, Facts, terms_listed}
 use Rattle.congruence_relation.specs.Edges.{roots, Meet, IsReason}
 use Rattle.congruence_explain.specs.declared.claims.Claim.TheVariants.{Equality}
 use Rattle.congruence_explain.specs.declared.claims.Said.{Said}
 use Rattle.congruence_explain.specs.Rules.{arguments_rule}
-use Rattle.congruence_explain.specs.Claims.{no_term_id, term_said, literal_said, literal_claimed, IsClaimIn, equal, unequal, says, edge_says, all_unequal}
+use Rattle.congruence_explain.specs.Claims.{no_term_id, term_said, literal_said, literal_claimed, IsClaimOf, equal, unequal, says, edge_says, all_unequal}
 use Rattle.congruence_explain.specs.Basis.{IsBasis, AreLinkedOr, IsByArguments}
 use Rattle.congruence_explain.specs.Steps.{setting, Notes, Shows, TellsPairs, TellsEdge}
 use Rattle.congruence_explain.proofs.Shown.{grows_both, grows_steps, shows_each, shows_last}
-use Rattle.congruence_explain.proofs.Facts.{id_same, reason_at, listed_term, listed_is, listed_fits, argument_term, edge_in}
+use Rattle.congruence_explain.proofs.Facts.{id_same, reason_at, listed_term, listed_is, listed_fits, argument_term, argument_made, edge_in}
 use Rattle.congruence_explain.proofs.Along.{linked_in}
 use Rattle.congruence_explain.proofs.Pairs.{linked_at}
 
@@ -43,18 +43,18 @@ same_ids u differ (x ∷ xs) (y ∷ ys) p q e =
     (λ i. id_same x y (differ x.0 y.0 (All-head (IsIn u) x xs p) (All-head (IsIn u) y ys q) one) i ∷ same_ids u differ xs ys (All-tail (IsIn u) x xs p) (All-tail (IsIn u) y ys q) rest i)
 
 -- each denied equality is of two that differ
-unequal_all_in : (t : TableView) (xs ys : List TermId) → ((i : ℕ) → i < length xs → (get_or xs i no_term_id).0 ≢ (get_or ys i no_term_id).0 → IsClaimIn t (Equality (get_or xs i no_term_id) (get_or ys i no_term_id)))
-    → All (λ s. IsClaimIn t s.claim) (all_unequal xs ys)
-unequal_all_in t [] ys h = All-nil (λ (s : Said). IsClaimIn t s.claim)
-unequal_all_in t (x ∷ xs) [] h = All-nil (λ (s : Said). IsClaimIn t s.claim)
-unequal_all_in t (x ∷ xs) (y ∷ ys) h = go (cases_eq x.0 y.0) (unequal_all_in t xs ys (λ i lt d. h (suc i) (omega arith) d))
+unequal_all_in : (terms : List Term) (t : TableView) (xs ys : List TermId) → ((i : ℕ) → i < length xs → (get_or xs i no_term_id).0 ≢ (get_or ys i no_term_id).0 → IsClaimOf terms t (Equality (get_or xs i no_term_id) (get_or ys i no_term_id)))
+    → All (λ s. IsClaimOf terms t s.claim) (all_unequal xs ys)
+unequal_all_in terms t [] ys h = All-nil (λ (s : Said). IsClaimOf terms t s.claim)
+unequal_all_in terms t (x ∷ xs) [] h = All-nil (λ (s : Said). IsClaimOf terms t s.claim)
+unequal_all_in terms t (x ∷ xs) (y ∷ ys) h = go (cases_eq x.0 y.0) (unequal_all_in terms t xs ys (λ i lt d. h (suc i) (omega arith) d))
   where
-    go : (x.0 ≡ y.0) ⊎ (x.0 ≢ y.0) → All (λ s. IsClaimIn t s.claim) (all_unequal xs ys) → All (λ s. IsClaimIn t s.claim) (all_unequal (x ∷ xs) (y ∷ ys))
+    go : (x.0 ≡ y.0) ⊎ (x.0 ≢ y.0) → All (λ s. IsClaimOf terms t s.claim) (all_unequal xs ys) → All (λ s. IsClaimOf terms t s.claim) (all_unequal (x ∷ xs) (y ∷ ys))
     go (inl e) rest = let test : (x.0 == y.0) ≡ true = grind (arith, nat_tests) in
-        subst (λ c. All (λ (s : Said). IsClaimIn t s.claim) (if c then all_unequal xs ys else unequal x y ∷ all_unequal xs ys)) (sym test) rest
+        subst (λ c. All (λ (s : Said). IsClaimOf terms t s.claim) (if c then all_unequal xs ys else unequal x y ∷ all_unequal xs ys)) (sym test) rest
     go (inr d) rest = let test : (x.0 == y.0) ≡ false = grind (arith, nat_tests) in
-        subst (λ c. All (λ (s : Said). IsClaimIn t s.claim) (if c then all_unequal xs ys else unequal x y ∷ all_unequal xs ys)) (sym test)
-        (All-cons (λ (s : Said). IsClaimIn t s.claim) (unequal x y) (all_unequal xs ys) (h 0 (omega arith) d) rest)
+        subst (λ c. All (λ (s : Said). IsClaimOf terms t s.claim) (if c then all_unequal xs ys else unequal x y ∷ all_unequal xs ys)) (sym test)
+        (All-cons (λ (s : Said). IsClaimOf terms t s.claim) (unequal x y) (all_unequal xs ys) (h 0 (omega arith) d) rest)
 
 -- the terms of these are joined by what is denied
 joined_all : (t : TableView) (rs : List (Option Term)) (xs ys : List TermId) → length xs ≡ length ys → ((m : Said) → Contains (all_unequal xs ys) m → Contains rs (term_denied (term_said t m))) → AreJoined rs (clause_at t xs) (clause_at t ys)
@@ -112,10 +112,12 @@ module _ (t : TableView) (ts : Truths) (v : ForestState) (f : Facts) (b : IsBasi
     as_many = sym (length-map xs (λ (z : TermId). root (older v.edges k) z.0)) ∙ ap length roots_linked ∙ length-map ys (λ (z : TermId). root (older v.edges k) z.0)
 
     -- so each two are one or linked
-    pub each_linked : (i : ℕ) → i < length xs → AreLinkedOr t v (get_or xs i no_term_id) (get_or ys i no_term_id)
+    pub each_linked : (i : ℕ) → i < length xs → AreLinkedOr (terms_listed t f) t v (get_or xs i no_term_id) (get_or ys i no_term_id)
     each_linked i h = inr (record {
       one = argument_term t ts v f b meet_at.one meet_at.one_there (get_or xs i no_term_id) x_in;
       other = argument_term t ts v f b meet_at.other meet_at.other_there (get_or ys i no_term_id) y_in;
+      one_made = argument_made t ts v f b meet_at.one meet_at.one_there (get_or xs i no_term_id) x_in;
+      other_made = argument_made t ts v f b meet_at.other meet_at.other_there (get_or ys i no_term_id) y_in;
       one_there = All-contains (λ (z : TermId). z.0 < v.terms) meet_at.one.shape.arguments (get_or xs i no_term_id) (All-contains (λ (x : Application). All (λ (z : TermId). z.0 < v.terms) x.shape.arguments) f.listed meet_at.one b.arguments meet_at.one_there) x_in;
       other_there = All-contains (λ (z : TermId). z.0 < v.terms) meet_at.other.shape.arguments (get_or ys i no_term_id) (All-contains (λ (x : Application). All (λ (z : TermId). z.0 < v.terms) x.shape.arguments) f.listed meet_at.other b.arguments meet_at.other_there) y_in;
       linked = (older-linked v.edges k (get_or xs i no_term_id).0 (get_or ys i no_term_id).0 (linked_at (older v.edges k) xs ys no_term_id roots_linked i h)).0;
@@ -136,12 +138,12 @@ module _ (t : TableView) (ts : Truths) (v : ForestState) (f : Facts) (b : IsBasi
       arguments_clause = all_unequal xs ys ++ equal a c ∷ []
 
       -- the clause can be put
-      pub arguments_in : All (λ s. IsClaimIn t s.claim) arguments_clause
-      arguments_in = All-push (λ (s : Said). IsClaimIn t s.claim) (all_unequal xs ys) (equal a c)
-          (unequal_all_in t xs ys (λ i h d. apart i d (each_linked i h)))
-          (subst (IsClaimIn t) says_equal (edge_in t ts v f b k lt))
+      pub arguments_in : All (λ s. IsClaimOf (terms_listed t f) t s.claim) arguments_clause
+      arguments_in = All-push (λ (s : Said). IsClaimOf (terms_listed t f) t s.claim) (all_unequal xs ys) (equal a c)
+          (unequal_all_in (terms_listed t f) t xs ys (λ i h d. apart i d (each_linked i h)))
+          (subst (IsClaimOf (terms_listed t f) t) says_equal (edge_in t ts v f b k lt))
         where
-          apart : (i : ℕ) → (get_or xs i no_term_id).0 ≢ (get_or ys i no_term_id).0 → AreLinkedOr t v (get_or xs i no_term_id) (get_or ys i no_term_id) → IsClaimIn t (Equality (get_or xs i no_term_id) (get_or ys i no_term_id))
+          apart : (i : ℕ) → (get_or xs i no_term_id).0 ≢ (get_or ys i no_term_id).0 → AreLinkedOr (terms_listed t f) t v (get_or xs i no_term_id) (get_or ys i no_term_id) → IsClaimOf (terms_listed t f) t (Equality (get_or xs i no_term_id) (get_or ys i no_term_id))
           apart i d (inl e) = absurd (d e)
           apart i d (inr h) = linked_in t ts v f b (get_or xs i no_term_id) (get_or ys i no_term_id) h
 

@@ -3,6 +3,7 @@ use Rattle.std.proofs.Common.{◌≡◌, ◌≢◌, ℕ, zero, suc, ◌+◌, ◌
 use Rattle.std.proofs.lemmas.Bool.Decides.{nat_tests}
 use Rattle.std.proofs.lemmas.List.{drop_all}
 use Rattle.std.proofs.lemmas.List.Elements.{All-nil, All-cons, All-append}
+use Rattle.spec_sorts.specs.Terms.{Term}
 use Rattle.spec_sorts.specs.Literals.{complement}
 use Rattle.term_core.specs.declared.ids.TermId.{TermId}
 use Rattle.explain_forest.specs.declared.types.Edge.{Edge}
@@ -22,9 +23,9 @@ unequal_same x y e = let test : (x.0 == y.0) ≡ true = grind (arith, nat_tests)
 pub unequal_other : (x y : TermId) → x.0 ≢ y.0 → all_unequal (x ∷ []) (y ∷ []) ≡ unequal x y ∷ []
 unequal_other x y d = let test : (x.0 == y.0) ≡ false = grind (arith, nat_tests) in ap (λ b. if b then [] else unequal x y ∷ []) test
 
-pub linked_apart : (t : TableView) (v : ForestState) (x y : TermId) → x.0 ≢ y.0 → AreLinkedOr t v x y → AreLinkedIn t v x y
-linked_apart t v x y d (inl e) = absurd (d e)
-linked_apart t v x y d (inr h) = h
+pub linked_apart : (terms : List Term) (t : TableView) (v : ForestState) (x y : TermId) → x.0 ≢ y.0 → AreLinkedOr terms t v x y → AreLinkedIn terms t v x y
+linked_apart terms t v x y d (inl e) = absurd (d e)
+linked_apart terms t v x y d (inr h) = h
 
 pub same_pair : (s : Setting) (n : Notes) (x y : TermId) → x.0 ≡ y.0 → TellsPairs s n n (x ∷ []) (y ∷ [])
 same_pair s n x y e = λ k le linked. (grows_none k n, subst (ShowsDenied s k n) (sym (unequal_same x y e)) (All-nil (λ m. Shows s k n (complement (literal_said s.table m)))))

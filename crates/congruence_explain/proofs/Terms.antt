@@ -8,6 +8,7 @@ use Rattle.spec_sorts.proofs.WellSorted.{before, same_sort_itself}
 use Rattle.spec_sorts.specs.Literals.{literal_of, literals_of, complement}
 use Rattle.spec_equality.specs.Reasons.{equal}
 use Rattle.spec_rules.specs.Schemes.{signed}
+use Rattle.spec_derivations.specs.Lemmas.{IsMadeOf, is_negation}
 use Rattle.world_io.specs.declared.bytes.NoMemory.{NoMemory}
 use Rattle.term_core.specs.declared.ids.TermId.{TermId}
 use Rattle.term_core.specs.declared.nodes.Node.{Node}
@@ -22,7 +23,7 @@ use Rattle.clausify.proofs.Parts.{symbols_same, formula_kept, sorted_kept, signe
 use Rattle.congruence_explain.specs.declared.claims.Claim.{Claim}
 use Rattle.congruence_explain.specs.declared.claims.Claim.TheVariants.{Equality, Atom}
 use Rattle.congruence_explain.specs.declared.claims.Said.{Said}
-use Rattle.congruence_explain.specs.Claims.{term_claimed, term_said, literal_said, IsClaimIn}
+use Rattle.congruence_explain.specs.Claims.{term_claimed, term_said, literal_said, IsClaimIn, IsClaimOf}
 
 -- the equality of two terms of one sort is a formula
 pub equality_formula : (symbols : List Symbol) (t u : Term) → IsWellSorted symbols [] t → IsWellSorted symbols [] u → sort_of t ≡ sort_of u → IsFormulaOver symbols (equal t u)
@@ -35,6 +36,18 @@ equality_formula symbols t u t_sorted u_sorted same =
 pub claim_formula : (t : TableView) (c : Claim) → IsClaimIn t c → IsFormulaOver t.symbols (term_claimed t c)
 claim_formula t (Equality a b) h = equality_formula t.symbols (term_at t a) (term_at t b) h.0.1 h.1.1 h.2
 claim_formula t (Atom a) h = h.0.1
+
+-- what is made of some terms is in particular a claim
+pub claims_in : (terms : List Term) (t : TableView) (clause : List Said) → All (λ s. IsClaimOf terms t s.claim) clause → All (λ s. IsClaimIn t s.claim) clause
+claims_in terms t clause h k d lt = (h k d lt).0
+
+-- and so are its literals
+pub said_made : (terms : List Term) (t : TableView) (s : Said) → IsClaimOf terms t s.claim → IsMadeOf terms (term_said t s)
+said_made terms t s h = go s.positive
+  where
+    go : (p : Bool) → IsMadeOf terms (signed p (term_claimed t s.claim))
+    go true = h.1
+    go false = is_negation (term_claimed t s.claim) h.1
 
 -- its terms are of the table's
 term_kept : (t u : TableView) → Widens t u → (id : TermId) → IsTermIn t id → IsTermIn u id

@@ -3,15 +3,16 @@ use Rattle.std.specs.Prelude.{◌≡◌, ◌⊎◌, ◌<◌, ℕ, List, [], All}
 use Rattle.term_core.specs.declared.ids.TermId.{TermId}
 use Rattle.term_core.specs.declared.ids.Lit.{Lit}
 use Rattle.term_core.specs.Tables.{TableView, term_at, IsIn}
-use Rattle.spec_sorts.specs.Terms.{True, False, of}
+use Rattle.spec_sorts.specs.Terms.{True, False, Term, of}
+use Rattle.spec_sorts.specs.Subsets.{IsClosed}
 use Rattle.spec_equality.specs.Reasons.{equal}
+use Rattle.spec_derivations.specs.Lemmas.{IsMadeOf}
 use Rattle.explain_forest.specs.declared.types.Edge.{Edge}
 use Rattle.explain_forest.specs.declared.types.Label.TheVariants.{Arguments}
 use Rattle.explain_forest.specs.Forest.{ForestState, Linked, numbered}
 use Rattle.congruence_relation.specs.declared.Truths.{Truths}
-use Rattle.congruence_relation.specs.declared.Conflict.{Conflict}
-use Rattle.congruence_relation.specs.Relation.{Facts, AreOf}
-use Rattle.congruence_relation.specs.Edges.{AreReasons, IsConflict}
+use Rattle.congruence_relation.specs.Relation.{Facts, AreOf, terms_listed}
+use Rattle.congruence_relation.specs.Edges.{AreReasons}
 use Rattle.proof_log.specs.Theories.{IsTermIn, IsAtomIn}
 
 -- The edges of a forest stand for facts, over terms of a table.
@@ -22,6 +23,8 @@ pub record IsBasis (t : TableView) (ts : Truths) (v : ForestState) (f : Facts) :
   pub facts : AreOf t f
   -- and over its symbols
   pub terms : All (λ x. IsTermIn t x.term) f.listed
+  -- with each its arguments
+  pub closed : IsClosed (terms_listed t f)
   -- the terms of held literals are formulas that are no negations
   pub atoms : All (λ (l : Lit). IsAtomIn t l.term) f.held
   -- each edge has a reason
@@ -31,19 +34,14 @@ pub record IsBasis (t : TableView) (ts : Truths) (v : ForestState) (f : Facts) :
   -- and so are the ends of edges
   pub ends : All (λ e. (e.a.0 < v.terms) × (e.b.0 < v.terms)) v.edges
 
--- it does for some facts
-abbrev pub HasBasis : TableView → Truths → ForestState → Type 0
-HasBasis t ts v = (f : Facts) × IsBasis t ts v f
-
--- it does for some facts, and these have a conflict
-abbrev pub HasConflict : TableView → Truths → ForestState → Conflict → Type 0
-HasConflict t ts v c = (f : Facts) × IsBasis t ts v f × IsConflict f v.edges c
-
--- Two linked terms of a forest, over a table's symbols.
-pub record AreLinkedIn (t : TableView) (v : ForestState) (x y : TermId) : Type 0 where
+-- Two linked terms of a forest, over a table's symbols, made of some.
+pub record AreLinkedIn (terms : List Term) (t : TableView) (v : ForestState) (x y : TermId) : Type 0 where
   -- the terms
   pub one : IsTermIn t x
   pub other : IsTermIn t y
+  -- they are made of these
+  pub one_made : IsMadeOf terms (term_at t x)
+  pub other_made : IsMadeOf terms (term_at t y)
   -- they are the forest's
   pub one_there : x.0 < v.terms
   pub other_there : y.0 < v.terms
@@ -51,8 +49,8 @@ pub record AreLinkedIn (t : TableView) (v : ForestState) (x y : TermId) : Type 0
   pub linked : Linked v.edges x.0 y.0
 
 -- two terms are one, or are linked
-abbrev pub AreLinkedOr : TableView → ForestState → TermId → TermId → Type 0
-AreLinkedOr t v x y = (x.0 ≡ y.0) ⊎ AreLinkedIn t v x y
+abbrev pub AreLinkedOr : List Term → TableView → ForestState → TermId → TermId → Type 0
+AreLinkedOr terms t v x y = (x.0 ≡ y.0) ⊎ AreLinkedIn terms t v x y
 
 -- A term of a table is the equality of two others.
 pub record IsEqualityIn (t : TableView) (e a b : TermId) : Type 0 where
@@ -64,17 +62,19 @@ pub record IsEqualityIn (t : TableView) (e a b : TermId) : Type 0 where
   -- it says that they are equal
   pub is : term_at t e ≡ equal (term_at t a) (term_at t b)
 
--- A formula of a table is the equality of two linked terms.
-pub record HasLinkedSides (t : TableView) (v : ForestState) (e : TermId) : Type 0 where
+-- A formula of a table, made of some terms, is the equality of two linked ones.
+pub record HasLinkedSides (terms : List Term) (t : TableView) (v : ForestState) (e : TermId) : Type 0 where
   -- the formula
   pub atom : IsAtomIn t e
+  -- it is made of these
+  pub made : IsMadeOf terms (term_at t e)
   -- its sides
   pub one : TermId
   pub other : TermId
   -- it says that they are equal
   pub equality : IsEqualityIn t e one other
   -- they are linked
-  pub linked : AreLinkedIn t v one other
+  pub linked : AreLinkedIn terms t v one other
 
 -- the edge of a number is by arguments
 abbrev pub IsByArguments : List Edge → ℕ → Type 0
@@ -89,9 +89,11 @@ pub record AreTruths (t : TableView) (ts : Truths) : Type 0 where
   pub false_term : IsTermIn t ts.false_term
   pub false_is : term_at t ts.false_term ≡ of False []
 
--- A literal of an atom, where there are `true` and `false`.
-pub record IsDecided (t : TableView) (ts : Truths) (l : Lit) : Type 0 where
+-- A literal of an atom, made of some terms, where there are `true` and `false`.
+pub record IsDecided (terms : List Term) (t : TableView) (ts : Truths) (l : Lit) : Type 0 where
   -- the atom
   pub atom : IsAtomIn t l.term
+  -- it is made of these
+  pub made : IsMadeOf terms (term_at t l.term)
   -- the truth values
   pub truths : AreTruths t ts

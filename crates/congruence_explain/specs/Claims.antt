@@ -4,6 +4,7 @@ use Rattle.spec_sorts.specs.Terms.{Term, sort_of}
 use Rattle.spec_sorts.specs.Literals.{Literal}
 use Rattle.spec_equality.specs.Reasons.{equal as equal_terms}
 use Rattle.spec_rules.specs.Schemes.{signed}
+use Rattle.spec_derivations.specs.Lemmas.{IsMadeOf}
 use Rattle.term_core.specs.declared.ids.TermId.{TermId}
 use Rattle.term_core.specs.declared.ids.Lit.{Lit}
 use Rattle.term_core.specs.Tables.{TableView, term_at}
@@ -44,6 +45,10 @@ literal_claimed t c = record { atom = term_claimed t c; positive = true }
 abbrev pub IsClaimIn : TableView → Claim → Type 0
 IsClaimIn t (Equality a b) = IsTermIn t a × IsTermIn t b × (sort_of (term_at t a) ≡ sort_of (term_at t b))
 IsClaimIn t (Atom a) = IsAtomIn t a
+
+-- and is made of these terms
+abbrev pub IsClaimOf : List Term → TableView → Claim → Type 0
+IsClaimOf terms t c = IsClaimIn t c × IsMadeOf terms (term_claimed t c)
 
 -- a formula of the table is this term
 abbrev pub IsPut : TableView → Term → TermId → Type 0

@@ -1,5 +1,6 @@
 -- What the steps of an explanation derive.
 use Rattle.std.specs.Prelude.{◌≡◌, ℕ, ◌+◌, ◌<◌, ◌≤◌, ◌⊎◌, Bool, true, false, not, List, [], ◌∷◌, ◌++◌, map, length, drop, All, Contains, slice_index_or, slice_set}
+use Rattle.spec_sorts.specs.Terms.{Term}
 use Rattle.spec_sorts.specs.Literals.{Literal, literals_of, complement}
 use Rattle.spec_proofs.specs.Resolution.{Derives as Propagates, IsWithin}
 use Rattle.term_core.specs.declared.ids.TermId.{TermId}
@@ -12,12 +13,12 @@ use Rattle.explain_forest.specs.Forest.{ForestState, Linked, numbered, older}
 use Rattle.congruence_relation.specs.declared.Truths.{Truths}
 use Rattle.congruence_relation.specs.declared.Conflict.{Conflict}
 use Rattle.congruence_relation.specs.declared.Conflict.TheVariants as conflicts
-use Rattle.congruence_relation.specs.Relation.{truth_of}
+use Rattle.congruence_relation.specs.Relation.{Facts, truth_of, terms_listed}
 use Rattle.congruence_relation.specs.Edges.{roots}
 use Rattle.proof_log.specs.declared.premises.StepId.{StepId}
 use Rattle.proof_log.specs.Logs.{Logged, named, logged_at}
 use Rattle.proof_log.specs.Clashes.{literals_in}
-use Rattle.proof_log.specs.Theories.{Derived}
+use Rattle.proof_log.specs.Theories.{Derived, Derives}
 use Rattle.congruence_explain.specs.declared.claims.Claim.TheVariants.{Equality}
 use Rattle.congruence_explain.specs.declared.claims.Said.{Said}
 use Rattle.congruence_explain.specs.Claims.{literal_said, literal_claimed, equal, unequal, denied, said_value, edge_says, all_unequal}
@@ -26,16 +27,37 @@ use Rattle.congruence_explain.specs.Claims.{literal_said, literal_claimed, equal
 abbrev pub derived : TableView → List Logged → Derived
 derived t log = record { table = t; log = log }
 
+-- What an explanation begins with: a table with a log of it, and facts over its terms.
+pub record Start : Type 0 where
+  -- the table
+  pub table : TableView
+  -- the log
+  pub log : List Logged
+  -- the facts
+  pub facts : Facts
+
+-- the table with the log
+abbrev pub begun : Start → Derived
+begun start = derived start.table start.log
+
+-- the listed terms, of which the terms of all clauses are made
+abbrev pub spoken : Start → List Term
+spoken start = terms_listed start.table start.facts
+
+-- what came since the start are lemmas
+abbrev pub Explains : Start → Derived → Type 0
+Explains start now = Derives (spoken start) (begun start) now
+
 -- the literals of a logged clause
 abbrev pub literals_logged : TableView → Logged → List Literal
 literals_logged t l = literals_of (clause_at t (named l))
 
 -- the clauses that came since the start
-abbrev pub steps_since : Derived → Derived → List (List Literal)
+abbrev pub steps_since : Start → Derived → List (List Literal)
 steps_since start now = drop (length start.log) (map (literals_logged now.table) now.log)
 
 -- A clause is logged last.
-pub record HasPut (start old new : Derived) (clause : List Literal) (id : StepId) : Type 0 where
+pub record HasPut (start : Start) (old new : Derived) (clause : List Literal) (id : StepId) : Type 0 where
   -- its number
   pub there : id.0 < length new.log
   -- is that of the clause
@@ -66,7 +88,7 @@ pub record Notes : Type 0 where
   pub stated : List Said
 
 -- what is done since the start
-abbrev pub notes : Derived → Derived → List Bool → List Said → Notes
+abbrev pub notes : Start → Derived → List Bool → List Said → Notes
 notes start now needed stated = record { needed = needed; steps = steps_since start now; stated = stated }
 
 -- what the edge of a number says
@@ -189,5 +211,7 @@ others_of (conflicts.Sides e) = said_value e true ∷ []
 pub record AreNumbersFrom (log : List Logged) (from : ℕ) (ids : List StepId) : Type 0 where
   -- each is one of the log's
   pub there : All (λ id. id.0 < length log) ids
+  -- from that number on
+  pub later : All (λ id. from ≤ id.0) ids
   -- and they are all
   pub all : map (logged_at log) ids ≡ drop from log

@@ -1,9 +1,8 @@
 //! The edges that are needed, from the newest down.
 
-ghost use Rattle.std.specs.Prelude.{◌≡◌, ◌≤◌, length, IfOk};
-ghost use Rattle.proof_log.specs.Theories.{Derived, Derives};
-ghost use Rattle.congruence_explain.specs.Basis.{HasBasis, AreLinkedIn};
-ghost use Rattle.congruence_explain.specs.Steps.{derived, setting, steps_since, IsCollected};
+ghost use Rattle.std.specs.Prelude.{◌≡◌, length, IfOk};
+ghost use Rattle.congruence_explain.specs.Basis.{IsBasis, AreLinkedIn};
+ghost use Rattle.congruence_explain.specs.Steps.{Start, derived, spoken, Explains, setting, steps_since, IsCollected};
 
 use crate::claims::Said;
 use crate::edges::turn;
@@ -28,12 +27,12 @@ fn collect_marked(
     y: TermId,
     needed: &mut [bool],
 ) -> Result<Vec<Said>, NoMemory>
-    ghost start: { Derived }
-    requires derives { Derives start (derived table.old log.old) }
-    requires basis { HasBasis start.table truths forest.now.now }
-    requires linked { AreLinkedIn start.table forest.now.now x y }
+    ghost start: { Start }
+    requires derives { Explains start (derived table.old log.old) }
+    requires basis { IsBasis start.table truths forest.now.now start.facts }
+    requires linked { AreLinkedIn (spoken start) start.table forest.now.now x y }
     requires count { length needed.old ≡ length forest.now.now.edges }
-    ensures derives { Derives start (derived table.new log.new) }
+    ensures derives { Explains start (derived table.new log.new) }
     ensures collected { IfOk result (λ stated. IsCollected (setting start.table truths forest.now.now)
         (steps_since start (derived table.new log.new)) x y stated.items) }
 {
@@ -59,11 +58,11 @@ pub(crate) fn collect(
     x: TermId,
     y: TermId,
 ) -> Result<Vec<Said>, NoMemory>
-    ghost start: { Derived }
-    requires derives { Derives start (derived table.old log.old) }
-    requires basis { HasBasis start.table truths forest.now.now }
-    requires linked { AreLinkedIn start.table forest.now.now x y }
-    ensures derives { Derives start (derived table.new log.new) }
+    ghost start: { Start }
+    requires derives { Explains start (derived table.old log.old) }
+    requires basis { IsBasis start.table truths forest.now.now start.facts }
+    requires linked { AreLinkedIn (spoken start) start.table forest.now.now x y }
+    ensures derives { Explains start (derived table.new log.new) }
     ensures collected { IfOk result (λ stated. IsCollected (setting start.table truths forest.now.now)
         (steps_since start (derived table.new log.new)) x y stated.items) }
 {

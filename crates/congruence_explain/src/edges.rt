@@ -7,10 +7,9 @@ ghost use Rattle.explain_forest.specs.declared.types.Edge.{Edge as EdgeView};
 ghost use Rattle.explain_forest.specs.Forest.{numbered};
 ghost use Rattle.congruence_relation.specs.Relation.{truth_of};
 ghost use Rattle.explain_forest.specs.declared.types.Label.TheVariants.{Held};
-ghost use Rattle.proof_log.specs.Theories.{Derived, Derives};
 ghost use Rattle.congruence_explain.specs.Claims.{denied, joins};
-ghost use Rattle.congruence_explain.specs.Basis.{HasBasis, IsDecided, IsByArguments};
-ghost use Rattle.congruence_explain.specs.Steps.{derived, setting, notes, steps_since, decision, TellsEdge, GoesOn};
+ghost use Rattle.congruence_explain.specs.Basis.{IsBasis, IsDecided, IsByArguments};
+ghost use Rattle.congruence_explain.specs.Steps.{Start, derived, spoken, Explains, setting, notes, steps_since, decision, TellsEdge, GoesOn};
 
 use crate::claims::{Said, denial, equality, is_between, truth, value_said};
 use crate::paths::tell_pairs;
@@ -45,13 +44,13 @@ fn tell_arguments(
     k: u64,
     needed: &mut [bool],
 ) -> Result<(), NoMemory>
-    ghost start: { Derived }
-    requires derives { Derives start (derived table.old log.old) }
-    requires basis { HasBasis start.table truths forest.now.now }
+    ghost start: { Start }
+    requires derives { Explains start (derived table.old log.old) }
+    requires basis { IsBasis start.table truths forest.now.now start.facts }
     requires k { k < length forest.now.now.edges }
     requires label { IsByArguments forest.now.now.edges k }
     requires count { length needed.old ≡ length forest.now.now.edges }
-    ensures derives { Derives start (derived table.new log.new) }
+    ensures derives { Explains start (derived table.new log.new) }
     ensures count { length needed.new ≡ length needed.old }
     ensures told { OnOk result (TellsEdge (setting start.table truths forest.now.now) k
         (notes start (derived table.old log.old) needed.old [])
@@ -77,10 +76,10 @@ fn tell_decided(
     truths: Truths,
     l: Lit,
 ) -> Result<(), NoMemory>
-    ghost start: { Derived }
-    requires derives { Derives start (derived table.old log.old) }
-    requires decided { IsDecided start.table truths l }
-    ensures derives { Derives start (derived table.new log.new) }
+    ghost start: { Start }
+    requires derives { Explains start (derived table.old log.old) }
+    requires decided { IsDecided (spoken start) start.table truths l }
+    ensures derives { Explains start (derived table.new log.new) }
     ensures steps { OnOk result (steps_since start (derived table.new log.new)
         ≡ steps_since start (derived table.old log.old) ++ decision start.table truths l) }
 {
@@ -108,12 +107,12 @@ fn tell_held(
     l: Lit,
     stated: &mut Vec<Said>,
 ) -> Result<(), NoMemory>
-    ghost start: { Derived }
-    requires derives { Derives start (derived table.old log.old) }
-    requires decided { IsDecided start.table truths l }
+    ghost start: { Start }
+    requires derives { Explains start (derived table.old log.old) }
+    requires decided { IsDecided (spoken start) start.table truths l }
     requires label { edge.label ≡ Held l }
     requires positive { joins edge.a edge.b l.term (truth_of truths l.positive) ≡ false → l.positive ≡ true }
-    ensures derives { Derives start (derived table.new log.new) }
+    ensures derives { Explains start (derived table.new log.new) }
     ensures stated { OnOk result (stated.new.items ≡ stated.old.items ++ denied l ∷ []) }
     ensures told { OnOk result ((es : List EdgeView) (k : ℕ) (needed : List Bool) → numbered es k ≡ edge
         → TellsEdge (record { table = start.table; truths = truths; edges = es }) k
@@ -139,12 +138,12 @@ pub(crate) fn turn(
     needed: &mut [bool],
     stated: &mut Vec<Said>,
 ) -> Result<(), NoMemory>
-    ghost start: { Derived }
-    requires derives { Derives start (derived table.old log.old) }
-    requires basis { HasBasis start.table truths forest.now.now }
+    ghost start: { Start }
+    requires derives { Explains start (derived table.old log.old) }
+    requires basis { IsBasis start.table truths forest.now.now start.facts }
     requires k { k < length forest.now.now.edges }
     requires count { length needed.old ≡ length forest.now.now.edges }
-    ensures derives { Derives start (derived table.new log.new) }
+    ensures derives { Explains start (derived table.new log.new) }
     ensures count { length needed.new ≡ length needed.old }
     ensures on { OnOk result (GoesOn (setting start.table truths forest.now.now) k
         (notes start (derived table.old log.old) needed.old stated.old.items)

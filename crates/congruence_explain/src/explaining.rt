@@ -1,14 +1,14 @@
 //! The clause of a conflict.
 
 ghost use Rattle.std.specs.Prelude.{◌≡◌, ◌≤◌, true, [], ◌∷◌, ◌++◌, length, IfOk, OnOk, OnErr};
-ghost use Rattle.congruence_relation.specs.Relation.{Facts};
+ghost use Rattle.congruence_relation.specs.Relation.{Facts, terms_listed};
 ghost use Rattle.congruence_relation.specs.Edges.{IsConflict};
 ghost use Rattle.proof_log.specs.Logs.{IsLogOf};
 ghost use Rattle.proof_log.specs.Clashes.{IsClash};
-ghost use Rattle.proof_log.specs.Theories.{Derived, Derives};
+ghost use Rattle.proof_log.specs.Theories.{Derives};
 ghost use Rattle.congruence_explain.specs.Claims.{said_value};
-ghost use Rattle.congruence_explain.specs.Basis.{IsBasis, HasBasis, HasConflict, AreLinkedIn, IsEqualityIn, HasLinkedSides, AreTruths};
-ghost use Rattle.congruence_explain.specs.Steps.{derived, setting, steps_since, AreNumbersFrom, IsExplained, others_of, apart};
+ghost use Rattle.congruence_explain.specs.Basis.{IsBasis, AreLinkedIn, IsEqualityIn, HasLinkedSides, AreTruths};
+ghost use Rattle.congruence_explain.specs.Steps.{Start, derived, begun, spoken, Explains, setting, steps_since, AreNumbersFrom, IsExplained, others_of, apart};
 ghost use Rattle.term_core.specs.declared.ids.TermId.{TermId as Number};
 
 use crate::claims::{unequality, value_said};
@@ -51,12 +51,12 @@ fn explain_sides(
     truths: Truths,
     e: TermId,
 ) -> Result<StepId, NoMemory>
-    ghost start: { Derived }
-    requires start { start ≡ derived table.old log.old }
+    ghost start: { Start }
+    requires start { begun start ≡ derived table.old log.old }
     requires log { IsLogOf table.old log.old }
-    requires basis { HasBasis start.table truths forest.now.now }
-    requires sides { HasLinkedSides start.table forest.now.now e }
-    ensures derives { Derives start (derived table.new log.new) }
+    requires basis { IsBasis start.table truths forest.now.now start.facts }
+    requires sides { HasLinkedSides (spoken start) start.table forest.now.now e }
+    ensures derives { Explains start (derived table.new log.new) }
     ensures step { IfOk result (IsExplained (setting start.table truths forest.now.now) (derived table.new log.new)
         (said_value e true ∷ [])) }
 {
@@ -76,10 +76,10 @@ fn tell_apart(
     log: &mut ProofLog,
     truths: Truths,
 ) -> Result<(), NoMemory>
-    ghost start: { Derived }
-    requires derives { Derives start (derived table.old log.old) }
+    ghost start: { Start }
+    requires derives { Explains start (derived table.old log.old) }
     requires truths { AreTruths start.table truths }
-    ensures derives { Derives start (derived table.new log.new) }
+    ensures derives { Explains start (derived table.new log.new) }
     ensures steps { OnOk result (steps_since start (derived table.new log.new)
         ≡ steps_since start (derived table.old log.old) ++ apart start.table truths) }
 {
@@ -104,13 +104,13 @@ fn explain_truths(
     forest: &Forest,
     truths: Truths,
 ) -> Result<StepId, NoMemory>
-    ghost start: { Derived }
-    requires start { start ≡ derived table.old log.old }
+    ghost start: { Start }
+    requires start { begun start ≡ derived table.old log.old }
     requires log { IsLogOf table.old log.old }
-    requires basis { HasBasis start.table truths forest.now.now }
+    requires basis { IsBasis start.table truths forest.now.now start.facts }
     requires truths { AreTruths start.table truths }
-    requires linked { AreLinkedIn start.table forest.now.now truths.true_term truths.false_term }
-    ensures derives { Derives start (derived table.new log.new) }
+    requires linked { AreLinkedIn (spoken start) start.table forest.now.now truths.true_term truths.false_term }
+    ensures derives { Explains start (derived table.new log.new) }
     ensures step { IfOk result (IsExplained (setting start.table truths forest.now.now) (derived table.new log.new)
         []) }
 {
@@ -138,9 +138,11 @@ fn explained(
     truths: Truths,
     conflict: Conflict,
 ) -> Result<StepId, NoMemory>
+    ghost facts: { Facts }
     requires log { IsLogOf table.old log.old }
-    requires conflict { HasConflict table.old truths forest.now.now conflict }
-    ensures derives { Derives (derived table.old log.old) (derived table.new log.new) }
+    requires basis { IsBasis table.old truths forest.now.now facts }
+    requires conflict { IsConflict facts forest.now.now.edges conflict }
+    ensures derives { Derives (terms_listed table.old facts) (derived table.old log.old) (derived table.new log.new) }
     ensures step { IfOk result (IsExplained (setting table.old truths forest.now.now) (derived table.new log.new)
         (others_of conflict)) }
 {
@@ -158,10 +160,11 @@ fn explained(
 /// It tells the path between the two terms, and why each edge is there that is needed. A held literal is denied in the last clause. Terms
 /// with one head are equal by `eq_congruent`, and their arguments by `eq_transitive`, where a path is more than an edge that says so.
 /// The last clause follows from exactly these steps, by `resolution`. No step is judged as it is logged. Equalities and negations that
-/// the clauses need come into the table.
+/// the clauses need come into the table. All steps that come are lemmas: they rest on each other alone, and speak of terms made of
+/// the listed ones.
 ///
-/// Conditions: the log is right over the table, and for some facts the edges of the forest stand and there is the conflict. What is
-/// ensured is so for all such facts.
+/// Conditions: the log is right over the table, the edges of the forest stand for the facts, and these have the conflict. With each
+/// listed term its arguments are listed.
 ///
 /// It takes time and memory in proportion to the edges of the forest, the paths that it tells, and the arguments of the applications on
 /// them. `NoMemory` comes where a list, a term or a step finds no memory; then table and log are as they were.
@@ -174,11 +177,13 @@ pub fn explain(
     truths: Truths,
     conflict: Conflict,
 ) -> Result<StepId, NoMemory>
+    ghost facts: { Facts }
     requires log { IsLogOf table.old log.old }
-    requires conflict { HasConflict table.old truths forest.now.now conflict }
-    ensures derives { OnOk result (Derives (derived table.old log.old) (derived table.new log.new)) }
-    ensures clash { IfOk result (λ step. (f : Facts) → IsBasis table.old truths forest.now.now f
-        → IsConflict f forest.now.now.edges conflict → IsClash table.new log.new f.held step) }
+    requires basis { IsBasis table.old truths forest.now.now facts }
+    requires conflict { IsConflict facts forest.now.now.edges conflict }
+    ensures derives { OnOk result
+        (Derives (terms_listed table.old facts) (derived table.old log.old) (derived table.new log.new)) }
+    ensures clash { IfOk result (IsClash table.new log.new facts.held) }
     ensures same { OnErr result ((table.new ≡ table.old) × (log.new ≡ log.old)) }
 {
     let terms = table.len();

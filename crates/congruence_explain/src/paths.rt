@@ -3,10 +3,9 @@
 ghost use Rattle.std.specs.Prelude.{◌≡◌, ℕ, ◌<◌, true, [], ◌∷◌, ◌++◌, map, length, get_or, All, IfOk, OnOk};
 ghost use Rattle.spec_equality.specs.Reasons.{equal as equal_terms};
 ghost use Rattle.term_core.specs.Tables.{term_at, IsIn};
-ghost use Rattle.proof_log.specs.Theories.{Derived, Derives};
 ghost use Rattle.congruence_explain.specs.Claims.{IsClaimIn, IsOneEquality, denied_step, all_unequal, no_term_id};
-ghost use Rattle.congruence_explain.specs.Basis.{HasBasis, AreLinkedIn, AreLinkedOr};
-ghost use Rattle.congruence_explain.specs.Steps.{derived, setting, notes, marked, edges_on, TellsPair, TellsPairs};
+ghost use Rattle.congruence_explain.specs.Basis.{IsBasis, AreLinkedIn, AreLinkedOr};
+ghost use Rattle.congruence_explain.specs.Steps.{Start, derived, spoken, Explains, setting, notes, marked, edges_on, TellsPair, TellsPairs};
 
 use crate::claims::{Claim, Said, claim_of, equality, unequality};
 use crate::putting::put_alone;
@@ -80,12 +79,12 @@ pub(crate) fn tell(
     y: TermId,
     needed: &mut [bool],
 ) -> Result<(), NoMemory>
-    ghost start: { Derived }
-    requires derives { Derives start (derived table.old log.old) }
-    requires basis { HasBasis start.table truths forest.now.now }
-    requires linked { AreLinkedIn start.table forest.now.now x y }
+    ghost start: { Start }
+    requires derives { Explains start (derived table.old log.old) }
+    requires basis { IsBasis start.table truths forest.now.now start.facts }
+    requires linked { AreLinkedIn (spoken start) start.table forest.now.now x y }
     requires count { length needed.old ≡ length forest.now.now.edges }
-    ensures derives { Derives start (derived table.new log.new) }
+    ensures derives { Explains start (derived table.new log.new) }
     ensures count { length needed.new ≡ length needed.old }
     ensures told { OnOk result (TellsPair (setting start.table truths forest.now.now)
         (notes start (derived table.old log.old) needed.old [])
@@ -114,12 +113,12 @@ fn tell_pair(
     needed: &mut [bool],
     clause: &mut Vec<Said>,
 ) -> Result<(), NoMemory>
-    ghost start: { Derived }
-    requires derives { Derives start (derived table.old log.old) }
-    requires basis { HasBasis start.table truths forest.now.now }
-    requires linked { AreLinkedOr start.table forest.now.now x y }
+    ghost start: { Start }
+    requires derives { Explains start (derived table.old log.old) }
+    requires basis { IsBasis start.table truths forest.now.now start.facts }
+    requires linked { AreLinkedOr (spoken start) start.table forest.now.now x y }
     requires count { length needed.old ≡ length forest.now.now.edges }
-    ensures derives { Derives start (derived table.new log.new) }
+    ensures derives { Explains start (derived table.new log.new) }
     ensures count { length needed.new ≡ length needed.old }
     ensures clause { OnOk result (clause.new.items ≡ clause.old.items ++ all_unequal (x ∷ []) (y ∷ [])) }
     ensures told { OnOk result (TellsPairs (setting start.table truths forest.now.now)
@@ -145,14 +144,14 @@ pub(crate) fn tell_pairs(
     ys: &[TermId],
     needed: &mut [bool],
 ) -> Result<Vec<Said>, NoMemory>
-    ghost start: { Derived }
-    requires derives { Derives start (derived table.old log.old) }
-    requires basis { HasBasis start.table truths forest.now.now }
+    ghost start: { Start }
+    requires derives { Explains start (derived table.old log.old) }
+    requires basis { IsBasis start.table truths forest.now.now start.facts }
     requires lengths { length xs.now ≡ length ys.now }
-    requires linked { (i : ℕ) → i < length xs.now → AreLinkedOr start.table forest.now.now
+    requires linked { (i : ℕ) → i < length xs.now → AreLinkedOr (spoken start) start.table forest.now.now
         (get_or xs.now i no_term_id) (get_or ys.now i no_term_id) }
     requires count { length needed.old ≡ length forest.now.now.edges }
-    ensures derives { Derives start (derived table.new log.new) }
+    ensures derives { Explains start (derived table.new log.new) }
     ensures count { length needed.new ≡ length needed.old }
     ensures clause { IfOk result (λ c. c.items ≡ all_unequal xs.now ys.now) }
     ensures told { OnOk result (TellsPairs (setting start.table truths forest.now.now)

@@ -1,16 +1,15 @@
 //! Steps of the log, whose terms are put with them.
 
-ghost use Rattle.std.specs.Prelude.{◌≡◌, List, [], map, All, IfOk};
+ghost use Rattle.std.specs.Prelude.{◌≡◌, ◌≤◌, [], length, map, All, IfOk};
 ghost use Rattle.spec_text.specs.Trees.{none};
 ghost use Rattle.spec_rules.specs.Rules.{IsRight};
 ghost use Rattle.spec_rules.specs.Schemes.{signed};
 ghost use Rattle.spec_derivations.specs.Derivations.{by_rule, FollowsFrom};
 ghost use Rattle.term_core.specs.Tables.{term_at, clause_at};
-ghost use Rattle.proof_log.specs.Logs.{IsFormulaIn, AreFormulasIn, numbers_of, derivation_in, IsLogOf};
-ghost use Rattle.proof_log.specs.Theories.{Derived, Derives};
+ghost use Rattle.proof_log.specs.Logs.{IsFormulaIn, AreFormulasIn, numbers_of, derivation_in};
 ghost use Rattle.clausify.specs.Stating.{Widens};
-ghost use Rattle.congruence_explain.specs.Claims.{IsClaimIn, IsPut, term_claimed, term_said, literal_said};
-ghost use Rattle.congruence_explain.specs.Steps.{derived, HasPut};
+ghost use Rattle.congruence_explain.specs.Claims.{IsClaimIn, IsClaimOf, IsPut, term_claimed, term_said, literal_said};
+ghost use Rattle.congruence_explain.specs.Steps.{Start, derived, spoken, Explains, HasPut};
 
 use crate::claims::{Claim, Said};
 use proof_log::{Clause, Numbers, ProofLog, Rule, Step, StepId, StepIds};
@@ -76,7 +75,7 @@ fn terms_of(alloc: Global, table: &mut TermTable, clause: &[Said]) -> Result<Vec
     Ok(terms)
 }
 
-/// Logs a clause that follows by a rule from premises, and gives the step's number.
+/// Logs a clause that follows by a rule from premises that came since the start, and gives the step's number.
 ///
 /// `NoMemory` comes where a term or the step finds no memory. Then the table may have more terms.
 pub(crate) fn put(
@@ -87,12 +86,13 @@ pub(crate) fn put(
     premises: Vec<StepId>,
     clause: &[Said],
 ) -> Result<StepId, NoMemory>
-    ghost start: { Derived }
-    requires derives { Derives start (derived table.old log.old) }
-    requires clause { All (λ s. IsClaimIn start.table s.claim) clause.now }
+    ghost start: { Start }
+    requires derives { Explains start (derived table.old log.old) }
+    requires clause { All (λ s. IsClaimOf (spoken start) start.table s.claim) clause.now }
     requires follows { FollowsFrom (derivation_in table.old log.old)
         (by_rule rule (numbers_of premises.items) none (map (term_said start.table) clause.now)) }
-    ensures derives { Derives start (derived table.new log.new) }
+    requires since { All (λ p. length start.log ≤ p.0) premises.items }
+    ensures derives { Explains start (derived table.new log.new) }
     ensures put { IfOk result (HasPut start (derived table.old log.old) (derived table.new log.new)
         (map (literal_said start.table) clause.now)) }
 {
@@ -114,11 +114,11 @@ pub(crate) fn put_alone(
     rule: Rule,
     clause: &[Said],
 ) -> Result<StepId, NoMemory>
-    ghost start: { Derived }
-    requires derives { Derives start (derived table.old log.old) }
-    requires clause { All (λ s. IsClaimIn start.table s.claim) clause.now }
+    ghost start: { Start }
+    requires derives { Explains start (derived table.old log.old) }
+    requires clause { All (λ s. IsClaimOf (spoken start) start.table s.claim) clause.now }
     requires right { IsRight rule [] none (map (term_said start.table) clause.now) }
-    ensures derives { Derives start (derived table.new log.new) }
+    ensures derives { Explains start (derived table.new log.new) }
     ensures put { IfOk result (HasPut start (derived table.old log.old) (derived table.new log.new)
         (map (literal_said start.table) clause.now)) }
 {

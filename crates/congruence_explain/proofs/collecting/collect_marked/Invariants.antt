@@ -1,9 +1,8 @@
 -- The start is the same, and all edges but the oldest are explained.
 use Rattle.std.proofs.Common.{◌≡◌, ◌≤◌, length}
-use Rattle.proof_log.specs.Theories.{Derives}
 use Rattle.congruence_explain.specs.declared.claims.Claim.TheVariants.{Equality}
 use Rattle.congruence_explain.specs.Claims.{literal_claimed}
-use Rattle.congruence_explain.specs.Steps.{derived, setting, notes, Going}
+use Rattle.congruence_explain.specs.Steps.{derived, Explains, setting, notes, Going}
 use Rattle.congruence_explain.proofs.collecting.collect_marked.Given as goal
 
 abbrev pub ghost-tell : goal.ghost-tell
@@ -14,7 +13,7 @@ ghost-turn g a = g.start
 
 abbrev pub invariant-edges : goal.invariant-edges
 invariant-edges g l = record {
-  derives : Derives g.start (derived l.table l.log);
+  derives : Explains g.start (derived l.table l.log);
   within : l.k ≤ length l.forest.now.edges;
   count : length l.needed ≡ length l.forest.now.edges;
   going : Going (setting g.start.table l.truths l.forest.now) l.k (literal_claimed g.start.table (Equality l.fn.x l.fn.y)) (notes g.start (derived l.table l.log) l.needed l.stated.items);

@@ -5,8 +5,8 @@ use Rattle.spec_text.specs.Trees.{none}
 use Rattle.spec_rules.specs.Rules.{IsRight}
 use Rattle.congruence_explain.specs.declared.claims.Said.{Said}
 use Rattle.congruence_explain.specs.Rules.{arguments_rule}
-use Rattle.congruence_explain.specs.Claims.{IsClaimIn, term_said, literal_said, equal, all_unequal}
-use Rattle.congruence_explain.specs.Steps.{derived, steps_since}
+use Rattle.congruence_explain.specs.Claims.{IsClaimOf, term_said, literal_said, equal, all_unequal}
+use Rattle.congruence_explain.specs.Steps.{derived, spoken, steps_since}
 use Rattle.congruence_explain.proofs.Meeting.{meet_at, ends_in, arguments_same, as_many, each_linked, arguments_in, arguments_right, arguments_shown}
 use Rattle.congruence_explain.proofs.edges.tell_arguments.Goals as goal
 
@@ -16,8 +16,8 @@ arguments_of-requires g c =
     let ts = c.args.truths in
     let v = c.args.forest.now.now in
     let k = c.args.k in
-    let f = c.requires.1.0.0 in
-    let b = c.requires.1.0.1 in
+    let f = g.start.facts in
+    let b = c.requires.1.0 in
     let lt = c.requires.1.1.0 in
     let label = c.requires.1.1.1.0 in
     let a_is = ap (λ e. e.a) c.edge-edge.ensures in
@@ -30,8 +30,8 @@ arguments_of-requires-2 g c =
     let ts = c.args.truths in
     let v = c.args.forest.now.now in
     let k = c.args.k in
-    let f = c.requires.1.0.0 in
-    let b = c.requires.1.0.1 in
+    let f = g.start.facts in
+    let b = c.requires.1.0 in
     let lt = c.requires.1.1.0 in
     let label = c.requires.1.1.1.0 in
     let a_is = ap (λ e. e.a) c.edge-edge.ensures in
@@ -44,8 +44,8 @@ tell_pairs-requires g c =
     let ts = c.args.truths in
     let v = c.args.forest.now.now in
     let k = c.args.k in
-    let f = c.requires.1.0.0 in
-    let b = c.requires.1.0.1 in
+    let f = g.start.facts in
+    let b = c.requires.1.0 in
     let lt = c.requires.1.1.0 in
     let label = c.requires.1.1.1.0 in
     let a_is = ap (λ e. e.a) c.edge-edge.ensures in
@@ -65,8 +65,8 @@ put_alone-requires g c =
     let ts = c.args.truths in
     let v = c.args.forest.now.now in
     let k = c.args.k in
-    let f = c.requires.1.0.0 in
-    let b = c.requires.1.0.1 in
+    let f = g.start.facts in
+    let b = c.requires.1.0 in
     let lt = c.requires.1.1.0 in
     let label = c.requires.1.1.1.0 in
     let a_is = ap (λ e. e.a) c.edge-edge.ensures in
@@ -85,7 +85,7 @@ put_alone-requires g c =
     let rule : c.rule_of_arguments.result ≡ arguments_rule xs = c.rule_of_arguments.ensures ∙ ap arguments_rule (c.deref-3.ensures.value ∙ sym c.deref.ensures.value) in (
       c.tell_pairs.ensures.derives,
       (
-        subst (λ (ss : List Said). All (λ s. IsClaimIn t s.claim) ss) (sym whole) (arguments_in t ts v f b k lt label xs ys xs_are ys_are x y a_is b_is),
+        subst (λ (ss : List Said). All (λ s. IsClaimOf (spoken g.start) t s.claim) ss) (sym whole) (arguments_in t ts v f b k lt label xs ys xs_are ys_are x y a_is b_is),
         subst (λ (ss : List Said). IsRight c.rule_of_arguments.result [] none (map (term_said t) ss)) (sym whole)
             (subst (λ r. IsRight r [] none (map (term_said t) (all_unequal xs ys ++ equal x y ∷ []))) (sym rule) (arguments_right t ts v f b k lt label xs ys xs_are ys_are x y a_is b_is)),
       ),
@@ -97,8 +97,8 @@ returns-clause-told g c =
     let ts = c.args.truths in
     let v = c.args.forest.now.now in
     let k = c.args.k in
-    let f = c.requires.1.0.0 in
-    let b = c.requires.1.0.1 in
+    let f = g.start.facts in
+    let b = c.requires.1.0 in
     let lt = c.requires.1.1.0 in
     let label = c.requires.1.1.1.0 in
     let a_is = ap (λ e. e.a) c.edge-edge.ensures in

@@ -12,13 +12,13 @@ returns-then-not-needed-k-clause-on g c =
 
 pub tell_arguments-requires : goal.tell_arguments-requires
 tell_arguments-requires g c =
-    let label = by_arguments g.start.table c.args.truths c.args.forest.now.now c.requires.1.0.0 c.requires.1.0.1 c.args.k c.requires.1.1.0 c.edge-edge.result c.edge-edge.ensures c.in-Arguments.field-0 c.in-Arguments.field-1 c.in-Arguments.is in
+    let label = by_arguments g.start.table c.args.truths c.args.forest.now.now g.start.facts c.requires.1.0 c.args.k c.requires.1.1.0 c.edge-edge.result c.edge-edge.ensures c.in-Arguments.field-0 c.in-Arguments.field-1 c.in-Arguments.is in
     (c.requires.0, (c.requires.1.0, (c.requires.1.1.0, (label, c.requires.1.1.1))))
 
 pub tell_held-requires : goal.tell_held-requires
 tell_held-requires g c =
-    let decided = held_decided g.start.table c.args.truths c.args.forest.now.now c.requires.1.0.0 c.requires.1.0.1 c.args.k c.requires.1.1.0 c.edge-edge.result c.edge-edge.ensures c.in-Held.l c.in-Held.is in
-    let positive = held_positive g.start.table c.args.truths c.args.forest.now.now c.requires.1.0.0 c.requires.1.0.1 c.args.k c.requires.1.1.0 c.edge-edge.result c.edge-edge.ensures c.in-Held.l c.in-Held.is in
+    let decided = held_decided g.start.table c.args.truths c.args.forest.now.now g.start.facts c.requires.1.0 c.args.k c.requires.1.1.0 c.edge-edge.result c.edge-edge.ensures c.in-Held.l c.in-Held.is in
+    let positive = held_positive g.start.table c.args.truths c.args.forest.now.now g.start.facts c.requires.1.0 c.args.k c.requires.1.1.0 c.edge-edge.result c.edge-edge.ensures c.in-Held.l c.in-Held.is in
     (c.requires.0, (decided, (c.in-Held.is, positive)))
 
 pub returns-in_ok-tell_arguments-in-Arguments-clause-on : goal.returns-in_ok-tell_arguments-in-Arguments-clause-on

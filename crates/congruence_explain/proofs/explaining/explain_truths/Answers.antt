@@ -4,9 +4,9 @@ use Rattle.std.specs.Prelude.{All}
 use Rattle.spec_sorts.specs.Literals.{complement}
 use Rattle.spec_proofs.specs.Resolution.{Conflicts}
 use Rattle.congruence_explain.specs.declared.claims.Said.{Said}
-use Rattle.congruence_explain.specs.Claims.{IsClaimIn}
-use Rattle.congruence_explain.specs.Steps.{derived, setting, steps_since, all_denied, IsDenial}
-use Rattle.congruence_explain.proofs.Concluding.{start_derives, start_length, denials_in, resolution_follows, truths_conflict, explained_put, each_denied}
+use Rattle.congruence_explain.specs.Claims.{IsClaimOf}
+use Rattle.congruence_explain.specs.Steps.{derived, spoken, setting, steps_since, all_denied, IsDenial}
+use Rattle.congruence_explain.proofs.Concluding.{start_derives, start_length, denials_in, premises_since, resolution_follows, truths_conflict, explained_put, each_denied}
 use Rattle.congruence_explain.proofs.explaining.explain_truths.Goals as goal
 
 pub collect-requires : goal.collect-requires
@@ -17,21 +17,23 @@ put-requires g c =
     let t = g.start.table in
     let ts = c.args.truths in
     let v = c.args.forest.now.now in
-    let f = c.requires.1.1.0.0 in
-    let b = c.requires.1.1.0.1 in
+    let b = c.requires.1.1.0 in
     let u = c.tell_apart.new.table in
     let log = c.tell_apart.new.log in
     let stated = c.in_ok-stated.stated.items in
     let collected = c.in_ok-stated.ensures.collected in
     let whole : c.deref.result.now ≡ stated = c.deref.ensures.value in
-    let claims = subst (λ (ss : List Said). All (λ s. IsClaimIn t s.claim) ss) (sym whole) (denials_in t ts v f b stated collected.held) in
+    let claims = subst (λ (ss : List Said). All (λ s. IsClaimOf (spoken g.start) t s.claim) ss) (sym whole) (denials_in t ts v g.start.facts b stated collected.held) in
+    let from_is = start_length g.start c.args.table.now c.args.log.now c.requires.0 c.requires.1.0 c.len-from.result c.len-from.ensures in
     let s = setting t ts v in
     let conflict = truths_conflict s (steps_since g.start (derived c.collect.new.table c.collect.new.log)) (steps_since g.start (derived u log)) stated collected c.in_ok-tell_apart.ensures.steps in (
       c.tell_apart.ensures.derives,
       (
         claims,
-        resolution_follows g.start u log c.len-from.result c.in_ok-premises.premises.items c.deref.result.now (start_length g.start c.args.table.now c.args.log.now c.requires.0 c.requires.1.0 c.len-from.result c.len-from.ensures)
-            c.in_ok-premises.ensures claims (subst (λ (ss : List Said). Conflicts complement (steps_since g.start (derived u log)) (all_denied t ss)) (sym whole) conflict),
+        (
+          resolution_follows g.start u log c.len-from.result c.in_ok-premises.premises.items c.deref.result.now from_is c.in_ok-premises.ensures claims (subst (λ (ss : List Said). Conflicts complement (steps_since g.start (derived u log)) (all_denied t ss)) (sym whole) conflict),
+          premises_since g.start log c.len-from.result c.in_ok-premises.premises.items from_is c.in_ok-premises.ensures,
+        ),
       ),
     )
 

@@ -1,5 +1,5 @@
 -- That the one literal is of the equality.
-use Rattle.std.proofs.Common.{◌≡◌, true, false, ap}
+use Rattle.std.proofs.Common.{◌≡◌, true}
 use Rattle.std.proofs.lemmas.Bool.Decides.{nat_tests}
 use Rattle.spec_equality.specs.Reasons.{equal}
 use Rattle.term_core.specs.Tables.{term_at}

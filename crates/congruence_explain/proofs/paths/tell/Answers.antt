@@ -6,8 +6,9 @@ use Rattle.spec_rules.specs.Rules.{IsRight}
 use Rattle.explain_forest.specs.Forest.{path}
 use Rattle.clausify.proofs.Arguments.{Widens-self}
 use Rattle.congruence_explain.specs.declared.claims.Said.{Said}
-use Rattle.congruence_explain.specs.Claims.{IsOneEquality, IsClaimIn, term_said, literal_said, denied_step}
-use Rattle.congruence_explain.specs.Steps.{derived, setting, steps_since, marked, edges_on}
+use Rattle.congruence_explain.specs.Claims.{IsOneEquality, IsClaimIn, IsClaimOf, term_said, literal_said, denied_step}
+use Rattle.congruence_explain.specs.Steps.{derived, spoken, setting, steps_since, marked, edges_on}
+use Rattle.congruence_explain.proofs.Terms.{claims_in}
 use Rattle.congruence_explain.proofs.Logging.{start_wide, claims_wide}
 use Rattle.congruence_explain.proofs.Along.{path_clause, steps_in, path_in, path_right, tells_path, one_equality_back, tells_edge_alone}
 use Rattle.congruence_explain.proofs.paths.tell.Goals as goal
@@ -22,11 +23,11 @@ put_alone-requires g c =
     let told = c.deref.ensures.value ∙ c.in_ok-path.ensures in
     let whole : c.deref-3.result.now ≡ path_clause ts (path v.edges x.0 y.0) x y =
     c.deref-3.ensures.value ∙ c.in_ok-push.ensures.items ∙ (λ i. (c.in_ok-clause.ensures.clause ∙ ap (map (denied_step ts)) told) i ++ c.equality.ensures i ∷ []) in
-    let f = c.requires.1.0.0 in
-    let b = c.requires.1.0.1 in (
+    let f = g.start.facts in
+    let b = c.requires.1.0 in (
       c.requires.0,
       (
-        subst (λ (ss : List Said). All (λ s. IsClaimIn t s.claim) ss) (sym whole) (path_in t ts v f b x y c.requires.1.1.0),
+        subst (λ (ss : List Said). All (λ s. IsClaimOf (spoken g.start) t s.claim) ss) (sym whole) (path_in t ts v f b x y c.requires.1.1.0),
         subst (λ (ss : List Said). IsRight c.rule_of_path.result [] none (map (term_said t) ss)) (sym whole)
             (subst (λ r. IsRight r [] none (map (term_said t) (path_clause ts (path v.edges x.0 y.0) x y))) (sym c.rule_of_path.ensures) (path_right t ts v f b x y c.requires.1.1.0)),
       ),
@@ -56,7 +57,7 @@ is_said-requires g c =
     let v = c.args.forest.now.now in
     let whole : c.deref-2.result.now ≡ map (denied_step ts) (path v.edges c.args.x.0 c.args.y.0) =
     c.deref-2.ensures.value ∙ c.in_ok-clause.ensures.clause ∙ ap (map (denied_step ts)) (c.deref.ensures.value ∙ c.in_ok-path.ensures) in
-    let claims = claims_wide g.start u u c.args.log.now c.requires.0 (Widens-self u) (map (denied_step ts) (path v.edges c.args.x.0 c.args.y.0)) (steps_in t ts v c.requires.1.0.0 c.requires.1.0.1 c.args.x c.args.y) in
+    let claims = claims_wide g.start u u c.args.log.now c.requires.0 (Widens-self u) (map (denied_step ts) (path v.edges c.args.x.0 c.args.y.0)) (steps_in t ts v g.start.facts c.requires.1.0 c.args.x c.args.y) in
     subst (λ (ss : List Said). All (λ s. IsClaimIn u s.claim) ss) (sym whole) claims
 
 pub returns-then-is_said-clause-told : goal.returns-then-is_said-clause-told
@@ -71,7 +72,7 @@ returns-then-is_said-clause-told g c =
     let told = c.deref.ensures.value ∙ c.in_ok-path.ensures in
     let whole : c.deref-2.result.now ≡ steps = c.deref-2.ensures.value ∙ c.in_ok-clause.ensures.clause ∙ ap (map (denied_step ts)) told in
     let q = subst (λ (ss : List Said). IsOneEquality u ss x y) whole (c.is_said.ensures c.if-is_said.true) in
-    let says_so = one_equality_back t u (start_wide g.start u c.args.log.now c.requires.0) steps (steps_in t ts v c.requires.1.0.0 c.requires.1.0.1 x y) x y c.requires.1.1.0.one.0 c.requires.1.1.0.other.0 q in
+    let says_so = one_equality_back t u (start_wide g.start u c.args.log.now c.requires.0) steps (claims_in (spoken g.start) t steps (steps_in t ts v g.start.facts c.requires.1.0 x y)) x y c.requires.1.1.0.one.0 c.requires.1.1.0.other.0 q in
     let here = steps_since g.start (derived u c.args.log.now) in
     tells_edge_alone (setting t ts v) c.args.needed.now c.deny_path.new.needed here here x y c.requires.1.1.1
     (c.in_ok-clause.ensures.needed ∙ ap (λ ss. marked c.args.needed.now (edges_on ss)) told) refl q.one q.clause_is says_so

@@ -1,6 +1,6 @@
 -- That two terms that differ are told.
 use Rattle.std.proofs.Common.{◌++◌, ◌∷◌, [], refl, sym, ap, ◌∙◌, append-nil}
-use Rattle.congruence_explain.specs.Steps.{derived, setting, notes}
+use Rattle.congruence_explain.specs.Steps.{derived, spoken, setting, notes}
 use Rattle.congruence_explain.proofs.Pairs.{unequal_same, unequal_other, linked_apart, same_pair, one_pair}
 use Rattle.congruence_explain.proofs.paths.tell_pair.Goals as goal
 
@@ -14,7 +14,7 @@ returns-then-x-y g c = record {
 
 pub tell-requires : goal.tell-requires
 tell-requires g c =
-    (c.requires.0, (c.requires.1.0, (linked_apart g.start.table c.args.forest.now.now c.args.x c.args.y c.if-x-y.false c.requires.1.1.0, c.requires.1.1.1)))
+    (c.requires.0, (c.requires.1.0, (linked_apart (spoken g.start) g.start.table c.args.forest.now.now c.args.x c.args.y c.if-x-y.false c.requires.1.1.0, c.requires.1.1.1)))
 
 pub returns-clause-clause : goal.returns-clause-clause
 returns-clause-clause g c =

@@ -1,8 +1,7 @@
 -- The start is the same, and the pairs up to here are told.
 use Rattle.std.proofs.Common.{◌≡◌, ◌++◌, [], drop, length}
-use Rattle.proof_log.specs.Theories.{Derives}
 use Rattle.congruence_explain.specs.Claims.{all_unequal}
-use Rattle.congruence_explain.specs.Steps.{derived, setting, notes, TellsClause}
+use Rattle.congruence_explain.specs.Steps.{derived, Explains, setting, notes, TellsClause}
 use Rattle.congruence_explain.proofs.paths.tell_pairs.Given as goal
 
 abbrev pub ghost-tell_pair : goal.ghost-tell_pair
@@ -10,7 +9,7 @@ ghost-tell_pair g a = g.start
 
 abbrev pub invariant-pairs : goal.invariant-pairs
 invariant-pairs g l = record {
-  derives : Derives g.start (derived l.table l.log);
+  derives : Explains g.start (derived l.table l.log);
   count : length l.needed ≡ length l.fn.needed;
   clause : l.clause.items ++ all_unequal (drop l.i l.xs) (drop l.i l.ys) ≡ all_unequal l.xs l.ys;
   told : TellsClause (setting g.start.table l.truths l.forest.now) (notes g.start (derived l.fn.table l.fn.log) l.fn.needed []) (notes g.start (derived l.table l.log) l.needed []) l.xs l.ys l.clause.items;

@@ -25,7 +25,7 @@ add_right-requires-clause-follows g c =
     let u = c.terms_of.new.table in
     let d = derivation_in u c.args.log.now in
     let rule = c.args.rule in
-    let follows = step_follows g.start c.args.table.now u c.args.log.now c.requires.0 c.terms_of.ensures.wider c.args.clause.now c.requires.1.0 c.in_ok-terms.terms.items c.in_ok-terms.ensures.means.1 rule c.args.premises.items c.requires.1.1 in
+    let follows = step_follows g.start c.args.table.now u c.args.log.now c.requires.0 c.terms_of.ensures.wider c.args.clause.now c.requires.1.0 c.in_ok-terms.terms.items c.in_ok-terms.ensures.means.1 rule c.args.premises.items c.requires.1.1.0 in
     let by_premises = subst (λ (ps : List StepId). FollowsFrom d (inference_of u (stepped rule ps [] c.in_ok-terms.terms.items))) (sym c.from.ensures) follows in
     let by_arguments = subst (λ (qs : List Fraction). FollowsFrom d (inference_of u (stepped rule c.from.result qs c.in_ok-terms.terms.items))) (sym (c.from-2.ensures ∙ ap fractions_of c.new.ensures.items)) by_premises in
     subst (λ (ids : List TermId). FollowsFrom d (inference_of u (stepped rule c.from.result c.from-2.result ids))) (sym c.from-3.ensures) by_arguments
@@ -39,5 +39,5 @@ returns g c =
     let l : stepped rule c.from.result c.from-2.result c.from-3.result ≡ stepped rule c.args.premises.items [] c.in_ok-terms.terms.items =
     (λ i. stepped rule (c.from.ensures i) ((c.from-2.ensures ∙ ap fractions_of c.new.ensures.items) i) (c.from-3.ensures i)) in
     let added = subst (λ (x : Logged). MatchResult c.add_right.result (λ id. IsAdded u log x id new) (λ _. new ≡ log)) l c.add_right.ensures in
-    let all = put_result g.start c.args.table.now u log c.requires.0 c.terms_of.ensures.wider c.args.clause.now c.requires.1.0 c.in_ok-terms.terms.items c.in_ok-terms.ensures.means.1 rule c.args.premises.items new c.add_right.result added in
+    let all = put_result g.start c.args.table.now u log c.requires.0 c.terms_of.ensures.wider c.args.clause.now c.requires.1.0 c.in_ok-terms.terms.items c.in_ok-terms.ensures.means.1 rule c.args.premises.items c.requires.1.1.1 new c.add_right.result added in
     record { derives = all.0; put = all.1 }
