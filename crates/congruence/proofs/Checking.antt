@@ -1,16 +1,16 @@
 -- What a check of a closure shows, over a table.
-use Rattle.std.proofs.Common.{◌≡◌, ◌<◌, ◌↔◌, true, List, map, sym, ◌∙◌, subst, arith}
+use Rattle.std.proofs.Common.{◌≡◌, ◌<◌, ◌↔◌, true, List, map, sym, subst, arith}
 use Rattle.std.specs.Prelude.{All}
 use Rattle.spec_congruence.specs.Congruence.{IsRefuted as AreRefuted}
 use Rattle.spec_sorts.specs.Terms.{Term}
-use Rattle.term_core.specs.declared.ids.TermId.{TermId}
+use Rattle.spec_sorts.specs.Subsets.{IsClosed}
 use Rattle.term_core.specs.Tables.{TableView, literal_at}
 use Rattle.proof_log.specs.Theories.{IsOver, terms_watched, literals_held}
 use Rattle.explain_forest.specs.Forest.{ForestState}
 use Rattle.explain_forest.specs.declared.types.Edge.{Edge}
 use Rattle.congruence_relation.specs.declared.Conflict.{Conflict}
 use Rattle.congruence_relation.specs.declared.Truths.{Truths}
-use Rattle.congruence_relation.specs.Relation.{Application, Facts, IsRefuted, AreOf, terms_listed}
+use Rattle.congruence_relation.specs.Relation.{IsRefuted, AreOf, terms_listed}
 use Rattle.congruence_relation.specs.Edges.{AreReasons, IsConflict}
 use Rattle.congruence_closure.specs.Closure.{ClosureView, IsRight, AreTerms}
 use Rattle.congruence_explain.specs.Basis.{IsBasis}
@@ -39,18 +39,15 @@ module _ (t : TableView) (v w : ClosureView) (facts : w.now.facts ≡ v.now.fact
   conflict_is_refuted agrees c conflict =
       subst (λ (ts : List Term). AreRefuted ts (map (literal_at t) v.now.facts.held)) (sym (watched_are_listed t v)) (agrees.0 (subst IsRefuted facts (conflict_refutes w.now.facts w.edges right.reasons c conflict)))
 
-  -- an explanation can rest on its edges
-  pub basis : (ts : Truths) (forest : ForestState) → IsOver t (theory_of v) → AreOf t v.now.facts → ts ≡ w.now.facts.truths → forest.edges ≡ w.edges → AreTerms w forest.terms → IsBasis t ts forest v.now.facts
-  basis ts forest over of_table truths edges terms = record {
-    truths = sym (truths ∙ λ i. (facts i).truths);
-    facts = of_table;
-    terms = terms_over t v over;
-    atoms = over.atoms;
-    reasons = subst (λ (es : List Edge). AreReasons v.now.facts es) (sym edges) (subst (λ (f : Facts). AreReasons f w.edges) facts right.reasons);
-    arguments = subst (λ (f : Facts). All (λ (x : Application). All (λ (a : TermId). a.0 < forest.terms) x.shape.arguments) f.listed) facts (λ k d low j e inside. omega (arith, right.order.below k d low j e inside, terms.terms k d low));
-    ends = subst (All (λ (e : Edge). (e.a.0 < forest.terms) × (e.b.0 < forest.terms))) (sym edges) terms.ends;
-  }
-
-  -- the conflict of its edges is one of the forest's
-  pub conflict_there : (forest : ForestState) → forest.edges ≡ w.edges → (c : Conflict) → IsConflict w.now.facts w.edges c → IsConflict v.now.facts forest.edges c
-  conflict_there forest edges c conflict = subst (λ (es : List Edge). IsConflict v.now.facts es c) (sym edges) (subst (λ (f : Facts). IsConflict f w.edges c) facts conflict)
+-- an explanation can rest on the edges of a closure
+pub basis : (t : TableView) (w : ClosureView) → IsRight w → (ts : Truths) (forest : ForestState) → IsOver t (theory_of w) → AreOf t w.now.facts → ts ≡ w.now.facts.truths → forest.edges ≡ w.edges → AreTerms w forest.terms → IsBasis t ts forest w.now.facts
+basis t w right ts forest over of_table truths edges terms = record {
+  truths = sym truths;
+  facts = of_table;
+  terms = terms_over t w over;
+  closed = subst IsClosed (watched_are_listed t w) over.closed;
+  atoms = over.atoms;
+  reasons = subst (λ (es : List Edge). AreReasons w.now.facts es) (sym edges) right.reasons;
+  arguments = λ k d low j e inside. omega (arith, right.order.below k d low j e inside, terms.terms k d low);
+  ends = subst (All (λ (e : Edge). (e.a.0 < forest.terms) × (e.b.0 < forest.terms))) (sym edges) terms.ends;
+}

@@ -1,13 +1,12 @@
 //! The theory of equality and uninterpreted functions.
 
-ghost use Rattle.std.specs.Prelude.{◌≡◌, ◌≢◌, ◌↔◌, [], true, IfOk};
+ghost use Rattle.std.specs.Prelude.{◌≡◌, ◌↔◌, [], true, length, IfOk};
 ghost use Rattle.spec_sorts.specs.Terms.{True, False, of};
-ghost use Rattle.spec_congruence.specs.Congruence.{IsCongruent};
 ghost use Rattle.term_core.specs.Symbols.{AreDeclared};
-ghost use Rattle.term_core.specs.Tables.{TableView, IsIn, AreDifferent, term_at};
-ghost use Rattle.proof_log.specs.Theories.{terms_watched, literals_held};
+ghost use Rattle.term_core.specs.Tables.{TableView, IsIn, AreIn, AreDifferent, term_at};
 ghost use Rattle.congruence_relation.specs.Relation.{AreOf};
-ghost use Rattle.congruence.specs.Views.{theory_of};
+ghost use Rattle.congruence_closure.specs.Closure.{TellClasses};
+ghost use Rattle.congruence.specs.Views.{theory_of, AreEqualBy};
 
 use congruence_closure::Closure;
 use congruence_relation::{Truths, numbers_and_terms_agree};
@@ -58,16 +57,28 @@ impl Congruence {
     /// mark that was set there; `is_settled` tells so. Else terms that it calls equal are equal, and others may be. It takes no memory.
     pub fn same(&self, a: TermId, b: TermId) -> bool
         ensures sound { (t : TableView) → AreDifferent t.terms → AreDeclared t.sorts t.symbols → AreOf t self.now.now.facts
-            → IsIn t a → IsIn t b → result ≡ true
-            → IsCongruent (terms_watched t (theory_of self.now)) (literals_held t (theory_of self.now))
-            (term_at t a) (term_at t b) }
+            → IsIn t a → IsIn t b → result ≡ true → AreEqualBy t (theory_of self.now) a b }
         ensures exact { (t : TableView) → AreDifferent t.terms → AreDeclared t.sorts t.symbols → AreOf t self.now.now.facts
             → IsIn t a → IsIn t b → self.now.now.settled ≡ true
-            → (result ≡ true) ↔ IsCongruent (terms_watched t (theory_of self.now)) (literals_held t (theory_of self.now))
-            (term_at t a) (term_at t b) }
+            → (result ≡ true) ↔ AreEqualBy t (theory_of self.now) a b }
     {
         numbers_and_terms_agree();
         self.closure.same(a, b)
+    }
+
+    /// Gives the number of the class of each of these terms: two of them have one number exactly where they are equal by the held
+    /// literals.
+    ///
+    /// That is so where `same` is exact. Each number is that of a term, and it takes constant time for each. `NoMemory` comes where
+    /// the list finds no memory.
+    pub fn classes(&self, alloc: Global, terms: &[TermId]) -> Result<Vec<u64>, NoMemory>
+        ensures count { IfOk result (λ v. length v.items ≡ length terms.now) }
+        ensures exact { (t : TableView) → AreDifferent t.terms → AreDeclared t.sorts t.symbols → AreOf t self.now.now.facts
+            → AreIn t terms.now → self.now.now.settled ≡ true
+            → IfOk result (λ v. TellClasses (AreEqualBy t (theory_of self.now)) terms.now v.items) }
+    {
+        numbers_and_terms_agree();
+        self.closure.classes(alloc, terms)
     }
 
     /// Tells whether the last check answered `Fine`, and no literal and no term came since, also after going back to a mark that was

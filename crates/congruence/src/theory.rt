@@ -1,23 +1,58 @@
 //! Congruence closure as a theory.
 
-ghost use Rattle.std.specs.Prelude.{◌≡◌, ◌-◌, ◌≤◌, ◌++◌, ◌∷◌, [], true, length, get_or, take, MatchResult, OnOk, Ok};
+ghost use Rattle.std.specs.Prelude.{◌≡◌, ◌-◌, ◌≤◌, ◌++◌, ◌∷◌, [], true, length, get_or, take, MatchResult, IfOk, OnOk, OnErr, Ok};
 ghost use Rattle.spec_congruence.specs.Congruence.{IsFine, IsRefuted};
 ghost use Rattle.term_core.specs.Tables.{TableView};
 ghost use Rattle.proof_log.specs.declared.theory.Verdict.TheVariants.{Fine};
 ghost use Rattle.proof_log.specs.Logs.{IsLogOf};
-ghost use Rattle.proof_log.specs.Theories.{with_mark, gone_back, IsOver, terms_watched, literals_held, Checks};
-ghost use Rattle.congruence_relation.specs.Relation.{AreOf};
+ghost use Rattle.proof_log.specs.Clashes.{IsClash};
+ghost use Rattle.proof_log.specs.Theories.{with_mark, gone_back, IsOver, terms_watched, literals_held, Derives, Checks};
+ghost use Rattle.congruence_relation.specs.Relation.{Facts, AreOf, terms_listed};
+ghost use Rattle.congruence_relation.specs.Edges.{IsConflict};
 ghost use Rattle.congruence.specs.Views.{theory_of};
 
 use crate::congruence::Congruence;
+use congruence_closure::Closure;
 use congruence_explain::explain;
-use congruence_relation::{facts_stay_over_more_terms, refutations_agree};
-use proof_log::{ProofLog, Theory, Verdict};
+use congruence_relation::{Conflict, facts_stay_over_more_terms, refutations_agree};
+use proof_log::{ProofLog, StepId, Theory, Verdict};
 use sat_budget::{Budget, Stop};
+use std::alloc::Global;
 use term_core::{Lit, TermId, TermTable};
 use world_io::NoMemory;
 
+/// Explains a conflict of a closure's edges by steps of the log. Where memory runs out, table and log are as they were.
+fn explain_conflict(
+    alloc: Global,
+    table: &mut TermTable,
+    log: &mut ProofLog,
+    closure: &Closure,
+    conflict: Conflict,
+) -> Result<StepId, NoMemory>
+    ghost facts: { Facts }
+    requires facts { facts ≡ closure.now.now.facts }
+    requires over { IsOver table.old (theory_of closure.now) }
+    requires with { AreOf table.old facts }
+    requires log { IsLogOf table.old log.old }
+    requires conflict { IsConflict facts closure.now.edges conflict }
+    ensures derives { OnOk result (Derives (terms_listed table.old facts)
+        (record { table = table.old; log = log.old }) (record { table = table.new; log = log.new })) }
+    ensures clash { IfOk result (IsClash table.new log.new facts.held) }
+    ensures same { OnErr result ((table.new ≡ table.old) × (log.new ≡ log.old)) }
+{
+    closure.is_right();
+    explain(
+        alloc,
+        table,
+        log,
+        closure.forest(),
+        closure.truths(),
+        conflict,
+    )
+}
+
 impl Theory for Congruence {
+    ghost use Rattle.std.specs.Prelude.{◌≡◌, true};
     ghost use Rattle.spec_congruence.specs.Congruence.{IsFine, IsRefuted};
     ghost use Rattle.congruence_relation.specs.Relation.{AreOf};
     ghost use Rattle.congruence.specs.Views.{theory_of};
@@ -27,7 +62,7 @@ impl Theory for Congruence {
 
     ghost goes_with = { λ c t. AreOf t c.now.facts };
 
-    ghost agrees = { λ c ts ls. IsFine ts ls };
+    ghost agrees = { λ c ts ls. IsFine ts ls × (c.now.settled ≡ true) };
 
     ghost refuses = { λ c ts ls. IsRefuted ts ls };
 
@@ -56,9 +91,10 @@ impl Theory for Congruence {
         ensures same { theory_of self.new ≡ theory_of self.old }
         ensures budget { budget.new ≡ budget.old }
         ensures settled { result ≡ Ok Fine → self.new.now.settled ≡ true }
-        ensures checks { Checks (IsFine (terms_watched table.old (theory_of self.old)) (literals_held table.old (theory_of self.old)))
+        ensures checks { Checks (IsFine (terms_watched table.old (theory_of self.old)) (literals_held table.old (theory_of self.old))
+            × (self.new.now.settled ≡ true))
             (IsRefuted (terms_watched table.old (theory_of self.old)) (literals_held table.old (theory_of self.old)))
-            self.old.now.facts.held (record { table = table.old; log = log.old }) result
+            (theory_of self.old) (record { table = table.old; log = log.old }) result
             (record { table = table.new; log = log.new }) }
     {
         let _ = budget;
@@ -71,14 +107,7 @@ impl Theory for Congruence {
         let Some(conflict) = found else {
             return Ok(Verdict::Fine);
         };
-        let step = explain(
-            self.alloc,
-            table,
-            log,
-            self.closure.forest(),
-            self.closure.truths(),
-            conflict,
-        )?;
+        let step = explain_conflict(self.alloc, table, log, &self.closure, conflict)?;
         Ok(Verdict::Clash(step))
     }
 
@@ -108,5 +137,5 @@ impl Theory for Congruence {
 
     ghost grown = { λ c t u more with. of_more t u more c.now.facts with };
 
-    ghost exact = { λ c ts ls fine refuted. fine refuted };
+    ghost exact = { λ c ts ls fine refuted. fine.0 refuted };
 }

@@ -1,21 +1,20 @@
 -- What parts keep where terms come, a term is listed, or a literal is held.
-use Rattle.std.proofs.Common.{◌≡◌, ℕ, ◌+◌, ◌<◌, ◌≤◌, true, List, [], ◌∷◌, ◌++◌, ◌↔◌, length, get_or, max, inl, inr, ◌⊎◌, refl, sym, ap, ◌∙◌, subst, arith}
+use Rattle.std.proofs.Common.{◌≡◌, ℕ, ◌<◌, ◌≤◌, List, [], ◌∷◌, ◌++◌, ◌↔◌, length, get_or, inl, inr, ◌⊎◌, refl, sym, ap, ◌∙◌, subst, arith}
 use Rattle.std.specs.Prelude.{All, Contains}
 use Rattle.std.proofs.lemmas.Bool.{cases_lt}
 use Rattle.std.proofs.lemmas.List.{length_push, get_or_append_left, get_or_push}
-use Rattle.std.proofs.lemmas.List.Elements.{All-push, Contains-append_left, Contains-push_cases, Contains-get_or}
+use Rattle.std.proofs.lemmas.List.Elements.{All-push, Contains-append_left, Contains-push_cases}
 use Rattle.term_core.specs.declared.ids.TermId.{TermId}
 use Rattle.term_core.specs.declared.ids.Lit.{Lit}
-use Rattle.term_core.specs.Tables.{Shape}
 use Rattle.class_table.specs.Classes.{class_at, with_terms, AreSame}
 use Rattle.class_table.proofs.Joined.{length-with_terms, others_kept, added_alone}
 use Rattle.explain_forest.specs.declared.types.Edge.{Edge}
 use Rattle.explain_forest.specs.Forest.{root, Linked}
 use Rattle.congruence_relation.specs.declared.Truths.{Truths}
-use Rattle.congruence_relation.specs.Relation.{Application, Facts, IsEquality, States, decides, equates, AreMore}
+use Rattle.congruence_relation.specs.Relation.{Application, Facts, IsEquality, States, decides, equates}
 use Rattle.congruence_relation.proofs.More.{reasons_more}
-use Rattle.congruence_closure.specs.Closure.{denial, AreInOrder}
-use Rattle.congruence_closure.specs.Listed.{nth, no_application, held_at, IsListed, equality_of}
+use Rattle.congruence_closure.specs.Closure.{denial}
+use Rattle.congruence_closure.specs.Listed.{nth, no_application, held_at, IsListed}
 use Rattle.congruence_closure.specs.Keys.{key_of, key_at, holder_at}
 use Rattle.congruence_closure.specs.State.{State, IsLive, AreJoint, IsPending, HasKey, IsApart, IsKept, no_facts, with_listed, with_held}
 use Rattle.congruence_closure.proofs.Denials.{places, held_before, held_there, once_push}

@@ -1,7 +1,7 @@
 -- What parts keep where two classes are joined.
-use Rattle.std.proofs.Common.{◌≡◌, ◌≢◌, ℕ, zero, suc, ◌+◌, ◌<◌, ◌≤◌, ◌==◌, nat_le, Bool, true, false, List, [], ◌∷◌, ◌++◌, ◌↔◌, length, get_or, if◌then◌else◌, inl, inr, ◌⊎◌, refl, sym, ap, ◌∙◌, subst, arith, Option, Some, None}
+use Rattle.std.proofs.Common.{◌≡◌, ◌≢◌, ℕ, zero, suc, ◌<◌, ◌==◌, nat_le, true, List, [], ◌∷◌, ◌++◌, ◌↔◌, length, get_or, if◌then◌else◌, inl, inr, ◌⊎◌, refl, sym, ap, ◌∙◌, subst, arith, Option, Some, None}
 use Rattle.std.specs.Prelude.{All, Contains}
-use Rattle.std.proofs.lemmas.Bool.{cases_lt, cases_eq, cases_Bool}
+use Rattle.std.proofs.lemmas.Bool.{cases_eq}
 use Rattle.std.proofs.lemmas.Bool.Decides.{nat_tests}
 use Rattle.std.proofs.lemmas.List.{get_or-map}
 use Rattle.std.proofs.lemmas.List.Elements.{All-cons, Contains-append_left, Contains-append_right}
@@ -14,15 +14,14 @@ use Rattle.explain_forest.specs.declared.types.Edge.{Edge}
 use Rattle.explain_forest.specs.declared.types.Label.{Label}
 use Rattle.explain_forest.specs.Forest.{Linked, IsBetween}
 use Rattle.explain_forest.proofs.Linking.{linked-after}
-use Rattle.congruence_relation.specs.Relation.{Application, Facts, States}
+use Rattle.congruence_relation.specs.Relation.{Facts}
 use Rattle.congruence_relation.specs.Edges.{IsReason}
-use Rattle.congruence_closure.specs.Closure.{denial}
-use Rattle.congruence_closure.specs.Listed.{nth, held_at, equality_of}
+use Rattle.congruence_closure.specs.Listed.{nth, held_at}
 use Rattle.congruence_closure.specs.Keys.{key_of, key_at, holder_at}
 use Rattle.congruence_closure.specs.State.{State, IsLive, AreJoint, IsPending, HasKey, IsApart, IsKept}
 use Rattle.congruence_closure.specs.Changes.{ClassAtMost, AreClassUsers, IsWhy, label}
 use Rattle.congruence_closure.proofs.Denials.{held_there}
-use Rattle.congruence_closure.proofs.Terms.{classes_of, classes_same, key_same, class_each, term_low, arguments_low, sides_low, states_low}
+use Rattle.congruence_closure.proofs.Terms.{classes_of, key_same, class_each, term_low, arguments_low, sides_low, states_low}
 
 -- the parts with the classes of two terms joined by an edge, and more to look at
 abbrev pub with_edge : State → TermId → TermId → Label → List ℕ → State

@@ -1,9 +1,9 @@
 -- Tables of keys: one key more, and fewer.
-use Rattle.std.proofs.Common.{◌≡◌, ℕ, ◌+◌, ◌<◌, ◌≤◌, min, List, [], ◌∷◌, ◌++◌, length, get_or, take, map, inl, inr, ◌⊎◌, refl, sym, ap, ◌∙◌, subst, arith}
+use Rattle.std.proofs.Common.{◌≡◌, ℕ, ◌+◌, ◌<◌, min, List, [], ◌∷◌, ◌++◌, length, get_or, take, inl, inr, ◌⊎◌, sym, ap, ◌∙◌, arith}
 use Rattle.std.proofs.lemmas.Bool.{cases_lt}
-use Rattle.std.proofs.lemmas.List.{length-take, length-take-le, length_push, get_or-take, get_or_append_left, get_or_push}
+use Rattle.std.proofs.lemmas.List.{length-take, length_push, get_or-take, get_or_append_left, get_or_push}
 use Rattle.term_core.specs.Tables.{Shape, no_shape}
-use Rattle.std.proofs.Common.{Bool, true, false, not, slice_get, Some, length-append}
+use Rattle.std.proofs.Common.{Bool, true, false, not, length-append}
 use Rattle.std.specs.List.{list_any}
 use Rattle.indexmap.specs.IndexSet.{insert_key}
 use Rattle.term_core.specs.declared.nodes.Node.{Node}

@@ -3,6 +3,7 @@ pub mod Places
 pub mod Denials
 pub mod Keys
 pub mod Terms
+pub mod Numbering
 pub mod Settled
 pub mod Growing
 pub mod Joining

@@ -1,7 +1,7 @@
 -- What was so at each mark is so still.
-use Rattle.std.proofs.Common.{◌≡◌, ℕ, suc, ◌+◌, ◌-◌, ◌<◌, ◌≤◌, min, Bool, true, List, [], ◌∷◌, ◌++◌, length, get_or, take, map, inl, inr, ◌⊎◌, refl, sym, ap, ◌∙◌, subst, arith}
+use Rattle.std.proofs.Common.{◌≡◌, ℕ, suc, ◌+◌, ◌-◌, ◌<◌, ◌≤◌, Bool, true, List, [], ◌∷◌, ◌++◌, length, get_or, take, map, inl, inr, ◌⊎◌, refl, sym, ap, ◌∙◌, subst, arith}
 use Rattle.std.proofs.lemmas.Bool.{cases_lt}
-use Rattle.std.proofs.lemmas.List.{append-nil, length-append, length-map, length-take, length-take-le, length_push, take_all, take-take, take-append-le, take-map, take_more, same_from_push, get_or-map, get_or-take, get_or_default, get_or_append_left, get_or_push, map_push, ext_get_or}
+use Rattle.std.proofs.lemmas.List.{append-nil, length-append, length-map, length-take-le, length_push, take_all, take-take, take-append-le, take-map, take_more, same_from_push, get_or-map, get_or-take, get_or_default, get_or_append_left, get_or_push, map_push}
 use Rattle.term_core.specs.declared.ids.Lit.{Lit}
 use Rattle.explain_forest.specs.declared.types.Edge.{Edge}
 use Rattle.explain_forest.specs.Forest.{ForestState, Linked}

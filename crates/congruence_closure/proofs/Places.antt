@@ -1,13 +1,13 @@
 -- Lists by the numbers of terms, which find places.
-use Rattle.std.proofs.Common.{◌≡◌, ◌≢◌, ℕ, suc, ◌+◌, ◌-◌, ◌<◌, ◌≤◌, List, [], ◌∷◌, ◌++◌, length, get_or, set, take, map, inl, inr, ◌⊎◌, refl, sym, ap, ◌∙◌, subst, arith}
-use Rattle.std.specs.Prelude.{Vec, Contains, All}
+use Rattle.std.proofs.Common.{◌≡◌, ◌≢◌, ℕ, ◌+◌, ◌-◌, ◌<◌, ◌≤◌, List, [], ◌∷◌, ◌++◌, length, get_or, set, take, inl, inr, ◌⊎◌, sym, ap, ◌∙◌, subst, arith}
+use Rattle.std.specs.Prelude.{Vec, Contains}
 use Rattle.std.specs.declared.alloc.Global.{Global}
 use Rattle.std.proofs.lemmas.Bool.{cases_lt, cases_eq}
-use Rattle.std.proofs.lemmas.List.{map_push, map-set, length-map, length-set, get_or-map, get_or-set_same, get_or-set_other, get_or_append_left, get_or_past, get_or_default, get_or-take, set_past, take-map, length-take-le, length_push, get_or_push}
-use Rattle.std.proofs.lemmas.List.Elements.{Contains-append_left, Contains-push, All-more}
+use Rattle.std.proofs.lemmas.List.{map-set, length-set, get_or-map, get_or-set_same, get_or-set_other, get_or_append_left, get_or_past, get_or_default, get_or-take, set_past, length-take-le, length_push, get_or_push}
+use Rattle.std.proofs.lemmas.List.Elements.{All-more}
 use Rattle.term_core.specs.declared.ids.TermId.{TermId}
 use Rattle.congruence_relation.specs.Relation.{Application}
-use Rattle.congruence_closure.specs.Listed.{nth, no_application, AreOnce, IsListed, AreUsers}
+use Rattle.congruence_closure.specs.Listed.{nth, no_application, IsListed, AreUsers}
 use Rattle.congruence_closure.specs.Tables.{lists, AreGrown, HaveKept, HaveKeptBelow, HaveNoted, IsIndexed}
 
 -- the list of a place, as it stands

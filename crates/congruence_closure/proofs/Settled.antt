@@ -1,18 +1,14 @@
 -- Where nothing is left to do, the edges are closed, and there is no conflict.
-use Rattle.std.proofs.Common.{◌≡◌, ℕ, ◌<◌, ◌≤◌, List, [], ◌∷◌, length, slice_index, inl, inr, ◌⊎◌, sym, ap, ◌∙◌, subst, arith}
-use Rattle.std.specs.Prelude.{Contains}
-use Rattle.term_core.specs.declared.ids.TermId.{TermId}
+use Rattle.std.proofs.Common.{◌≡◌, ℕ, ◌<◌, length, slice_index, inl, inr, ◌⊎◌, sym, ap, ◌∙◌, subst, arith}
 use Rattle.term_core.specs.declared.ids.Lit.{Lit}
-use Rattle.term_core.specs.Tables.{Shape}
 use Rattle.class_table.specs.Classes.{AreSame}
 use Rattle.explain_forest.specs.Forest.{Linked}
 use Rattle.congruence_relation.specs.Relation.{Application, States}
 use Rattle.congruence_relation.specs.Edges.{roots, IsClosed}
-use Rattle.congruence_relation.specs.declared.Conflict.{Conflict}
 use Rattle.congruence_relation.specs.declared.Conflict.TheVariants.{Truths, Sides}
 use Rattle.congruence_closure.specs.Closure.{denial, HasNoConflict}
-use Rattle.congruence_closure.specs.Listed.{nth, held_at}
-use Rattle.congruence_closure.specs.Keys.{key_of, key_at, holder_at}
+use Rattle.congruence_closure.specs.Listed.{nth}
+use Rattle.congruence_closure.specs.Keys.{key_of, holder_at}
 use Rattle.congruence_closure.specs.State.{State, IsPending, HasKey, IsApart, IsKept, IsSettled}
 use Rattle.congruence_closure.proofs.Denials.{place_there}
 use Rattle.congruence_closure.proofs.Terms.{place_of, term_low, arguments_low, sides_low, states_low, same_classes}

@@ -1,22 +1,20 @@
 -- What parts keep where a key is put, and where something is done.
-use Rattle.std.proofs.Common.{◌≡◌, ◌≢◌, ℕ, zero, suc, ◌+◌, ◌<◌, ◌≤◌, List, [], ◌∷◌, ◌++◌, length, get_or, inl, inr, ◌⊎◌, refl, sym, ap, ◌∙◌, subst, arith}
+use Rattle.std.proofs.Common.{◌≡◌, ℕ, zero, suc, ◌+◌, ◌<◌, ◌≤◌, List, ◌∷◌, ◌++◌, length, get_or, inl, inr, ◌⊎◌, refl, sym, ap, ◌∙◌, subst, arith}
 use Rattle.std.specs.Prelude.{All, Contains}
-use Rattle.std.proofs.lemmas.Bool.{cases_lt, cases_eq}
+use Rattle.std.proofs.lemmas.Bool.{cases_eq}
 use Rattle.std.proofs.lemmas.List.{length_push}
 use Rattle.std.proofs.lemmas.List.Elements.{Contains-append_left}
 use Rattle.term_core.specs.declared.ids.TermId.{TermId}
-use Rattle.term_core.specs.declared.ids.Lit.{Lit}
 use Rattle.term_core.specs.Tables.{Shape}
 use Rattle.class_table.specs.Classes.{class_at, AreSame}
-use Rattle.congruence_relation.specs.Relation.{Application, Facts, States}
-use Rattle.congruence_closure.specs.Closure.{denial}
-use Rattle.congruence_closure.specs.Listed.{nth, held_at, equality_of}
+use Rattle.congruence_relation.specs.Relation.{States}
+use Rattle.congruence_closure.specs.Listed.{nth, held_at}
 use Rattle.congruence_closure.specs.Keys.{Keys, key_of, key_at, holder_at, with_key, IsAbsent, IsHeld}
-use Rattle.congruence_closure.specs.State.{State, Left, IsLive, IsPending, HasKey, IsApart, IsKept, ArePresent}
+use Rattle.congruence_closure.specs.State.{State, Left, IsLive, IsPending, HasKey, IsApart, IsKept}
 use Rattle.congruence_closure.specs.Changes.{IsGiven}
 use Rattle.congruence_closure.proofs.Denials.{places}
 use Rattle.congruence_closure.proofs.Keys.{keys_more, key_before, key_last, holder_before, holder_last}
-use Rattle.congruence_closure.proofs.Terms.{classes_of, each_class, term_low, arguments_low}
+use Rattle.congruence_closure.proofs.Terms.{each_class, arguments_low}
 
 -- the parts with other keys
 abbrev pub with_keys : State → Keys → State

@@ -1,5 +1,5 @@
 -- Terms that are there, and their keys.
-use Rattle.std.proofs.Common.{◌≡◌, ◌≢◌, ℕ, zero, suc, ◌<◌, ◌≤◌, ◌==◌, Bool, true, false, List, [], ◌∷◌, length, get_or, map, inl, inr, ◌⊎◌, refl, sym, ap, ◌∙◌, subst, arith, if◌then◌else◌}
+use Rattle.std.proofs.Common.{◌≡◌, ◌≢◌, ℕ, zero, suc, ◌<◌, ◌≤◌, Bool, true, false, List, [], ◌∷◌, length, get_or, map, inl, inr, ◌⊎◌, refl, sym, ap, ◌∙◌, subst, arith}
 use Rattle.std.specs.Prelude.{All, Contains}
 use Rattle.std.proofs.lemmas.Bool.{cases_lt, cases_eq}
 use Rattle.std.proofs.lemmas.List.{get_or_default}
@@ -7,15 +7,15 @@ use Rattle.std.proofs.lemmas.List.Elements.{All-head, All-tail, All-contains, Co
 use Rattle.term_core.specs.declared.ids.TermId.{TermId}
 use Rattle.term_core.specs.declared.ids.Lit.{Lit}
 use Rattle.term_core.specs.Tables.{Shape}
-use Rattle.class_table.specs.Classes.{class_at, AreSame}
+use Rattle.class_table.specs.Classes.{class_at}
 use Rattle.explain_forest.specs.declared.types.Edge.{Edge}
 use Rattle.explain_forest.specs.Forest.{root, Linked}
 use Rattle.explain_forest.proofs.Roots.{root-under, root-beside}
-use Rattle.congruence_relation.specs.Relation.{Application, Facts, truth_of, States, decides, equates}
+use Rattle.congruence_relation.specs.Relation.{Application, truth_of, States, decides, equates}
 use Rattle.congruence_relation.specs.Edges.{roots}
 use Rattle.congruence_closure.specs.Listed.{nth, no_application, IsListed, equality_of}
 use Rattle.congruence_closure.specs.Keys.{key_of}
-use Rattle.congruence_closure.specs.State.{State, IsLive, AreJoint, AreThere, IsKept}
+use Rattle.congruence_closure.specs.State.{State, AreJoint, IsKept}
 
 -- lists that are one have one first element and one rest
 pub cons_same : {X : Type 0} {x y : X} {xs ys : List X} → x ∷ xs ≡ y ∷ ys → (x ≡ y) × (xs ≡ ys)

@@ -1,5 +1,5 @@
 -- Looking at a listed term, and giving a literal.
-use Rattle.std.proofs.Common.{◌≡◌, ◌≢◌, ℕ, ◌<◌, ◌≤◌, Bool, true, false, List, [], ◌∷◌, ◌↔◌, length, slice_index, inl, inr, ◌⊎◌, refl, sym, ap, ◌∙◌, subst, arith, true≢false}
+use Rattle.std.proofs.Common.{◌≡◌, ℕ, ◌<◌, Bool, true, false, [], ◌∷◌, ◌↔◌, length, slice_index, inl, inr, ◌⊎◌, refl, sym, ap, ◌∙◌, subst, arith, true≢false}
 use Rattle.std.specs.Prelude.{Contains, MatchBool}
 use Rattle.std.specs.Bool.{beq}
 use Rattle.std.proofs.lemmas.Bool.{cases_Bool}
@@ -11,13 +11,13 @@ use Rattle.explain_forest.specs.Forest.{Linked}
 use Rattle.congruence_relation.specs.Relation.{Application, truth_of, IsEquality, States, decides, equates}
 use Rattle.congruence_relation.specs.Edges.{Meet}
 use Rattle.congruence_closure.specs.Closure.{denial}
-use Rattle.congruence_closure.specs.Listed.{nth, held_at, HasPlace, equality_of, AreOnce}
+use Rattle.congruence_closure.specs.Listed.{nth, HasPlace, equality_of}
 use Rattle.congruence_closure.specs.Keys.{key_of, IsHeld}
 use Rattle.congruence_closure.specs.State.{State, IsApart, IsKept}
 use Rattle.congruence_closure.specs.Changes.{IsAgainst, IsGiven}
 use Rattle.congruence_closure.proofs.Denials.{held_there}
 use Rattle.congruence_closure.proofs.Steps.{holder_key, holder_listed}
-use Rattle.congruence_closure.proofs.Terms.{classes_of, cons_same, place_of, at_place, arguments_low, sides_low, same_roots}
+use Rattle.congruence_closure.proofs.Terms.{cons_same, place_of, at_place, arguments_low, sides_low, same_roots}
 
 -- either way of a test
 pub told : (b : Bool) (P Q : Type 0) → (b ≡ true → P) → (b ≡ false → Q) → MatchBool b P Q

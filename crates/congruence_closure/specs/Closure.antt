@@ -1,12 +1,12 @@
 -- What contracts see of a closure.
-use Rattle.std.specs.Prelude.{◌≡◌, ◌<◌, ℕ, Bool, true, false, List, length, All, take}
+use Rattle.std.specs.Prelude.{◌≡◌, ◌<◌, ◌↔◌, ℕ, Bool, true, false, List, length, All, take, get_or}
 use Rattle.term_core.specs.declared.ids.TermId.{TermId}
 use Rattle.term_core.specs.declared.ids.Lit.{Lit}
 use Rattle.explain_forest.specs.declared.types.Edge.{Edge}
 use Rattle.congruence_relation.specs.Relation.{Facts}
 use Rattle.congruence_relation.specs.Edges.{AreReasons, IsClosed, IsConflict}
 use Rattle.congruence_relation.specs.declared.Conflict.{Conflict}
-use Rattle.congruence_closure.specs.Listed.{AreOnce, IsListed, held_at}
+use Rattle.congruence_closure.specs.Listed.{no_term_id, AreOnce, IsListed, held_at}
 
 -- What a closure is about, and whether its edges link all that is congruent.
 pub record ClosureState : Type 0 where
@@ -62,6 +62,11 @@ pub record AreTerms (v : ClosureView) (n : ℕ) : Type 0 where
   pub terms : All (λ x. x.term.0 < n) v.now.facts.listed
   -- the ends of edges
   pub ends : All (λ (e : Edge). (e.a.0 < n) × (e.b.0 < n)) v.edges
+
+-- two numbers are one exactly where the terms in their places are related
+abbrev pub TellClasses : (TermId → TermId → Type 0) → List TermId → List ℕ → Type 0
+TellClasses related terms numbers = (i j : ℕ) → i < length terms → j < length terms
+    → (get_or numbers i 0 ≡ get_or numbers j 0) ↔ related (get_or terms i no_term_id) (get_or terms j no_term_id)
 
 -- What is so of each closure.
 pub record IsRight (v : ClosureView) : Type 0 where

@@ -10,6 +10,10 @@ use Rattle.congruence_relation.specs.Relation.{Application}
 abbrev pub no_application : Application
 no_application = record { term = record { 0 = 0 }; shape = no_shape }
 
+-- what no place of terms has
+abbrev pub no_term_id : TermId
+no_term_id = record { 0 = 0 }
+
 -- the listed term of a place, from the oldest
 abbrev pub nth : List Application → ℕ → Application
 nth listed i = get_or listed i no_application

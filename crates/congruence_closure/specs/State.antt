@@ -1,5 +1,5 @@
 -- What the parts of a closure keep.
-use Rattle.std.specs.Prelude.{◌≡◌, ℕ, ◌<◌, ◌≤◌, ◌⊎◌, ◌↔◌, List, [], ◌∷◌, ◌++◌, length, take, All, Contains}
+use Rattle.std.specs.Prelude.{◌≡◌, ℕ, ◌<◌, ◌≤◌, ◌⊎◌, ◌↔◌, List, [], ◌∷◌, ◌++◌, length, take, slice_index_or, All, Contains}
 use Rattle.term_core.specs.declared.ids.TermId.{TermId}
 use Rattle.term_core.specs.declared.ids.Lit.{Lit}
 use Rattle.class_table.specs.Classes.{class_at, AreSame}
@@ -45,6 +45,10 @@ pub record PartsView : Type 0 where
   pub numbers_marks : List (List ℕ)
   -- the edges at each mark
   pub edges_marks : List ForestState
+
+-- the number of a term's class; that of a term that is not there is its own
+abbrev pub class_number : List ℕ → TermId → ℕ
+class_number numbers t = slice_index_or numbers t.0 t.0
 
 -- a class has this number
 abbrev pub IsLive : List ℕ → TermId → Type 0

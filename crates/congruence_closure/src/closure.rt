@@ -5,8 +5,8 @@ ghost use Rattle.term_core.specs.Tables.{shape_of, NamesBelow};
 ghost use Rattle.congruence_relation.specs.Relation.{applications, IsCongruent};
 ghost use Rattle.congruence_relation.specs.Edges.{IsConflict};
 ghost use Rattle.congruence_relation.specs.declared.Conflict.{Conflict as Against};
-ghost use Rattle.congruence_closure.specs.Closure.{AreFront, AreTerms, IsRight};
-ghost use Rattle.congruence_closure.specs.Listed.{IsListed, HasPlace};
+ghost use Rattle.congruence_closure.specs.Closure.{AreFront, AreTerms, TellClasses, IsRight};
+ghost use Rattle.congruence_closure.specs.Listed.{no_term_id, IsListed, HasPlace};
 ghost use Rattle.congruence_closure.specs.State.{with_listed, with_held};
 
 use crate::Conflict;
@@ -131,6 +131,23 @@ impl Closure {
     {
         self.parts.are_kept();
         self.parts.same(a, b)
+    }
+
+    /// Gives the number of the class of each of these terms, in constant time for each: two of them have one number exactly where
+    /// they are congruent by what is held, where it is settled. Else those of one number are congruent, and others may be.
+    ///
+    /// The number is that of a term. A term that is not there is in a class of its own. `NoMemory` comes where the list finds no
+    /// memory.
+    pub fn classes(&self, alloc: Global, terms: &[TermId]) -> Result<Vec<u64>, NoMemory>
+        ensures count { IfOk result (λ v. length v.items ≡ length terms.now) }
+        ensures sound { IfOk result (λ v. (i j : ℕ) → i < length terms.now → j < length terms.now
+            → get_or v.items i 0 ≡ get_or v.items j 0
+            → IsCongruent self.now.now.facts (get_or terms.now i no_term_id) (get_or terms.now j no_term_id)) }
+        ensures exact { self.now.now.settled ≡ true
+            → IfOk result (λ v. TellClasses (IsCongruent self.now.now.facts) terms.now v.items) }
+    {
+        self.parts.are_kept();
+        self.parts.classes(alloc, terms)
     }
 
     /// Marks what it is about, and whether it is settled.

@@ -1,9 +1,8 @@
 //! The table of keys.
 
-ghost use Rattle.std.specs.Prelude.{◌≡◌, ◌<◌, ◌++◌, ◌∷◌, [], length, map, take, All, OnErr, IfOk};
+ghost use Rattle.std.specs.Prelude.{◌≡◌, ◌<◌, [], length, All, OnErr, IfOk};
 ghost use Rattle.term_core.specs.Tables.{shape_of};
 ghost use Rattle.term_core.specs.declared.ids.TermId.{TermId as Number};
-ghost use Rattle.class_table.specs.Classes.{class_at};
 ghost use Rattle.congruence_closure.specs.Keys.{key_of, oldest, AreKeys, IsLookedUp};
 
 use class_table::ClassTable;

@@ -1,6 +1,6 @@
 //! The listed terms, with their places and users.
 
-ghost use Rattle.std.specs.Prelude.{◌≡◌, ◌<◌, ◌≤◌, ◌++◌, ◌∷◌, [], length, take, OnOk, OnErr, MatchOption};
+ghost use Rattle.std.specs.Prelude.{◌≡◌, ◌<◌, ◌++◌, ◌∷◌, [], length, take, OnOk, OnErr, MatchOption};
 ghost use Rattle.term_core.specs.Tables.{shape_of};
 ghost use Rattle.congruence_relation.specs.Relation.{applications};
 ghost use Rattle.congruence_closure.specs.Listed.{nth, HasPlace, IsListed, AreUsers};
@@ -27,7 +27,7 @@ pub(crate) struct Listing {
 }
 
 impl Model for Listing {
-    ghost use Rattle.std.specs.Prelude.{List, map};
+    ghost use Rattle.std.specs.Prelude.{List};
     ghost use Rattle.congruence_relation.specs.Relation.{Application, applications};
     ghost use Rattle.congruence_closure.specs.Tables.{lists, IsIndexed};
 

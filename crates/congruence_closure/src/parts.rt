@@ -1,9 +1,9 @@
 //! The parts of a closure, but its marks.
 
-ghost use Rattle.std.specs.Prelude.{◌≡◌, ◌≢◌, ◌<◌, ◌≤◌, ◌↔◌, true, length, OnOk, OnErr, IfOk, Contains};
+ghost use Rattle.std.specs.Prelude.{◌≡◌, ◌≢◌, ◌<◌, ◌≤◌, ◌↔◌, true, length, map, OnOk, OnErr, IfOk, Contains};
 ghost use Rattle.term_core.specs.Tables.{shape_of, NamesBelow};
 ghost use Rattle.congruence_closure.specs.Listed.{IsListed};
-ghost use Rattle.congruence_closure.specs.State.{IsKept, with_listed, with_held, extent_of};
+ghost use Rattle.congruence_closure.specs.State.{IsKept, class_number, with_listed, with_held, extent_of};
 ghost use Rattle.congruence_closure.specs.Changes.{AddsRoom, AddsTerms, AreNew, Changes, HasTerms, Marks, TermsFit, parts_back};
 ghost use Rattle.explain_forest.specs.Forest.{Linked};
 
@@ -120,6 +120,29 @@ impl Parts {
             return false;
         }
         self.classes.same(a, b)
+    }
+
+    /// Gives the number of a term's class, in constant time. That of a term that is not there is its own. It takes no memory.
+    fn class_of(&self, t: TermId) -> u64
+        ensures { result ≡ class_number self.now.now.numbers t }
+    {
+        if t.0 >= self.classes.len() {
+            return t.0;
+        }
+        self.classes.class_of(t)
+    }
+
+    /// Gives the number of the class of each of these terms.
+    ///
+    /// `NoMemory` comes where the list finds no memory.
+    pub fn classes(&self, alloc: Global, terms: &[TermId]) -> Result<Vec<u64>, NoMemory>
+        ensures { IfOk result (λ v. v.items ≡ map (class_number self.now.now.numbers) terms.now) }
+    {
+        let mut numbers = Vec::new(alloc);
+        'terms: for t in terms {
+            numbers.push(self.class_of(*t))?;
+        }
+        Ok(numbers)
     }
 
     /// Lends the edges. It takes no memory.

@@ -1,6 +1,6 @@
 //! Settling: what is left is done, term by term and literal by literal.
 
-ghost use Rattle.std.specs.Prelude.{◌≡◌, ◌<◌, [], length, OnOk, IfOk, MatchOption, Contains};
+ghost use Rattle.std.specs.Prelude.{◌≡◌, ◌<◌, [], length, OnOk, IfOk, MatchOption};
 ghost use Rattle.class_table.specs.Classes.{AreSame};
 ghost use Rattle.congruence_relation.specs.Edges.{IsConflict};
 ghost use Rattle.congruence_closure.specs.State.{IsSettled};

@@ -1,6 +1,6 @@
 //! Places by the numbers of terms.
 
-ghost use Rattle.std.specs.Prelude.{◌≡◌, ◌<◌, ◌≤◌, ℕ, suc, max, OnOk, Contains, [], get_or, length};
+ghost use Rattle.std.specs.Prelude.{◌<◌, ◌≤◌, ℕ, suc, max, OnOk, Contains, [], get_or, length};
 ghost use Rattle.congruence_closure.specs.Tables.{lists, AreGrown, HaveKept, HaveKeptBelow, HaveNoted};
 
 use std::alloc::Global;

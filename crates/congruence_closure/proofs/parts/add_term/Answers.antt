@@ -1,5 +1,5 @@
 -- Classes have terms up to this one, the forest and the room no fewer.
-use Rattle.std.proofs.Common.{◌≡◌, ◌<◌, ◌≤◌, suc, max, length, ap, ◌∙◌, arith}
+use Rattle.std.proofs.Common.{suc, length, ap, arith}
 use Rattle.explain_forest.specs.Forest.{ForestState}
 use Rattle.class_table.proofs.Joined.{length-with_terms}
 use Rattle.congruence_closure.proofs.parts.add_term.Goals as goal

@@ -1,8 +1,8 @@
 -- The users of one member more are put, and those of all members are those of the class.
-use Rattle.std.proofs.Common.{◌≡◌, ◌<◌, ◌≤◌, List, length, get_or, take, sym, ap, ◌∙◌, subst, arith}
+use Rattle.std.proofs.Common.{List, sym, subst, arith}
 use Rattle.term_core.specs.declared.ids.TermId.{TermId}
 use Rattle.class_table.specs.Classes.{AreMembers}
-use Rattle.congruence_closure.proofs.Queues.{queued_none, queued_more, queued_all}
+use Rattle.congruence_closure.proofs.Queues.{queued_more, queued_all}
 use Rattle.congruence_closure.proofs.settling.queue_users.Goals as goal
 
 pub members-preserved : goal.members-preserved

@@ -1,5 +1,5 @@
 -- The list of the term is cut, the others are as they were.
-use Rattle.std.proofs.Common.{ℕ, List, get_or, sym, subst, arith}
+use Rattle.std.proofs.Common.{ℕ, List, sym, subst, arith}
 use Rattle.std.specs.Prelude.{slice_set, Contains}
 use Rattle.congruence_closure.specs.Tables.{lists}
 use Rattle.congruence_closure.proofs.Places.{list_at, lists_set, kept_below_set}

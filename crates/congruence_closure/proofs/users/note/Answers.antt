@@ -1,5 +1,5 @@
 -- The list of the term has the place last, or none is changed.
-use Rattle.std.proofs.Common.{ℕ, List, [], ◌∷◌, ◌++◌, ◌<◌, get_or, length, sym, ap, ◌∙◌, subst}
+use Rattle.std.proofs.Common.{ℕ, List, [], ◌∷◌, ◌++◌, ◌<◌, get_or, sym, ap, ◌∙◌, subst}
 use Rattle.std.specs.Prelude.{slice_set, Contains}
 use Rattle.std.proofs.lemmas.List.{get_or-set_same, length-map}
 use Rattle.std.proofs.lemmas.List.Elements.{Contains-append_left, Contains-push}

@@ -1,5 +1,5 @@
 -- Each turn notes one more.
-use Rattle.std.proofs.Common.{length, subst, arith, get_or}
+use Rattle.std.proofs.Common.{subst, arith, get_or}
 use Rattle.std.proofs.lemmas.List.{take_all, get_or_default}
 use Rattle.congruence_closure.specs.Tables.{lists, HaveNoted}
 use Rattle.congruence_closure.proofs.Places.{noted_more}

@@ -1,9 +1,8 @@
 -- What was so at the mark is so again.
-use Rattle.std.proofs.Common.{◌≡◌, ◌<◌, ◌≤◌, ◌+◌, ◌-◌, ◌++◌, ◌∷◌, List, [], ℕ, length, get_or, take, map, sym, ap, ◌∙◌, subst, arith}
-use Rattle.std.proofs.lemmas.List.{take_more, same_from_push, length-map}
-use Rattle.congruence_closure.specs.declared.closure.Mark.{Mark}
-use Rattle.congruence_closure.specs.Closure.{ClosureState, ClosureView}
-use Rattle.congruence_closure.specs.State.{PartsView, facts_at}
+use Rattle.std.proofs.Common.{◌≡◌, ◌<◌, ◌≤◌, ◌+◌, ◌-◌, length, get_or, take, map, sym, ap, ◌∙◌, subst, arith}
+use Rattle.std.proofs.lemmas.List.{length-map}
+use Rattle.congruence_closure.specs.Closure.{ClosureView}
+use Rattle.congruence_closure.specs.State.{PartsView}
 use Rattle.congruence_closure.specs.Whole.{marked, IsWhole}
 use Rattle.congruence_closure.proofs.Marks.{found_mark, back_kept, whole_back, now_back, marks_back}
 use Rattle.congruence_closure.proofs.closure.Closure.back.Goals as goal

@@ -1,5 +1,5 @@
 -- What the parts name is below their count of terms.
-use Rattle.std.proofs.Common.{◌<◌, ◌≤◌, length, sym, ap, ◌∙◌, subst, arith}
+use Rattle.std.proofs.Common.{sym, subst, arith}
 use Rattle.explain_forest.specs.Forest.{ForestState}
 use Rattle.congruence_closure.specs.Closure.{ClosureView, AreTerms}
 use Rattle.congruence_closure.proofs.closure.Closure.forest.Goals as goal

@@ -1,5 +1,5 @@
 -- What was so at each mark is so still.
-use Rattle.std.proofs.Common.{false, true, true≢false, sym, ap, ◌∙◌}
+use Rattle.std.proofs.Common.{false, true≢false, sym, ap, ◌∙◌}
 use Rattle.congruence_closure.specs.Closure.{ClosureView}
 use Rattle.congruence_closure.specs.State.{with_held}
 use Rattle.congruence_closure.proofs.Marks.{follows_changes, front_held, marks_follow, whole_follows}

@@ -1,5 +1,5 @@
 -- Edges have reasons, and where it is settled they are closed.
-use Rattle.std.proofs.Common.{◌≡◌, true, ap, ◌∙◌, sym, subst}
+use Rattle.std.proofs.Common.{ap, ◌∙◌, sym, subst}
 use Rattle.congruence_relation.specs.Relation.{IsCongruent}
 use Rattle.congruence_relation.proofs.Exact.{linked_congruent, congruent_linked}
 use Rattle.congruence_closure.specs.Closure.{ClosureView}

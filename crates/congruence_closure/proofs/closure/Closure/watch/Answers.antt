@@ -1,9 +1,9 @@
 -- What was so at each mark is so still.
-use Rattle.std.proofs.Common.{◌≡◌, false, true, true≢false, sym, ap, ◌∙◌, subst}
+use Rattle.std.proofs.Common.{false, true≢false, sym, ap, ◌∙◌}
 use Rattle.term_core.specs.Tables.{shape_of}
 use Rattle.congruence_relation.specs.Relation.{Application}
 use Rattle.congruence_closure.specs.Closure.{ClosureView}
-use Rattle.congruence_closure.specs.State.{State, IsSettled, with_listed}
+use Rattle.congruence_closure.specs.State.{with_listed}
 use Rattle.congruence_closure.proofs.Marks.{follows_changes, front_same, front_listed, marks_follow, settled_still, whole_follows}
 use Rattle.congruence_closure.proofs.closure.Closure.watch.Goals as goal
 

@@ -1,7 +1,7 @@
 -- There are more entries, and room for two literals of each.
-use Rattle.std.proofs.Common.{List, length, arith, ap, sym, subst, ◌≤◌, ◌*◌}
-use Rattle.std.specs.Prelude.{vec_len, vec_capacity}
-use Rattle.congruence_closure.specs.Tables.{AreGrown, AreDenials}
+use Rattle.std.proofs.Common.{length, arith, ap, subst, ◌≤◌, ◌*◌}
+use Rattle.std.specs.Prelude.{vec_capacity}
+use Rattle.congruence_closure.specs.Tables.{AreGrown}
 use Rattle.congruence_closure.proofs.Denials.{denials_grown}
 use Rattle.congruence_closure.proofs.holding.Holding.add.Goals as goal
 

@@ -1,8 +1,7 @@
 -- There is room for one more, and its place is noted.
-use Rattle.std.proofs.Common.{◌≡◌, ◌<◌, ◌++◌, ◌∷◌, [], List, length, sym, ap, ◌∙◌, subst, arith}
-use Rattle.std.specs.Prelude.{vec_len, vec_capacity, Contains}
-use Rattle.term_core.specs.declared.ids.Lit.{Lit}
-use Rattle.congruence_closure.specs.Tables.{HoldingView, AreDenials, noted}
+use Rattle.std.proofs.Common.{◌≡◌, ◌<◌, length, sym, ap, ◌∙◌, subst, arith}
+use Rattle.std.specs.Prelude.{vec_capacity, Contains}
+use Rattle.congruence_closure.specs.Tables.{HoldingView, noted}
 use Rattle.congruence_closure.proofs.Denials.{denials_push, room_left}
 use Rattle.congruence_closure.proofs.holding.Holding.hold.Goals as goal
 

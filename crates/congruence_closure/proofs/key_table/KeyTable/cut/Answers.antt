@@ -1,8 +1,8 @@
 -- The oldest keys are as they were.
-use Rattle.std.proofs.Common.{take, ap, ◌∙◌, sym, subst}
+use Rattle.std.proofs.Common.{ap, ◌∙◌, sym}
 use Rattle.std.proofs.lemmas.List.{take-map}
 use Rattle.term_core.specs.Tables.{shape_of, shapes_of}
-use Rattle.congruence_closure.specs.Keys.{Keys, oldest, AreKeys}
+use Rattle.congruence_closure.specs.Keys.{oldest}
 use Rattle.congruence_closure.proofs.Keys.{keys_oldest}
 use Rattle.congruence_closure.proofs.key_table.KeyTable.cut.Goals as goal
 

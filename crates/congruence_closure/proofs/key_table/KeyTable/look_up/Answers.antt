@@ -1,8 +1,8 @@
 -- A key that was there has its holder, and a new one is the last.
-use Rattle.std.proofs.Common.{◌≡◌, ◌<◌, ◌++◌, ◌∷◌, [], List, length, map, get_or, sym, ap, ◌∙◌, subst, arith}
+use Rattle.std.proofs.Common.{◌≡◌, ◌<◌, ◌++◌, ◌∷◌, [], length, get_or, sym, ap, ◌∙◌, subst, arith}
 use Rattle.std.proofs.lemmas.List.{map_push, length-map, get_or_default}
-use Rattle.term_core.specs.Tables.{shape_of, shapes_of, no_shape}
-use Rattle.congruence_closure.specs.Keys.{Keys, with_key, AreKeys, IsHeld, IsAbsent}
+use Rattle.term_core.specs.Tables.{shape_of, shapes_of}
+use Rattle.congruence_closure.specs.Keys.{Keys, with_key, IsHeld, IsAbsent}
 use Rattle.congruence_closure.proofs.Keys.{keys_more, node_there, node_new}
 use Rattle.congruence_closure.proofs.key_table.KeyTable.look_up.Goals as goal
 

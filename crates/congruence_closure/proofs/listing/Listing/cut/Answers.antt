@@ -1,8 +1,8 @@
 -- One term less at each turn.
-use Rattle.std.proofs.Common.{◌≡◌, ◌<◌, ◌≤◌, ◌-◌, ℕ, List, length, take, inl, inr, sym, ap, ◌∙◌, subst, arith}
+use Rattle.std.proofs.Common.{◌≡◌, ◌<◌, ◌≤◌, ◌-◌, ℕ, length, take, inr, sym, ap, ◌∙◌, subst, arith}
 use Rattle.std.proofs.lemmas.List.{length-map, take-map, take-take, length-take-le}
-use Rattle.congruence_relation.specs.Relation.{Application, application, applications}
-use Rattle.congruence_closure.specs.Tables.{lists, HaveKeptBelow, IsIndexed}
+use Rattle.congruence_relation.specs.Relation.{application, applications}
+use Rattle.congruence_closure.specs.Tables.{lists, IsIndexed}
 use Rattle.congruence_closure.proofs.Places.{indexed_take}
 use Rattle.congruence_closure.proofs.listing.Listing.cut.Goals as goal
 

@@ -1,6 +1,5 @@
 -- The lists have all users, and a term past them has none.
-use Rattle.std.proofs.Common.{◌≡◌, ◌<◌, ℕ, List, [], length, sym, ap, ◌∙◌, subst, arith}
-use Rattle.std.specs.Prelude.{Contains}
+use Rattle.std.proofs.Common.{List, [], ◌∙◌, subst, arith}
 use Rattle.std.proofs.lemmas.List.{length-map}
 use Rattle.congruence_relation.specs.Relation.{Application, applications}
 use Rattle.congruence_closure.specs.Listed.{AreUsers}

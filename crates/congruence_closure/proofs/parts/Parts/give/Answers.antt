@@ -1,9 +1,7 @@
 -- The term is in the class of its truth value, or it is joined to it.
-use Rattle.std.proofs.Common.{◌≡◌, ◌<◌, length, true, false, true≢false, inl, inr, refl, sym, ap, ◌∙◌, subst}
-use Rattle.std.specs.Prelude.{Contains}
+use Rattle.std.proofs.Common.{◌<◌, length, true≢false, inl, refl, sym, ap, ◌∙◌, subst}
 use Rattle.term_core.specs.declared.ids.TermId.{TermId}
 use Rattle.explain_forest.specs.Forest.{Linked}
-use Rattle.class_table.specs.Classes.{AreSame}
 use Rattle.congruence_relation.specs.Relation.{truth_of, decides, States}
 use Rattle.congruence_closure.specs.Listed.{HasPlace, IsListed}
 use Rattle.congruence_closure.specs.State.{PartsView}

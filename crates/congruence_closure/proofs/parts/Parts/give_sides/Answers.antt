@@ -1,5 +1,5 @@
 -- The sides are where the literal says, or they are joined by it.
-use Rattle.std.proofs.Common.{◌≡◌, true, false, true≢false, inl, inr, refl, sym, ap, ◌∙◌, subst}
+use Rattle.std.proofs.Common.{true≢false, inl, refl, sym, ◌∙◌}
 use Rattle.congruence_relation.specs.Relation.{equates}
 use Rattle.congruence_closure.proofs.Turning.{tests_same, tests_apart, ends_low, given_as_held}
 use Rattle.congruence_closure.proofs.parts.Parts.give_sides.Goals as goal

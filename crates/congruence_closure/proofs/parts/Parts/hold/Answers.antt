@@ -1,7 +1,6 @@
 -- What the parts keep is kept with one literal more.
-use Rattle.std.proofs.Common.{◌≡◌, ◌<◌, ◌≤◌, ℕ, List, length, sym, ap, ◌∙◌, subst, arith}
+use Rattle.std.proofs.Common.{◌≤◌, List, length, sym, subst, arith}
 use Rattle.std.specs.Prelude.{Contains}
-use Rattle.term_core.specs.declared.ids.TermId.{TermId}
 use Rattle.term_core.specs.declared.ids.Lit.{Lit}
 use Rattle.congruence_closure.specs.Listed.{IsListed}
 use Rattle.congruence_closure.specs.State.{State, PartsView, IsKept}

@@ -1,5 +1,5 @@
 -- Either it is denied with linked sides, or its sides are apart.
-use Rattle.std.proofs.Common.{◌≡◌, true, false, true≢false, sym, ap, ◌∙◌, subst}
+use Rattle.std.proofs.Common.{true≢false, sym, ◌∙◌, subst}
 use Rattle.std.specs.Prelude.{Contains}
 use Rattle.term_core.specs.declared.ids.TermId.{TermId}
 use Rattle.congruence_closure.specs.Closure.{denial}

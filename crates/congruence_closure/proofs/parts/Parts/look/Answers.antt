@@ -3,7 +3,7 @@ use Rattle.std.proofs.Common.{◌≡◌, ◌<◌, length, sym, ap, ◌∙◌, su
 use Rattle.term_core.specs.Tables.{Shape, shape_of}
 use Rattle.congruence_closure.specs.Listed.{nth}
 use Rattle.congruence_closure.specs.Keys.{Keys, key_of, with_key, IsAbsent}
-use Rattle.congruence_closure.specs.State.{State, PartsView, IsKept, HasKey, IsApart}
+use Rattle.congruence_closure.specs.State.{PartsView, IsKept, HasKey, IsApart}
 use Rattle.congruence_closure.specs.Kept.{state_of}
 use Rattle.congruence_closure.proofs.Steps.{with_keys, kept_key, has_new_key}
 use Rattle.congruence_closure.proofs.parts.Parts.look.Goals as goal

@@ -1,5 +1,5 @@
 -- The two have one head and linked arguments.
-use Rattle.std.proofs.Common.{◌≡◌, sym, ap, ◌∙◌, subst}
+use Rattle.std.proofs.Common.{sym, ap, ◌∙◌, subst}
 use Rattle.term_core.specs.declared.ids.TermId.{TermId}
 use Rattle.congruence_relation.specs.Edges.{Meet}
 use Rattle.congruence_closure.specs.Listed.{nth}

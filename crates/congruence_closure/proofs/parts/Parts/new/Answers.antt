@@ -1,10 +1,9 @@
 -- The terms of the truth values are there, and nothing else.
-use Rattle.std.proofs.Common.{◌≡◌, ◌<◌, ◌≤◌, ℕ, List, [], length, drop, max, sym, ap, ◌∙◌, subst, arith}
+use Rattle.std.proofs.Common.{◌≡◌, ◌≤◌, [], length, drop, sym, ap, ◌∙◌, subst, arith}
 use Rattle.class_table.specs.Classes.{with_terms}
 use Rattle.class_table.proofs.Joined.{length-with_terms}
-use Rattle.explain_forest.specs.declared.types.Edge.{Edge}
 use Rattle.explain_forest.specs.Forest.{ForestState}
-use Rattle.congruence_closure.specs.State.{State, AreJoint, IsKept, no_facts}
+use Rattle.congruence_closure.specs.State.{State, AreJoint, IsKept}
 use Rattle.congruence_closure.proofs.Growing.{joint_none, joint_grown, kept_start}
 use Rattle.congruence_closure.proofs.parts.Parts.new.Goals as goal
 

@@ -1,13 +1,13 @@
 -- The classes are joined, and more is to be looked at.
-use Rattle.std.proofs.Common.{◌≡◌, ◌<◌, ◌≤◌, ◌+◌, ◌++◌, ◌∷◌, ℕ, List, [], length, drop, take, sym, ap, ◌∙◌, subst, arith}
+use Rattle.std.proofs.Common.{◌≡◌, ◌<◌, ◌++◌, length, drop, take, sym, ap, ◌∙◌, subst, arith}
 use Rattle.std.proofs.lemmas.List.{drop-append-le, length-append}
-use Rattle.class_table.specs.Classes.{AreSame, joined}
+use Rattle.class_table.specs.Classes.{AreSame}
 use Rattle.class_table.proofs.Joined.{length-joined}
 use Rattle.explain_forest.specs.declared.types.Label.{Label}
 use Rattle.explain_forest.specs.Forest.{ForestState}
 use Rattle.congruence_relation.specs.Edges.{IsReason}
-use Rattle.congruence_closure.specs.State.{State, PartsView, IsKept}
-use Rattle.congruence_closure.specs.Changes.{ClassAtMost, IsWhy, label}
+use Rattle.congruence_closure.specs.State.{PartsView, IsKept}
+use Rattle.congruence_closure.specs.Changes.{ClassAtMost, IsWhy}
 use Rattle.congruence_closure.specs.Kept.{state_of}
 use Rattle.congruence_closure.proofs.Joining.{kept_joined, why_reason}
 use Rattle.congruence_closure.proofs.Steps.{kept_more}

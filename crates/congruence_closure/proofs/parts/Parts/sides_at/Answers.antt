@@ -1,11 +1,10 @@
 -- The sides are those of the shape.
-use Rattle.std.proofs.Common.{◌≡◌, sym, ap, ◌∙◌, subst}
+use Rattle.std.proofs.Common.{◌≡◌, ap, ◌∙◌, subst}
 use Rattle.std.specs.Prelude.{MatchOption}
 use Rattle.term_core.specs.declared.ids.TermId.{TermId}
 use Rattle.term_core.specs.Tables.{Shape}
 use Rattle.congruence_closure.specs.Listed.{nth, equality_of}
 use Rattle.congruence_closure.specs.State.{PartsView}
-use Rattle.congruence_closure.proofs.Turning.{told, against, they_meet, given_plain, given_equal, given_denied}
 use Rattle.congruence_closure.proofs.parts.Parts.sides_at.Goals as goal
 
 pub returns : goal.returns

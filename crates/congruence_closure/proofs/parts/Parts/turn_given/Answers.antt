@@ -1,10 +1,10 @@
 -- The next literal is given.
-use Rattle.std.proofs.Common.{◌≡◌, ◌<◌, ℕ, List, length, get_or, sym, ap, ◌∙◌, subst, arith}
+use Rattle.std.proofs.Common.{◌≡◌, ◌<◌, List, length, get_or, sym, ap, ◌∙◌, subst}
 use Rattle.std.specs.Prelude.{Contains}
 use Rattle.std.proofs.lemmas.List.Elements.{Contains-get_or}
 use Rattle.term_core.specs.declared.ids.Lit.{Lit}
 use Rattle.congruence_closure.specs.Listed.{no_lit, held_at}
-use Rattle.congruence_closure.specs.State.{State, PartsView}
+use Rattle.congruence_closure.specs.State.{PartsView}
 use Rattle.congruence_closure.specs.Changes.{IsGiven}
 use Rattle.congruence_closure.specs.Kept.{state_of}
 use Rattle.congruence_closure.proofs.Steps.{kept_given}

@@ -1,7 +1,7 @@
 -- The next listed term is looked at.
-use Rattle.std.proofs.Common.{◌≡◌, ◌<◌, ℕ, length, sym, ap, ◌∙◌, subst, arith}
+use Rattle.std.proofs.Common.{◌≡◌, ◌<◌, length, sym, ap, ◌∙◌, subst, arith}
 use Rattle.congruence_relation.specs.Relation.{Facts}
-use Rattle.congruence_closure.specs.State.{State, Left, PartsView, HasKey, IsApart}
+use Rattle.congruence_closure.specs.State.{Left, PartsView, HasKey, IsApart}
 use Rattle.congruence_closure.specs.Kept.{state_of}
 use Rattle.congruence_closure.proofs.Steps.{kept_looked}
 use Rattle.congruence_closure.proofs.parts.Parts.turn_looked.Goals as goal

@@ -1,7 +1,7 @@
 -- The first of those to look at again is done.
-use Rattle.std.proofs.Common.{◌≡◌, ◌<◌, ◌≤◌, ◌+◌, ◌∷◌, List, ℕ, length, drop, get_or, sym, ap, ◌∙◌, subst, arith}
+use Rattle.std.proofs.Common.{◌≡◌, ◌<◌, ◌+◌, length, drop, get_or, sym, ap, ◌∙◌, subst, arith}
 use Rattle.std.proofs.lemmas.List.{drop_more, length-drop, get_or_default}
-use Rattle.congruence_closure.specs.State.{State, Left, PartsView, HasKey, IsApart}
+use Rattle.congruence_closure.specs.State.{Left, PartsView, HasKey, IsApart}
 use Rattle.congruence_closure.specs.Kept.{state_of}
 use Rattle.congruence_closure.proofs.Steps.{kept_next}
 use Rattle.congruence_closure.proofs.Terms.{cons_same}

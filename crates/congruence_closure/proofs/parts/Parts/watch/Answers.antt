@@ -1,10 +1,10 @@
 -- The terms that came are each alone, and the listed one is the last.
-use Rattle.std.proofs.Common.{◌≡◌, ◌<◌, ◌≤◌, ◌++◌, ◌∷◌, [], List, length, sym, ap, ◌∙◌, subst, arith}
+use Rattle.std.proofs.Common.{◌<◌, length, sym, ap, subst}
 use Rattle.class_table.specs.Classes.{with_terms}
 use Rattle.term_core.specs.Tables.{shape_of}
 use Rattle.congruence_relation.specs.Relation.{Application}
 use Rattle.congruence_closure.specs.Listed.{IsListed}
-use Rattle.congruence_closure.specs.State.{State, PartsView, IsKept}
+use Rattle.congruence_closure.specs.State.{PartsView, IsKept}
 use Rattle.congruence_closure.specs.Kept.{state_of}
 use Rattle.congruence_closure.proofs.Growing.{with_numbers, kept_grown, kept_listed}
 use Rattle.congruence_closure.proofs.parts.Parts.watch.Goals as goal
