@@ -1,26 +1,26 @@
--- The clauses of terms in a log, and what making them leaves. Source: Tseitin 1968.
+-- The clauses of a search for terms in a log, and what making them leaves. Source: Tseitin 1968.
 use Rattle.std.specs.Prelude.{◌≡◌, ◌+◌, ◌<◌, List, ◌++◌, length, map, All, Contains}
 use Rattle.std.specs.List.{range_with_len}
 use Rattle.spec_sorts.specs.Terms.{Term}
 use Rattle.spec_proofs.specs.Resolution.{IsWithin}
-use Rattle.spec_derivations.specs.Base.{base_clauses}
+use Rattle.spec_derivations.specs.Base.{search_clauses}
 use Rattle.spec_derivations.specs.Examples.{asserting}
 use Rattle.term_core.specs.declared.ids.TermId.{TermId}
 use Rattle.term_core.specs.Tables.{TableView, declared_in, Extends}
 use Rattle.proof_log.specs.declared.premises.StepId.{StepId}
 use Rattle.proof_log.specs.Logs.{Logged, assumed, stepped, stated, IsLogOf}
 
--- The numbers are those of the base clauses of terms and of no others, and are as many. Where base clauses repeat, which of them have
--- how many numbers is left open.
+-- The numbers are those of the clauses that a search of terms begins with and of no others, and are as many. Where clauses repeat,
+-- which of them have how many numbers is left open.
 pub record HasClauses (t : TableView) (log : List Logged) (terms : List Term) (steps : List StepId) : Type 0 where
   -- each is a number of the log
   pub there : All (λ s. s.0 < length log) steps
-  -- each base clause has a number
-  pub base : IsWithin (base_clauses (asserting terms)) (map (stated t log) steps)
-  -- each number has a base clause
-  pub only : IsWithin (map (stated t log) steps) (base_clauses (asserting terms))
-  -- there are as many numbers as base clauses, equal ones counted each
-  pub count : length steps ≡ length (base_clauses (asserting terms))
+  -- each clause of the search has a number
+  pub base : IsWithin (search_clauses (asserting terms)) (map (stated t log) steps)
+  -- each number has a clause of the search
+  pub only : IsWithin (map (stated t log) steps) (search_clauses (asserting terms))
+  -- there are as many numbers as clauses of the search, equal ones counted each
+  pub count : length steps ≡ length (search_clauses (asserting terms))
 
 -- what it assumes, if it does, is one of these
 abbrev pub AssumesOneOf : List TermId → Logged → Type 0

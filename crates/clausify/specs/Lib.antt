@@ -1,4 +1,6 @@
--- The clauses of terms in a log; the steps that state them, and which terms they are made of.
+-- The clauses of terms in a log, and the terms that a search of them speaks of; the steps that state clauses, marks of numbers, and choices.
 pub mod HavingClauses
+pub mod SearchTerms
 pub mod Stating
 pub mod Marks
+pub mod Choices

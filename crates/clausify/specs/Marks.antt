@@ -1,10 +1,11 @@
 -- Numbers that are marked.
-use Rattle.std.specs.Prelude.{◌≡◌, ◌⊎◌, ℕ, ◌≤◌, Bool, true, false, List, [], ◌∷◌, length, Contains, slice_index_or}
-use Rattle.spec_sorts.specs.Terms.{Term}
+use Rattle.std.specs.Prelude.{◌≡◌, ◌⊎◌, ℕ, ◌<◌, ◌≤◌, Bool, true, false, List, [], ◌∷◌, length, map, All, Contains, slice_index_or}
+use Rattle.spec_sorts.specs.Terms.{Term, no_term}
 use Rattle.spec_sorts.specs.Subterms.{subterms_of}
 use Rattle.spec_sorts.specs.Subsets.{AreAmong, AreOnce}
 use Rattle.term_core.specs.declared.ids.TermId.{TermId}
 use Rattle.term_core.specs.Tables.{TableView, clause_at}
+use Rattle.clausify.specs.SearchTerms.{AreRising}
 
 -- the number is marked
 abbrev pub IsMarked : List Bool → ℕ → Type 0
@@ -37,3 +38,12 @@ pub record AreMarksOf (t : TableView) (roots : List TermId) (marks : List Bool) 
   pub only : AreAmong (marked marks t.terms) (subterms_of (clause_at t roots))
   -- each once
   pub once : AreOnce (marked marks t.terms)
+
+-- The numbers are those that are marked, in ascending order.
+pub record AreMarked (marks : List Bool) (ids : List TermId) : Type 0 where
+  -- each is within the marks
+  pub below : All (λ id. id.0 < length marks) ids
+  -- their terms are the marked ones
+  pub terms : (ts : List Term) → length marks ≤ length ts → map (λ id. slice_index_or ts id.0 no_term) ids ≡ marked marks ts
+  -- a later number is greater
+  pub rising : AreRising ids

@@ -2,7 +2,7 @@
 
 ghost use Rattle.std.specs.Prelude.{ℕ, ◌<◌, ◌≤◌, length, All, IfOk};
 ghost use Rattle.term_core.specs.Tables.{IsIn, AreIn};
-ghost use Rattle.clausify.specs.Marks.{Marks, IsMarked, AreMarksOf};
+ghost use Rattle.clausify.specs.Marks.{Marks, IsMarked, AreMarksOf, AreMarked};
 
 use spec_sorts::subterms::subterms_are_least;
 use std::alloc::Global;
@@ -81,4 +81,18 @@ fn mark_each(marks: &mut [bool], ids: &[TermId])
     'ids: for id in ids.iter() {
         marks[id.0 as usize] = true;
     }
+}
+
+/// Lists the marked numbers, in ascending order.
+pub(crate) fn marked_ids(alloc: Global, marks: &[bool]) -> Result<Vec<TermId>, NoMemory>
+    ensures { IfOk result (λ ids. AreMarked marks.now ids.items) }
+{
+    let mut ids = Vec::new(alloc);
+    'marks: for number in 0..marks.len() {
+        if !marks[number] {
+            continue;
+        }
+        ids.push(TermId(number as u64))?;
+    }
+    Ok(ids)
 }

@@ -1,15 +1,20 @@
-//! The clauses of terms and of all their subterms.
+//! The clauses that a search for terms begins with, and the terms that it speaks of.
 
 ghost use Rattle.std.specs.Prelude.{◌≡◌, ◌≤◌, [], ◌∷◌, length, map, flat_map, All, IfOk, OnOk, OnErr};
 ghost use Rattle.spec_sorts.specs.WellSorted.{IsWellSorted};
-ghost use Rattle.spec_derivations.specs.Base.{clauses_of};
-ghost use Rattle.term_core.specs.Tables.{clause_at};
+ghost use Rattle.spec_derivations.specs.Base.{defining_clauses};
+ghost use Rattle.term_core.specs.Tables.{term_at, clause_at};
 ghost use Rattle.proof_log.specs.Logs.{IsFormulaIn, AreFormulasIn, IsLogOf};
+ghost use Rattle.proof_log.specs.Theories.{IsTermIn};
 ghost use Rattle.clausify.specs.HavingClauses.{HasClauses, Grows, AreAllMade};
+ghost use Rattle.clausify.specs.SearchTerms.{AreSearchTerms};
 ghost use Rattle.clausify.specs.Stating.{listed, Tells};
 ghost use Rattle.clausify.specs.Marks.{marked};
 
-use crate::marks::marks_of;
+use crate::choices::state_choice;
+use crate::marks::{marked_ids, marks_of};
+use crate::spoken::spoken_of;
+use crate::stated::Stated;
 use crate::statements::state_term;
 use proof_log::{ProofLog, StepId, StepIds};
 use spec_sorts::subterms::subterms_are_least;
@@ -18,64 +23,75 @@ use std::slice;
 use term_core::{TermId, TermTable};
 use world_io::NoMemory;
 
-/// Makes the clauses of a term, which say together that it is true: `clauses_of_all` for one term.
+/// Makes the clauses that a search for a term begins with, and lists the terms that they speak of: `clauses_of_all` for
+/// one term.
 ///
-/// The term is assumed, and it and each of its subterms get the clauses that their rules without premises state, a shared one once.
-/// Gives the numbers of these clauses, and so of all that came into the log, in order.
+/// The term must be a formula, and the log one over the table. The equalities of the search, and negations that clauses
+/// need, come into the table.
 ///
-/// The term must be a formula, and the log one over the table. Negations that the clauses need come into the table. A subterm whose
-/// arguments are not all of sort Bool has no clauses: it is an atom.
-///
-/// Where it is called for one term after the other, a subterm that they share gets its clauses again for each, and each call takes time
-/// and memory in proportion to the number of its term, however few subterms that has. So several terms want `clauses_of_all`.
+/// Where it is called for one term after the other, a term that their searches share gets its clauses again for each,
+/// and each call takes time and memory in proportion to the table, however few subterms its term has. So several terms
+/// want `clauses_of_all`.
 ///
 /// `NoMemory` comes where a clause or a term of it finds no memory; then table and log are as they were.
-/// Source: Tseitin 1968; Alethe specification, the rules without premises.
+/// Source: Tseitin 1968; Alethe specification, the rules without premises; the rules of choices are own.
 pub fn clauses_of(
     alloc: Global,
     table: &mut TermTable,
     log: &mut ProofLog,
     root: TermId,
-) -> Result<StepIds, NoMemory>
+) -> Result<Stated, NoMemory>
     requires root { IsFormulaIn table.old root }
     requires log { IsLogOf table.old log.old }
-    ensures clauses { IfOk result (λ list. HasClauses table.new log.new (clause_at table.old (root ∷ [])) list) }
-    ensures made { IfOk result (AreAllMade log.old log.new) }
+    ensures clauses { IfOk result (λ x. HasClauses table.new log.new (clause_at table.old (root ∷ [])) x.steps) }
+    ensures terms { IfOk result (λ x. AreSearchTerms table.new (clause_at table.old (root ∷ [])) x.terms.items) }
+    ensures made { IfOk result (λ x. AreAllMade log.old log.new x.steps) }
     ensures grown { OnOk result (Grows (root ∷ []) table.old table.new log.old log.new) }
     ensures same { OnErr result ((table.new ≡ table.old) × (log.new ≡ log.old)) }
 {
     clauses_of_all(alloc, table, log, slice::from_ref(&root))
 }
 
-/// Makes the clauses of terms, which say together that each of them is true: each term is assumed, and each of their subterms gets
-/// the clauses that its rules without premises state, a shared one once. Gives the numbers of these clauses, and so of all that came
-/// into the log, in order.
+/// Makes the clauses that a search for terms begins with, which say together that each of these is true, and lists the
+/// terms that they speak of.
 ///
-/// The terms must be formulas, and the log one over the table. Negations that the clauses need come into the table. A subterm whose
-/// arguments are not all of sort Bool has no clauses: it is an atom. Where each root is in reach of the search, no subterm is such.
+/// Each of the terms is assumed. The search speaks of them, of `(= (not true) false)` and `(= (not false) true)`, and of
+/// `(= (ite c s t) s)` and `(= (ite c s t) t)` for each choice `(ite c s t)` between terms of another sort than Bool
+/// among their subterms. It speaks of all subterms of these terms too.
 ///
-/// Time and memory go in proportion to the greatest number of these terms and to the lengths of the clauses; but the rules `and_pos`
-/// and `or_neg` look for the argument that a clause has, so a term of n arguments costs in the order of n^2 comparisons of numbers.
+/// Each term that it speaks of gets the clauses that rules without premises state of it, a shared one once. A term whose
+/// arguments are of sort Bool has those of its head. Such a choice has `(cl (not c) (= (ite c s t) s))` and
+/// `(cl c (= (ite c s t) t))`. Other terms have none: what they mean is for a theory.
+///
+/// It gives the numbers of the clauses, and so of all that came into the log, in order, and the numbers of the terms.
+///
+/// The terms must be formulas, and the log one over the table. The equalities, and negations that clauses need, come
+/// into the table.
+///
+/// Time and memory go in proportion to the number of the table's terms and to the lengths of the clauses. But the rules
+/// `and_pos` and `or_neg` look for the argument that a clause has, so a term of n arguments costs in the order of n^2
+/// comparisons of numbers.
 ///
 /// `NoMemory` comes where a clause or a term of it finds no memory; then table and log are as they were.
-/// Source: Tseitin 1968; Alethe specification, the rules without premises.
+/// Source: Tseitin 1968; Alethe specification, the rules without premises; the rules of choices are own.
 pub fn clauses_of_all(
     alloc: Global,
     table: &mut TermTable,
     log: &mut ProofLog,
     roots: &[TermId],
-) -> Result<StepIds, NoMemory>
+) -> Result<Stated, NoMemory>
     requires roots { AreFormulasIn table.old roots.now }
     requires log { IsLogOf table.old log.old }
-    ensures clauses { IfOk result (λ list. HasClauses table.new log.new (clause_at table.old roots.now) list) }
-    ensures made { IfOk result (AreAllMade log.old log.new) }
+    ensures clauses { IfOk result (λ x. HasClauses table.new log.new (clause_at table.old roots.now) x.steps) }
+    ensures terms { IfOk result (λ x. AreSearchTerms table.new (clause_at table.old roots.now) x.terms.items) }
+    ensures made { IfOk result (λ x. AreAllMade log.old log.new x.steps) }
     ensures grown { OnOk result (Grows roots.now table.old table.new log.old log.new) }
     ensures same { OnErr result ((table.new ≡ table.old) × (log.new ≡ log.old)) }
 {
     let terms = table.len();
     let clauses = log.len();
     match stated_of(alloc, table, log, roots) {
-        Ok(list) => Ok(list),
+        Ok(stated) => Ok(stated),
         Err(NoMemory) => {
             log.cut(clauses);
             table.cut(terms);
@@ -84,25 +100,32 @@ pub fn clauses_of_all(
     }
 }
 
-/// Makes the clauses of terms. Where memory runs out, what was made stays.
+/// Makes the clauses of a search for terms, and lists its terms. Where memory runs out, what was made stays.
 fn stated_of(
     alloc: Global,
     table: &mut TermTable,
     log: &mut ProofLog,
     roots: &[TermId],
-) -> Result<StepIds, NoMemory>
+) -> Result<Stated, NoMemory>
     requires roots { AreFormulasIn table.old roots.now }
     requires log { IsLogOf table.old log.old }
-    ensures clauses { IfOk result (λ list. HasClauses table.new log.new (clause_at table.old roots.now) list) }
-    ensures made { IfOk result (AreAllMade log.old log.new) }
+    ensures clauses { IfOk result (λ x. HasClauses table.new log.new (clause_at table.old roots.now) x.steps) }
+    ensures terms { IfOk result (λ x. AreSearchTerms table.new (clause_at table.old roots.now) x.terms.items) }
+    ensures made { IfOk result (λ x. AreAllMade log.old log.new x.steps) }
     ensures grows { Grows roots.now table.old table.new log.old log.new }
 {
     subterms_are_least();
-    let marks = marks_of(alloc, table, roots)?;
+    proof_log::laws::logs_stand_in_grown_tables();
+    let spoken = spoken_of(alloc, table, roots)?;
+    let marks = marks_of(alloc, table, &spoken)?;
     let mut steps = Vec::new(alloc);
     assume_each(table, log, roots, &mut steps)?;
     state_marked(alloc, table, log, &marks, &mut steps)?;
-    Ok(StepIds::from(steps))
+    let terms = marked_ids(alloc, &marks)?;
+    Ok(Stated {
+        steps: StepIds::from(steps),
+        terms,
+    })
 }
 
 /// Assumes terms, and puts the numbers of their clauses after the others.
@@ -137,13 +160,31 @@ fn state_marked(
     requires log { IsLogOf table.old log.old }
     ensures grows { Grows [] table.old table.new log.old log.new }
     ensures tells { OnOk result (Tells (listed table.old log.old steps.old.items)
-        (listed table.new log.new steps.new.items) (flat_map clauses_of (marked marks.now table.old.terms))) }
+        (listed table.new log.new steps.new.items) (flat_map defining_clauses (marked marks.now table.old.terms))) }
 {
     'marks: for number in 0..marks.len() {
         if !marks[number] {
             continue;
         }
-        state_term(alloc, table, log, steps, TermId(number as u64))?;
+        define(alloc, table, log, steps, TermId(number as u64))?;
     }
     Ok(())
+}
+
+/// States all clauses that say what a term means, and puts their numbers after the others.
+fn define(
+    alloc: Global,
+    table: &mut TermTable,
+    log: &mut ProofLog,
+    steps: &mut Vec<StepId>,
+    id: TermId,
+) -> Result<(), NoMemory>
+    requires there { IsTermIn table.old id }
+    requires log { IsLogOf table.old log.old }
+    ensures grows { Grows [] table.old table.new log.old log.new }
+    ensures tells { OnOk result (Tells (listed table.old log.old steps.old.items)
+        (listed table.new log.new steps.new.items) (defining_clauses (term_at table.old id))) }
+{
+    state_term(alloc, table, log, steps, id)?;
+    state_choice(alloc, table, log, steps, id)
 }

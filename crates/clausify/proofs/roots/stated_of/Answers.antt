@@ -1,60 +1,119 @@
--- The terms are assumed, and the clauses of the marked ones stated.
-use Rattle.std.proofs.Common.{◌++◌, List, [], Bool, All, sym, subst}
-use Rattle.std.proofs.lemmas.List.Elements.{All-map, Contains-get_or}
+-- What the search speaks of is put, the terms are assumed, and the clauses of the marked ones stated.
+use Rattle.std.proofs.Common.{◌≡◌, ◌++◌, List, [], Bool, All, sym, subst}
+use Rattle.spec_sorts.specs.Terms.{Term}
 use Rattle.spec_sorts.specs.WellSorted.{IsWellSorted}
-use Rattle.spec_derivations.proofs.Below.{subterms_have, argument_sorted}
-use Rattle.term_core.specs.Tables.{term_at, clause_at}
+use Rattle.spec_derivations.specs.Base.{spoken_terms, defining_clauses}
+use Rattle.spec_derivations.specs.Examples.{asserting}
+use Rattle.term_core.specs.declared.ids.TermId.{TermId}
+use Rattle.term_core.specs.Tables.{clause_at}
+use Rattle.term_core.proofs.TermsExtend.{clause_at-kept}
 use Rattle.proof_log.specs.declared.premises.StepId.{StepId}
+use Rattle.proof_log.specs.Logs.{IsLogOf}
 use Rattle.clausify.specs.HavingClauses.{HasClauses, Grows, AreAllMade}
 use Rattle.clausify.specs.Stating.{Says}
-use Rattle.clausify.specs.Marks.{marked}
-use Rattle.clausify.proofs.Growing.{Grows-self, Grows-trans, Grows-weaker}
-use Rattle.clausify.proofs.Bases.{alone, marked_clauses, has_clauses, Says-none}
+use Rattle.clausify.specs.Marks.{marked, AreMarksOf, AreMarked}
+use Rattle.clausify.proofs.Growing.{Grows-wider, Grows-trans, Grows-weaker}
+use Rattle.clausify.proofs.Bases.{alone, flat_marked, marked_sorted, AreMarksOfSearch, marks_of_search, has_clauses, are_search_terms, Says-none}
+use Rattle.clausify.proofs.Speaking.{formulas_kept}
 use Rattle.clausify.proofs.Making.{Makes-trans, all_made}
 use Rattle.clausify.proofs.roots.stated_of.Goals as goal
-use Rattle.clausify.proofs.roots.stated_of.Goals.{After-state_marked}
+use Rattle.clausify.proofs.roots.stated_of.Goals.{After-spoken_of, After-state_marked, In_ok-marks}
+
+-- the log stands in the wider table
+still : (c : After-spoken_of) → IsLogOf c.spoken_of.new.table c.args.log.now
+still c = c.logs_stand_in_grown_tables.ensures.right c.args.table.now c.spoken_of.new.table c.args.log.now c.requires.log c.spoken_of.ensures.wider.terms
+
+-- and nothing came into it
+wide : (c : After-spoken_of) → Grows c.args.roots.now c.args.table.now c.spoken_of.new.table c.args.log.now c.args.log.now
+wide c = Grows-wider c.args.roots.now c.args.table.now c.spoken_of.new.table c.args.log.now c.spoken_of.ensures.wider (still c)
+
+pub returns-in_err-spoken-clause-grows : goal.returns-in_err-spoken-clause-grows
+returns-in_err-spoken-clause-grows c = wide (goal.at.returns-in_err-spoken-clause-grows c).After-spoken_of
 
 pub returns-in_err-marks-clause-grows : goal.returns-in_err-marks-clause-grows
-returns-in_err-marks-clause-grows c = Grows-self c.args.roots.now c.args.table.now c.args.log.now c.requires.log
+returns-in_err-marks-clause-grows c = wide (goal.at.returns-in_err-marks-clause-grows c).After-spoken_of
 
-pub marks_of-requires : goal.marks_of-requires
-marks_of-requires c k d lt = (c.requires.roots k d lt).0
+pub assume_each-requires-clause-roots : goal.assume_each-requires-clause-roots
+assume_each-requires-clause-roots c = formulas_kept c.args.table.now c.spoken_of.new.table c.spoken_of.ensures.wider c.args.roots.now c.requires.roots
+
+pub assume_each-requires-clause-log : goal.assume_each-requires-clause-log
+assume_each-requires-clause-log c = still (goal.at.assume_each-requires-clause-log c).After-spoken_of
+
+-- the marks are those of the subterms of what the search speaks of
+marks_are : (c : In_ok-marks) → AreMarksOf c.spoken_of.new.table c.in_ok-spoken.spoken.items c.in_ok-marks.marks.items
+marks_are c = subst (λ (ids : List TermId). AreMarksOf c.spoken_of.new.table ids c.in_ok-marks.marks.items) c.deref.ensures.value c.in_ok-marks.ensures
+
+-- and so they are those of its terms
+search_marks : (c : In_ok-marks) → AreMarksOfSearch c.spoken_of.new.table (clause_at c.args.table.now c.args.roots.now) c.in_ok-marks.marks.items
+search_marks c = marks_of_search c.spoken_of.new.table (clause_at c.args.table.now c.args.roots.now) c.in_ok-spoken.spoken.items c.in_ok-marks.marks.items c.in_ok-spoken.ensures.spoken (marks_are c)
+
+-- which are well sorted
+sorted_marks : (c : In_ok-marks) → All (IsWellSorted c.spoken_of.new.table.symbols []) (marked c.in_ok-marks.marks.items c.spoken_of.new.table.terms)
+sorted_marks c = marked_sorted c.spoken_of.new.table c.in_ok-spoken.spoken.items c.in_ok-marks.marks.items c.in_ok-spoken.ensures.spoken.formulas (marks_are c)
 
 pub state_marked-requires-clause-sorted : goal.state_marked-requires-clause-sorted
 state_marked-requires-clause-sorted c =
-    let t = c.args.table.now in
-    let roots = c.args.roots.now in
-    let m = c.in_ok-marks.ensures in
-    let each : All (IsWellSorted t.symbols []) (clause_at t roots) = All-map (IsWellSorted t.symbols []) (term_at t) roots (λ k d lt. (c.requires.roots k d lt).1.term) in
-    let all : All (IsWellSorted t.symbols []) (marked c.in_ok-marks.marks.items t.terms) =
-    λ k d lt. subterms_have (IsWellSorted t.symbols []) (argument_sorted t.symbols []) (clause_at t roots) each _ (m.only _ (Contains-get_or (marked c.in_ok-marks.marks.items t.terms) k d lt)) in
-    subst (λ (ms : List Bool). All (IsWellSorted t.symbols []) (marked ms t.terms)) (sym c.deref.ensures.value) all
+    let u = c.spoken_of.new.table in
+    subst (λ (ms : List Bool). All (IsWellSorted u.symbols []) (marked ms u.terms)) (sym c.deref-2.ensures.value) (sorted_marks (goal.at.state_marked-requires-clause-sorted c).In_ok-marks)
 
--- both together
-both_grow : (c : After-state_marked) → Grows c.args.roots.now c.args.table.now c.state_marked.new.table c.args.log.now c.state_marked.new.log
-both_grow c =
+-- all together
+all_grow : (c : After-state_marked) → IsLogOf c.spoken_of.new.table c.args.log.now → Grows c.args.roots.now c.args.table.now c.state_marked.new.table c.args.log.now c.state_marked.new.log
+all_grow c right =
     let t = c.args.table.now in
+    let u = c.spoken_of.new.table in
+    let v = c.state_marked.new.table in
     let roots = c.args.roots.now in
-    Grows-trans roots t t c.state_marked.new.table c.args.log.now c.assume_each.new.log c.state_marked.new.log c.assume_each.ensures.grows (Grows-weaker roots t c.state_marked.new.table c.assume_each.new.log c.state_marked.new.log c.state_marked.ensures.grows)
+    let a = c.args.log.now in
+    let b = c.assume_each.new.log in
+    let d = c.state_marked.new.log in
+    Grows-trans roots t u v a a d (Grows-wider roots t u a c.spoken_of.ensures.wider right)
+    (Grows-trans roots u u v a b d c.assume_each.ensures.grows (Grows-weaker roots u v b d c.state_marked.ensures.grows))
 
 pub returns-in_err-state_marked-clause-grows : goal.returns-in_err-state_marked-clause-grows
-returns-in_err-state_marked-clause-grows c = both_grow (goal.at.returns-in_err-state_marked-clause-grows c).After-state_marked
+returns-in_err-state_marked-clause-grows c =
+    let at = goal.at.returns-in_err-state_marked-clause-grows c in
+    all_grow at.After-state_marked (still at.After-spoken_of)
+
+pub returns-in_err-terms-clause-grows : goal.returns-in_err-terms-clause-grows
+returns-in_err-terms-clause-grows c =
+    let at = goal.at.returns-in_err-terms-clause-grows c in
+    all_grow at.After-state_marked (still at.After-spoken_of)
 
 pub returns-clause-grows : goal.returns-clause-grows
-returns-clause-grows c = both_grow (goal.at.returns-clause-grows c).After-state_marked
+returns-clause-grows c =
+    let at = goal.at.returns-clause-grows c in
+    all_grow at.After-state_marked (still at.After-spoken_of)
 
 pub returns-clause-clauses : goal.returns-clause-clauses
 returns-clause-clauses c =
     let t = c.args.table.now in
-    let u = c.state_marked.new.table in
+    let u = c.spoken_of.new.table in
+    let v = c.state_marked.new.table in
     let log = c.state_marked.new.log in
     let roots = c.args.roots.now in
+    let terms = clause_at t roots in
     let marks = c.in_ok-marks.marks.items in
-    let units = alone (clause_at t roots) in
-    let none = Says-none t c.args.log.now c.new-steps.result.items c.new-steps.ensures.items in
-    let assumed = c.in_ok-assume_each.ensures.tells.says [] none in
-    let stated : Says u log c.state_marked.new.steps.items (units ++ marked_clauses marks t.terms) = subst (λ (ms : List Bool). Says u log c.state_marked.new.steps.items (units ++ marked_clauses ms t.terms)) c.deref.ensures.value (c.in_ok-state_marked.ensures.tells.says units assumed) in
-    subst (λ (ss : List StepId). HasClauses u log (clause_at t roots) ss) (sym c.from.ensures) (has_clauses t u log roots marks c.state_marked.new.steps.items c.in_ok-marks.ensures (c.subterms_are_least.ensures.once (clause_at t roots)) stated)
+    let steps = c.state_marked.new.steps.items in
+    let none = Says-none u c.args.log.now c.new-steps.result.items c.new-steps.ensures.items in
+    let same : clause_at u roots ≡ terms = clause_at-kept t u c.spoken_of.ensures.wider.terms roots (λ k d lt. (c.requires.roots k d lt).0) in
+    let assumed : Says u c.assume_each.new.log c.assume_each.new.steps.items (alone terms) =
+    subst (λ (ts : List Term). Says u c.assume_each.new.log c.assume_each.new.steps.items (alone ts)) same (c.in_ok-assume_each.ensures.tells.says [] none) in
+    let stated : Says v log steps (alone terms ++ flat_marked defining_clauses marks u.terms) =
+    subst (λ (ms : List Bool). Says v log steps (alone terms ++ flat_marked defining_clauses ms u.terms)) c.deref-2.ensures.value (c.in_ok-state_marked.ensures.tells.says (alone terms) assumed) in
+    subst (λ (ss : List StepId). HasClauses v log terms ss) (sym c.from.ensures)
+    (has_clauses u v log terms marks steps (search_marks (goal.at.returns-clause-clauses c).In_ok-marks) (c.subterms_are_least.ensures.once (spoken_terms (asserting terms))) stated)
+
+pub returns-clause-terms : goal.returns-clause-terms
+returns-clause-terms c =
+    let at = goal.at.returns-clause-terms c in
+    let t = c.args.table.now in
+    let u = c.spoken_of.new.table in
+    let v = c.state_marked.new.table in
+    let g = c.state_marked.ensures.grows in
+    let marks = c.in_ok-marks.marks.items in
+    let ids = c.in_ok-terms.terms.items in
+    are_search_terms u v (record { terms = g.table; declared = g.declared }) (clause_at t c.args.roots.now) ids marks (search_marks at.In_ok-marks) (sorted_marks at.In_ok-marks)
+    (subst (λ (ms : List Bool). AreMarked ms ids) c.deref-3.ensures.value c.in_ok-terms.ensures)
 
 pub returns-clause-made : goal.returns-clause-made
 returns-clause-made c =

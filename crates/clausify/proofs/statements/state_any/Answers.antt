@@ -11,7 +11,7 @@ use Rattle.term_core.proofs.TermsExtend.{term_at-kept}
 use Rattle.clausify.specs.Stating.{listed, Tells, before}
 use Rattle.clausify.proofs.Growing.{Grows-self, Grows-trans, Tells-none, Tells-trans, Tells-same}
 use Rattle.clausify.proofs.Parts.{ComesBefore-kept}
-use Rattle.clausify.proofs.Stated.{clauses_more, right_same}
+use Rattle.clausify.proofs.SchemeClauses.{clauses_more, right_same}
 use Rattle.clausify.proofs.statements.state_any.Goals as goal
 
 pub places-init : goal.places-init
