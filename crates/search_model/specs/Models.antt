@@ -1,0 +1,62 @@
+-- Which interpretation a search answers with: by the truths of its literals, and by the classes of its terms.
+use Rattle.std.specs.Prelude.{◌≡◌, ◌<◌, ℕ, Bool, true, ◌&&◌, List, [], length, get_or, All, slice_index_or}
+use Rattle.std.specs.List.{list_any}
+use Rattle.spec_numbers.specs.Fractions.{zero_fraction}
+use Rattle.spec_sorts.specs.Terms.{Symbol, Term, same_term}
+use Rattle.spec_sorts.specs.Values.{truth, Interpretation, Interprets}
+use Rattle.spec_sorts.specs.TermValues.{value_at}
+use Rattle.spec_rules.specs.Truths.{Truths, term_true_by}
+use Rattle.spec_valuations.specs.Tables.{Valuation, table_of}
+use Rattle.spec_valuations.specs.Classes.{value_by, class_in}
+use Rattle.term_core.specs.declared.ids.TermId.{TermId}
+use Rattle.term_core.specs.declared.ids.Lit.{Lit}
+use Rattle.term_core.specs.Symbols.{no_symbol}
+use Rattle.term_core.specs.Tables.{TableView, term_at, clause_at}
+use Rattle.term_walks.specs.declared.values.Interp.{Interp}
+use Rattle.term_walks.specs.Valuations.{no_table, tables_meant, Stands, IsTableNamed}
+
+-- the literal is the term as it stands
+abbrev pub affirms : TableView → Lit → Term → Bool
+affirms t l u = l.positive && same_term (term_at t l.term) u
+
+-- a term is true where it is among the literals that hold, as it stands
+abbrev pub truths_of : TableView → List Lit → Truths
+truths_of t held u = list_any (λ l. affirms t l u) held
+
+-- the value of a listed term: its truth, 0, or the element of the number of its class
+abbrev pub values_of : TableView → List Lit → List TermId → List ℕ → Valuation
+values_of t held terms classes = value_by (term_true_by (truths_of t held)) (λ u. zero_fraction) (class_in (clause_at t terms) classes)
+
+-- the symbol of that number
+abbrev pub symbol_in : TableView → ℕ → Symbol
+symbol_in t k = slice_index_or t.symbols k no_symbol
+
+-- what no place of a list of numbers has
+abbrev pub no_id : TermId
+no_id = record { 0 = 0 }
+
+-- a later number is greater
+abbrev pub AreRising : List TermId → Type 0
+AreRising ids = (i j : ℕ) → i < j → j < length ids → (get_or ids i no_id).0 < (get_or ids j no_id).0
+
+-- Each symbol has a row for each listed term with it in front, and for all other arguments false, 0 or the first element. A constant that is listed has its value alone.
+pub record IsModelOf (t : TableView) (held : List Lit) (terms : List TermId) (classes : List ℕ) (interp : Interp) : Type 0 where
+  -- there is a table for each symbol, and no other
+  pub tables : length interp.tables.items ≡ length t.symbols
+  -- elements are of sorts of the table
+  pub named : All (IsTableNamed t.sorts) interp.tables.items
+  -- it is the table by the values of the listed terms
+  pub each : (k : ℕ) → k < length t.symbols → slice_index_or (tables_meant t.sorts interp) k no_table ≡ table_of (values_of t held terms classes) (symbol_in t k) (clause_at t terms)
+
+-- Tables for the symbols, under which terms are true.
+pub record IsModel (t : TableView) (terms : List Term) (interp : Interp) : Type 0 where
+  -- there is a table for each symbol, and no other
+  pub tables : length interp.tables.items ≡ length t.symbols
+  -- elements are of sorts of the table
+  pub named : All (IsTableNamed t.sorts) interp.tables.items
+  -- an interpretation has these tables
+  pub interpretation : (i : Interpretation) × Stands t interp i
+  -- each that has them gives each symbol a table of its own sorts
+  pub interprets : (i : Interpretation) → Stands t interp i → Interprets i t.symbols
+  -- and the terms are true under it
+  pub holds : (i : Interpretation) → Stands t interp i → All (λ u. value_at i [] u ≡ truth true) terms
