@@ -10,11 +10,13 @@ pub mod SearchReady
 pub mod SearchNew
 pub mod SearchLogs
 pub mod SearchAtoms
-pub mod SearchDecided
+pub mod SearchGrown
+pub mod SearchTheories
 pub mod SearchConflicts
 pub mod SearchShows
 pub mod SearchBegins
 pub mod SearchRounds
-pub mod SearchModels
-pub mod SearchModelsMade
-pub mod SearchInterprets
+pub mod SearchLooks
+pub mod SearchTruths
+pub mod SearchChosen
+pub mod SearchModelled

@@ -1,78 +1,177 @@
--- That a learned clause is over atoms of the terms.
-use Rattle.std.proofs.Common.{◌≡◌, ◌≢◌, true, false, not, List, [], ◌∷◌, ◌++◌, map, Contains, inl, inr, refl, sym, ◌∙◌, subst, arith}
+-- That a learned clause is over atoms of the terms: the truth values and the facts about them have their values since level 0.
+use Rattle.std.proofs.Common.{◌≡◌, ◌≢◌, ◌⊎◌, true, false, List, [], ◌∷◌, map, Contains, inl, inr, refl, sym, ap, ◌∙◌, subst, arith}
 use Rattle.std.specs.Prelude.{flat_map}
 use Rattle.std.proofs.lemmas.List.Elements.{Contains-append_left, Contains-append_right}
-use Rattle.spec_text.proofs.Members.{to_image, in_flat, only}
-use Rattle.spec_sorts.specs.Terms.{True, False, Truth, Term, of, negated, sort_of}
-use Rattle.spec_sorts.specs.Literals.{Clause, Literal, literal_of, literals_of}
+use Rattle.spec_text.proofs.Members.{to_image, from_image, in_flat, only, first, cases}
+use Rattle.spec_sorts.specs.Terms.{True, False, Equal, Truth, Term, of, pair, negated, sort_of}
+use Rattle.spec_sorts.specs.Subsets.{arguments_of}
 use Rattle.spec_sorts.proofs.LeastSubterms.{least_of}
-use Rattle.spec_derivations.specs.Problems.{Problem, terms_of_problem, subterms_in, known_subterms}
-use Rattle.spec_derivations.specs.Base.{clauses_of, base_clauses}
-use Rattle.spec_derivations.specs.Spent.{IsAtomOf, subterm as by_subterm}
+use Rattle.spec_sorts.specs.Literals.{Clause, Literal, complement, literal_of, literals_of}
+use Rattle.spec_derivations.specs.Problems.{Problem}
+use Rattle.spec_derivations.specs.Base.{clauses_of, truth_facts, defining_clauses, choice_clauses, spoken_terms, search_terms, search_clauses}
+use Rattle.spec_derivations.specs.Spent.{IsAtomOf}
+use Rattle.spec_derivations.proofs.SearchTerms.{facts_spoken, spoken_atoms}
 use Rattle.term_core.specs.declared.ids.Lit.{Lit}
-use Rattle.term_core.specs.Tables.{TableView, IsIn, AreDifferent, term_at, literal_at}
-use Rattle.clause_literals.specs.Literals.{lit_complement}
+use Rattle.term_core.specs.Tables.{TableView, IsIn, AreDifferent, term_at, literal_at, positive_literal}
+use Rattle.clause_literals.specs.Literals.{lit_complement, IsConsistent}
 use Rattle.clause_literals.specs.Statuses.{IsSettled}
 use Rattle.clause_literals.proofs.TableLiterals.{literals_apart}
 use Rattle.clause_store.specs.Propagating.{IsQuiet}
 
--- a clause of a subterm is one of the base clauses
-pub in_base : (problem : Problem) (u : Term) (c : Clause) → Contains (subterms_in problem) u → Contains (clauses_of u) c → Contains (base_clauses problem) c
-in_base problem u c i j = Contains-append_right (map (λ (x : Term). x ∷ []) problem.asserted) (flat_map clauses_of (subterms_in problem)) c (in_flat clauses_of (subterms_in problem) u c i j)
+-- a clause that a term gives is one of those that a search begins with
+in_search : (p : Problem) (u : Term) (c : Clause) → Contains (search_terms p) u → Contains (clauses_of u) c → Contains (search_clauses p) c
+in_search p u c i j = Contains-append_right (map (λ (x : Term). x ∷ []) p.asserted) (flat_map defining_clauses (search_terms p)) c
+    (in_flat defining_clauses (search_terms p) u c i (Contains-append_left (clauses_of u) (choice_clauses u) c j))
 
--- what this check asks about is known
-in_known : (problem : Problem) (u : Term) → Contains (subterms_in problem) u → Contains (known_subterms problem) u
-in_known problem u i =
-    let known = least_of (terms_of_problem problem ++ problem.earlier) in
-    (least_of (terms_of_problem problem)).least (known_subterms problem) (λ v j. known.there v (Contains-append_left (terms_of_problem problem) problem.earlier v j)) known.closed u i
+-- with a term its arguments are spoken of
+pub closed_terms : (p : Problem) (t u : Term) → Contains (search_terms p) t → Contains (arguments_of t) u → Contains (search_terms p) u
+closed_terms p t u i j = (least_of (spoken_terms p)).closed t i u j
 
+-- (= (not true) false), and (= (not false) true)
+abbrev not_true_fact : Term
+not_true_fact = pair Equal (negated (of True [])) (of False [])
+
+abbrev not_false_fact : Term
+not_false_fact = pair Equal (negated (of False [])) (of True [])
+
+-- the literals of a term as it stands, and negated
+abbrev yes : Term → Literal
+yes u = record { atom = u; positive = true }
+
+abbrev no : Term → Literal
+no u = record { atom = u; positive = false }
+
+-- the clauses that give these their values
 true_clause : Contains (clauses_of (of True [])) (of True [] ∷ [])
 true_clause = (0, omega arith, refl)
 
 false_clause : Contains (clauses_of (of False [])) (negated (of False []) ∷ [])
 false_clause = (0, omega arith, refl)
 
-false_literal : literals_of (negated (of False []) ∷ []) ≡ record { atom = of False []; positive = false } ∷ []
+not_true_clause : Contains (clauses_of not_true_fact) (not_true_fact ∷ negated (of True []) ∷ of False [] ∷ [])
+unfolding sort_of
+not_true_clause = (3, omega arith, refl)
+
+not_false_clause : Contains (clauses_of not_false_fact) (not_false_fact ∷ negated (negated (of False [])) ∷ negated (of True []) ∷ [])
+unfolding sort_of
+not_false_clause = (2, omega arith, refl)
+
+true_literals : literals_of (of True [] ∷ []) ≡ yes (of True []) ∷ []
 unfolding literal_of
-false_literal = refl
+true_literals = refl
 
-true_literal : literals_of (of True [] ∷ []) ≡ record { atom = of True []; positive = true } ∷ []
+false_literals : literals_of (negated (of False []) ∷ []) ≡ no (of False []) ∷ []
 unfolding literal_of
-true_literal = refl
+false_literals = refl
 
-module _ (t : TableView) (differ : AreDifferent t.terms) (front d : List Lit) (there : (l : Lit) → Contains d l → IsIn t l.term) where
-  -- a clause of one literal is settled only where that holds
-  unit_settled : (y : Lit) → IsIn t y.term → map (literal_at t) d ≡ literal_at t y ∷ [] → IsSettled front d → Contains front y
-  unit_settled y y_in e s = go s
-    where
-      same : (l : Lit) → Contains d l → l ≡ y
-      same l i = literals_apart t differ l y (there l i) y_in (sym (only (literal_at t y) (literal_at t l) (subst (λ (xs : List Literal). Contains xs (literal_at t l)) e (to_image (literal_at t) d l i))))
+not_true_literals : literals_of (not_true_fact ∷ negated (of True []) ∷ of False [] ∷ []) ≡ yes not_true_fact ∷ no (of True []) ∷ yes (of False []) ∷ []
+unfolding literal_of
+not_true_literals = refl
 
-      go : IsSettled front d → Contains front y
-      go (inl h) = subst (λ (x : Lit). Contains front x) (same h.literal h.there) h.holds
-      go (inr h) = absurd (h.differ (same h.one h.has_one ∙ sym (same h.other h.has_other)))
+not_false_literals : literals_of (not_false_fact ∷ negated (negated (of False [])) ∷ negated (of True []) ∷ []) ≡ yes not_false_fact ∷ yes (of False []) ∷ no (of True []) ∷ []
+unfolding literal_of
+not_false_literals = refl
 
--- a term that is decided positively
+-- clauses that are quiet, and have those that a search begins with
 module _ (t : TableView) (differ : AreDifferent t.terms) (problem : Problem) (clauses : List (List Lit)) (clauses_in : (d : List Lit) (l : Lit) → Contains clauses d → Contains d l → IsIn t l.term)
-    (base : (c : Clause) → Contains (base_clauses problem) c → (d : List Lit) × Contains clauses d × (map (literal_at t) d ≡ literals_of c))
-    (front : List Lit) (quiet : IsQuiet clauses front) (m : Lit) (m_in : IsIn t m.term) (positive : m.positive ≡ true) (not_held : Contains front m → ⊥) (not_false : Contains front (lit_complement m) → ⊥)
-    (subterm : Contains (subterms_in problem) (term_at t m.term)) where
-  settled_base : (c : Clause) → Contains (base_clauses problem) c → (y : Lit) → IsIn t y.term → literals_of c ≡ literal_at t y ∷ [] → Contains front y
-  settled_base c i y y_in e =
-      let h = base c i in
-      unit_settled t differ front h.0 (λ l j. clauses_in h.0 l h.1 j) y y_in (h.2 ∙ e) (quiet h.0 h.1)
+    (base : (c : Clause) → Contains (search_clauses problem) c → (d : List Lit) × Contains clauses d × (map (literal_at t) d ≡ literals_of c))
+    (front : List Lit) (consistent : IsConsistent front) (quiet : IsQuiet clauses front) where
+  -- a literal that means this one holds
+  abbrev Holds : Literal → Type 0
+  Holds z = (l : Lit) × Contains front l × IsIn t l.term × (literal_at t l ≡ z)
 
-  is_no_true : term_at t m.term ≢ of True []
-  is_no_true e =
-      let i : Contains (base_clauses problem) (of True [] ∷ []) = in_base problem (of True []) (of True [] ∷ []) (subst (λ (u : Term). Contains (subterms_in problem) u) e subterm) true_clause in
-      let same : literals_of (of True [] ∷ []) ≡ literal_at t m ∷ [] = true_literal ∙ (λ j. record { atom = sym e j; positive = sym positive j } ∷ []) in
-      not_held (settled_base (of True [] ∷ []) i m m_in same)
+  -- where all literals of a clause but one are false, that one holds
+  module _ (c : Clause) (c_in : Contains (search_clauses problem) c) (z : Literal) (z_in : Contains (literals_of c) z) (others : (y : Literal) → Contains (literals_of c) y → (y ≡ z) ⊎ Holds (complement y)) where
+    abbrev d : List Lit
+    d = (base c c_in).0
 
-  is_no_false : term_at t m.term ≢ of False []
-  is_no_false e =
-      let i : Contains (base_clauses problem) (negated (of False []) ∷ []) = in_base problem (of False []) (negated (of False []) ∷ []) (subst (λ (u : Term). Contains (subterms_in problem) u) e subterm) false_clause in
-      let same : literals_of (negated (of False []) ∷ []) ≡ literal_at t (lit_complement m) ∷ [] = false_literal ∙ (λ j. record { atom = sym e j; positive = not (sym positive j) } ∷ []) in
-      not_false (settled_base (negated (of False []) ∷ []) i (lit_complement m) m_in same)
+    abbrev there : Contains clauses d
+    there = (base c c_in).1
 
-  pub is_atom : sort_of (term_at t m.term) ≡ Truth → IsAtomOf problem (term_at t m.term)
-  is_atom sort = by_subterm (term_at t m.term) (in_known problem (term_at t m.term) subterm) sort is_no_true is_no_false
+    abbrev one : (l : Lit) × Contains d l × (literal_at t l ≡ z)
+    one = from_image (literal_at t) d z (subst (λ (ls : List Literal). Contains ls z) (sym (base c c_in).2) z_in)
+
+    each : (l : Lit) → Contains d l → (l ≡ one.0) ⊎ Contains front (lit_complement l)
+    each l i = elim (others (literal_at t l) (subst (λ (ls : List Literal). Contains ls (literal_at t l)) (base c c_in).2 (to_image (literal_at t) d l i))) [
+      | inl e ↦ inl (literals_apart t differ l one.0 (clauses_in d l there i) (clauses_in d one.0 there one.1) (e ∙ sym one.2))
+      | inr k ↦ inr (subst (Contains front) (literals_apart t differ k.0 (lit_complement l) k.2 (clauses_in d l there i) k.3) k.1)
+    ]
+
+    go : IsSettled front d → Contains front one.0
+    go (inl s) = elim (each s.literal s.there) [
+      | inl e ↦ subst (Contains front) e s.holds
+      | inr fails ↦ absurd (consistent s.literal s.holds fails)
+    ]
+    go (inr u) = elim (each u.one u.has_one) [
+      | inr fails ↦ absurd (u.one_open fails)
+      | inl e ↦ elim (each u.other u.has_other) [ inr fails ↦ absurd (u.other_open fails) | inl f ↦ absurd (u.differ (e ∙ sym f)) ]
+    ]
+
+    forced : Holds z
+    forced = (one.0, go (quiet d there), clauses_in d one.0 there one.1, one.2)
+
+  fact_in : (u : Term) → Contains truth_facts u → Contains (search_terms problem) u
+  fact_in u i = facts_spoken problem u i
+
+  true_in : Contains (search_terms problem) (of True [])
+  true_in = closed_terms problem not_false_fact (of True []) (fact_in not_false_fact (1, omega arith, refl)) (1, omega arith, refl)
+
+  false_in : Contains (search_terms problem) (of False [])
+  false_in = closed_terms problem not_true_fact (of False []) (fact_in not_true_fact (0, omega arith, refl)) (1, omega arith, refl)
+
+  true_holds : Holds (yes (of True []))
+  true_holds = forced (of True [] ∷ []) (in_search problem (of True []) (of True [] ∷ []) true_in true_clause) (yes (of True []))
+      (subst (λ (ls : List Literal). Contains ls (yes (of True []))) (sym true_literals) (first (yes (of True [])) []))
+      (λ y i. inl (sym (only (yes (of True [])) y (subst (λ (ls : List Literal). Contains ls y) true_literals i))))
+
+  false_holds : Holds (no (of False []))
+  false_holds = forced (negated (of False []) ∷ []) (in_search problem (of False []) (negated (of False []) ∷ []) false_in false_clause) (no (of False []))
+      (subst (λ (ls : List Literal). Contains ls (no (of False []))) (sym false_literals) (first (no (of False [])) []))
+      (λ y i. inl (sym (only (no (of False [])) y (subst (λ (ls : List Literal). Contains ls y) false_literals i))))
+
+  -- one of three literals, of which two are false
+  of_three : (a b c y : Literal) → Holds (complement b) → Holds (complement c) → Contains (a ∷ b ∷ c ∷ []) y → (y ≡ a) ⊎ Holds (complement y)
+  of_three a b c y nb nc i = elim (cases a (b ∷ c ∷ []) y i) [
+    | inl e ↦ inl (sym e)
+    | inr j ↦ elim (cases b (c ∷ []) y j) [
+      | inl e ↦ inr (subst (λ (z : Literal). Holds (complement z)) e nb)
+      | inr k ↦ inr (subst (λ (z : Literal). Holds (complement z)) (only c y k) nc)
+    ]
+  ]
+
+  not_true_holds : Holds (yes not_true_fact)
+  not_true_holds =
+      let c : Clause = not_true_fact ∷ negated (of True []) ∷ of False [] ∷ [] in
+      forced c (in_search problem not_true_fact c (fact_in not_true_fact (0, omega arith, refl)) not_true_clause) (yes not_true_fact)
+      (subst (λ (ls : List Literal). Contains ls (yes not_true_fact)) (sym not_true_literals) (first (yes not_true_fact) (no (of True []) ∷ yes (of False []) ∷ [])))
+      (λ y i. of_three (yes not_true_fact) (no (of True [])) (yes (of False [])) y true_holds false_holds (subst (λ (ls : List Literal). Contains ls y) not_true_literals i))
+
+  not_false_holds : Holds (yes not_false_fact)
+  not_false_holds =
+      let c : Clause = not_false_fact ∷ negated (negated (of False [])) ∷ negated (of True []) ∷ [] in
+      forced c (in_search problem not_false_fact c (fact_in not_false_fact (1, omega arith, refl)) not_false_clause) (yes not_false_fact)
+      (subst (λ (ls : List Literal). Contains ls (yes not_false_fact)) (sym not_false_literals) (first (yes not_false_fact) (yes (of False []) ∷ no (of True []) ∷ [])))
+      (λ y i. of_three (yes not_false_fact) (yes (of False [])) (no (of True [])) y false_holds true_holds (subst (λ (ls : List Literal). Contains ls y) not_false_literals i))
+
+  -- both facts hold
+  pub facts_hold : (u : Term) → Contains truth_facts u → Holds (yes u)
+  facts_hold u i = elim (cases not_true_fact (not_false_fact ∷ []) u i) [
+    | inl e ↦ subst (λ (x : Term). Holds (yes x)) e not_true_holds
+    | inr j ↦ subst (λ (x : Term). Holds (yes x)) (only not_false_fact u j) not_false_holds
+  ]
+
+  -- a term is an atom that has no value yet
+  module _ (m : Lit) (m_in : IsIn t m.term) (positive : m.positive ≡ true) (not_held : Contains front m → ⊥) (not_false : Contains front (lit_complement m) → ⊥) where
+    own : literal_at t m ≡ yes (term_at t m.term)
+    own i = record { atom = term_at t m.term; positive = positive i }
+
+    -- it does not hold
+    does_not : (u : Term) → Holds (yes u) → term_at t m.term ≢ u
+    does_not u h e = not_held (subst (Contains front) (literals_apart t differ h.0 m h.2 m_in (h.3 ∙ ap yes (sym e) ∙ sym own)) h.1)
+
+    is_no_false : term_at t m.term ≢ of False []
+    is_no_false e = not_false (subst (Contains front) (literals_apart t differ false_holds.0 (lit_complement m) false_holds.2 m_in (false_holds.3 ∙ ap no (sym e) ∙ ap complement (sym own))) false_holds.1)
+
+    pub is_atom : Contains (search_terms problem) (term_at t m.term) → sort_of (term_at t m.term) ≡ Truth → literal_of (term_at t m.term) ≡ positive_literal (term_at t m.term) → IsAtomOf problem (term_at t m.term)
+    is_atom spoken sort bare = spoken_atoms problem (term_at t m.term) spoken sort bare (does_not (of True []) true_holds) is_no_false
+        (λ i. does_not (term_at t m.term) (facts_hold (term_at t m.term) i) refl)

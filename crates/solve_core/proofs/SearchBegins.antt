@@ -5,29 +5,36 @@ use Rattle.std.proofs.lemmas.List.FromFn.{get_or-range_with_len}
 use Rattle.std.proofs.lemmas.List.Elements.{All-nil, All-map, All-contains, Contains-append_left, Contains-get_or}
 use Rattle.spec_text.proofs.Members.{to_image, from_image}
 use Rattle.spec_sorts.specs.Terms.{Term}
+use Rattle.spec_sorts.specs.Subsets.{IsClosed}
 use Rattle.spec_sorts.specs.Literals.{Clause, Literal, literals_of}
 use Rattle.spec_proofs.specs.Resolution.{IsWithin}
-use Rattle.spec_derivations.specs.Problems.{Problem, terms_of_problem, subterms_in}
+use Rattle.spec_derivations.specs.Problems.{Problem, terms_of_problem}
 use Rattle.spec_derivations.specs.Examples.{asserting}
 use Rattle.spec_derivations.specs.Models.{AreInReach}
 use Rattle.spec_derivations.specs.Derivations.{AssumesAmong, conclusion, conclusion_at, inference_at, no_inference}
-use Rattle.spec_derivations.specs.Base.{base_clauses}
+use Rattle.spec_derivations.specs.Base.{search_terms, search_clauses}
 use Rattle.spec_derivations.specs.Spent.{IsLearnedFrom, IsOverAtoms}
+use Rattle.spec_derivations.proofs.SearchTerms.{search_over}
 use Rattle.term_core.specs.declared.ids.TermId.{TermId}
 use Rattle.term_core.specs.declared.ids.Lit.{Lit}
-use Rattle.term_core.specs.Tables.{TableView, term_at, literal_at, clause_at}
+use Rattle.term_core.specs.Tables.{TableView, IsIn, AreDifferent, term_at, literal_at, clause_at}
 use Rattle.term_core.proofs.TermsExtend.{clause_at-kept}
 use Rattle.clause_literals.specs.Literals.{AreOf}
 use Rattle.proof_log.specs.declared.premises.StepId.{StepId}
-use Rattle.proof_log.specs.Logs.{Logged, assumed, stepped, inference_of, derivation_in}
+use Rattle.proof_log.specs.Logs.{Logged, assumed, stepped, named, no_logged, logged_at, inference_of, derivation_in}
+use Rattle.proof_log.specs.Theories.{IsTermIn}
 use Rattle.proof_log.proofs.Logged.{conclusion_there}
 use Rattle.proof_log.specs.Logs.{stated, AreFormulasIn}
 use Rattle.clausify.proofs.Parts.{formula_kept}
 use Rattle.clausify.specs.HavingClauses.{HasClauses, AssumesOneOf, Grows, AreAllMade}
+use Rattle.clausify.specs.SearchTerms.{AreSearchTerms}
+use Rattle.conflict_learn.proofs.Meanings.{bare_in}
+use Rattle.rule_bool.proofs.Behind.{same_numbers}
 use Rattle.clause_store.specs.Stores.{StoreView, no_step, empty, AreKnown, IsAdded}
 use Rattle.solve_core.specs.declared.search.Search.{Search}
-use Rattle.solve_core.specs.Search.{images, Derives, IsStoreOf}
+use Rattle.solve_core.specs.Search.{images, Derives, AreAtomsAmong, AreCovered, IsStoreOf}
 use Rattle.solve_core.specs.Rounds.{HasDerived, IsSearch}
+use Rattle.solve_core.proofs.SearchAtoms.{closed_terms}
 use Rattle.solve_core.proofs.SearchLogs.{steps_start}
 use Rattle.solve_core.proofs.SearchStored.{derives_with}
 
@@ -54,9 +61,8 @@ among_roots : (t : TableView) (roots : List TermId) (l : Logged) → AssumesOneO
 among_roots t roots (assumed id) i = to_image (term_at t) roots id i
 among_roots t roots (stepped r ps qs c) h = tt
 
-module _ (t u : TableView) (roots : List TermId) (roots_in : AreFormulasIn t roots) (reached : AreInReach (clause_at t roots)) (log old : List Logged) (none : old ≡ []) (steps : List StepId) (g : Grows roots t u old log) (h : HasClauses u log (clause_at t roots) steps) (m : AreAllMade old log steps)
-    (store : StoreView) (s : IsStoreOf u log steps store)
-    (law : (p : Problem) (c : Clause) (l : Literal) → Contains (base_clauses p) c → Contains (literals_of c) l → Contains (subterms_in p) l.atom) where
+module _ (t u : TableView) (differ : AreDifferent u.terms) (roots : List TermId) (roots_in : AreFormulasIn t roots) (reached : AreInReach (clause_at t roots)) (log old : List Logged) (none : old ≡ []) (steps : List StepId) (g : Grows roots t u old log) (h : HasClauses u log (clause_at t roots) steps) (m : AreAllMade old log steps)
+    (store : StoreView) (s : IsStoreOf u log steps store) (terms atoms : List TermId) (listed : AreSearchTerms u (clause_at t roots) terms) (chosen : AreAtomsAmong u terms atoms) where
   abbrev problem : Problem
   problem = asserting (clause_at t roots)
 
@@ -66,7 +72,7 @@ module _ (t u : TableView) (roots : List TermId) (roots_in : AreFormulasIn t roo
   log_is : log ≡ g.more
   log_is = g.log ∙ ap (λ (xs : List Logged). xs ++ g.more) none
 
-  as_many : length log ≡ length (base_clauses problem)
+  as_many : length log ≡ length (search_clauses problem)
   as_many = omega (arith, m.count, ap length none, h.count)
 
   -- each number of the log is one of the steps
@@ -78,14 +84,14 @@ module _ (t u : TableView) (roots : List TermId) (roots_in : AreFormulasIn t roo
       (get_or steps k no_step, Contains-get_or steps k no_step short, sym (get_or-map (λ (x : StepId). x.0) steps k no_step 0 short) ∙ order)
 
   -- each inference states a base clause
-  states : All (λ x. Contains (base_clauses problem) (conclusion x)) (derivation_in u log)
+  states : All (λ x. Contains (search_clauses problem) (conclusion x)) (derivation_in u log)
   states k d lt =
       let x = numbered k (rw length-map at lt) in
       let same : stated u log x.0 ≡ conclusion (get_or (derivation_in u log) k d) = ap (conclusion_at (derivation_in u log)) x.2 ∙ ap conclusion (get_or_default (derivation_in u log) k no_inference d lt) in
-      subst (Contains (base_clauses problem)) same (h.only (stated u log x.0) (to_image (stated u log) steps x.0 x.1))
+      subst (Contains (search_clauses problem)) same (h.only (stated u log x.0) (to_image (stated u log) steps x.0 x.1))
 
   -- and each base clause is stated
-  each : IsWithin (base_clauses problem) (map conclusion (derivation_in u log))
+  each : IsWithin (search_clauses problem) (map conclusion (derivation_in u log))
   each c i =
       let x = from_image (stated u log) steps c (h.base c i) in
       let lt : x.0.0 < length (derivation_in u log) = rw length-map (All-contains (λ (y : StepId). y.0 < length log) steps x.0 h.there x.1) in
@@ -107,7 +113,7 @@ module _ (t u : TableView) (roots : List TermId) (roots_in : AreFormulasIn t roo
   image_is : (k : ℕ) → k < length store.clauses → map (literal_at u) (get_or store.clauses k []) ≡ literals_of (stated u log (get_or store.steps k no_step))
   image_is k lt = (s.derives.same k lt).same ∙ ap literals_of (sym (conclusion_there u log (get_or store.steps k no_step) (s.derives.there k lt)))
 
-  is_base : (k : ℕ) → k < length store.clauses → Contains (base_clauses problem) (stated u log (get_or store.steps k no_step))
+  is_base : (k : ℕ) → k < length store.clauses → Contains (search_clauses problem) (stated u log (get_or store.steps k no_step))
   is_base k lt = h.only (stated u log (get_or store.steps k no_step)) (to_image (stated u log) steps (get_or store.steps k no_step) (in_steps k lt))
 
   -- each clause is of a number
@@ -119,7 +125,7 @@ module _ (t u : TableView) (roots : List TermId) (roots_in : AreFormulasIn t roo
       (k, d.1.1, sym (image_is k d.1.1) ∙ ap (map (literal_at u)) same ∙ d.2)
 
   -- each base clause is in the store
-  base : (c : Clause) → Contains (base_clauses problem) c → Contains (images u store.clauses) (literals_of c)
+  base : (c : Clause) → Contains (search_clauses problem) c → Contains (images u store.clauses) (literals_of c)
   base c i =
       let x = from_image (stated u log) steps c (h.base c i) in
       let j = subst (λ (xs : List StepId). Contains xs x.0) (sym s.by) x.1 in
@@ -128,23 +134,38 @@ module _ (t u : TableView) (roots : List TermId) (roots_in : AreFormulasIn t roo
       subst (Contains (images u store.clauses)) (image_is j.0 lt ∙ ap (λ (y : StepId). literals_of (stated u log y)) same ∙ ap literals_of x.2)
       (to_image (map (literal_at u)) store.clauses (get_or store.clauses j.0 []) (Contains-get_or store.clauses j.0 [] lt))
 
-  subterms : (c : List Literal) (l : Literal) → Contains (images u store.clauses) c → Contains c l → Contains (subterms_in problem) l.atom
-  subterms c l i j =
-      let k = place c i in
-      law problem (stated u log (get_or store.steps k.0 no_step)) l (is_base k.0 k.1) (subst (λ (ls : List Literal). Contains ls l) (sym k.2) j)
+  -- the clauses are over the atoms
+  pub covered : AreCovered atoms store.clauses
+  covered c l i j =
+      let k = i.0 in
+      let step = get_or store.steps k no_step in
+      let same : get_or store.clauses k [] ≡ c = get_or_default store.clauses k [] c i.1 ∙ i.2 in
+      let inside = subst (λ (d : List Lit). Contains d l) (sym same) j in
+      let there : IsIn u l.term = All-contains (λ (m : Lit). IsIn u m.term) (get_or store.clauses k []) l (s.derives.same k i.1).there inside in
+      let image = to_image (literal_at u) (get_or store.clauses k []) l inside in
+      let z = literal_at u l in
+      let formulas = g.right.formulas step.0 no_logged (s.derives.there k i.1) in
+      let bare = bare_in u (named (logged_at log step)) formulas l there (subst (λ (ls : List Literal). Contains ls z) (s.derives.same k i.1).same image) in
+      let spoken : Contains (search_terms problem) z.atom = search_over problem (stated u log step) z (is_base k i.1) (subst (λ (ls : List Literal). Contains ls z) (image_is k i.1) image) in
+      let number = from_image (term_at u) terms (term_at u l.term) (listed.each (term_at u l.term) spoken) in
+      let own : number.0 ≡ l.term = same_numbers u differ number.0 l.term (All-contains (IsTermIn u) terms number.0 listed.there number.1).0 there number.2 in
+      chosen.each l.term (subst (λ (id : TermId). Contains terms id) own number.1) ((there, bare.formula), bare.bare)
 
-  only : IsWithin (images u store.clauses) (map literals_of (base_clauses problem) ++ [])
+  -- with a term its arguments are listed
+  pub closed : IsClosed (clause_at u terms)
+  closed v i w j = listed.each w (closed_terms problem v w (listed.only v i) j)
+
+  only : IsWithin (images u store.clauses) (map literals_of (search_clauses problem) ++ [])
   only c i =
       let k = place c i in
-      Contains-append_left (map literals_of (base_clauses problem)) [] c
-      (subst (Contains (map literals_of (base_clauses problem))) k.2 (to_image literals_of (base_clauses problem) (stated u log (get_or store.steps k.0 no_step)) (is_base k.0 k.1)))
+      Contains-append_left (map literals_of (search_clauses problem)) [] c
+      (subst (Contains (map literals_of (search_clauses problem))) k.2 (to_image literals_of (search_clauses problem) (stated u log (get_or store.steps k.0 no_step)) (is_base k.0 k.1)))
 
   begun : HasDerived problem (derivation_in u log) (images u store.clauses) []
   begun = record {
     assumes = All-map (AssumesAmong (terms_of_problem problem)) (inference_of u) log assumes;
     base = base;
     only = only;
-    subterms = subterms;
     kept = λ c i. absurd (omega (arith, i.1));
     derived = All-nil (IsLearnedFrom problem (derivation_in u log));
     atoms = All-nil (IsOverAtoms problem);
@@ -153,12 +174,13 @@ module _ (t u : TableView) (roots : List TermId) (roots_in : AreFormulasIn t roo
   }
 
   -- so the search begins
-  pub search_begins : (x : Search) → x.log ≡ log → x.store ≡ store → x.budget.learned ≡ [] → IsSearch u problem x
-  search_begins x log_same store_same learned = record {
+  pub search_begins : (x : Search) → x.log ≡ log → x.store ≡ store → x.terms.items ≡ terms → x.budget.learned ≡ [] → IsSearch u problem x
+  search_begins x log_same store_same terms_same learned = record {
     roots = roots;
     roots_in = λ k d lt. formula_kept t u (record { terms = g.table; declared = g.declared }) (get_or roots k d) (roots_in k d lt);
     reached = subst AreInReach (sym meant) reached;
     meant = ap asserting meant;
+    listed = subst (AreSearchTerms u (clause_at u roots)) (sym terms_same) (subst (λ (ts : List Term). AreSearchTerms u ts terms) (sym meant) listed);
     derived = subst (λ (xs : List Logged). HasDerived problem (derivation_in u xs) (images u x.store.clauses) (images u x.budget.learned)) (sym log_same)
         (subst (λ (y : StoreView). HasDerived problem (derivation_in u log) (images u y.clauses) (images u x.budget.learned)) (sym store_same)
         (subst (λ (ls : List (List Lit)). HasDerived problem (derivation_in u log) (images u store.clauses) (images u ls)) (sym learned) begun));

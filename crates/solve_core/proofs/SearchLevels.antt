@@ -19,12 +19,17 @@ module _ (v : TrailView) (once : AreApart v.literals) (leveled : IsLeveled v) wh
       let d = leveled.begun (n - 1) (omega (arith, above, le)) in
       (d.0, d.1, d.2, omega (arith, d.3, above))
 
-  -- the level to go back to is one of the trail's
-  pub level_within : (clause : List Lit) (n level : ℕ) → HasOneAt v clause n level → level ≤ v.level
-  level_within clause n level h = elim h.reached [
-    | inl zero ↦ omega (arith, zero)
-    | inr m ↦ let top = leveled.topped m.3.place m.3.within in omega (arith, top, m.3.level)
-  ]
+  -- the level to go back to is below the trail's
+  pub level_below : (clause : List Lit) (n level : ℕ) → HasOneAt v clause n level → 0 < n → level < v.level
+  level_below clause n level h above =
+      let top = leveled.topped h.of_level.place h.of_level.within in
+      elim h.reached [
+        | inl zero ↦ omega (arith, zero, above, top, h.of_level.level)
+        | inr m ↦
+            let b = h.below m.0 m.1 m.2 in
+            let same = one_level v once m.0 b.0 level b.1 m.3 in
+            omega (arith, same, b.3, top, h.of_level.level)
+      ]
 
   -- before a decision
   module _ (p : ℕ) (within : p < length v.literals) (none : get_or v.reasons p None ≡ None) where

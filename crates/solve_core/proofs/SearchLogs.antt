@@ -1,21 +1,22 @@
 -- What a derivation says with one inference more.
 use Rattle.std.proofs.Common.{◌≡◌, ℕ, ◌<◌, List, [], ◌∷◌, ◌++◌, length, get_or, map, All, Contains, sym, ap, ◌∙◌, subst, arith, refl, append_assoc}
-use Rattle.std.proofs.lemmas.List.{append-nil, length-append, length-map, map-append, get_or-map, get_or_append_left}
-use Rattle.std.proofs.lemmas.List.Elements.{All-nil, All-push, Contains-append_left, Contains-push_cases, Contains-push, Contains-append_cases, Contains-append_right}
+use Rattle.std.proofs.lemmas.List.{append-nil, length-append, length-map, get_or-map, get_or_append_left}
+use Rattle.std.proofs.lemmas.List.Elements.{All-push, All-append, Contains-append_left, Contains-push_cases, Contains-push, Contains-append_cases, Contains-append_right}
 use Rattle.std.proofs.Math.Seq.{get_or-append_seam}
 use Rattle.std.proofs.Common.{inl, inr}
 use Rattle.spec_text.specs.Trees.{none as no_texts}
 use Rattle.spec_sorts.specs.Literals.{Clause, Literal, literals_of}
-use Rattle.spec_derivations.specs.Problems.{Problem, terms_of_problem, subterms_in}
-use Rattle.spec_derivations.specs.Derivations.{Inference, by_rule, Derivation, no_inference, conclusion, conclusion_at, IsDerivation, AssumesAmong, IsDerivedFrom}
+use Rattle.spec_derivations.specs.Problems.{Problem, terms_of_problem}
+use Rattle.spec_derivations.specs.Derivations.{Inference, «assumption», by_rule, Derivation, no_inference, conclusion, conclusion_at, IsDerivation, AssumesAmong, IsDerivedFrom}
 use Rattle.spec_proofs.specs.Resolution.{IsWithin}
 use Rattle.spec_proofs.specs.declared.Rule.TheVariants.{Resolution}
-use Rattle.spec_derivations.specs.Base.{base_clauses}
+use Rattle.spec_derivations.specs.Base.{base_clauses, search_terms, search_clauses}
+use Rattle.spec_derivations.specs.Lemmas.{IsLemma}
 use Rattle.spec_derivations.specs.Learned.{IsNew}
 use Rattle.spec_derivations.specs.Spent.{IsLearnedFrom, IsOverAtoms}
 use Rattle.spec_derivations.proofs.Onward.{new_pushed}
 use Rattle.spec_derivations.proofs.Spending.{rests_there}
-use Rattle.solve_core.specs.Rounds.{IsByResolution, HasSteps, HasDerived}
+use Rattle.solve_core.specs.Rounds.{nothing, lemmas as some_lemmas, learning as one_clause, HasSteps, HasDerived}
 
 -- a derivation whose assumptions are all among terms
 module _ (problem : Problem) (d : Derivation) (right : IsDerivation d) (among : All (AssumesAmong (terms_of_problem problem)) d) where
@@ -40,13 +41,25 @@ steps_more problem d clauses ps c h = record {
   count = h.count;
   stated = h.stated;
   each = h.each;
-  resolved = All-push IsByResolution h.more (by_rule Resolution ps no_texts c) h.resolved refl;
-  same = map-append (λ (x : Inference). literals_of (conclusion x)) h.more (by_rule Resolution ps no_texts c ∷ []) ∙ ap (λ (cs : List (List Literal)). cs ++ literals_of c ∷ []) h.same;
+  steps = one_clause h.more (by_rule Resolution ps no_texts c) clauses h.steps refl;
 }
 
--- at the start there are the base clauses alone
-pub steps_start : (problem : Problem) (d : Derivation) → length d ≡ length (base_clauses problem) → All (λ x. Contains (base_clauses problem) (conclusion x)) d → IsWithin (base_clauses problem) (map conclusion d) → HasSteps problem d []
-steps_start problem d count stated each = record { base = d; more = []; all = sym (append-nil d); count = count; stated = stated; each = each; resolved = All-nil IsByResolution; same = refl }
+-- lemmas come
+pub steps_lemmas : (problem : Problem) (d more : Derivation) (clauses : List (List Literal)) → All (IsLemma (search_terms problem) (length d)) more → HasSteps problem d clauses → HasSteps problem (d ++ more) clauses
+steps_lemmas problem d more clauses lemmas h = record {
+  base = h.base;
+  more = h.more ++ more;
+  all = ap (λ (e : Derivation). e ++ more) h.all ∙ append_assoc h.base h.more more;
+  count = h.count;
+  stated = h.stated;
+  each = h.each;
+  steps = some_lemmas h.more more clauses h.steps
+      (subst (λ (n : ℕ). All (IsLemma (search_terms problem) n) more) (ap length h.all ∙ length-append h.base h.more) lemmas);
+}
+
+-- at the start there are the first clauses alone
+pub steps_start : (problem : Problem) (d : Derivation) → length d ≡ length (search_clauses problem) → All (λ x. Contains (search_clauses problem) (conclusion x)) d → IsWithin (search_clauses problem) (map conclusion d) → HasSteps problem d []
+steps_start problem d count stated each = record { base = d; more = []; all = sym (append-nil d); count = count; stated = stated; each = each; steps = nothing }
 
 -- what holds of all images holds of the images of all
 pub all_back : {A B : Type 0} (f : A → B) (P : B → Type 0) (xs : List A) → All P (map f xs) → All (λ x. P (f x)) xs
@@ -67,16 +80,15 @@ module _ (problem : Problem) (d : Derivation) (cs ls : List (List Literal)) (h :
   derived_kept k e lt = learned_kept problem (d ++ by_rule Resolution ps no_texts clause ∷ []) right among_more d (by_rule Resolution ps no_texts clause) refl (get_or ls k e) (h.derived k e lt)
 
   -- one that was new, over atoms
-  module _ (new : IsNew (map literals_of (base_clauses problem) ++ ls) (literals_of clause)) (atoms : IsOverAtoms problem (literals_of clause))
-      (subterms : (l : Literal) → Contains (literals_of clause) l → Contains (subterms_in problem) l.atom) where
-    within : IsWithin (cs ++ literals_of clause ∷ []) (map literals_of (base_clauses problem) ++ (ls ++ literals_of clause ∷ []))
+  module _ (new : IsNew (map literals_of (base_clauses problem) ++ ls) (literals_of clause)) (atoms : IsOverAtoms problem (literals_of clause)) where
+    within : IsWithin (cs ++ literals_of clause ∷ []) (map literals_of (search_clauses problem) ++ (ls ++ literals_of clause ∷ []))
     within c i = elim (Contains-push_cases cs (literals_of clause) c i) [
-      | inl was ↦ elim (Contains-append_cases (map literals_of (base_clauses problem)) ls c (h.only c was)) [
-        | inl b ↦ Contains-append_left (map literals_of (base_clauses problem)) (ls ++ literals_of clause ∷ []) c b
-        | inr l ↦ Contains-append_right (map literals_of (base_clauses problem)) (ls ++ literals_of clause ∷ []) c (Contains-append_left ls (literals_of clause ∷ []) c l)
+      | inl was ↦ elim (Contains-append_cases (map literals_of (search_clauses problem)) ls c (h.only c was)) [
+        | inl b ↦ Contains-append_left (map literals_of (search_clauses problem)) (ls ++ literals_of clause ∷ []) c b
+        | inr l ↦ Contains-append_right (map literals_of (search_clauses problem)) (ls ++ literals_of clause ∷ []) c (Contains-append_left ls (literals_of clause ∷ []) c l)
       ]
-      | inr is ↦ subst (Contains (map literals_of (base_clauses problem) ++ (ls ++ literals_of clause ∷ []))) is
-          (Contains-append_right (map literals_of (base_clauses problem)) (ls ++ literals_of clause ∷ []) (literals_of clause) (Contains-push ls (literals_of clause)))
+      | inr is ↦ subst (Contains (map literals_of (search_clauses problem) ++ (ls ++ literals_of clause ∷ []))) is
+          (Contains-append_right (map literals_of (search_clauses problem)) (ls ++ literals_of clause ∷ []) (literals_of clause) (Contains-push ls (literals_of clause)))
     ]
 
     pub derived_more : HasDerived problem (d ++ by_rule Resolution ps no_texts clause ∷ []) (cs ++ literals_of clause ∷ []) (ls ++ literals_of clause ∷ [])
@@ -84,10 +96,6 @@ module _ (problem : Problem) (d : Derivation) (cs ls : List (List Literal)) (h :
       assumes = among_more;
       base = λ c i. Contains-append_left cs (literals_of clause ∷ []) (literals_of c) (h.base c i);
       only = within;
-      subterms = λ c l i j. elim (Contains-push_cases cs (literals_of clause) c i) [
-        | inl was ↦ h.subterms c l was j
-        | inr is ↦ subterms l (subst (λ (z : List Literal). Contains z l) (sym is) j)
-      ];
       kept = λ c i. elim (Contains-push_cases ls (literals_of clause) c i) [
         | inl was ↦ Contains-append_left cs (literals_of clause ∷ []) c (h.kept c was)
         | inr is ↦ subst (Contains (cs ++ literals_of clause ∷ [])) is (Contains-push cs (literals_of clause))
@@ -97,3 +105,29 @@ module _ (problem : Problem) (d : Derivation) (cs ls : List (List Literal)) (h :
       new = new_pushed (map literals_of (base_clauses problem)) ls (literals_of clause) h.new new;
       steps_made = steps_more problem d ls ps clause h.steps_made;
     }
+
+-- lemmas come
+module _ (problem : Problem) (d : Derivation) (cs ls : List (List Literal)) (h : HasDerived problem d cs ls) (more : Derivation) (right : IsDerivation (d ++ more)) (lemmas : All (IsLemma (search_terms problem) (length d)) more) where
+  no_assumption : (x : Inference) → IsLemma (search_terms problem) (length d) x → AssumesAmong (terms_of_problem problem) x
+  no_assumption («assumption» t) i = absurd i
+  no_assumption (by_rule r ps given c) i = tt
+
+  among_lemmas : All (AssumesAmong (terms_of_problem problem)) (d ++ more)
+  among_lemmas = All-append (AssumesAmong (terms_of_problem problem)) d more h.assumes (λ k e lt. no_assumption (get_or more k e) (lemmas k e lt))
+
+  derived_still : (c : List Literal) → IsLearnedFrom problem d c → IsLearnedFrom problem (d ++ more) c
+  derived_still c l =
+      let lt : l.number < length (d ++ more) = omega (arith, l.derived.there, length-append d more) in
+      record { number = l.number; derived = derived_from problem (d ++ more) right among_lemmas l.number lt; same = ap (λ (x : Inference). literals_of (conclusion x)) (get_or_append_left d more no_inference l.number l.derived.there) ∙ l.same }
+
+  pub derived_lemmas : HasDerived problem (d ++ more) cs ls
+  derived_lemmas = record {
+    assumes = among_lemmas;
+    base = h.base;
+    only = h.only;
+    kept = h.kept;
+    derived = λ k e lt. derived_still (get_or ls k e) (h.derived k e lt);
+    atoms = h.atoms;
+    new = h.new;
+    steps_made = steps_lemmas problem d more ls lemmas h.steps_made;
+  }

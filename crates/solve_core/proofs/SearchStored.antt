@@ -1,9 +1,9 @@
 -- What a store has of the log: with the same clauses, and with one more over a table that grew.
-use Rattle.std.proofs.Common.{◌≡◌, ℕ, ◌+◌, ◌<◌, ◌≤◌, List, [], ◌∷◌, ◌++◌, length, get_or, Contains, inl, inr, sym, ap, ◌∙◌, subst, arith}
+use Rattle.std.proofs.Common.{◌≡◌, ℕ, ◌+◌, ◌<◌, ◌≤◌, List, [], ◌∷◌, ◌++◌, length, get_or, take, Contains, inl, inr, sym, ap, ◌∙◌, subst, arith}
 use Rattle.std.specs.Prelude.{Some}
 use Rattle.std.proofs.lemmas.Bool.{cases_lt}
 use Rattle.std.proofs.lemmas.List.{length-append, get_or_append_left}
-use Rattle.std.proofs.Math.Seq.{get_or-append_seam}
+use Rattle.std.proofs.Math.Seq.{get_or-append_seam, take-append_seam}
 use Rattle.spec_sorts.specs.Literals.{literals_of}
 use Rattle.term_core.specs.declared.ids.TermId.{TermId}
 use Rattle.term_core.specs.declared.ids.Lit.{Lit}
@@ -92,23 +92,27 @@ module _ (t : TableView) (log : List Logged) (id : StepId) (a b : StoreView) (h 
     ];
   }
 
--- a step more, over a table that grew
-module _ (t u : TableView) (g : Extends t u) (log new : List Logged) (x : Logged) (last : new ≡ log ++ x ∷ []) where
-  -- the last step is this
+-- steps more, over a table that grew
+pub derives_on : (t u : TableView) (g : Extends t u) (log new more : List Logged) → new ≡ log ++ more → (a : StoreView) → IsLogOf t log → Derives t log a → Derives u new a
+derives_on t u g log new more last a right h = record {
+  paired = h.paired;
+  there = λ k lt. let was = h.there k lt in omega (arith, was, ap length last, length-append log more);
+  same = λ k lt.
+      let s = get_or a.steps k no_step in
+      let small = h.there k lt in
+      let early : logged_at new s ≡ logged_at log s = ap (λ (xs : List Logged). get_or xs s.0 no_logged) last ∙ get_or_append_left log more no_logged s.0 small in
+      subst (λ (l : Logged). Means u (get_or a.clauses k []) (clause_at u (named l))) (sym early)
+      (means_kept t u g (get_or a.clauses k []) (named (logged_at log s)) (λ j e lt_j. (right.formulas s.0 no_logged small j e lt_j).0) (h.same k lt));
+}
+
+-- with a step more the last is this
+module _ (log new : List Logged) (x : Logged) (last : new ≡ log ++ x ∷ []) where
   pub last_is : (id : StepId) → id.0 ≡ length log → logged_at new id ≡ x
   last_is id number = (λ i. get_or (last i) (number i) no_logged) ∙ get_or-append_seam log x [] no_logged
 
   pub longer : length new ≡ length log + 1
   longer = ap length last ∙ length-append log (x ∷ [])
 
-  pub derives_kept : (a : StoreView) → IsLogOf t log → Derives t log a → Derives u new a
-  derives_kept a right h = record {
-    paired = h.paired;
-    there = λ k lt. let was = h.there k lt in omega (arith, was, longer);
-    same = λ k lt.
-        let s = get_or a.steps k no_step in
-        let small = h.there k lt in
-        let early : logged_at new s ≡ logged_at log s = ap (λ (xs : List Logged). get_or xs s.0 no_logged) last ∙ get_or_append_left log (x ∷ []) no_logged s.0 small in
-        subst (λ (l : Logged). Means u (get_or a.clauses k []) (clause_at u (named l))) (sym early)
-        (means_kept t u g (get_or a.clauses k []) (named (logged_at log s)) (λ j e lt_j. (right.formulas s.0 no_logged small j e lt_j).0) (h.same k lt));
-  }
+-- a step that was put last is taken off
+pub log_back : (log new : List Logged) (x : Logged) (n : ℕ) → new ≡ log ++ x ∷ [] → n ≡ length log → (after : List Logged) → after ≡ take n new → after ≡ log
+log_back log new x n last is after e = e ∙ (λ i. take (is i) (last i)) ∙ take-append_seam log (x ∷ [])

@@ -14,8 +14,9 @@ use Rattle.sat_trail.specs.Trails.{TrailView, no_lit, HasValue, IsCutTo}
 use Rattle.clause_store.specs.Propagating.{IsQuiet}
 use Rattle.conflict_learn.proofs.Places.{early_place}
 use Rattle.variable_order.specs.Orders.{IsIn, IsEmpty, IsTaken}
-use Rattle.solve_core.specs.Waiting.{IsMentioned, IsAssigned, AreWaiting, one_if, count}
-use Rattle.solve_core.specs.Search.{AreSatisfied}
+use Rattle.clausify.specs.SearchTerms.{no_id}
+use Rattle.solve_core.specs.Waiting.{IsAssigned, AreAssigned, AreWaiting, one_if, count}
+use Rattle.solve_core.specs.Search.{AreSatisfied, AreCovered}
 use Rattle.solve_core.proofs.SearchLists.{in_front}
 use Rattle.solve_core.proofs.SearchValues.{one_of_two}
 
@@ -64,9 +65,9 @@ module _ (waiting new : List Bool) (v : TermId) (t : IsTaken waiting v new) wher
   pub fewer : count new < count waiting
   fewer = omega (arith, ap count t.members, sum_by-set one_if waiting v.0 false false (waits_below waiting v t.was_in), ap one_if t.was_in)
 
-  module _ (clauses : List (List Lit)) (held : List Lit) (h : AreWaiting clauses held waiting) where
+  module _ (atoms : List TermId) (held : List Lit) (h : AreWaiting atoms held waiting) where
     -- a literal of it holds
-    pub taken_assigned : IsAssigned held v → AreWaiting clauses held new
+    pub taken_assigned : IsAssigned held v → AreWaiting atoms held new
     taken_assigned a = record {
       each = λ u m. elim (h.each u m) [
         | inl i ↦ elim (in_after u i) [ inl j ↦ inl j | inr e ↦ inr (subst (IsAssigned held) e a) ]
@@ -76,7 +77,7 @@ module _ (waiting new : List Bool) (v : TermId) (t : IsTaken waiting v new) wher
     }
 
     -- or it is decided
-    pub taken_chosen : (l : Lit) → l.term ≡ v → AreWaiting clauses (held ++ l ∷ []) new
+    pub taken_chosen : (l : Lit) → l.term ≡ v → AreWaiting atoms (held ++ l ∷ []) new
     taken_chosen l is = record {
       each = λ u m. elim (h.each u m) [
         | inl i ↦ elim (in_after u i) [ inl j ↦ inl j | inr e ↦ inr (l, Contains-push held l, is ∙ e) ]
@@ -85,18 +86,18 @@ module _ (waiting new : List Bool) (v : TermId) (t : IsTaken waiting v new) wher
       only = λ u i. h.only u (in_before u i);
     }
 
--- where none waits, each variable of the clauses has a value
-pub all_assigned : (clauses : List (List Lit)) (held : List Lit) (waiting : List Bool) → AreWaiting clauses held waiting → IsEmpty waiting → (v : TermId) → IsMentioned clauses v → IsAssigned held v
-all_assigned clauses held waiting h empty v m = elim (h.each v m) [ inl i ↦ absurd (empty v i) | inr a ↦ a ]
+-- where none waits, each atom has a value
+pub all_assigned : (atoms : List TermId) (held : List Lit) (waiting : List Bool) → AreWaiting atoms held waiting → IsEmpty waiting → AreAssigned atoms held
+all_assigned atoms held waiting h empty v m = elim (h.each v m) [ inl i ↦ absurd (empty v i) | inr a ↦ a ]
 
--- and of each clause a literal holds, as propagation is quiet
-pub satisfied_by : (clauses : List (List Lit)) (held : List Lit) → IsQuiet clauses held → ((v : TermId) → IsMentioned clauses v → IsAssigned held v) → AreSatisfied clauses held
-satisfied_by clauses held quiet all c i = go (quiet c i)
+-- and of each clause over atoms a literal holds, as propagation is quiet
+pub satisfied_by : (atoms : List TermId) (clauses : List (List Lit)) (held : List Lit) → AreCovered atoms clauses → IsQuiet clauses held → AreAssigned atoms held → AreSatisfied clauses held
+satisfied_by atoms clauses held covered quiet all c i = go (quiet c i)
   where
     go : IsSettled held c → IsSatisfied held c
     go (inl s) = s
     go (inr u) =
-        let a = all u.one.term (c, u.one, i, u.has_one, refl) in
+        let a = all u.one.term (covered c u.one i u.has_one) in
         let b : Contains held (record { term = u.one.term; positive = a.0.positive }) = subst (Contains held) (λ j. record { term = a.2 j; positive = a.0.positive }) a.1 in
         elim (one_of_two u.one a.0.positive (Contains held) b) [
           | inl holds ↦ record { literal = u.one; there = u.has_one; holds = holds }
@@ -109,26 +110,16 @@ assigned_some held l true h = (l, h, refl)
 assigned_some held l false h = (lit_complement l, h, refl)
 
 -- literals more hold
-pub waiting_held : (clauses : List (List Lit)) (front held : List Lit) (waiting : List Bool) → ((l : Lit) → Contains front l → Contains held l) → AreWaiting clauses front waiting → AreWaiting clauses held waiting
-waiting_held clauses front held waiting within h = record {
+pub waiting_held : (atoms : List TermId) (front held : List Lit) (waiting : List Bool) → ((l : Lit) → Contains front l → Contains held l) → AreWaiting atoms front waiting → AreWaiting atoms held waiting
+waiting_held atoms front held waiting within h = record {
   each = λ v m. elim (h.each v m) [ inl i ↦ inl i | inr a ↦ inr (a.0, within a.0 a.1, a.2) ];
   only = h.only;
 }
 
--- a clause more is over variables of the others
-pub waiting_learned : (clauses : List (List Lit)) (c held : List Lit) (waiting : List Bool) → ((l : Lit) → Contains c l → IsMentioned clauses l.term) → AreWaiting clauses held waiting → AreWaiting (clauses ++ c ∷ []) held waiting
-waiting_learned clauses c held waiting known h = record {
-  each = λ v m. h.each v (elim (Contains-push_cases clauses c m.0 m.2) [
-    | inl was ↦ (m.0, m.1, was, m.3, m.4)
-    | inr is ↦ subst (IsMentioned clauses) m.4 (known m.1 (subst (λ (d : List Lit). Contains d m.1) (sym is) m.3))
-  ]);
-  only = λ v i. let m = h.only v i in (m.0, m.1, Contains-append_left clauses (c ∷ []) m.0 m.2, m.3, m.4);
-}
-
 -- the last literal is taken off, and its variable waits
-pub waiting_back : (clauses : List (List Lit)) (held : List Lit) (k : ℕ) (l : Lit) (waiting : List Bool) → k < length held → l ≡ get_or held k no_lit → l.term.0 < length waiting → IsMentioned clauses l.term
-    → AreWaiting clauses (take (k + 1) held) waiting → AreWaiting clauses (take k held) (set waiting l.term.0 true)
-waiting_back clauses held k l waiting lt is known m h = record {
+pub waiting_back : (atoms : List TermId) (held : List Lit) (k : ℕ) (l : Lit) (waiting : List Bool) → k < length held → l ≡ get_or held k no_lit → l.term.0 < length waiting → Contains atoms l.term
+    → AreWaiting atoms (take (k + 1) held) waiting → AreWaiting atoms (take k held) (set waiting l.term.0 true)
+waiting_back atoms held k l waiting lt is known m h = record {
   each = λ v n. elim (h.each v n) [
     | inl i ↦ inl (still_in waiting l.term known v i)
     | inr a ↦ elim (Contains-push_cases (take k held) (get_or held k no_lit) a.0 (subst (λ (xs : List Lit). Contains xs a.0) (take_more held k no_lit lt) a.1)) [
@@ -136,13 +127,13 @@ waiting_back clauses held k l waiting lt is known m h = record {
       | inr last ↦ inl (subst (IsIn (set waiting l.term.0 true)) (ap (λ (x : Lit). x.term) (is ∙ last) ∙ a.2) (now_in waiting l.term known))
     ]
   ];
-  only = λ v i. elim (was_in waiting l.term known v i) [ inl j ↦ h.only v j | inr e ↦ subst (IsMentioned clauses) e m ];
+  only = λ v i. elim (was_in waiting l.term known v i) [ inl j ↦ h.only v j | inr e ↦ subst (Contains atoms) e m ];
 }
 
 -- all literals of higher levels are taken off
-pub waiting_cut : (clauses : List (List Lit)) (v after : TrailView) (n place : ℕ) (waiting : List Bool) → IsCutTo v n after → place ≤ length v.literals → (place ≡ 0) ⊎ (get_or v.levels (place - 1) 0 ≤ n) → AreWaiting clauses (take place v.literals) waiting
-    → AreWaiting clauses after.literals waiting
-waiting_cut clauses v after n place waiting cut within ends = waiting_held clauses (take place v.literals) after.literals waiting (λ l i.
+pub waiting_cut : (atoms : List TermId) (v after : TrailView) (n place : ℕ) (waiting : List Bool) → IsCutTo v n after → place ≤ length v.literals → (place ≡ 0) ⊎ (get_or v.levels (place - 1) 0 ≤ n) → AreWaiting atoms (take place v.literals) waiting
+    → AreWaiting atoms after.literals waiting
+waiting_cut atoms v after n place waiting cut within ends = waiting_held atoms (take place v.literals) after.literals waiting (λ l i.
     let e = early_place v.literals place l within i in
     subst (λ (xs : List Lit). Contains xs l) (sym cut.literals) (in_front v.literals e.0 cut.kept l (omega (arith, e.1, le)) e.2 cut.within e.3))
   where
@@ -165,40 +156,25 @@ none_more waiting empty v i = elim (cases_lt v.0 (length waiting)) [
   ]
 ]
 
--- the variables of clauses wait at the beginning
+-- atoms wait at the beginning, one after the other
 pub waiting_none : (waiting : List Bool) → IsEmpty waiting → AreWaiting [] [] waiting
-waiting_none waiting empty = record { each = λ v m. absurd (none m.0 m.2); only = λ v i. absurd (empty v i) }
+waiting_none waiting empty = record { each = λ v m. absurd (none v m); only = λ v i. absurd (empty v i) }
 
-pub waiting_start : (clauses : List (List Lit)) (waiting : List Bool) → AreWaiting clauses [] waiting → AreWaiting (clauses ++ [] ∷ []) [] waiting
-waiting_start clauses waiting h = waiting_learned clauses [] [] waiting (λ l i. absurd (none l i)) h
-
-pub waiting_more : (clauses : List (List Lit)) (c : List Lit) (k : ℕ) (l : Lit) (waiting : List Bool) → k < length c → l ≡ get_or c k no_lit → l.term.0 < length waiting
-    → AreWaiting (clauses ++ take k c ∷ []) [] waiting → AreWaiting (clauses ++ take (k + 1) c ∷ []) [] (set waiting l.term.0 true)
-waiting_more clauses c k l waiting lt is known h = record {
-  each = λ v m. elim (old v m) [
-    | inl n ↦ elim (h.each v n) [ inl i ↦ inl (still_in waiting l.term known v i) | inr a ↦ inr a ]
-    | inr e ↦ inl (subst (IsIn (set waiting l.term.0 true)) e (now_in waiting l.term known))
+pub waiting_more : (atoms : List TermId) (k : ℕ) (waiting : List Bool) → k < length atoms → (get_or atoms k no_id).0 < length waiting
+    → AreWaiting (take k atoms) [] waiting → AreWaiting (take (k + 1) atoms) [] (set waiting (get_or atoms k no_id).0 true)
+waiting_more atoms k waiting lt known h = record {
+  each = λ v m. elim (Contains-push_cases (take k atoms) a v (subst (λ (xs : List TermId). Contains xs v) longer m)) [
+    | inl early ↦ elim (h.each v early) [ inl i ↦ inl (still_in waiting a known v i) | inr x ↦ inr x ]
+    | inr e ↦ inl (subst (IsIn (set waiting a.0 true)) e (now_in waiting a known))
   ];
-  only = λ v i. elim (was_in waiting l.term known v i) [
-    | inl j ↦ new v (h.only v j)
-    | inr e ↦ (take (k + 1) c, l, Contains-push clauses (take (k + 1) c), subst (λ (xs : List Lit). Contains xs l) (sym longer) (Contains-push (take k c) l), e)
-  ];
+  only = λ v i. subst (λ (xs : List TermId). Contains xs v) (sym longer) (elim (was_in waiting a known v i) [
+    | inl j ↦ Contains-append_left (take k atoms) (a ∷ []) v (h.only v j)
+    | inr e ↦ subst (Contains (take k atoms ++ a ∷ [])) e (Contains-push (take k atoms) a)
+  ]);
 }
   where
-    longer : take (k + 1) c ≡ take k c ++ l ∷ []
-    longer = take_more c k no_lit lt ∙ ap (λ (x : Lit). take k c ++ x ∷ []) (sym is)
+    a : TermId
+    a = get_or atoms k no_id
 
-    old : (v : TermId) → IsMentioned (clauses ++ take (k + 1) c ∷ []) v → IsMentioned (clauses ++ take k c ∷ []) v ⊎ (l.term ≡ v)
-    old v m = elim (Contains-push_cases clauses (take (k + 1) c) m.0 m.2) [
-      | inl was ↦ inl (m.0, m.1, Contains-append_left clauses (take k c ∷ []) m.0 was, m.3, m.4)
-      | inr this ↦ elim (Contains-push_cases (take k c) l m.1 (subst (λ (xs : List Lit). Contains xs m.1) (sym this ∙ longer) m.3)) [
-        | inl early ↦ inl (take k c, m.1, Contains-push clauses (take k c), early, m.4)
-        | inr last ↦ inr (ap (λ (x : Lit). x.term) last ∙ m.4)
-      ]
-    ]
-
-    new : (v : TermId) → IsMentioned (clauses ++ take k c ∷ []) v → IsMentioned (clauses ++ take (k + 1) c ∷ []) v
-    new v m = elim (Contains-push_cases clauses (take k c) m.0 m.2) [
-      | inl was ↦ (m.0, m.1, Contains-append_left clauses (take (k + 1) c ∷ []) m.0 was, m.3, m.4)
-      | inr this ↦ (take (k + 1) c, m.1, Contains-push clauses (take (k + 1) c), subst (λ (xs : List Lit). Contains xs m.1) (sym longer) (Contains-append_left (take k c) (l ∷ []) m.1 (subst (λ (xs : List Lit). Contains xs m.1) (sym this) m.3)), m.4)
-    ]
+    longer : take (k + 1) atoms ≡ take k atoms ++ a ∷ []
+    longer = take_more atoms k no_id lt

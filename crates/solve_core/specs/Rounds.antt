@@ -3,11 +3,13 @@ use Rattle.std.specs.Prelude.{◌≡◌, ◌+◌, ℕ, List, [], ◌∷◌, ◌+
 use Rattle.spec_sorts.specs.Literals.{Clause, Literal, literals_of}
 use Rattle.spec_proofs.specs.Resolution.{IsWithin}
 use Rattle.spec_proofs.specs.declared.Rule.TheVariants.{Resolution}
-use Rattle.spec_derivations.specs.Problems.{Problem, terms_of_problem, subterms_in}
+use Rattle.spec_sorts.specs.Terms.{Term}
+use Rattle.spec_derivations.specs.Problems.{Problem, terms_of_problem}
 use Rattle.spec_derivations.specs.Examples.{asserting}
 use Rattle.spec_derivations.specs.Models.{AreInReach}
 use Rattle.spec_derivations.specs.Derivations.{Inference, «assumption», by_rule, Derivation, conclusion, AssumesAmong, IsDerivedFrom}
-use Rattle.spec_derivations.specs.Base.{base_clauses}
+use Rattle.spec_derivations.specs.Base.{base_clauses, search_terms, search_clauses}
+use Rattle.spec_derivations.specs.Lemmas.{IsLemma}
 use Rattle.spec_derivations.specs.Learned.{AreNew}
 use Rattle.spec_derivations.specs.Spent.{IsLearnedFrom, IsOverAtoms, AreLearned, IsConflictBudgetSpent, IsConflict}
 use Rattle.term_core.specs.declared.ids.TermId.{TermId}
@@ -15,6 +17,7 @@ use Rattle.term_core.specs.declared.ids.Lit.{Lit}
 use Rattle.term_core.specs.Tables.{TableView, declared_in, clause_at, literal_at, Extends}
 use Rattle.proof_log.specs.declared.premises.StepId.{StepId}
 use Rattle.proof_log.specs.Logs.{Logged, inference_of, derivation_in, stated, AreFormulasIn}
+use Rattle.clausify.specs.SearchTerms.{AreSearchTerms}
 use Rattle.sat_budget.specs.Budgets.{BudgetView}
 use Rattle.sat_budget.specs.declared.limits.Reason.TheVariants.{Conflicts}
 use Rattle.conflict_learn.specs.Conflicts.{Conflict}
@@ -24,42 +27,48 @@ use Rattle.solve_core.specs.declared.search.Search.{Search}
 use Rattle.solve_core.specs.declared.cdcl.Answer.{Answer}
 use Rattle.solve_core.specs.declared.cdcl.Answer.TheVariants.{Sat, Unsat, Unknown}
 use Rattle.solve_core.specs.Search.{images, IsReady}
-use Rattle.solve_core.specs.SearchModels.{IsModel}
+use Rattle.search_model.specs.Models.{IsModel}
 
 -- it follows from other clauses by resolution
 abbrev pub IsByResolution : Inference → Type 0
 IsByResolution («assumption» u) = ⊥
 IsByResolution (by_rule r ps arguments c) = r ≡ Resolution
 
--- The derivation states the base clauses of a problem, all of them and no others, in as many inferences; and after them each of
--- these clauses, in order, by resolution.
+-- Inferences after the first so many, and the clauses that were learned in them, oldest first. The others are lemmas of a theory, over
+-- some terms, each batch of which rests on itself alone.
+pub data AreSteps (ts : List Term) (n : ℕ) : Derivation → List (List Literal) → Type 0 where
+  -- none yet
+  nothing : AreSteps ts n [] []
+  -- lemmas come
+  lemmas : (xs ys : Derivation) (cs : List (List Literal)) → AreSteps ts n xs cs → All (IsLemma ts (n + length xs)) ys → AreSteps ts n (xs ++ ys) cs
+  -- a clause is learned, by resolution
+  learning : (xs : Derivation) (x : Inference) (cs : List (List Literal)) → AreSteps ts n xs cs → IsByResolution x → AreSteps ts n (xs ++ x ∷ []) (cs ++ literals_of (conclusion x) ∷ [])
+
+-- The derivation states the clauses that a search of a problem begins with, all of them and no others, in as many inferences; and
+-- after them each of these clauses, in order, by resolution, with lemmas of a theory in between.
 pub record HasSteps (p : Problem) (d : Derivation) (clauses : List (List Literal)) : Type 0 where
-  -- the inferences of the base clauses, and those after them
+  -- the inferences of the first clauses, and those after them
   pub base : Derivation
   pub more : Derivation
   -- these are all
   pub all : d ≡ base ++ more
-  -- there are as many as base clauses
-  pub count : length base ≡ length (base_clauses p)
-  -- each states a base clause
-  pub stated : All (λ x. Contains (base_clauses p) (conclusion x)) base
-  -- each base clause is stated
-  pub each : IsWithin (base_clauses p) (map conclusion base)
-  -- and those after them are by resolution
-  pub resolved : All IsByResolution more
-  -- and state these clauses
-  pub same : map (λ x. literals_of (conclusion x)) more ≡ clauses
+  -- there are as many as clauses
+  pub count : length base ≡ length (search_clauses p)
+  -- each states one of them
+  pub stated : All (λ x. Contains (search_clauses p) (conclusion x)) base
+  -- each of them is stated
+  pub each : IsWithin (search_clauses p) (map conclusion base)
+  -- and those after them state these clauses
+  pub steps : AreSteps (search_terms p) (length base) more clauses
 
 -- What a search has derived of a problem: the clauses by their literals, and those that it learned.
 pub record HasDerived (p : Problem) (d : Derivation) (clauses learned : List (List Literal)) : Type 0 where
   -- the derivation assumes the problem's terms alone
   pub assumes : All (AssumesAmong (terms_of_problem p)) d
-  -- each base clause is one of the clauses
-  pub base : (c : Clause) → Contains (base_clauses p) c → Contains clauses (literals_of c)
-  -- each clause is a base clause or was learned
-  pub only : IsWithin clauses (map literals_of (base_clauses p) ++ learned)
-  -- the clauses are over subterms
-  pub subterms : (c : List Literal) (l : Literal) → Contains clauses c → Contains c l → Contains (subterms_in p) l.atom
+  -- each clause that a search begins with is one of the clauses
+  pub base : (c : Clause) → Contains (search_clauses p) c → Contains clauses (literals_of c)
+  -- each clause is such a one or was learned
+  pub only : IsWithin clauses (map literals_of (search_clauses p) ++ learned)
   -- what was learned is among the clauses
   pub kept : IsWithin learned clauses
   -- each learned clause is derived from the problem's terms
@@ -68,7 +77,7 @@ pub record HasDerived (p : Problem) (d : Derivation) (clauses learned : List (Li
   pub atoms : All (IsOverAtoms p) learned
   -- and was new
   pub new : AreNew (map literals_of (base_clauses p)) learned
-  -- the derivation has the base clauses, and after them what was learned
+  -- the derivation has the first clauses, and after them what was learned
   pub steps_made : HasSteps p d learned
 
 -- What is in hand is that of a search that is asked a problem.
@@ -80,6 +89,8 @@ pub record IsSearch (t : TableView) (p : Problem) (x : Search) : Type 0 where
   pub reached : AreInReach (clause_at t roots)
   -- they are asserted, and nothing else is asked
   pub meant : asserting (clause_at t roots) ≡ p
+  -- its terms are those that a search of the problem speaks of
+  pub listed : AreSearchTerms t (clause_at t roots) x.terms.items
   -- so much is derived of it
   pub derived : HasDerived p (derivation_in t x.log) (images t x.store.clauses) (images t x.budget.learned)
 
@@ -87,6 +98,10 @@ pub record IsSearch (t : TableView) (p : Problem) (x : Search) : Type 0 where
 pub record Begins (t : TableView) (p : Problem) (limit : ℕ) (x : Search) : Type 0 where
   -- it fits together
   pub ready : IsReady t x
+  -- it has no literals yet
+  pub empty : x.trail.literals ≡ []
+  pub level : x.trail.level ≡ 0
+  pub fed : x.fed ≡ 0
   -- it is asked the problem
   pub search : IsSearch t p x
   -- the budget has the limit
@@ -121,9 +136,9 @@ IsNoted clause old new = new ≡ record old { learned = old.learned ++ clause �
 abbrev pub IsStep : Conflict → TableView → List Logged → Type 0
 IsStep c u log = (d : Learned) × IsLearned c u log d
 
--- the log grew by the step of a clause without literals, which the answer names
-abbrev pub IsRefuted : Conflict → List Logged → Answer → Type 0
-IsRefuted c log a = (id : StepId) × (a ≡ Unsat id) × IsLogged c c.table log [] id
+-- the log grew by the step of a clause without literals
+abbrev pub IsRefuted : Conflict → List Logged → StepId → Type 0
+IsRefuted c log id = IsLogged c c.table log [] id
 
 -- A search went on: what it has is of the same problem, over a table that has all that it had.
 pub record Continues (t u : TableView) (old new : Search) : Type 0 where
@@ -135,6 +150,8 @@ pub record Continues (t u : TableView) (old new : Search) : Type 0 where
   pub limit : new.budget.limit ≡ old.budget.limit
   -- there are as many variables
   pub vars : new.trail.vars ≡ old.trail.vars
+  -- it speaks of the same terms
+  pub terms : new.terms ≡ old.terms
   -- it is asked the same
   pub search : (p : Problem) → IsSearch t p old → IsSearch u p new
 

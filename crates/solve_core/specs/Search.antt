@@ -1,18 +1,22 @@
 -- What a search keeps: clauses by their steps, and literals that hold with the reasons why.
 use Rattle.std.specs.Prelude.{◌≡◌, ◌<◌, ℕ, List, [], length, take, get_or, map, All, Contains, None}
 use Rattle.spec_sorts.specs.Literals.{Literal}
+use Rattle.spec_sorts.specs.Subsets.{IsClosed}
+use Rattle.term_core.specs.declared.ids.TermId.{TermId}
 use Rattle.term_core.specs.declared.ids.Lit.{Lit}
 use Rattle.term_core.specs.Tables.{TableView, clause_at, literal_at}
 use Rattle.clause_literals.specs.Statuses.{IsSatisfied}
+use Rattle.clausify.specs.SearchTerms.{AreRising}
 use Rattle.clause_literals.specs.Literals.{AreOf, Means}
 use Rattle.proof_log.specs.declared.premises.StepId.{StepId}
 use Rattle.proof_log.specs.Logs.{Logged, named, logged_at, IsLogOf}
+use Rattle.proof_log.specs.Theories.{IsTermIn, IsAtomIn}
 use Rattle.sat_trail.specs.Trails.{TrailView, no_lit, HasSame, empty as no_trail}
 use Rattle.clause_store.specs.Stores.{StoreView, no_step, AreKnown, HasSeen}
 use Rattle.clause_store.specs.Propagating.{AreImplied, IsQuiet}
 use Rattle.conflict_learn.specs.Conflicts.{Conflict}
 use Rattle.solve_core.specs.declared.search.Search.{Search}
-use Rattle.solve_core.specs.Waiting.{IsMentioned, AreWaiting}
+use Rattle.solve_core.specs.Waiting.{AreWaiting}
 
 -- the literals of lists, as the table means them
 abbrev pub images : TableView → List (List Lit) → List (List Literal)
@@ -51,12 +55,36 @@ pub record IsBegun (t : TableView) (v : TrailView) : Type 0 where
   -- nothing is marked as propagated
   pub propagated : v.propagated ≡ 0
 
--- Where a literal was decided, propagation was quiet.
-pub record AreDecided (clauses : List (List Lit)) (v : TrailView) : Type 0 where
+-- Where a literal was decided, propagation was quiet, and it is one of an atom.
+pub record AreDecided (atoms : List TermId) (clauses : List (List Lit)) (v : TrailView) : Type 0 where
   -- nothing followed from the clauses before it
   pub quiet : (p : ℕ) → p < length v.literals → get_or v.reasons p None ≡ None → IsQuiet clauses (take p v.literals)
-  -- they mention its term
-  pub mentioned : (p : ℕ) → p < length v.literals → get_or v.reasons p None ≡ None → IsMentioned clauses (get_or v.literals p no_lit).term
+  -- its term is one of the atoms
+  pub of_atoms : (p : ℕ) → p < length v.literals → get_or v.reasons p None ≡ None → Contains atoms (get_or v.literals p no_lit).term
+
+-- Of some terms the atoms: those of sort Bool that are no negations.
+pub record AreAtomsAmong (t : TableView) (terms atoms : List TermId) : Type 0 where
+  -- each term that is an atom is one of these
+  pub each : (id : TermId) → Contains terms id → IsAtomIn t id → Contains atoms id
+  -- each of these is one of the terms
+  pub among : (id : TermId) → Contains atoms id → Contains terms id
+  -- and an atom
+  pub only : All (IsAtomIn t) atoms
+
+-- The terms are over the table's symbols, with each its arguments, and the atoms are theirs.
+pub record AreAtomsOf (t : TableView) (terms atoms : List TermId) : Type 0 where
+  -- they are over the table's symbols
+  pub there : All (IsTermIn t) terms
+  -- the arguments of each are among them
+  pub closed : IsClosed (clause_at t terms)
+  -- a later number is greater
+  pub rising : AreRising terms
+  -- the atoms are these
+  pub chosen : AreAtomsAmong t terms atoms
+
+-- each literal of the clauses is of one of the atoms
+abbrev pub AreCovered : List TermId → List (List Lit) → Type 0
+AreCovered atoms clauses = (c : List Lit) (l : Lit) → Contains clauses c → Contains c l → Contains atoms l.term
 
 -- What a search has fits together over a table, whatever its terms are.
 pub record IsReady (t : TableView) (x : Search) : Type 0 where
@@ -71,9 +99,15 @@ pub record IsReady (t : TableView) (x : Search) : Type 0 where
   -- each reason is that of a clause whose others were false
   pub implied : AreImplied x.store x.trail
   -- each decision was made at quiet
-  pub decided : AreDecided x.store.clauses x.trail
-  -- the variables without a value wait to be decided
-  pub waiting : AreWaiting x.store.clauses x.trail.literals x.decider
+  pub decided : AreDecided x.atoms.items x.store.clauses x.trail
+  -- the atoms are those of the terms
+  pub atoms_are : AreAtomsOf t x.terms.items x.atoms.items
+  -- each of the terms has a variable
+  pub variables : All (λ (id : TermId). id.0 < x.trail.vars) x.terms.items
+  -- the clauses are over the atoms
+  pub covered : AreCovered x.atoms.items x.store.clauses
+  -- those without a value wait to be decided
+  pub waiting : AreWaiting x.atoms.items x.trail.literals x.decider
   -- for each variable it is known whether it waits
   pub sized : length x.decider ≡ x.trail.vars
   -- what was learned is over the table

@@ -6,24 +6,20 @@ use Rattle.term_core.specs.declared.ids.Lit.{Lit}
 use Rattle.sat_trail.specs.Trails.{TrailView, IsUnassigned}
 use Rattle.variable_order.specs.Orders.{IsIn}
 
--- a literal of the clauses has the term
-abbrev pub IsMentioned : List (List Lit) → TermId → Type 0
-IsMentioned clauses t = (c : List Lit) × (l : Lit) × Contains clauses c × Contains c l × (l.term ≡ t)
-
--- each literal is of a term that the clauses mention
-abbrev pub AreMentioned : List (List Lit) → List Lit → Type 0
-AreMentioned clauses held = (l : Lit) → Contains held l → IsMentioned clauses l.term
+-- each literal is of one of the atoms
+abbrev pub AreOfAtoms : List TermId → List Lit → Type 0
+AreOfAtoms atoms held = (l : Lit) → Contains held l → Contains atoms l.term
 
 -- a literal of the variable holds
 abbrev pub IsAssigned : List Lit → TermId → Type 0
 IsAssigned held v = (l : Lit) × Contains held l × (l.term ≡ v)
 
--- Each variable of the clauses waits, or a literal of it holds; and no other waits.
-pub record AreWaiting (clauses : List (List Lit)) (held : List Lit) (waiting : List Bool) : Type 0 where
-  -- none of the clauses' is forgotten
-  pub each : (v : TermId) → IsMentioned clauses v → IsIn waiting v ⊎ IsAssigned held v
-  -- and those that wait are the clauses'
-  pub only : (v : TermId) → IsIn waiting v → IsMentioned clauses v
+-- Each of the atoms waits, or a literal of it holds; and no other variable waits.
+pub record AreWaiting (atoms : List TermId) (held : List Lit) (waiting : List Bool) : Type 0 where
+  -- none of the atoms is forgotten
+  pub each : (v : TermId) → Contains atoms v → IsIn waiting v ⊎ IsAssigned held v
+  -- and those that wait are atoms
+  pub only : (v : TermId) → IsIn waiting v → Contains atoms v
 
 -- The literal is one of a variable, which has no value.
 pub record IsOpen (trail : TrailView) (l : Lit) : Type 0 where
@@ -37,10 +33,14 @@ abbrev pub IsChoice : List Lit → TermId → Option Lit → Type 0
 IsChoice held v None = IsAssigned held v
 IsChoice held v (Some l) = (l.term ≡ v) × IsUnassigned held l
 
--- which variables wait where a literal was chosen that the clauses mention, and will hold; there is none where each of them has a value
-abbrev pub Chooses : List (List Lit) → List Lit → List Bool → Option Lit → Type 0
-Chooses clauses held waiting None = ((v : TermId) → IsMentioned clauses v → IsAssigned held v) × AreWaiting clauses held waiting
-Chooses clauses held waiting (Some l) = IsMentioned clauses l.term × AreWaiting clauses (held ++ l ∷ []) waiting
+-- each of the atoms has a value
+abbrev pub AreAssigned : List TermId → List Lit → Type 0
+AreAssigned atoms held = (v : TermId) → Contains atoms v → IsAssigned held v
+
+-- which variables wait where a literal of an atom was chosen, and will hold; there is none where each of the atoms has a value
+abbrev pub Chooses : List TermId → List Lit → List Bool → Option Lit → Type 0
+Chooses atoms held waiting None = AreAssigned atoms held × AreWaiting atoms held waiting
+Chooses atoms held waiting (Some l) = Contains atoms l.term × AreWaiting atoms (held ++ l ∷ []) waiting
 
 -- a variable counts where it waits
 abbrev pub one_if : Bool → ℕ

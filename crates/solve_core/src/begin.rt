@@ -8,17 +8,18 @@ ghost use Rattle.proof_log.specs.Logs.{IsLogOf, AreOf, AreFormulasIn};
 ghost use Rattle.solve_core.specs.Search.{IsStoreOf, IsBegun};
 ghost use Rattle.solve_core.specs.Rounds.{Begins};
 
+use crate::atoms::atoms_of;
 use crate::decider::Decider;
 use crate::restarts::Restarts;
 use crate::search::Search;
 use clause_store::ClauseStore;
 use clause_store::laws::{reasons_stay_right, what_is_marked_was_seen};
-use clausify::clauses_of_all;
+use clausify::{Stated, clauses_of_all};
 use proof_log::laws::empty_logs_are_right;
 use proof_log::{ProofLog, StepId};
 use sat_budget::{Budget, Limits};
 use sat_trail::SatTrail;
-use spec_derivations::laws::base_clauses_are_over_subterms;
+use spec_derivations::search_laws::{search_clauses_are_over_search_terms, search_terms_are_known};
 use std::alloc::Global;
 use term_core::{TermId, TermTable};
 use world_io::NoMemory;
@@ -67,23 +68,29 @@ pub(crate) fn begin(
     ensures declared { declared_in table.new ≡ declared_in table.old }
     ensures begins { IfOk result (Begins table.new (asserting (clause_at table.old roots.now)) limits.now.conflicts) }
 {
-    base_clauses_are_over_subterms();
+    search_clauses_are_over_search_terms();
+    search_terms_are_known();
     empty_logs_are_right();
     what_is_marked_was_seen();
     reasons_stay_right();
     let mut log = ProofLog::new(alloc);
-    let list = clauses_of_all(alloc, table, &mut log, roots)?;
-    let store = store_of(alloc, table, &log, list.as_slice())?;
+    let Stated { steps, terms } = clauses_of_all(alloc, table, &mut log, roots)?;
+    table.ids_are_unique();
+    let atoms = atoms_of(alloc, table, &terms)?;
+    let store = store_of(alloc, table, &log, steps.as_slice())?;
     let trail = trail_of(alloc, table)?;
-    let decider = Decider::new(alloc, &store, trail.vars())?;
+    let decider = Decider::new(alloc, &atoms, trail.vars())?;
     let budget = Budget::new(alloc, limits)?;
     Ok(Search {
         alloc,
         log,
         store,
         trail,
+        terms,
+        atoms,
         decider,
         restarts: Restarts::new(),
         budget,
+        fed: 0,
     })
 }

@@ -1,16 +1,16 @@
-//! The search loop: propagate, decide, learn, go back. Source: Marques Silva and Sakallah 1999.
+//! The search loop: propagate, ask the theory, decide, learn, go back. Source: Marques Silva and Sakallah 1999; Nieuwenhuis, Oliveras
+//! and Tinelli, JACM 2006, for the theory.
 
 ghost use Rattle.std.specs.Prelude.{◌≡◌, IfOk};
 ghost use Rattle.term_core.specs.Tables.{declared_in, Extends};
 ghost use Rattle.proof_log.specs.Logs.{IsLogOf};
+ghost use Rattle.proof_log.specs.Theories.{terms_watched, literals_held};
 ghost use Rattle.solve_core.specs.Search.{IsReady};
-ghost use Rattle.solve_core.specs.Rounds.{Shows};
+ghost use Rattle.solve_core.specs.Asking.{IsAsked, HasRested, state, Ends};
 
 use crate::search::Search;
-use clause_store::Propagation;
 use clause_store::laws::{reasons_stay_right, what_is_marked_was_seen};
-use conflict_learn::conflict_level;
-use proof_log::StepId;
+use proof_log::{StepId, Theory, Verdict};
 use sat_budget::Reason;
 use term_core::TermTable;
 use term_walks::Interp;
@@ -27,41 +27,57 @@ pub enum Answer {
     Unknown(Reason),
 }
 
+/// How a search ends.
+#[derive(Clone, Copy)]
+pub(crate) enum End {
+    /// Each atom has a value, of each clause a literal holds, and the theory finds nothing wrong.
+    Rests,
+    /// The clause of this step of the log is empty.
+    Refuted(StepId),
+    /// It was not found out, for this reason.
+    Stopped(Reason),
+}
+
 impl Search {
-    /// Searches until the terms of the store's clauses are known to be satisfied or not, or the budget is spent.
+    /// Searches until the theory and the clauses agree to values of all atoms, or cannot, or the budget is spent.
     ///
-    /// Each round assigns a variable more, or learns a clause and takes one from the budget, which is asked before the clause is logged.
-    pub(crate) fn run(&mut self, table: &mut TermTable) -> Result<Answer, NoMemory>
+    /// Each round assigns an atom more, or learns a clause and takes one from the budget. The theory is asked wherever propagation is
+    /// quiet. A clash that it finds is a step of the log, as one of the clauses is; its clause is not kept.
+    pub(crate) fn run<T: Theory>(
+        &mut self,
+        table: &mut TermTable,
+        theory: &mut T,
+    ) -> Result<End, NoMemory>
         requires ready { IsReady table.old self.old }
+        requires asked { IsAsked (T.view theory.old) self.old }
+        requires with { T.goes_with theory.old table.old }
         ensures grown { Extends table.old table.new }
         ensures declared { declared_in table.new ≡ declared_in table.old }
         ensures right { IfOk result (λ _. IsLogOf table.new self.new.log) }
         ensures limit { IfOk result (λ _. self.new.budget.limit ≡ self.old.budget.limit) }
-        ensures evidence { IfOk result (Shows table.old table.new self.old self.new) }
+        ensures with { IfOk result (λ _. T.goes_with theory.new table.new) }
+        ensures ends { IfOk result (Ends (state table.old self.old) (state table.new self.new)
+            (HasRested table.new self.new (T.view theory.new) (T.agrees theory.new
+            (terms_watched table.new (T.view theory.new)) (literals_held table.new (T.view theory.new))))) }
     {
         what_is_marked_was_seen();
         reasons_stay_right();
         self.budget.is_within();
         'rounds: loop {
-            match self.store.propagate(&mut self.trail)? {
-                Propagation::Quiet => {
-                    self.trail.is_sound();
+            match self.look(table, theory)? {
+                Verdict::Fine => {
                     let Some(l) = self.decider.next(&self.trail) else {
-                        return self.satisfied(table);
+                        return Ok(End::Rests);
                     };
+                    self.trail.is_sound();
+                    theory.mark()?;
                     self.trail.decide(l);
                     self.trail.is_sound();
                 }
-                Propagation::Clash(clash) => {
-                    table.ids_are_unique();
-                    self.trail.is_sound();
-                    if conflict_level(table, &self.trail, &self.log, clash) == 0 {
-                        return self.refuted(table, clash);
+                Verdict::Clash(clash) => {
+                    if let Some(end) = self.settle(table, theory, clash)? {
+                        return Ok(end);
                     }
-                    if let Some(n) = self.budget.spent() {
-                        return Ok(Answer::Unknown(Reason::Conflicts(n)));
-                    }
-                    self.learn_and_go_back(table, clash)?;
                 }
             }
         }

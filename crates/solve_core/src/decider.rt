@@ -1,22 +1,20 @@
 //! The order of decisions: which variables wait, how active they are, and the signs that they had last.
 
-ghost use Rattle.std.specs.Prelude.{◌≡◌, ◌<◌, [], false, length, List, IfOk, IfSome};
-ghost use Rattle.term_core.specs.declared.ids.Lit.{Lit as Literal};
+ghost use Rattle.std.specs.Prelude.{◌≡◌, ◌<◌, [], length, List, All, IfOk, IfSome};
+ghost use Rattle.term_core.specs.declared.ids.TermId.{TermId as Number};
 ghost use Rattle.proof_log.specs.Logs.{IsLogOf};
 ghost use Rattle.sat_trail.specs.Trails.{TrailView, IsCutTo};
-ghost use Rattle.clause_store.specs.Stores.{AreKnown};
 ghost use Rattle.variable_order.specs.Orders.{IsEmpty};
-ghost use Rattle.solve_core.specs.Waiting.{AreWaiting, AreMentioned, IsOpen, Chooses};
+ghost use Rattle.solve_core.specs.Waiting.{AreWaiting, AreOfAtoms, IsOpen, Chooses};
 
 use crate::activity::bump_conflict;
 use crate::decision::next_decision;
 use crate::waiting::{insert_all, put_back};
-use clause_store::ClauseStore;
 use proof_log::{ProofLog, StepId};
 use sat_trail::SatTrail;
 use std::alloc::Global;
 use std::marker::Model;
-use term_core::{Lit, TermTable};
+use term_core::{Lit, TermId, TermTable};
 use variable_order::VariableOrder;
 use world_io::NoMemory;
 
@@ -53,36 +51,34 @@ fn idle(alloc: Global, vars: u64) -> Result<VariableOrder, NoMemory>
     Ok(order)
 }
 
-/// Makes the order of so many variables, of which those of the clauses wait.
-fn order_of(alloc: Global, store: &ClauseStore, vars: u64) -> Result<VariableOrder, NoMemory>
-    requires known { AreKnown store.now vars }
-    ensures { IfOk result (λ o. AreWaiting store.now.clauses [] o × (length o ≡ vars)) }
+/// Makes the order of so many variables, of which the atoms wait.
+fn order_of(alloc: Global, atoms: &[TermId], vars: u64) -> Result<VariableOrder, NoMemory>
+    requires known { All (λ v. v.0 < vars) atoms.now }
+    ensures { IfOk result (λ o. AreWaiting atoms.now [] o × (length o ≡ vars)) }
 {
     let mut order = idle(alloc, vars)?;
-    'clauses: for n in 0..store.len() {
-        insert_all(&mut order, store.clause(n));
-    }
+    insert_all(&mut order, atoms);
     Ok(order)
 }
 
 impl Decider {
-    /// Begins with so many variables, of which those of the clauses wait.
-    pub(crate) fn new(alloc: Global, store: &ClauseStore, vars: u64) -> Result<Decider, NoMemory>
-        requires known { AreKnown store.now vars }
-        ensures { IfOk result (λ d. AreWaiting store.now.clauses [] d × (length d ≡ vars)) }
+    /// Begins with so many variables, of which the atoms wait.
+    pub(crate) fn new(alloc: Global, atoms: &[TermId], vars: u64) -> Result<Decider, NoMemory>
+        requires known { All (λ v. v.0 < vars) atoms.now }
+        ensures { IfOk result (λ d. AreWaiting atoms.now [] d × (length d ≡ vars)) }
     {
-        let order = order_of(alloc, store, vars)?;
+        let order = order_of(alloc, atoms, vars)?;
         let phases = vec![in alloc; false; vars as usize]?;
         Ok(Decider { order, phases })
     }
 
-    /// Takes the next decision, which then waits no more; nothing where each variable of the clauses has a value. It takes no memory.
+    /// Takes the next decision, which then waits no more; nothing where each of the atoms has a value. It takes no memory.
     pub(crate) fn next(&mut self, trail: &SatTrail) -> Option<Lit>
         requires vars { length self.old ≡ trail.now.vars }
         ensures size { length self.new ≡ length self.old }
         ensures open { IfSome result (IsOpen trail.now) }
-        ensures choice { (clauses : List (List Literal)) → AreWaiting clauses trail.now.literals self.old
-            → Chooses clauses trail.now.literals self.new result }
+        ensures choice { (atoms : List Number) → AreWaiting atoms trail.now.literals self.old
+            → Chooses atoms trail.now.literals self.new result }
     {
         next_decision(&mut self.order, &self.phases, trail)
     }
@@ -92,9 +88,9 @@ impl Decider {
     pub(crate) fn put_back(&mut self, trail: &SatTrail, level: u64)
         requires vars { length self.old ≡ trail.now.vars }
         ensures size { length self.new ≡ length self.old }
-        ensures waiting { (clauses : List (List Literal)) (after : TrailView) → AreMentioned clauses trail.now.literals
-            → IsCutTo trail.now level after → AreWaiting clauses trail.now.literals self.old
-            → AreWaiting clauses after.literals self.new }
+        ensures waiting { (atoms : List Number) (after : TrailView) → AreOfAtoms atoms trail.now.literals
+            → IsCutTo trail.now level after → AreWaiting atoms trail.now.literals self.old
+            → AreWaiting atoms after.literals self.new }
     {
         put_back(&mut self.order, &mut self.phases, trail, level);
     }

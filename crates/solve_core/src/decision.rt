@@ -1,7 +1,7 @@
 //! What is decided next.
 
 ghost use Rattle.std.specs.Prelude.{◌≡◌, ◌<◌, length, List, IfSome};
-ghost use Rattle.term_core.specs.declared.ids.Lit.{Lit as Literal};
+ghost use Rattle.term_core.specs.declared.ids.TermId.{TermId as Number};
 ghost use Rattle.solve_core.specs.Waiting.{AreWaiting, IsChoice, IsOpen, Chooses};
 
 use sat_trail::SatTrail;
@@ -35,8 +35,8 @@ pub(crate) fn next_decision(
     requires vars { length order.old ≡ trail.now.vars }
     ensures size { length order.new ≡ length order.old }
     ensures open { IfSome result (IsOpen trail.now) }
-    ensures choice { (clauses : List (List Literal)) → AreWaiting clauses trail.now.literals order.old
-        → Chooses clauses trail.now.literals order.new result }
+    ensures choice { (atoms : List Number) → AreWaiting atoms trail.now.literals order.old
+        → Chooses atoms trail.now.literals order.new result }
 {
     'variables: loop {
         let Some(v) = order.pop() else {

@@ -7,12 +7,15 @@
 #![tactic(auto)]
 
 mod activity;
+mod answering;
+mod atoms;
 mod begin;
 mod cdcl;
 mod conflict;
 mod decider;
 mod decision;
-mod model;
+mod feeding;
+mod looking;
 mod outcome;
 mod restarts;
 mod search;
@@ -20,6 +23,7 @@ mod solver;
 #[cfg(test)]
 mod tests;
 mod waiting;
+mod watching;
 
 pub use cdcl::Answer;
 pub use outcome::{Outcome, decide};

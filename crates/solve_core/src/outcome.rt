@@ -68,7 +68,7 @@ fn decided(
     ensures decided { IfOk result (IsJustified table.new (asserting (clause_at table.old roots.now)) limits.now.conflicts) }
 {
     let mut search = begin(alloc, table, roots, limits)?;
-    let answer = search.run(table)?;
+    let answer = search.answer(table)?;
     let Search { log, budget, .. } = search;
     Ok(Outcome {
         answer,

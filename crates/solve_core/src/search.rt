@@ -7,6 +7,7 @@ use proof_log::ProofLog;
 use sat_budget::Budget;
 use sat_trail::SatTrail;
 use std::alloc::Global;
+use term_core::TermId;
 
 /// What a search has in hand.
 #[derive(Drop)]
@@ -19,10 +20,16 @@ pub(crate) struct Search {
     pub(crate) store: ClauseStore,
     /// The literals that hold.
     pub(crate) trail: SatTrail,
+    /// The terms that the clauses and a theory speak of.
+    pub(crate) terms: Vec<TermId>,
+    /// Those of them that are decided: of sort Bool, and no negations.
+    pub(crate) atoms: Vec<TermId>,
     /// Which variables wait to be decided, and in which order.
     pub(crate) decider: Decider,
     /// When it begins again from level 0.
     pub(crate) restarts: Restarts,
     /// The clauses that were learned, and how many may be.
     pub(crate) budget: Budget,
+    /// How many of the oldest literals that hold the theory holds.
+    pub(crate) fed: u64,
 }

@@ -1,23 +1,24 @@
 //! Which variables wait to be decided.
 
-ghost use Rattle.std.specs.Prelude.{◌≡◌, ◌<◌, ◌++◌, ◌∷◌, [], length, List, All};
-ghost use Rattle.term_core.specs.declared.ids.Lit.{Lit as Literal};
+ghost use Rattle.std.specs.Prelude.{◌≡◌, ◌<◌, [], length, List, All};
+ghost use Rattle.term_core.specs.declared.ids.TermId.{TermId as Number};
 ghost use Rattle.sat_trail.specs.Trails.{TrailView, IsCutTo};
-ghost use Rattle.solve_core.specs.Waiting.{AreWaiting, AreMentioned};
+ghost use Rattle.variable_order.specs.Orders.{IsEmpty};
+ghost use Rattle.solve_core.specs.Waiting.{AreWaiting, AreOfAtoms};
 
 use sat_trail::SatTrail;
-use term_core::Lit;
+use term_core::TermId;
 use variable_order::VariableOrder;
 
-/// Lets the variables of a clause wait.
-pub(crate) fn insert_all(order: &mut VariableOrder, clause: &[Lit])
-    requires known { All (λ l. l.term.0 < length order.old) clause.now }
+/// Lets these atoms wait, where nothing waits yet.
+pub(crate) fn insert_all(order: &mut VariableOrder, atoms: &[TermId])
+    requires empty { IsEmpty order.old }
+    requires known { All (λ v. v.0 < length order.old) atoms.now }
     ensures size { length order.new ≡ length order.old }
-    ensures waiting { (clauses : List (List Literal)) → AreWaiting clauses [] order.old
-        → AreWaiting (clauses ++ clause.now ∷ []) [] order.new }
+    ensures waiting { AreWaiting atoms.now [] order.new }
 {
-    for l in clause {
-        order.insert(l.term);
+    for atom in atoms {
+        order.insert(*atom);
     }
 }
 
@@ -32,9 +33,9 @@ pub(crate) fn put_back(
     requires vars { length order.old ≡ trail.now.vars }
     ensures phases { length phases.new.items ≡ length phases.old.items }
     ensures size { length order.new ≡ length order.old }
-    ensures waiting { (clauses : List (List Literal)) (after : TrailView) → AreMentioned clauses trail.now.literals
-        → IsCutTo trail.now level after → AreWaiting clauses trail.now.literals order.old
-        → AreWaiting clauses after.literals order.new }
+    ensures waiting { (atoms : List Number) (after : TrailView) → AreOfAtoms atoms trail.now.literals
+        → IsCutTo trail.now level after → AreWaiting atoms trail.now.literals order.old
+        → AreWaiting atoms after.literals order.new }
 {
     trail.is_sound();
     let mut place = trail.len();

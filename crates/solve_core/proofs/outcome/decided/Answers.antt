@@ -7,5 +7,5 @@ use Rattle.solve_core.proofs.outcome.decided.Goals as goal
 pub returns-clause-decided : goal.returns-clause-decided
 returns-clause-decided c =
     let begun = c.in_ok-search.ensures.begins in
-    let shown = c.in_ok-answer.ensures.evidence (asserting (clause_at c.args.table.now c.args.roots.now)) begun.search in
+    let shown = c.in_ok-answer.ensures.shows (asserting (clause_at c.args.table.now c.args.roots.now)) begun.search in
     record { log_right = c.in_ok-answer.ensures.right; limit_is = c.in_ok-answer.ensures.limit ∙ begun.limit_is; evidence = shown.0; learning = shown.1 }

@@ -21,21 +21,21 @@ literals-preserved c =
       phases = length-set c.literals.phases.items l.term.0 l.positive ∙ i.phases;
       size = ap length c.insert.ensures ∙ length-set c.literals.order l.term.0 true ∙ i.size;
       within = omega (arith, i.within);
-      waiting = λ clauses mentioned h. subst (λ (ws : List Bool). AreWaiting clauses (take k held) ws) (sym c.insert.ensures)
-          (waiting_back clauses held k l c.literals.order lt is below (rw is (mentioned (get_or held k no_lit) (Contains-get_or held k no_lit lt)))
-          (subst (λ (n : ℕ). AreWaiting clauses (take n held) c.literals.order) next (i.waiting clauses mentioned h)));
+      waiting = λ atoms of_atoms h. subst (λ (ws : List Bool). AreWaiting atoms (take k held) ws) (sym c.insert.ensures)
+          (waiting_back atoms held k l c.literals.order lt is below (rw is (of_atoms (get_or held k no_lit) (Contains-get_or held k no_lit lt)))
+          (subst (λ (n : ℕ). AreWaiting atoms (take n held) c.literals.order) next (i.waiting atoms of_atoms h)));
     }
 
 pub returns : goal.returns
 returns c = record {
   phases = c.literals.invariant.phases;
   size = c.literals.invariant.size;
-  waiting = λ clauses after mentioned cut h. waiting_cut clauses c.args.trail.now after c.args.level c.literals.place c.literals.order cut c.literals.invariant.within (inl (omega (arith, c.literals-test.false))) (c.literals.invariant.waiting clauses mentioned h);
+  waiting = λ atoms after of_atoms cut h. waiting_cut atoms c.args.trail.now after c.args.level c.literals.place c.literals.order cut c.literals.invariant.within (inl (omega (arith, c.literals-test.false))) (c.literals.invariant.waiting atoms of_atoms h);
 }
 
 pub returns-then-level_of-level : goal.returns-then-level_of-level
 returns-then-level_of-level c = record {
   phases = c.literals.invariant.phases;
   size = c.literals.invariant.size;
-  waiting = λ clauses after mentioned cut h. waiting_cut clauses c.args.trail.now after c.args.level c.literals.place c.literals.order cut c.literals.invariant.within (inr (omega (arith, c.if-level_of-level.true, c.level_of.ensures))) (c.literals.invariant.waiting clauses mentioned h);
+  waiting = λ atoms after of_atoms cut h. waiting_cut atoms c.args.trail.now after c.args.level c.literals.place c.literals.order cut c.literals.invariant.within (inr (omega (arith, c.if-level_of-level.true, c.level_of.ensures))) (c.literals.invariant.waiting atoms of_atoms h);
 }

@@ -1,13 +1,8 @@
 -- That the step refutes the terms.
 use Rattle.std.proofs.Common.{refl}
-use Rattle.solve_core.proofs.SearchReasons.{clash_is, reasons_are}
+use Rattle.solve_core.proofs.SearchReasons.{reasons_are}
 use Rattle.solve_core.proofs.SearchShows.{unsat_shows}
 use Rattle.solve_core.proofs.search.Search.refuted.Goals as goal
-
-pub refute-requires-clause-clash : goal.refute-requires-clause-clash
-refute-requires-clause-clash c =
-    let x = c.args.self.now in
-    clash_is c.args.table.now c.ids_are_unique.ensures x.log x.store c.requires.ready.derives x.trail.literals c.args.clash c.requires.clash
 
 pub refute-requires-clause-reasons : goal.refute-requires-clause-reasons
 refute-requires-clause-reasons c =

@@ -1,162 +1,122 @@
 -- That the rounds end in an answer with its evidence.
-use Rattle.std.proofs.lemmas.List.{length-append}
-use Rattle.std.proofs.Common.{◌≡◌, ◌<◌, ◌-◌, ◌∙◌, ◌∷◌, [], length, ap, ◌+◌, List, refl, sym, subst, arith}
+use Rattle.std.proofs.Common.{◌≡◌, ◌<◌, ◌-◌, ◌∙◌, ◌∷◌, [], length, ap, ◌+◌, refl, sym, subst, arith}
 use Rattle.std.specs.Prelude.{None}
-use Rattle.std.proofs.lemmas.Result.{IfOk-weaker}
-use Rattle.sat_budget.specs.declared.limits.Reason.TheVariants.{Conflicts}
-use Rattle.term_core.specs.declared.ids.Lit.{Lit}
-use Rattle.clause_store.specs.Propagating.{IsQuiet}
-use Rattle.solve_core.specs.declared.cdcl.Answer.TheVariants.{Unknown}
-use Rattle.solve_core.specs.Rounds.{Shows}
-use Rattle.solve_core.proofs.SearchReasons.{clash_is}
+use Rattle.std.proofs.lemmas.List.{length-append}
+use Rattle.sat_budget.specs.Budgets.{BudgetView}
+use Rattle.proof_log.specs.Theories.{TheoryView}
+use Rattle.solve_core.specs.Asking.{KeepsUp}
+use Rattle.solve_core.proofs.SearchReady.{ready_waiting, ready_decided}
+use Rattle.term_core.proofs.TermsExtend.{Extends-trans}
+use Rattle.solve_core.proofs.SearchRounds.{continues_same, continues_on, ends_on, less_learned, less_assigned}
+use Rattle.solve_core.proofs.SearchTheories.{keeps_decided}
 use Rattle.solve_core.proofs.SearchWaiting.{satisfied_by}
-use Rattle.solve_core.proofs.SearchStored.{clash_same}
-use Rattle.solve_core.proofs.SearchReady.{ready_propagated, ready_waiting, ready_decided}
-use Rattle.solve_core.proofs.SearchShows.{spent_shows}
-use Rattle.solve_core.proofs.SearchRounds.{continues_same, continues_on, shows_on, less_learned, less_assigned, propagated, propagated_on, decided_on}
 use Rattle.solve_core.proofs.search.Search.run.Goals as goal
 
 pub rounds-init : goal.rounds-init
-rounds-init c = record { ready = c.requires.ready; continues = continues_same c.args.table.now c.args.self.now c.args.self.now refl refl refl refl }
+rounds-init g c = record {
+  ready = c.requires.ready;
+  asked = c.requires.asked;
+  with = c.requires.with;
+  continues = continues_same c.args.table.now c.args.self.now c.args.self.now refl refl refl refl refl;
+}
 
-pub satisfied-requires-clause-ready : goal.satisfied-requires-clause-ready
-satisfied-requires-clause-ready c =
-    let x = c.rounds.self in
-    let p = c.propagate.ensures in
-    let s = c.propagate.new.self in
-    let v = c.propagate.new.trail in
-    let y = propagated x s v x.decider in
-    let ready = ready_propagated c.rounds.table x y c.rounds.invariant.ready refl refl refl p.same p.seen
-    (c.reasons_stay_right.ensures.propagated x.store x.trail v c.rounds.invariant.ready.implied p.adds) p.adds in
-    let chosen = rw c.in_default.is at c.next.ensures.choice s.clauses ready.waiting in
-    ready_waiting c.rounds.table y c.next.new.self ready chosen.1 c.next.ensures.size
+pub returns-in_default-clause-ends : goal.returns-in_default-clause-ends
+returns-in_default-clause-ends g c =
+    let u = c.look.new.table in
+    let y = c.look.new.self in
+    let looks = rw c.in-Fine.is at c.in_ok-look.ensures.looks in
+    let l = looks.0 in
+    let chosen = rw c.in_default.is at c.next.ensures.choice y.atoms.items l.ready.waiting in
+    let z = record y { decider = c.next.new.self } in (
+      record {
+        ready = ready_waiting u y c.next.new.self l.ready chosen.1 c.next.ensures.size;
+        held = looks.2;
+        terms = l.asked.terms;
+        assigned = chosen.0;
+        satisfied = satisfied_by y.atoms.items y.store.clauses y.trail.literals l.ready.covered looks.1 chosen.0;
+        agrees = looks.3;
+      },
+      continues_on c.args.table.now u u c.args.self.now y z (continues_on c.args.table.now c.rounds.table u c.args.self.now c.rounds.self y c.rounds.invariant.continues l.continues)
+          (continues_same u y z refl refl refl refl refl),
+    )
 
-pub satisfied-requires-clause-satisfied : goal.satisfied-requires-clause-satisfied
-satisfied-requires-clause-satisfied c =
-    let x = c.rounds.self in
-    let p = c.propagate.ensures in
-    let s = c.propagate.new.self in
-    let v = c.propagate.new.trail in
-    let y = propagated x s v x.decider in
-    let ready = ready_propagated c.rounds.table x y c.rounds.invariant.ready refl refl refl p.same p.seen
-    (c.reasons_stay_right.ensures.propagated x.store x.trail v c.rounds.invariant.ready.implied p.adds) p.adds in
-    let chosen = rw c.in_default.is at c.next.ensures.choice s.clauses ready.waiting in
-    let ends = rw c.in-Quiet.is at c.in_ok-propagate.ensures.ends in
-    satisfied_by s.clauses v.literals (subst (λ (cs : List (List Lit)). IsQuiet cs v.literals) (sym p.same.clauses) ends) chosen.0
-
-pub returns-in_default-clause-evidence : goal.returns-in_default-clause-evidence
-returns-in_default-clause-evidence c =
-    let t = c.rounds.table in
-    let a = c.args.self.now in
-    let p = c.propagate.ensures in
-    let y = propagated c.rounds.self c.propagate.new.self c.propagate.new.trail c.next.new.self in
-    let on = propagated_on c.args.table.now t a c.rounds.self c.propagate.new.self c.propagate.new.trail c.rounds.invariant.continues p.same p.adds c.next.new.self in
-    IfOk-weaker c.satisfied.result (Shows t t y y) (Shows c.args.table.now t a y) (λ x h. shows_on c.args.table.now t t a y y x on h) c.satisfied.ensures
-
-pub rounds-preserved-in-Quiet : goal.rounds-preserved-in-Quiet
-rounds-preserved-in-Quiet c =
-    let t = c.rounds.table in
-    let x = c.rounds.self in
-    let p = c.propagate.ensures in
-    let s = c.propagate.new.self in
-    let v = c.propagate.new.trail in
-    let w = c.decide.new.self in
+pub rounds-preserved-in-Fine : goal.rounds-preserved-in-Fine
+rounds-preserved-in-Fine g c =
+    let u = c.look.new.table in
+    let y = c.look.new.self in
+    let looks = rw c.in-Fine.is at c.in_ok-look.ensures.looks in
+    let l = looks.0 in
+    let d = c.in-Some.l in
     let ws = c.next.new.self in
-    let l = c.in-Some.l in
+    let w = c.decide.new.self in
     let pushed = c.decide.ensures in
-    let y = propagated x s v x.decider in
-    let ready = ready_propagated t x y c.rounds.invariant.ready refl refl refl p.same p.seen
-    (c.reasons_stay_right.ensures.propagated x.store x.trail v c.rounds.invariant.ready.implied p.adds) p.adds in
-    let chosen = rw c.in-Some.is at c.next.ensures.choice s.clauses ready.waiting in
-    let ends = rw c.in-Quiet.is at c.in_ok-propagate.ensures.ends in
-    let quiet : IsQuiet s.clauses v.literals = subst (λ (cs : List (List Lit)). IsQuiet cs v.literals) (sym p.same.clauses) ends in
+    let chosen = rw c.in-Some.is at c.next.ensures.choice y.atoms.items l.ready.waiting in
+    let n = y.trail.level + 1 in
+    let z = record y { trail = w; decider = ws } in
     record {
-      ready = ready_decided t y w ws l (v.level + 1) ready pushed
-          (c.what_is_marked_was_seen.ensures.pushed s v w l None (v.level + 1) c.is_sound.ensures.propagated ready.seen pushed)
-          (c.reasons_stay_right.ensures.decided s v w l (v.level + 1) ready.implied pushed) quiet chosen.0 chosen.1 c.next.ensures.size;
-      continues = decided_on c.args.table.now t c.args.self.now x s v c.rounds.invariant.continues p.same p.adds l None (v.level + 1) w ws pushed;
+      ready = ready_decided u y w ws d n l.ready pushed
+          (c.what_is_marked_was_seen.ensures.pushed y.store y.trail w d None n c.is_sound.ensures.propagated l.ready.seen pushed)
+          (c.reasons_stay_right.ensures.decided y.store y.trail w d n l.ready.implied pushed) looks.1 chosen.0 chosen.1 c.next.ensures.size;
+      asked = record {
+        keeps = subst (λ (v : TheoryView). KeepsUp v w) (sym c.in_ok-mark-in-Fine.ensures.marks) (keeps_decided (g.T.Theory.view c.look.new.theory) y.trail w d c.is_sound.ensures.leveled pushed l.asked.keeps looks.2);
+        terms = ap (λ (v : TheoryView). v.watched) c.in_ok-mark-in-Fine.ensures.marks ∙ l.asked.terms;
+        fed = l.asked.fed ∙ ap (λ (v : TheoryView). length v.held) (sym c.in_ok-mark-in-Fine.ensures.marks);
+      };
+      with = c.mark.ensures.with u c.in_ok-look.ensures.with;
+      continues = continues_on c.args.table.now u u c.args.self.now y z (continues_on c.args.table.now c.rounds.table u c.args.self.now c.rounds.self y c.rounds.invariant.continues l.continues)
+          (continues_same u y z refl refl refl pushed.vars refl);
     }
 
-pub rounds-smaller-in-Quiet : goal.rounds-smaller-in-Quiet
-rounds-smaller-in-Quiet c =
+pub rounds-smaller-in-Fine : goal.rounds-smaller-in-Fine
+rounds-smaller-in-Fine g c =
     let x = c.rounds.self in
-    let a = c.propagate.ensures.adds in
+    let y = c.look.new.self in
+    let looks = rw c.in-Fine.is at c.in_ok-look.ensures.looks in
+    let l = looks.0 in
     let pushed = c.decide.ensures in
     let w = c.decide.new.self in
-    let more : length x.trail.literals < length w.literals = omega (arith, ap length a.literals, length-append x.trail.literals a.more, ap length pushed.literals, length-append c.propagate.new.trail.literals (c.in-Some.l ∷ [])) in
-    less_assigned (x.budget.limit - length x.budget.learned) x.trail.vars w.vars (length x.trail.literals) (length w.literals) (pushed.vars ∙ a.vars) more c.is_sound-in-Quiet.ensures.within
+    let b = l.budget in
+    let more : length x.trail.literals < length w.literals = omega (arith, l.literals, ap length pushed.literals, length-append y.trail.literals (c.in-Some.l ∷ [])) in
+    rw b (less_assigned (x.budget.limit - length x.budget.learned) x.trail.vars w.vars (length x.trail.literals) (length w.literals) (pushed.vars ∙ l.continues.vars) more c.is_sound-in-Fine.ensures.within)
 
-pub conflict_level-requires-clause-clash : goal.conflict_level-requires-clause-clash
-conflict_level-requires-clause-clash c =
-    let x = c.rounds.self in
-    let ends = rw c.in-Clash.is at c.in_ok-propagate.ensures.ends in
-    clash_is c.rounds.table c.ids_are_unique.ensures x.log x.store c.rounds.invariant.ready.derives c.propagate.new.trail.literals c.in-Clash.clash ends
+pub returns-in_err-end-in-Clash-clause-grown : goal.returns-in_err-end-in-Clash-clause-grown
+returns-in_err-end-in-Clash-clause-grown g c = Extends-trans c.args.table.now c.look.new.table c.settle.new.table (Extends-trans c.args.table.now c.rounds.table c.look.new.table c.rounds.invariant.continues.table c.look.ensures.grown) c.settle.ensures.grown
 
-pub refuted-requires-clause-ready : goal.refuted-requires-clause-ready
-refuted-requires-clause-ready c =
-    let x = c.rounds.self in
-    let p = c.propagate.ensures in
-    ready_propagated c.rounds.table x (propagated x c.propagate.new.self c.propagate.new.trail x.decider) c.rounds.invariant.ready refl refl refl p.same p.seen
-    (c.reasons_stay_right.ensures.propagated x.store x.trail c.propagate.new.trail c.rounds.invariant.ready.implied p.adds) p.adds
+pub returns-in-Some-2-clause-grown : goal.returns-in-Some-2-clause-grown
+returns-in-Some-2-clause-grown g c = Extends-trans c.args.table.now c.look.new.table c.settle.new.table (Extends-trans c.args.table.now c.rounds.table c.look.new.table c.rounds.invariant.continues.table c.look.ensures.grown) c.settle.ensures.grown
 
-pub refuted-requires-clause-of_zero : goal.refuted-requires-clause-of_zero
-refuted-requires-clause-of_zero c = λ m n has f. let le = c.conflict_level.ensures.greatest m n has f in omega (arith, le, c.if-conflict_level-eq0.true)
-
-pub returns-then-conflict_level-eq0-clause-evidence : goal.returns-then-conflict_level-eq0-clause-evidence
-returns-then-conflict_level-eq0-clause-evidence c =
-    let t = c.rounds.table in
-    let a = c.args.self.now in
-    let p = c.propagate.ensures in
-    let y = propagated c.rounds.self c.propagate.new.self c.propagate.new.trail c.rounds.self.decider in
-    let z = c.refuted.new.self in
-    let on = propagated_on c.args.table.now t a c.rounds.self c.propagate.new.self c.propagate.new.trail c.rounds.invariant.continues p.same p.adds c.rounds.self.decider in
-    IfOk-weaker c.refuted.result (Shows t t y z) (Shows c.args.table.now t a z) (λ x h. shows_on c.args.table.now t t a y z x on h) c.refuted.ensures.shows
-
-pub returns-in-Some-spent-clause-evidence : goal.returns-in-Some-spent-clause-evidence
-returns-in-Some-spent-clause-evidence c =
-    let t = c.rounds.table in
-    let a = c.args.self.now in
-    let x = c.rounds.self in
-    let p = c.propagate.ensures in
-    let s = c.propagate.new.self in
-    let v = c.propagate.new.trail in
-    let y = propagated x s v x.decider in
-    let n = c.in-Some-spent.n in
-    let ready = ready_propagated t x y c.rounds.invariant.ready refl refl refl p.same p.seen
-    (c.reasons_stay_right.ensures.propagated x.store x.trail v c.rounds.invariant.ready.implied p.adds) p.adds in
-    let ends = rw c.in-Clash.is at c.in_ok-propagate.ensures.ends in
-    let sound = c.is_sound-in-Clash.ensures in
-    let on = propagated_on c.args.table.now t a x s v c.rounds.invariant.continues p.same p.adds c.rounds.self.decider in
-    shows_on c.args.table.now t t a y y (Unknown (Conflicts n)) on
-    (spent_shows t c.ids_are_unique.ensures y ready sound.once sound.leveled sound.consistent c.in-Clash.clash (clash_same x.store s p.same v.literals c.in-Clash.clash ends)
-    c.conflict_level.result c.conflict_level.ensures (omega (arith, c.if-conflict_level-eq0.false)) n c.in-Some-spent.ensures.0 c.in-Some-spent.ensures.1)
-
-pub learn_and_go_back-requires-clause-ready : goal.learn_and_go_back-requires-clause-ready
-learn_and_go_back-requires-clause-ready c =
-    let x = c.rounds.self in
-    let p = c.propagate.ensures in
-    ready_propagated c.rounds.table x (propagated x c.propagate.new.self c.propagate.new.trail x.decider) c.rounds.invariant.ready refl refl refl p.same p.seen
-    (c.reasons_stay_right.ensures.propagated x.store x.trail c.propagate.new.trail c.rounds.invariant.ready.implied p.adds) p.adds
-
-pub rounds-smaller : goal.rounds-smaller
-rounds-smaller c =
-    let x = c.rounds.self in
-    let z = c.learn_and_go_back.new.self in
-    let l = c.in_ok-learn_and_go_back-in-Clash.ensures.learned in
-    let size : z.trail.vars ≡ x.trail.vars = l.continues.vars ∙ c.propagate.ensures.adds.vars in
-    less_learned x.budget.limit z.budget.limit x.trail.vars z.trail.vars (length x.budget.learned) (length z.budget.learned) (x.trail.vars - length x.trail.literals) (z.trail.vars - length z.trail.literals)
-    l.continues.limit size c.in_default-spent.ensures l.learned (omega (arith, size))
+pub returns-in-Some-2-clause-ends : goal.returns-in-Some-2-clause-ends
+returns-in-Some-2-clause-ends g c =
+    let t = c.args.table.now in
+    let u = c.look.new.table in
+    let y = c.look.new.self in
+    let looks = rw c.in-Clash.is at c.in_ok-look.ensures.looks in
+    let on = continues_on t c.rounds.table u c.args.self.now c.rounds.self y c.rounds.invariant.continues looks.0.continues in
+    ends_on t u c.settle.new.table c.args.self.now y c.settle.new.self (g.T.Theory.view c.settle.new.theory) _ c.in-Some-2.end on (rw c.in-Some-2.is at c.in_ok-end-in-Clash.ensures.settles)
 
 pub rounds-preserved : goal.rounds-preserved
-rounds-preserved c =
-    let t = c.rounds.table in
-    let a = c.args.self.now in
-    let x = c.rounds.self in
-    let p = c.propagate.ensures in
-    let y = propagated x c.propagate.new.self c.propagate.new.trail x.decider in
-    let l = c.in_ok-learn_and_go_back-in-Clash.ensures.learned in
-    let on = propagated_on c.args.table.now t a x c.propagate.new.self c.propagate.new.trail c.rounds.invariant.continues p.same p.adds c.rounds.self.decider in
+rounds-preserved g c =
+    let t = c.args.table.now in
+    let u = c.look.new.table in
+    let y = c.look.new.self in
+    let looks = rw c.in-Clash.is at c.in_ok-look.ensures.looks in
+    let settles = rw c.in_default-2.is at c.in_ok-end-in-Clash.ensures.settles in
     record {
-      ready = l.ready;
-      continues = continues_on c.args.table.now t c.learn_and_go_back.new.table a y c.learn_and_go_back.new.self on l.continues;
+      ready = settles.0.ready;
+      asked = settles.1;
+      with = c.in_ok-end-in-Clash.ensures.with;
+      continues = continues_on t u c.settle.new.table c.args.self.now y c.settle.new.self (continues_on t c.rounds.table u c.args.self.now c.rounds.self y c.rounds.invariant.continues looks.0.continues) settles.0.continues;
     }
+
+pub rounds-smaller : goal.rounds-smaller
+rounds-smaller g c =
+    let x = c.rounds.self in
+    let y = c.look.new.self in
+    let z = c.settle.new.self in
+    let looks = rw c.in-Clash.is at c.in_ok-look.ensures.looks in
+    let settles = rw c.in_default-2.is at c.in_ok-end-in-Clash.ensures.settles in
+    let l = settles.0 in
+    let size : z.trail.vars ≡ x.trail.vars = l.continues.vars ∙ looks.0.continues.vars in
+    let b = looks.0.budget in
+    less_learned x.budget.limit z.budget.limit x.trail.vars z.trail.vars (length x.budget.learned) (length z.budget.learned) (x.trail.vars - length x.trail.literals) (z.trail.vars - length z.trail.literals)
+    (l.continues.limit ∙ looks.0.continues.limit) size (subst (λ (y : BudgetView). length y.learned < y.limit) b settles.2) (l.learned ∙ ap (λ (y : BudgetView). length y.learned + 1) b) (omega (arith, size))

@@ -1,15 +1,18 @@
--- What each round leaves: all fits together, and the search is still one for the same terms. Each round learns a clause, or assigns a
--- variable more.
+-- What each round leaves: all fits together, the theory keeps up, and the search is still one for the same terms. Each round learns a
+-- clause, or assigns an atom more.
 use Rattle.std.proofs.Common.{◌+◌, ◌-◌, ◌*◌, length}
 use Rattle.solve_core.specs.Search.{IsReady}
 use Rattle.solve_core.specs.Rounds.{Continues}
+use Rattle.solve_core.specs.Asking.{IsAsked}
 use Rattle.solve_core.proofs.search.Search.run.Given as goal
 
 abbrev pub invariant-rounds : goal.invariant-rounds
-invariant-rounds l = record {
+invariant-rounds g l = record {
   ready : IsReady l.table l.self;
+  asked : IsAsked (g.T.Theory.view l.theory) l.self;
+  with : g.T.Theory.goes_with l.theory l.table;
   continues : Continues l.fn.table l.table l.fn.self l.self;
 }
 
 abbrev pub decreases-rounds : goal.decreases-rounds
-decreases-rounds l = (l.self.budget.limit - length l.self.budget.learned) * (l.self.trail.vars + 1) + (l.self.trail.vars - length l.self.trail.literals)
+decreases-rounds g l = (l.self.budget.limit - length l.self.budget.learned) * (l.self.trail.vars + 1) + (l.self.trail.vars - length l.self.trail.literals)

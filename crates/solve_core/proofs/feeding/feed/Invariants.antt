@@ -1,0 +1,11 @@
+-- The literals up to here are held.
+use Rattle.std.proofs.Common.{◌≡◌, take}
+use Rattle.term_core.specs.Tables.{TableView}
+use Rattle.solve_core.proofs.SearchTheories.{fed}
+use Rattle.solve_core.proofs.feeding.feed.Given as goal
+
+abbrev pub invariant-places : goal.invariant-places
+invariant-places g l = record {
+  view : g.T.Theory.view l.theory ≡ fed (g.T.Theory.view l.fn.theory) (take l.place l.trail.literals);
+  goes : (t : TableView) → g.T.Theory.goes_with l.fn.theory t → g.T.Theory.goes_with l.theory t;
+}

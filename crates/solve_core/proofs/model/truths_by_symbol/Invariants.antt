@@ -1,7 +1,0 @@
--- The truth values that the literals up to here give.
-use Rattle.std.proofs.Common.{take}
-use Rattle.solve_core.specs.SearchModels.{AreTruthsOf}
-use Rattle.solve_core.proofs.model.truths_by_symbol.Given as goal
-
-abbrev pub invariant-literals : goal.invariant-literals
-invariant-literals l = AreTruthsOf l.table (take l.at l.trail.literals) l.truths.items

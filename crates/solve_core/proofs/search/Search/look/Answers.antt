@@ -1,0 +1,87 @@
+-- That propagation and the theory's check leave all as it should be.
+use Rattle.std.proofs.Common.{◌∙◌, List, sym, ap, subst}
+use Rattle.spec_sorts.specs.Terms.{Term}
+use Rattle.spec_sorts.specs.Literals.{Literal}
+use Rattle.term_core.specs.Tables.{TableView, Extends}
+use Rattle.term_core.proofs.TermsExtend.{Extends-self}
+use Rattle.proof_log.specs.Theories.{TheoryView, Derived, IsOver, terms_watched, literals_held, Checks}
+use Rattle.solve_core.proofs.SearchReasons.{clash_is}
+use Rattle.solve_core.proofs.SearchTheories.{fed}
+use Rattle.solve_core.proofs.SearchLooks.{looked_after, fed_within, front_held, watches_held, is_over, looks}
+use Rattle.solve_core.proofs.search.Search.look.Goals as goal
+
+pub returns-in_err-step-clause-grown : goal.returns-in_err-step-clause-grown
+returns-in_err-step-clause-grown g c = Extends-self c.args.table.now
+
+pub returns-in-Clash-clause-grown : goal.returns-in-Clash-clause-grown
+returns-in-Clash-clause-grown g c = Extends-self c.args.table.now
+
+pub returns-in-Clash-clause-looks : goal.returns-in-Clash-clause-looks
+returns-in-Clash-clause-looks g c =
+    let t = c.args.table.now in
+    let x = c.args.self.now in
+    let v = g.T.Theory.view c.args.theory.now in
+    let p = c.propagate.ensures in
+    let s = c.propagate.new.self in
+    let w = c.propagate.new.trail in
+    let r = c.requires.ready in
+    let implied = c.reasons_stay_right.ensures.propagated x.store x.trail w r.implied p.adds in
+    let ends = rw c.in-Clash.is at c.in_ok-step.ensures.ends in (
+      looked_after t x r v c.requires.asked c.is_sound.ensures.leveled.levels_paired s w p.same p.seen implied p.adds,
+      clash_is t c.ids_are_unique.ensures x.log x.store r.derives w.literals c.in-Clash.step ends,
+    )
+
+pub feed-requires-clause-from : goal.feed-requires-clause-from
+feed-requires-clause-from g c =
+    let x = c.args.self.now in
+    let p = c.propagate.ensures in
+    fed_within c.args.table.now x c.requires.ready (g.T.Theory.view c.args.theory.now) c.requires.asked c.is_sound.ensures.leveled.levels_paired c.propagate.new.self c.propagate.new.trail p.same p.seen
+    (c.reasons_stay_right.ensures.propagated x.store x.trail c.propagate.new.trail c.requires.ready.implied p.adds) p.adds
+
+pub feed-requires-clause-front : goal.feed-requires-clause-front
+feed-requires-clause-front g c =
+    let x = c.args.self.now in
+    let p = c.propagate.ensures in
+    front_held c.args.table.now x c.requires.ready (g.T.Theory.view c.args.theory.now) c.requires.asked c.is_sound.ensures.leveled.levels_paired c.propagate.new.self c.propagate.new.trail p.same p.seen
+    (c.reasons_stay_right.ensures.propagated x.store x.trail c.propagate.new.trail c.requires.ready.implied p.adds) p.adds
+
+pub feed-requires-clause-watched : goal.feed-requires-clause-watched
+feed-requires-clause-watched g c =
+    let x = c.args.self.now in
+    let p = c.propagate.ensures in
+    watches_held c.args.table.now x c.requires.ready (g.T.Theory.view c.args.theory.now) c.requires.asked c.is_sound.ensures.leveled.levels_paired c.propagate.new.self c.propagate.new.trail p.same p.seen
+    (c.reasons_stay_right.ensures.propagated x.store x.trail c.propagate.new.trail c.requires.ready.implied p.adds) p.adds
+
+pub check-requires-clause-over : goal.check-requires-clause-over
+check-requires-clause-over g c =
+    let x = c.args.self.now in
+    let p = c.propagate.ensures in
+    subst (IsOver c.args.table.now) (sym c.feed.ensures.holds)
+    (is_over c.args.table.now x c.requires.ready (g.T.Theory.view c.args.theory.now) c.requires.asked c.is_sound.ensures.leveled.levels_paired c.propagate.new.self c.propagate.new.trail p.same p.seen
+    (c.reasons_stay_right.ensures.propagated x.store x.trail c.propagate.new.trail c.requires.ready.implied p.adds) p.adds)
+
+pub returns-in-Ok-clause-looks : goal.returns-in-Ok-clause-looks
+returns-in-Ok-clause-looks g c =
+    let t = c.args.table.now in
+    let x = c.args.self.now in
+    let v = g.T.Theory.view c.args.theory.now in
+    let p = c.propagate.ensures in
+    let s = c.propagate.new.self in
+    let w = c.propagate.new.trail in
+    let r = c.requires.ready in
+    let u = c.check.new.table in
+    let log = c.check.new.log in
+    let ends = rw c.in_default.is at c.in_ok-step.ensures.ends in
+    let agrees : List Term → List Literal → Type 0 = g.T.Theory.agrees c.check.new.self in
+    let refuses : List Term → List Literal → Type 0 = g.T.Theory.refuses c.feed.new.theory in
+    let implied = c.reasons_stay_right.ensures.propagated x.store x.trail w r.implied p.adds in
+    let checks = subst (λ (z : TheoryView). Checks (agrees (terms_watched t z) (literals_held t z)) (refuses (terms_watched t z) (literals_held t z)) z (record { table = t; log = x.log }) c.check.result (record { table = u; log = log }))
+    c.feed.ensures.holds c.check.ensures.checks in
+    looks t x r v c.requires.asked c.is_sound.ensures.leveled.levels_paired s w p.same p.seen implied p.adds u log c.check.new.budget c.check.ensures.budget
+    (λ grown. c.logs_stand_in_grown_tables.ensures.same t u x.log r.right grown) agrees (refuses (terms_watched t (fed v w.literals)) (literals_held t (fed v w.literals))) ends c.len-self.result c.len-self.ensures
+    (g.T.Theory.view c.check.new.self) (c.check.ensures.same ∙ c.feed.ensures.holds) c.in-Ok.verdict (rw c.in-Ok.is at checks)
+
+pub returns-in-Err-Memory-clause-grown : goal.returns-in-Err-Memory-clause-grown
+returns-in-Err-Memory-clause-grown g c =
+    let same = rw c.in-Err-Memory.is at c.check.ensures.checks in
+    subst (λ (u : TableView). Extends c.args.table.now u) (sym (ap (λ (d : Derived). d.table) same)) (Extends-self c.args.table.now)

@@ -1,0 +1,16 @@
+-- What comes of a conflict.
+use Rattle.std.proofs.Common.{arith}
+use Rattle.term_core.proofs.TermsExtend.{Extends-self}
+use Rattle.solve_core.proofs.search.Search.settle.Goals as goal
+
+pub refuted-requires-clause-of_zero : goal.refuted-requires-clause-of_zero
+refuted-requires-clause-of_zero g c = λ m n has f. let le = c.conflict_level.ensures.greatest m n has f in omega (arith, le, c.if-conflict_level-eq0.true)
+
+pub returns-in_err-step-clause-grown : goal.returns-in_err-step-clause-grown
+returns-in_err-step-clause-grown g c = Extends-self c.args.table.now
+
+pub returns-then-conflict_level-eq0-clause-grown : goal.returns-then-conflict_level-eq0-clause-grown
+returns-then-conflict_level-eq0-clause-grown g c = Extends-self c.args.table.now
+
+pub returns-clause-settles : goal.returns-clause-settles
+returns-clause-settles g c = (c.in_ok-learn_and_go_back.ensures.learned, c.in_ok-learn_and_go_back.ensures.asked, c.in_default.ensures)

@@ -1,0 +1,51 @@
+//! What follows from the literals that hold, and whether something is wrong with them.
+
+ghost use Rattle.std.specs.Prelude.{◌≡◌, IfOk};
+ghost use Rattle.term_core.specs.Tables.{declared_in, Extends};
+ghost use Rattle.proof_log.specs.Theories.{terms_watched, literals_held};
+ghost use Rattle.solve_core.specs.Search.{IsReady};
+ghost use Rattle.solve_core.specs.Asking.{IsAsked, state, Looks};
+
+use crate::feeding::feed;
+use crate::search::Search;
+use clause_store::Propagation;
+use clause_store::laws::{reasons_stay_right, what_is_marked_was_seen};
+use proof_log::laws::logs_stand_in_grown_tables;
+use proof_log::{Theory, Verdict};
+use sat_budget::Stop;
+use term_core::TermTable;
+use world_io::NoMemory;
+
+impl Search {
+    /// Propagates, lets the theory hold what the trail holds, and lets it check that: `Clash` comes where a clause of the store is false,
+    /// and else where the theory finds that something is wrong.
+    pub(crate) fn look<T: Theory>(
+        &mut self,
+        table: &mut TermTable,
+        theory: &mut T,
+    ) -> Result<Verdict, NoMemory>
+        requires ready { IsReady table.old self.old }
+        requires asked { IsAsked (T.view theory.old) self.old }
+        requires with { T.goes_with theory.old table.old }
+        ensures grown { Extends table.old table.new }
+        ensures declared { declared_in table.new ≡ declared_in table.old }
+        ensures with { IfOk result (λ _. T.goes_with theory.new table.new) }
+        ensures looks { IfOk result (Looks (state table.old self.old) (state table.new self.new) (T.view theory.new)
+            (T.agrees theory.new (terms_watched table.new (T.view theory.new)) (literals_held table.new (T.view theory.new)))) }
+    {
+        what_is_marked_was_seen();
+        reasons_stay_right();
+        logs_stand_in_grown_tables();
+        table.ids_are_unique();
+        self.trail.is_sound();
+        if let Propagation::Clash(step) = self.store.propagate(&mut self.trail)? {
+            return Ok(Verdict::Clash(step));
+        }
+        feed(theory, &self.trail, self.fed);
+        self.fed = self.trail.len();
+        match theory.check(table, &mut self.log, &mut self.budget) {
+            Ok(verdict) => Ok(verdict),
+            Err(Stop::Memory) => Err(NoMemory),
+        }
+    }
+}

@@ -1,0 +1,59 @@
+//! What a theory watches.
+
+ghost use Rattle.std.specs.Prelude.{◌≡◌, ◌<◌, [], ℕ, length, get_or, All, IfOk, OnOk};
+ghost use Rattle.spec_sorts.specs.Terms.{True, False, of};
+ghost use Rattle.term_core.specs.Tables.{declared_in, Extends, IsIn, term_at};
+ghost use Rattle.proof_log.specs.Theories.{IsTermIn};
+ghost use Rattle.clausify.specs.SearchTerms.{no_id};
+
+use congruence::Truths;
+use proof_log::Theory;
+use sat_budget::Stop;
+use std::alloc::Global;
+use term_core::{Head, Node, TermId, TermTable};
+use world_io::NoMemory;
+
+/// Finds the terms `true` and `false`, or puts them.
+pub(crate) fn truth_values(alloc: Global, table: &mut TermTable) -> Result<Truths, NoMemory>
+    ensures grown { Extends table.old table.new }
+    ensures declared { declared_in table.new ≡ declared_in table.old }
+    ensures true_there { IfOk result (λ x. IsIn table.new x.true_term) }
+    ensures true_is { IfOk result (λ x. term_at table.new x.true_term ≡ of True []) }
+    ensures false_there { IfOk result (λ x. IsIn table.new x.false_term) }
+    ensures false_is { IfOk result (λ x. term_at table.new x.false_term ≡ of False []) }
+{
+    let true_term = table.put(Node::new(alloc, Head::True, &[])?)?;
+    let false_term = table.put(Node::new(alloc, Head::False, &[])?)?;
+    Ok(Truths {
+        true_term,
+        false_term,
+    })
+}
+
+/// Lets a theory that watches nothing watch these terms.
+///
+/// Where memory runs out, it watches some of them.
+pub(crate) fn watch_all<T: Theory>(
+    theory: &mut T,
+    table: &TermTable,
+    terms: &[TermId],
+) -> Result<(), NoMemory>
+    requires terms { All (IsTermIn table.now) terms.now }
+    requires rising { (i j : ℕ) → i < j → j < length terms.now → (get_or terms.now i no_id).0 < (get_or terms.now j no_id).0 }
+    requires none { (T.view theory.old).watched ≡ [] }
+    requires with { T.goes_with theory.old table.now }
+    ensures with { T.goes_with theory.new table.now }
+    ensures watches { OnOk result (T.view theory.new ≡ record {
+      held = (T.view theory.old).held;
+      watched = terms.now;
+      marks = (T.view theory.old).marks;
+    }) }
+{
+    'terms: for id in terms.iter() {
+        match theory.watch_term(table, *id) {
+            Ok(()) => {}
+            Err(Stop::Memory) => return Err(NoMemory),
+        }
+    }
+    Ok(())
+}
