@@ -19,7 +19,7 @@ use proof_log::ProofLog;
 use sat_budget::{Budget, Limits, Reason};
 use solve_core::{Answer, Outcome, decide};
 use spec_commands::{assertions_are_formulas, commands_keep_stacks};
-use spec_derivations::laws::base_clauses_are_over_subterms;
+use spec_derivations::search_laws::search_clauses_are_over_search_terms;
 use spec_proof_texts::laws::{lines_in_reach_have_no_numbers, well_sorted_terms_are_printable};
 use std::alloc::Global;
 use term_core::TermTable;
@@ -41,8 +41,8 @@ pub enum Evidence {
 
 /// Checks what is asserted, all of which the search must reach, and keeps what was learned in the budget.
 ///
-/// The table grows by the terms of the clauses that define the assertions. The budget is then that of the decision,
-/// under the limit on conflicts. `NoMemory` comes where memory ran out; table and budget are then as they were.
+/// The table grows by terms that the search and its lemmas speak of. The budget is then that of the decision, under the
+/// limit on conflicts. `NoMemory` comes where memory ran out; table and budget are then as they were.
 pub fn check(
     alloc: Global,
     table: &mut TermTable,
@@ -91,7 +91,7 @@ fn evidence_of(
     ensures budget { IfOk result (λ x. x.1 ≡ outcome.budget) }
 {
     commands_keep_stacks();
-    base_clauses_are_over_subterms();
+    search_clauses_are_over_search_terms();
     well_sorted_terms_are_printable();
     lines_in_reach_have_no_numbers();
     logs_are_over_their_terms();

@@ -37,7 +37,7 @@ returns-in_ok-plan-in-Unsat-clause-shown c = λ limits s kept reach symbols h.
     let shown = subst (HasEvidence t (asserting asked) o.log o.budget) c.in-Unsat.is h.evidence in
     let steps = subst (λ a. HasSteps (asserting asked) d (added_by a learned)) c.in-Unsat.is h.learning.logged in
     let reached : (u : Term) → IsPrinted d n u → IsReached u =
-    printed_reached asked (asserted_reached (assertions_of s) reach) c.base_clauses_are_over_subterms.ensures d learned h.learning.learns.atoms steps n in
+    printed_reached asked (asserted_reached (assertions_of s) reach) c.search_clauses_are_over_search_terms.ensures d learned h.learning.learns.atoms steps n in
     let planned = c.in_ok-plan-in-Unsat.ensures.plan in
     let no_numbers = c.lines_in_reach_have_no_numbers.ensures t.terms d n p planned (λ u q. head_reached u (reached u q)) in
     let is_proof : IsProofOf (check_on s) (proof_text (lines_of t.terms d p)) = record {
