@@ -123,6 +123,11 @@ fn proofs_are_answered_as_their_rows_say(rt: HostRuntime) -> Result<(), Fail> {
 #[test]
 fn checks_out_of_reach_are_judged(rt: HostRuntime) -> Result<(), Fail> {
     assert_eq!(rt; first_other(rt.alloc(), UNREACHED, "", REFUTATION)?, None);
+    Ok(())
+}
+
+#[test]
+fn congruences_are_judged(rt: HostRuntime) -> Result<(), Fail> {
     assert_eq!(rt; first_other(rt.alloc(), CONGRUENCES, CONGRUENCE, "")?, None);
     Ok(())
 }

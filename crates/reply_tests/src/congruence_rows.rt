@@ -1,6 +1,6 @@
 //! A script and proofs over a declared sort and a function, with what `check` answers.
 
-/// A script over a declared sort and a function, which the search does not reach.
+/// A script over a declared sort and a function.
 pub(crate) const CONGRUENCE: &str =
     "(declare-sort U 0)(declare-fun f (U) U)(declare-const a U)(declare-const b U)
 (assert (= a b))(assert (not (= (f a) (f b))))(check-sat)";
@@ -153,5 +153,5 @@ pub(crate) const UNREACHED: &str = "valid|1
 -- valid|3
 (declare-const p Bool)(check-sat)(assert (= 1 1))(check-sat)(check-sat 1)(assert p)(assert (not p))(check-sat)
 -- NotAsserted 2:12|2
-(declare-fun p () Bool)(declare-fun g (Bool) Bool)(assert p)(check-sat)(assert (g p))(check-sat)(assert (not p))(check-sat)
+(declare-fun p () Bool)(declare-fun g (Bool) Real)(assert p)(check-sat)(assert (< (g p) 1))(check-sat)(assert (not p))(check-sat)
 ";

@@ -82,13 +82,13 @@ sat
 (set-option :print-success false) ; a check that is out of reach, at its word; the assertions stay
 (declare-const p Bool)
 (declare-const x Real)
-(declare-fun f (Bool) Bool)
+(declare-fun f (Bool) Real)
 (declare-sort U 0)
 (declare-const u U)
 (check-sat)
 (assert p)
 (check-sat)
-(assert (f p))
+(assert (< (f p) 1))
 (check-sat)
 (check-sat)
 
@@ -100,16 +100,19 @@ sat
 ====
 1 smt_cli|solve
 ----
-(set-option :print-success false) ; equalities of other sorts, and numbers, are out of reach
+(set-option :print-success false) ; equalities of other sorts are in reach, those of numbers are not
 (declare-sort U 0)
 (declare-const u U)
 (assert (= u u))
 (check-sat)
+(assert (= 1 1))
+(check-sat)
 (set-logic QF_UF)
 
 ----
-(error \"5:2: UnknownLogic\")
-(error \"6:1: WrongMode\")
+sat
+(error \"7:2: UnknownLogic\")
+(error \"8:1: WrongMode\")
 ====
 0 smt_cli|solve
 ----

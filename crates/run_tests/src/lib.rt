@@ -13,6 +13,8 @@ mod evidence_rows;
 #[cfg(test)]
 mod formula_tests;
 #[cfg(test)]
+mod function_rows;
+#[cfg(test)]
 mod judgement_rows;
 #[cfg(test)]
 mod known_rows;

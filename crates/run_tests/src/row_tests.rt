@@ -8,6 +8,7 @@
 use crate::argument_rows::{ARGUMENTS, PROVED};
 use crate::command_rows::COMMANDS;
 use crate::evidence_rows::EVIDENCE;
+use crate::function_rows::FUNCTIONS;
 use crate::judgement_rows::JUDGEMENTS;
 use crate::language_rows::{LANGUAGE, LOGICS};
 use crate::limit_rows::LIMITS;
@@ -147,6 +148,7 @@ fn first_of_all(alloc: Global) -> Result<Option<&'static str>, NoMemory> {
         LOGICS,
         LANGUAGE,
         EVIDENCE,
+        FUNCTIONS,
         SHAPES,
         JUDGEMENTS,
     ] {

@@ -12,11 +12,11 @@ pub(crate) const SESSIONS: &str = "solve 1 1000
 (declare-const c Bool)|went 0|success
 (assert (or a b))|went 0|success
 (assert (or a (not b)))|went 0|success
-(check-sat)|went 0|sat
-(assert (or (not a) b c))|went 0|success
-(assert (or (not a) b (not c)))|went 0|success
-(assert (or (not a) (not b) c))|went 0|success
-(assert (or (not a) (not b) (not c)))|went 0|success
+(check-sat)|went 1|sat
+(assert (or (not a) b c))|went 1|success
+(assert (or (not a) b (not c)))|went 1|success
+(assert (or (not a) (not b) c))|went 1|success
+(assert (or (not a) (not b) (not c)))|went 1|success
 (check-sat)|went 1|unknown
 (assert d)|refused 1|(error \"1:9: UnknownSymbol\")
 (set-option :k v)|went 1|unsupported
