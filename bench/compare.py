@@ -1,7 +1,7 @@
 #!/usr/bin/env python3
 """Compares `smt_cli` with an independent reading of the formats, on texts that are made by chance.
 
-    bench/compare.py EXECUTABLE [--seconds N] [--seed K]
+    bench/compare.py EXECUTABLE [--seconds N] [--seed K] [--only KIND ..]
 
 The modules in bench/compare/ say in Python what docs/FORMATS.md, docs/ALETHE.md and SMT-LIB 2.6 say, and share nothing
 with the program: a reader of sorts, functions, numbers and terms, truth tables, values, the rules of proofs, and a
@@ -20,8 +20,13 @@ check changed          such proofs, changed in their parts or in their bytes
 check invented         proofs of steps by all rules, mostly right, over terms of all sorts, with definitions, `:named`
                        and odd texts; and single steps, right or near to it
 check forms            forms of a small proof, with odd names, attributes, definitions and ends
+functions              scripts over two declared sorts and functions, by `certify`, with `check` of one proof of each;
+                       some are solved, too, and compared with the answers of z3 and cvc5 where they are on the path
+few conflicts          such scripts under a small limit on conflicts, where checks may be answered `unknown`
 
-Of each `valid` it is looked up that the truth tables have no row that makes all assertions true, too.
+With --only these kinds alone are run. Whether there is a model is known from truth tables, or else by trying values up
+to a bound (bench/compare/models.py); where that is too much, the model or the proof alone decides. Of each `valid` it
+is looked up that no model was found of all assertions, too.
 
 It prints a table of the kinds with the number of runs and of differences. What each difference is on is written to
 files in a temporary folder, which is printed. It ends with status 1 where there is a difference, else with 0.
@@ -34,6 +39,7 @@ import subprocess
 import sys
 import tempfile
 import time
+from collections import Counter
 
 sys.dont_write_bytecode = True
 sys.path.insert(0, os.path.join(os.path.dirname(os.path.abspath(__file__)), "compare"))
@@ -41,18 +47,24 @@ sys.path.insert(0, os.path.join(os.path.dirname(os.path.abspath(__file__)), "com
 import bool_scripts
 from changes import changed, proof_text
 from forms import SCRIPTS, a_form
+from function_scripts import a_function_script
 from judging import predict_check
 from language import BOOL, checks_of, read_script
 from layout import damaged, laid_out, tree_of_item
+from others import answers_in, answers_of, are_at_odds, solvers
 from proofs import proof_of_single_steps, some_trees
 from reading import read_one
 from scripts import NAMES, a_session, an_arithmetic_script
-from sessions import judge_certify, predict_solve
+from sessions import judge_certify, judge_solve, run_script
 
 MOST_DIFFERENCES = 20
 LONGEST_RUN = 120
 LIMIT = 2**24
 MOST_STEPS = 40
+OTHERS = solvers()
+CHECKS = {True: "with a model", False: "without one", None: "left open"}
+# The share of the scripts over functions that are solved too, and put to the others.
+SOLVED_SHARE = 0.1
 
 
 class Comparison:
@@ -64,6 +76,9 @@ class Comparison:
         self.folder = folder
         self.runs = 0
         self.differences = 0
+        self.scripts = 0
+        self.known = Counter()
+        self.asked = dict.fromkeys(OTHERS, 0)
 
     def run(self, words, text=b""):
         """Runs the program over a text on standard input; returns its output, its status and its errors."""
@@ -84,15 +99,16 @@ class Comparison:
 
     def solve(self, script):
         """Compares `solve` on a script."""
-        wanted, status = predict_solve(script)
-        got = self.run(["solve"], script)
-        if got != (wanted, status, b""):
-            self.tell(f"wanted {wanted!r} and {status}, got {got!r}", script)
+        output, status, errors = self.run(["solve"], script)
+        wrong = judge_solve(script, output, status)
+        if wrong or errors:
+            self.tell(f"{wrong} {errors!r}", script)
 
-    def certify(self, script):
-        """Judges `certify` on a script; returns the proofs that are right."""
-        output, status, errors = self.run(["certify"], script)
-        wrong, proofs = judge_certify(script, output, status)
+    def certify(self, script, conflicts=None):
+        """Judges `certify` on a script, under a limit on conflicts if one is given; returns the right proofs."""
+        limit = [] if conflicts is None else ["--conflicts", str(conflicts)]
+        output, status, errors = self.run(["certify", *limit], script)
+        wrong, proofs = judge_certify(script, output, status, conflicts)
         if wrong or errors:
             self.tell(f"{wrong} {errors!r}", script)
         return proofs
@@ -112,10 +128,33 @@ class Comparison:
         elif status == 0 and has_model(current_checks(script)[number - 1]):
             self.tell(f"at {number}, valid, but there is a model", script, proof)
 
+    def count(self, script):
+        """Counts a script, and its checks by what is known of them: that there is a model, or none, or nothing."""
+        self.scripts += 1
+        self.known.update(check.is_satisfiable for check in checks_of(run_script(script)[0]))
+
+    def accept(self, script, number, proof):
+        """Tells of a proof that `check` does not accept; the judge accepted it."""
+        path = os.path.join(self.folder, "script")
+        with open(path, "wb") as out:
+            out.write(script)
+        got = self.run(["check", "--at", str(number), path, ""], proof)
+        if got != (b"valid\n", 0, b""):
+            self.tell(f"at {number}, wanted valid, got {got!r}", script, proof)
+
+    def ask_others(self, script):
+        """Compares the answers with those of the other solvers that are on the path."""
+        own = answers_in(self.run(["solve"], script)[0])
+        for name, words in OTHERS.items():
+            answers = answers_of(words, script)
+            self.asked[name] += answers is not None
+            if answers is not None and are_at_odds(own, answers):
+                self.tell(f"{name} answers {answers!r}, and the program {own!r}", script)
+
 
 def has_model(check):
-    """Tells whether a check is known to have a model: truth tables know it of one in reach."""
-    return check.is_in_reach and check.is_satisfiable
+    """Tells whether a check is known to have a model: it is in reach, and one was found."""
+    return check.is_in_reach and check.is_satisfiable is True
 
 
 def current_checks(script):
@@ -128,7 +167,10 @@ def a_script(share):
     choice = random.random()
     if choice < 0.3:
         return bool_scripts.a_script(share)
-    script = an_arithmetic_script() + b"(check-sat)\n" if choice < 0.4 else a_session(share)
+    if choice < 0.4:
+        script = an_arithmetic_script() + b"(check-sat)\n"
+    else:
+        script = a_function_script() if choice < 0.6 else a_session(share)
     return laid_out(script, NAMES) if random.random() < 0.3 else script
 
 
@@ -202,6 +244,25 @@ def check_forms(comparison):
     comparison.check(random.choice(SCRIPTS), random.choice([1] * 20 + [2, 2, 3]), a_form())
 
 
+def functions(comparison):
+    script = a_function_script()
+    comparison.count(script)
+    proofs = comparison.certify(script)
+    if proofs:
+        comparison.accept(script, *random.choice(proofs))
+    if random.random() < SOLVED_SHARE:
+        comparison.solve(script)
+        comparison.ask_others(script)
+
+
+def few_conflicts(comparison):
+    script = a_function_script()
+    comparison.count(script)
+    proofs = comparison.certify(script, random.choice([1, 1, 2, 3, 5, 8]))
+    if proofs:
+        comparison.accept(script, *random.choice(proofs))
+
+
 KINDS = {
     "solve well-formed": solve_well_formed,
     "solve ill-formed": solve_ill_formed,
@@ -211,6 +272,8 @@ KINDS = {
     "check changed": check_changed,
     "check invented": check_invented,
     "check forms": check_forms,
+    "functions": functions,
+    "few conflicts": few_conflicts,
 }
 
 
@@ -231,16 +294,22 @@ def main():
     parser.add_argument("executable")
     parser.add_argument("--seconds", type=float, default=60)
     parser.add_argument("--seed", type=int, default=1)
+    parser.add_argument("--only", nargs="+", choices=list(KINDS), default=list(KINDS), metavar="KIND")
     words = parser.parse_args()
     sys.setrecursionlimit(20000)
     folder = tempfile.mkdtemp(prefix="compare-")
-    share = words.seconds / len(KINDS)
+    share = words.seconds / len(words.only)
     executable = os.path.abspath(words.executable)
-    done = [compare(executable, kind, folder, share, words.seed) for kind in KINDS]
+    done = [compare(executable, kind, folder, share, words.seed) for kind in words.only]
     print("| kind | runs | differences |")
     print("|---|---|---|")
     for comparison in done:
         print(f"| {comparison.kind} | {comparison.runs:,} | {comparison.differences} |")
+    for comparison in done:
+        if comparison.scripts:
+            asked = "".join(f", {count:,} put to {name}" for name, count in comparison.asked.items() if count)
+            checks = [f"{comparison.known[known]:,} {word}" for known, word in CHECKS.items()]
+            print(f"{comparison.kind}: {comparison.scripts:,} scripts{asked}; checks: {', '.join(checks)}")
     if any(comparison.differences for comparison in done):
         print(f"the texts are in {folder}", file=sys.stderr)
         return 1

@@ -1,7 +1,6 @@
 """Makes steps by rules of equality by chance, right or near to it.
 
-`some` gives a term of a sort, by number; clauses are lists of terms. Premises are mostly equalities of formulas, so
-that a script may assert them, with its check in reach.
+`some` gives a term of a sort, by number; clauses are lists of terms. Premises are mostly equalities of formulas.
 """
 
 import random

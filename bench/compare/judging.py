@@ -6,7 +6,7 @@ A proof's terms are read as those of its script, with the names that the proof d
 
 from typing import NamedTuple
 
-from language import BOOL, Reader, State, checks_of, define_fun, read_script
+from language import BOOL, Definition, Reader, State, checks_of, define_fun, read_script
 from proof_texts import step_parts, take_all
 from reading import Fault, error_line
 from rules import RULES, follows
@@ -30,6 +30,11 @@ class Names(State):
     def reader(self, own=None):
         """Returns a reader of terms for one command, which may define a name of its own."""
         return ProofReader(self, own)
+
+    def is_declared(self, name):
+        """Tells whether the script declares a symbol of this name."""
+        known = self.functions.get(name)
+        return known is not None and not isinstance(known, Definition)
 
 
 class Assumed(NamedTuple):

@@ -5,7 +5,9 @@ read as conjunctions of pairs, the first fault in the order of reading counts, a
 """
 
 from fractions import Fraction
+from functools import cached_property
 
+from models import Spent, find_model
 from reading import THEORY, Fault, error_line, read_one
 from truths import Tables
 
@@ -82,14 +84,13 @@ class Terms:
         return all(self.nodes[number][0][0] != "parameter" for number in self.below([term]))
 
     def are_in_reach(self, roots):
-        """Tells whether the terms have constants of sort Bool and heads of theory Core alone."""
-        for number in self.below(roots):
-            head, given = self.nodes[number]
-            if head[0] == "symbol" and (given or self.sorts[number] != BOOL):
-                return False
-            if head[0] == "number" or head in REAL_HEADS:
-                return False
-        return True
+        """Tells whether no subterm has the sort Real: the search reaches all others."""
+        return all(self.sorts[number] != REAL for number in self.below(roots))
+
+    def are_over_truths(self, roots):
+        """Tells whether the terms have constants of sort Bool and theory Core alone: truth tables decide these."""
+        return all(self.sorts[t] == BOOL and not (self.nodes[t][0][0] == "symbol" and self.nodes[t][1])
+                   for t in self.below(roots))
 
     def is_constant(self, term):
         """Tells whether the term is a literal, or `-`, `+`, `*`, `/` before such."""
@@ -399,7 +400,7 @@ class State:
 
 
 class Check(State):
-    """What is current at a check: the offset of its word, its declared symbols in their order, and its answer in reach."""
+    """What is current at a check: the offset of its word, its declared symbols in their order, and its answer."""
 
     def __init__(self, state, place):
         super().__init__(state.limit)
@@ -411,17 +412,27 @@ class Check(State):
 
     @property
     def is_in_reach(self):
-        """Tells whether the search reaches all assertions."""
+        """Tells whether the search reaches all assertions: they have no term of sort Real."""
         return self.terms.are_in_reach(self.assertions)
 
     @property
+    def is_over_truths(self):
+        """Tells whether truth tables decide the assertions."""
+        return self.terms.are_over_truths(self.assertions)
+
+    @cached_property
     def is_satisfiable(self):
-        """Tells whether some truth values of the constants make all assertions true."""
-        tables = Tables(self.terms, self.assertions)
-        rows = tables.all_true
-        for assertion in self.assertions:
-            rows &= tables.known[assertion]
-        return rows != 0
+        """Tells whether the assertions, which are in reach, have a model; None where that was too much to try."""
+        if self.is_over_truths:
+            tables = Tables(self.terms, self.assertions)
+            rows = tables.all_true
+            for assertion in self.assertions:
+                rows &= tables.known[assertion]
+            return rows != 0
+        try:
+            return find_model(self.terms, self.assertions) is not None
+        except Spent:
+            return None
 
 
 def set_logic(state, parts, start):

@@ -11,6 +11,9 @@ def printed(item):
     return printed_name(value) if kind == "sym" else value
 
 
+HEADS = {b"not", b"and", b"or", b"xor", b"=>", b"=", b"ite"}
+
+
 class Wrong(Exception):
     """What is wrong with an output of `certify`."""
 
@@ -48,8 +51,8 @@ class PrintedProof:
         if self.steps or body[0] != "list" or len(body[1]) < 2 or any(item[0] != "sym" for item in body[1]):
             raise Wrong("a definition behind a step, or not of names")
         head, *given = [item[1] for item in body[1]]
-        heads = {b"not", b"and", b"or", b"xor", b"=>", b"=", b"ite"}
-        if head not in heads or (head in (b"=", b"xor", b"=>") and len(given) != 2):
+        is_head = head in HEADS or self.judge.names.is_declared(head)
+        if not is_head or (head in (b"=", b"xor", b"=>") and len(given) != 2):
             raise Wrong("a definition that is not of a term as read")
         used = [name for name in given if name.startswith(b"@p")]
         if any(name not in self.uses for name in used):

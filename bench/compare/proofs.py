@@ -1,7 +1,7 @@
 """Makes scripts with proofs by chance: mostly right proofs, with a fault of any kind in some.
 
-Assertions are of sort Bool over constants of sort Bool, so that checks are in reach; the clauses of a proof have terms
-of every sort. A proof is made by terms, and each of these is written in one of the ways in which it can be.
+Assertions have no terms of sort Real, so that checks are in reach; the clauses of a proof have terms of every sort. A
+proof is made by terms, and each of these is written in one of the ways in which it can be.
 """
 
 import random

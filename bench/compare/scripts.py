@@ -217,21 +217,21 @@ def assertion_in_reach(maker, lines):
 
 
 def a_session(share):
-    """Makes a script with checks at its end and before it; in half of those with ill-formed parts all are in reach.
+    """Makes a script with checks at its end and before it, all in reach but in half of those with ill-formed parts.
 
     The greater the share, the more of it is ill-formed.
     """
     if share and random.random() < 0.5:
         return a_script(share)
-    maker, bools = Maker(0), Maker(0)
+    maker, reached = Maker(0), Maker(0)
     lines = [b"(set-option :print-success false)"] if random.random() < 0.5 else []
     lines += [maker.declaration() for _ in range(random.randint(1, 6))]
-    bools.functions = {n: f for n, f in maker.functions.items() if f == ([], b"Bool")}
-    bools.sorts = maker.sorts
+    reached.functions = {n: f for n, f in maker.functions.items() if b"Real" not in (*f[0], f[1])}
+    reached.sorts = maker.sorts
     for _ in range(random.randint(2, 8)):
         choice = random.random()
         if choice < 0.5:
-            lines.append(assertion_in_reach(bools, lines))
+            lines.append(assertion_in_reach(reached, lines))
         else:
             lines.append(b"(check-sat)" if choice < 0.8 else random.choice(OTHERS))
     if random.random() < share:

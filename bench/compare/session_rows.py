@@ -5,12 +5,13 @@ import random
 from antt import listed, lines_written, read, world_written, written
 from language import Check
 from model_rows import definition_text
+from models import find_model, tables_of
 from scripts import a_session
-from sessions import answer_line, run_script
-from truths import Tables
+from sessions import answer_lines, run_script
 from values import some_tables
 
 LONGEST = 700
+MOST_NODES = 10**6
 HEAD = read("SessionRows.antt.txt")
 PROOFS = [b"(\n)\n", b"(\n(assume h1 false)\n)\n", b""]
 
@@ -18,16 +19,7 @@ PROOFS = [b"(\n)\n", b"(\n(assume h1 false)\n)\n", b""]
 def model_of(check):
     """Returns tables for the symbols of a check, under which its assertions are true."""
     tables = some_tables({name: check.functions[name] for name in check.order})
-    truths = Tables(check.terms, check.assertions)
-    rows = truths.all_true
-    for assertion in check.assertions:
-        rows &= truths.known[assertion]
-    row = rows.bit_length() - 1
-    for name in check.order:
-        number = check.terms.make(("symbol", name))
-        if number in truths.known:
-            tables[name] = ({}, bool((truths.known[number] >> row) & 1))
-    return tables
+    return tables_of(find_model(check.terms, check.assertions, MOST_NODES), tables)
 
 
 def found_and_shown(check):
@@ -46,17 +38,22 @@ def written_text(text):
 
 
 def row_of(seed):
-    """Returns the statements of what both modes write for a script, with counts; or nothing where it is too long."""
+    """Returns the statements of what both modes write for a script, with counts.
+
+    It returns nothing where the script is too long, or has a check that is open.
+    """
     random.seed(seed)
     script = a_session(random.choice([0, 0.1, 0.3]))
     if len(script) > LONGEST:
         return None
     answers, _ = run_script(script)
+    if any(isinstance(answer, Check) and answer.is_in_reach and answer.is_satisfiable is None for answer in answers):
+        return None
     founds, solved, certified = [], b"", b""
     for answer in answers:
         is_check = isinstance(answer, Check)
         is_answered = is_check and answer.is_in_reach
-        line = answer_line(script, answer) if is_check else answer
+        line = answer_lines(script, answer)[0] if is_check else answer
         found, shown = found_and_shown(answer) if is_answered else (None, b"")
         founds += [found] if is_answered else []
         solved += line

@@ -1,11 +1,13 @@
 """Foretells what `solve` writes for a script, and judges what `certify` writes.
 
-It follows docs/FORMATS.md. A check is in reach where its assertions have constants of sort Bool and heads of theory
-Core alone; these are decided by truth tables. Every other check is refused, and counted as a check. So what is left is
-foretold to the byte.
+It follows docs/FORMATS.md. A check is in reach where no term of its assertions has the sort Real. Of these, assertions
+over constants of sort Bool and theory Core alone are decided by truth tables, all others by trying values of symbols,
+up to a bound: where that is too much, either answer may come, and what `certify` shows has to bear it out. Every other
+check is refused, and counted as a check. So what is left is foretold to the byte.
 """
 
 from fractions import Fraction
+from functools import lru_cache
 
 from judging import Judge
 from language import BOOL, REAL, Check, read_script
@@ -13,12 +15,15 @@ from printed_proofs import Wrong, printed, proof_end
 from reading import Fault, error_line, printed_name, read_one
 from values import Values
 
+# The lines that answer a check by what is known of it: that there is a model, or none, or nothing.
+ANSWERS = {True: (b"sat\n",), False: (b"unsat\n",), None: (b"sat\n", b"unsat\n")}
 
-def answer_line(text, check):
-    """Returns the line that answers a check of a text."""
+
+def answer_lines(text, check):
+    """Returns the lines of which one answers a check of a text: one alone, but where a model is an open question."""
     if not check.is_in_reach:
-        return error_line(text, Fault(check.place, b"UnknownLogic"))
-    return b"sat\n" if check.is_satisfiable else b"unsat\n"
+        return (error_line(text, Fault(check.place, b"UnknownLogic")),)
+    return ANSWERS[check.is_satisfiable]
 
 
 def is_refusal(answer):
@@ -26,16 +31,58 @@ def is_refusal(answer):
     return not answer.is_in_reach if isinstance(answer, Check) else answer.startswith(b"(error ")
 
 
+@lru_cache(maxsize=8)
 def run_script(text, limit=2**24):
     """Returns the answers of a script, each a line or what is current at a check, and the status of the run."""
     answers, _ = read_script(text, limit)
     return answers, int(any(map(is_refusal, answers)))
 
 
+def lines_of(text, answer):
+    """Returns the lines of which one has to be written for an answer."""
+    return answer_lines(text, answer) if isinstance(answer, Check) else (answer,)
+
+
 def predict_solve(text, limit=2**24):
-    """Returns what `solve` is to print for a script, and its status."""
+    """Returns what `solve` is to print for a script of which no check is open, and its status."""
     answers, status = run_script(text, limit)
-    return b"".join(answer_line(text, answer) if isinstance(answer, Check) else answer for answer in answers), status
+    lines = [lines_of(text, answer) for answer in answers]
+    if any(len(choices) > 1 for choices in lines):
+        raise ValueError("a check of the script is open")
+    return b"".join(choices[0] for choices in lines), status
+
+
+def line_at(script, answer, output, at, conflicts=None):
+    """Returns the line of an answer that stands in the output at `at`, or raises that there is none.
+
+    Where a limit on conflicts is given, a check in reach may be answered `unknown`, with that limit as the reason.
+    """
+    choices = lines_of(script, answer)
+    if conflicts is not None and isinstance(answer, Check) and answer.is_in_reach:
+        choices += (b"unknown\n(conflicts %d)\n" % conflicts,)
+    for line in choices:
+        if output.startswith(line, at):
+            return line
+    raise Wrong(f"expected one of {choices!r} at {at}, got {output[at : at + 60]!r}")
+
+
+def judge_solve(script, output, status):
+    """Returns what is wrong with what `solve` printed for a script and with its status, or None."""
+    answers, wanted_status = run_script(script)
+    at = 0
+    try:
+        for answer in answers:
+            at += len(line_at(script, answer, output, at))
+        require_end(output, at, status, wanted_status)
+    except Wrong as wrong:
+        return str(wrong)
+    return None
+
+
+def require_end(output, at, status, wanted_status):
+    """Raises that an output goes on, or that the status is another one."""
+    require(at == len(output), f"more output: {output[at : at + 80]!r}")
+    require(status == wanted_status, f"status {status}, expected {wanted_status}")
 
 
 def require(holds, what):
@@ -129,25 +176,25 @@ def model_end(check, output, at):
     return at + len(wanted)
 
 
-def judge_certify(script, output, status, limit=2**24):
-    """Returns what is wrong with an output, or None, and its right proofs: pairs of a check's number and a text."""
-    answers, wanted_status = run_script(script, limit)
+def judge_certify(script, output, status, conflicts=None):
+    """Returns what is wrong with an output, or None, and its right proofs: pairs of a check's number and a text.
+
+    The limit on conflicts is given where the program was given it.
+    """
+    answers, wanted_status = run_script(script)
     proofs, at, number = [], 0, 0
     try:
         for answer in answers:
             is_check = isinstance(answer, Check)
-            line = answer_line(script, answer) if is_check else answer
-            require(output.startswith(line, at), f"expected {line!r} at {at}, got {output[at : at + 60]!r}")
+            line = line_at(script, answer, output, at, conflicts)
             at += len(line)
             number += is_check
-            if not is_check or not answer.is_in_reach:
-                continue
-            start = at
-            at = model_end(answer, output, at) if answer.is_satisfiable else proof_end(Judge(answer), output, at)
-            if not answer.is_satisfiable:
+            if is_check and line == b"sat\n":
+                at = model_end(answer, output, at)
+            elif is_check and line == b"unsat\n":
+                start, at = at, proof_end(Judge(answer), output, at)
                 proofs.append((number, output[start:at]))
-        require(at == len(output), f"more output: {output[at : at + 80]!r}")
-        require(status == wanted_status, f"status {status}, expected {wanted_status}")
+        require_end(output, at, status, wanted_status)
     except Wrong as wrong:
         return str(wrong), proofs
     return None, proofs
