@@ -18,6 +18,13 @@ parity-backwards   the same, with one of the chains backwards
 parity-shuffled    the same, with one of the chains in an order by chance
 adder              a + b by a chain of full adders is b + a in blocks with selected carries, for 6, 8 and 10 bits
 multiplier         a * b is b * a row by row, all bits of the product, for 4, 5 and 6 bits
+diamonds           N diamonds of equalities in a row whose ends are denied to be equal, for N to 40
+equalities         a path of N equalities whose ends are denied to be equal: N is 1,000, 10,000 and 100,000
+applications       f N times of a and of b, where a is b, are denied to be equal
+cycles             f N times of a is a, and f N + 1 times, and f of a is denied to be a
+quasigroup         tables of quasigroups of order 4, 5 and 6 in which g(g(g(b, a), b), b) is a
+commuting          tables of commuting quasigroups of order 4, 5 and 6 in which g(a, a) is a
+facts              1,000 clauses of equalities of 200 terms by chance, by ten seeds
 
 A row has the answer, the seconds of each program, how many times as long `solve` took as z3 and as cvc5, and the peak
 memory of `solve` in KB. Instead of seconds `limit` says that the limit stopped it, and `none` that it gave no answer for

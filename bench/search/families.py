@@ -1,4 +1,6 @@
-"""Formulas of constants of sort Bool, family by family, for bench/search_race.py.
+"""Formulas family by family, for bench/search_race.py: here of constants of sort Bool.
+
+Those of one declared sort are in function_families.py.
 
 The scripts are the same on each machine: what is random comes from the generator of bench/solve_and_check.py. Each
 script begins with `(set-logic QF_UF)`, asserts clauses or the outputs of gates, and has one check. A gate is a
@@ -7,6 +9,7 @@ definition without parameters, so that its term is shared.
 
 from typing import Callable, NamedTuple
 
+import function_families
 from solve_and_check import assertions as clause_assertions
 from solve_and_check import numbers, pigeons, random_clauses
 from solve_implications import assertions as chain_assertions
@@ -23,6 +26,8 @@ ADDERS = (6, 8, 10)
 MULTIPLIERS = (4, 5, 6)
 # Bits of a block whose sums are chosen by the carry into it.
 BLOCK = 3
+DIAMONDS = (5, 10, 20, 30, 40)
+ORDERS = (4, 5, 6)
 
 
 class Formula(NamedTuple):
@@ -154,6 +159,11 @@ def of_sizes(name, lines, sizes):
     return [Formula(f"{name}-{n}", lambda n=n: lines(n)) for n in sizes]
 
 
+def of_unknown(name, lines, sizes):
+    """Returns a formula for each size, whose answer is not known here."""
+    return [Formula(f"{name}-{n}", lambda n=n: lines(n), None) for n in sizes]
+
+
 def of_random_clauses(n):
     """Returns a formula for each seed, of so many constants, at the threshold."""
     return [of_clauses(f"random-{n}-{seed}", random_clauses(seed, n), None) for seed in SEEDS]
@@ -172,6 +182,13 @@ FAMILIES = {
     "parity-shuffled": lambda: of_sizes("parity-shuffled", lambda n: parity(shuffled(n)), SHUFFLED),
     "adder": lambda: of_sizes("adder", adder, ADDERS),
     "multiplier": lambda: of_sizes("multiplier", multiplier, MULTIPLIERS),
+    "diamonds": lambda: of_sizes("diamonds", function_families.diamonds, DIAMONDS),
+    "equalities": lambda: of_sizes("equalities", function_families.equalities, CHAINS),
+    "applications": lambda: of_sizes("applications", function_families.applications, CHAINS),
+    "cycles": lambda: of_sizes("cycles", function_families.cycles, CHAINS),
+    "quasigroup": lambda: of_unknown("quasigroup", function_families.quasigroup, ORDERS),
+    "commuting": lambda: of_unknown("commuting", function_families.commuting_quasigroup, ORDERS),
+    "facts": lambda: of_unknown("facts", function_families.facts, SEEDS),
 }
 # The families whose n grows tenfold, and may not cost much more than that.
-LINEAR = ("chain", "chain-exchanged", "chain-backwards")
+LINEAR = ("chain", "chain-exchanged", "chain-backwards", "equalities", "applications", "cycles")
