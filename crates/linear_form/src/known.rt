@@ -1,0 +1,91 @@
+//! What a walk knows of a term.
+
+ghost use Rattle.std.specs.Prelude.{◌≡◌, ◌++◌, ◌∷◌, [], ℕ, map, All, IfOk, OnOk};
+ghost use Rattle.term_core.specs.Tables.{TableView, IsIn};
+ghost use Rattle.linear_form.specs.Walks.{needed_at, known_meant, KnownVariables, IsKnown, AreKnown, gathered, forms_made, MadeVariables};
+
+use crate::form::{Form, copy};
+use crate::heads::by_head;
+use crate::stop::Stop;
+use ratio128::Wide;
+use std::alloc::Global;
+use term_core::{TermId, TermTable};
+use world_io::NoMemory;
+
+/// Says what is known of a term.
+#[derive(Drop)]
+pub enum Known {
+    /// Its form.
+    Form(Form),
+    /// Its first operation that leaves the bound on fractions, with the term whose head makes it.
+    Wide(TermId, Wide),
+}
+
+/// Holds the forms of arguments.
+#[derive(Drop)]
+pub enum Forms {
+    /// All of them, in order.
+    All(Vec<Form>),
+    /// The first operation of one that leaves the bound on fractions, with the term whose head makes it.
+    Wide(TermId, Wide),
+}
+
+/// Copies what is known of a term.
+pub fn copy_known(alloc: Global, known: &Known) -> Result<Known, NoMemory>
+    ensures { (t : TableView) (k : ℕ) → IsKnown t k known.now → IfOk result (IsKnown t k) }
+{
+    match known {
+        Known::Form(form) => match copy(alloc, form) {
+            Ok(copied) => Ok(Known::Form(copied)),
+            Err(_) => Err(NoMemory),
+        },
+        Known::Wide(term, wide) => Ok(Known::Wide(*term, *wide)),
+    }
+}
+
+/// Puts a form behind those that are there.
+fn push_form(forms: &mut Vec<Form>, form: Form) -> Result<(), NoMemory>
+    ensures { OnOk result (forms.new.items ≡ forms.old.items ++ form ∷ []) }
+{
+    forms.push(form)?;
+    Ok(())
+}
+
+/// Takes the forms out of what is known of arguments.
+fn forms_in(alloc: Global, arguments: Vec<Known>) -> Result<Forms, NoMemory>
+    ensures comes { IfOk result (λ r. (t : TableView)
+        → forms_made t r ≡ gathered (map (known_meant t) arguments.items)) }
+    ensures there { IfOk result (λ r. (t : TableView) → All (KnownVariables t) arguments.items → MadeVariables t r) }
+{
+    let mut forms = Vec::new(alloc);
+    'arguments: for known in arguments {
+        match known {
+            Known::Form(form) => push_form(&mut forms, form)?,
+            Known::Wide(term, wide) => return Ok(Forms::Wide(term, wide)),
+        }
+    }
+    Ok(Forms::All(forms))
+}
+
+/// Says what is known of a term by what is known of the arguments of which its form is made.
+pub fn known_of(
+    alloc: Global,
+    table: &TermTable,
+    id: TermId,
+    arguments: Vec<Known>,
+) -> Result<Known, NoMemory>
+    requires there { IsIn table.now id }
+    requires known { AreKnown table.now (needed_at table.now id.0) arguments.items }
+    ensures { IfOk result (IsKnown table.now id.0) }
+{
+    table.ids_are_unique();
+    let node = table.node(id);
+    match forms_in(alloc, arguments)? {
+        Forms::All(forms) => match by_head(alloc, id, node.head, forms) {
+            Ok(form) => Ok(Known::Form(form)),
+            Err(Stop::Wide(wide)) => Ok(Known::Wide(id, wide)),
+            Err(Stop::Memory) => Err(NoMemory),
+        },
+        Forms::Wide(term, wide) => Ok(Known::Wide(term, wide)),
+    }
+}
