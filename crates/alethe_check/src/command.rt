@@ -64,11 +64,17 @@ fn wrong(command: &ReadCommand<'_>) -> LocatedFault
     }
 }
 
-/// Gives the fault of a command of which it cannot be told whether it is right. It has no kind of its own yet.
+/// Gives the fault of a step of which it cannot be told within the bound on numbers whether it is right; no other command is so.
 fn wide(command: &ReadCommand<'_>) -> LocatedFault
     ensures { (h : ProofState) → located_view result ≡ wide_fault (statement_view h command.now) }
 {
-    wrong(command)
+    match command {
+        ReadCommand::Step(step) => LocatedFault {
+            offset: step.at,
+            kind: ProofKind::Wide,
+        },
+        _ => wrong(command),
+    }
 }
 
 /// Makes the clause of one term.

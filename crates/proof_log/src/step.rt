@@ -14,7 +14,7 @@ pub struct Step {
     pub rule: Rule,
     /// The premises, in the rule's order, by their numbers in the log.
     pub premises: StepIds,
-    /// The rule's arguments; no rule asks for any for now.
+    /// The rule's arguments; `la_generic` alone asks for any.
     pub arguments: Numbers,
     /// The clause, whose terms are of a table.
     pub clause: Clause,

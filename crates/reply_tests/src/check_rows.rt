@@ -246,7 +246,7 @@ unsat unsat
 -- UnknownRule 3:21
 (assume h1 p)
 (assume h2 (not p))
-(step t1 (cl) :rule la_generic :premises (h1))
+(step t1 (cl) :rule lia_generic :premises (h1))
 -- UnknownRule 3:21
 (assume h1 p)
 (assume h2 (not p))

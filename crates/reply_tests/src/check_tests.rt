@@ -1,5 +1,8 @@
 //! What `check` answers: on scripts with several checks, on proofs right and damaged, on a step by each rule, and at its limits.
 
+use crate::arithmetic_rows::{
+    MULTIPLE_PROOFS, MULTIPLES, NUMBER_STEPS, NUMBERS, ORDER_PROOFS, ORDERS,
+};
 use crate::check_rows::{CHECKS, DEFINITIONS, PROOFS, RULES};
 use crate::congruence_rows::{CONGRUENCE, CONGRUENCES, UNREACHED};
 use crate::rule_rows::{SCRIPT, STEPS};
@@ -129,5 +132,34 @@ fn checks_out_of_reach_are_judged(rt: HostRuntime) -> Result<(), Fail> {
 #[test]
 fn congruences_are_judged(rt: HostRuntime) -> Result<(), Fail> {
     assert_eq!(rt; first_other(rt.alloc(), CONGRUENCES, CONGRUENCE, "")?, None);
+    Ok(())
+}
+
+/// Tells whether a step of arithmetic is answered so: it stands on the second line of a proof, and after it a refutation of `p` and
+/// `(not p)`.
+fn is_counted(alloc: Global, row: &str) -> Result<bool, Fail> {
+    let (rule, row) = row.split_once('|').ok_or("no row")?;
+    let (arguments, row) = row.split_once("|(cl").ok_or("no row")?;
+    let (clause, wanted) = row.rsplit_once('|').ok_or("no row")?;
+    let mut proof = format!(in alloc; "\n(step t (cl{clause} :rule {rule}")?;
+    if !arguments.is_empty() {
+        proof = format!(in alloc; "{proof} :args {arguments}")?;
+    }
+    let end = ")\n(assume a p)(assume b (not p))(step c (cl) :rule resolution :premises (a b))";
+    proof.push_str(end)?;
+    let found = answer(alloc, NUMBERS, 1, proof.as_str())?;
+    Ok(found.as_str() == wanted)
+}
+
+#[test]
+fn sums_and_orders_are_judged(rt: HostRuntime) -> Result<(), Fail> {
+    assert_eq!(rt; first_other(rt.alloc(), ORDER_PROOFS, ORDERS, "")?, None);
+    assert_eq!(rt;
+        first_other(rt.alloc(), MULTIPLE_PROOFS, MULTIPLES, "")?,
+        None
+    );
+    for row in NUMBER_STEPS.lines() {
+        assert!(rt; is_counted(rt.alloc(), row)?, "{row}");
+    }
     Ok(())
 }

@@ -2,6 +2,8 @@
 #![tactic(auto)]
 
 #[cfg(test)]
+mod arithmetic_rows;
+#[cfg(test)]
 mod check_rows;
 #[cfg(test)]
 mod check_tests;

@@ -5,3 +5,4 @@ pub mod OnePremise
 pub mod Behind
 pub mod Arities
 pub mod Given
+pub mod CoefficientsRead

@@ -2,4 +2,5 @@
 pub mod Resolvents
 pub mod Premises
 pub mod Arguments
+pub mod Coefficients
 pub mod Schemes

@@ -8,6 +8,7 @@ ghost use Rattle.rule_bool.specs.Arguments.{texts_meant};
 ghost use Rattle.rule_bool.specs.Schemes.{Judges, JudgesOrStops};
 
 use crate::arguments::ArgumentTexts;
+use crate::arithmetic_rules::{rule_la_disequality, rule_la_generic, rule_la_totality};
 use crate::resolvent::resolution;
 use crate::rule_stop::RuleStop;
 use crate::rules::{rule_contraction, rule_or, rule_reordering, rule_weakening};
@@ -18,7 +19,7 @@ use spec_proofs::Rule;
 use std::alloc::Global;
 use term_core::{Clause, RuleFails, TermId, TermTable};
 
-/// Judges a step by a rule that takes no memory.
+/// Judges a step by a rule that takes no memory. It is right or not whatever its arguments are.
 fn judge_alone(
     table: &TermTable,
     rule: Rule,
@@ -27,6 +28,7 @@ fn judge_alone(
 ) -> Result<(), RuleFails>
     requires resolution { rule ≢ rules.Resolution }
     requires th_resolution { rule ≢ rules.ThResolution }
+    requires generic { rule ≢ rules.LaGeneric }
     requires premises { All (AreIn table.now) premises.now }
     requires clause { AreIn table.now clause.now }
     ensures { Judges table.now rule premises.now clause.now result }
@@ -39,6 +41,8 @@ fn judge_alone(
         Rule::Contraction => rule_contraction(table, premises, clause),
         Rule::Reordering => rule_reordering(table, premises, clause),
         Rule::Weakening => rule_weakening(table, premises, clause),
+        Rule::LaDisequality => rule_la_disequality(table, premises, clause),
+        Rule::LaTotality => rule_la_totality(table, premises, clause),
         _ => by_scheme(table, rule, premises, clause),
     }
 }
@@ -46,12 +50,12 @@ fn judge_alone(
 /// Judges a step by its rule, whichever that is.
 ///
 /// What premises and conclusion a rule asks for says its own function (`resolution`, or `rule_` with the rule's name, which stands in
-/// `rule_eq` where the rule is one of equality). `arguments` are the texts of the step's `:args`, which no rule reads for now.
+/// `rule_eq` where the rule is one of equality). `arguments` are the texts of the step's `:args`, which `la_generic` alone reads.
 ///
-/// The two rules of resolution take memory from `alloc`; no other does.
+/// `la_generic` and the two rules of resolution take memory from `alloc`; no other does.
 ///
 /// `Fails` comes exactly where the step is not right, and no operation leaves the bound on numbers; `Wide` exactly where one does, and so
-/// with no rule for now; `Memory` where one of the two runs out of memory, which tells nothing of the step, and with no other rule.
+/// with `la_generic` alone; `Memory` where one of the three runs out of memory, which tells nothing of the step, and with no other rule.
 /// Nothing is changed. Source: Alethe specification, the list of rules; the bound on numbers is own.
 pub fn judge(
     alloc: Global,
@@ -64,11 +68,13 @@ pub fn judge(
     requires premises { All (AreIn table.now) premises.now }
     requires clause { AreIn table.now clause.now }
     ensures exact { JudgesOrStops table.now rule premises.now (texts_meant arguments.entry) clause.now result }
-    ensures alone { rule ≢ rules.Resolution → rule ≢ rules.ThResolution → result ≢ Err stops.Memory }
+    ensures alone { rule ≢ rules.Resolution → rule ≢ rules.ThResolution → rule ≢ rules.LaGeneric
+        → result ≢ Err stops.Memory }
 {
     match rule {
         Rule::Resolution => resolution(alloc, table, premises, clause),
         Rule::ThResolution => resolution(alloc, table, premises, clause),
+        Rule::LaGeneric => rule_la_generic(alloc, table, premises, arguments, clause),
         _ => Ok(judge_alone(table, rule, premises, clause)?),
     }
 }

@@ -1,8 +1,8 @@
 //! Rules of Alethe on clauses of the table of terms of every sort.
 //!
 //! There is a call for each rule, and `judge` judges by the rule that is named, with the texts of the step's arguments. Of the rules of
-//! equality and functions the calls are those of `rule_eq`. Premises and clause give their terms by their numbers in the table, and terms
-//! are compared as they are read. `RuleFails` comes exactly where the step is not right. But for resolution no rule takes memory, and
+//! equality and functions the calls are those of `rule_eq`, and of arithmetic what is counted stands in `linear_form`. Premises and clause give their terms by their numbers in the table, and terms
+//! are compared as they are read. `RuleFails` comes exactly where the step is not right. But for resolution and `la_generic` no rule takes memory, and
 //! where a rule's comment says nothing of time, it takes the same time for all terms.
 //!
 //! Which clauses a rule states of a term says one table, `scheme_of`: the term has the scheme's head before arguments of sort Bool. By
@@ -12,7 +12,9 @@
 
 mod and_or_rules;
 mod arguments;
+mod arithmetic_rules;
 mod by_rule;
+mod coefficients;
 mod equiv_rules;
 mod implies_rules;
 mod ite_rules;
@@ -30,6 +32,7 @@ pub use and_or_rules::{
     rule_and, rule_and_neg, rule_and_pos, rule_not_and, rule_not_or, rule_or_neg, rule_or_pos,
 };
 pub use arguments::ArgumentTexts;
+pub use arithmetic_rules::{rule_la_disequality, rule_la_generic, rule_la_totality};
 pub use by_rule::judge;
 pub use equiv_rules::{
     rule_equiv_neg1, rule_equiv_neg2, rule_equiv_pos1, rule_equiv_pos2, rule_equiv1, rule_equiv2,

@@ -53,6 +53,7 @@ kind_name kinds.UnknownRule = omega arith
 kind_name kinds.NotAsserted = omega arith
 kind_name kinds.RuleFails = omega arith
 kind_name kinds.NoEmptyClause = omega arith
+kind_name kinds.Wide = omega arith
 kind_name kinds.NoSuchCheck = omega arith
 
 -- the line of a fault is no longer than the longest one

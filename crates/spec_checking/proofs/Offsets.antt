@@ -1,5 +1,5 @@
 -- The fault of a proof's command stands at an offset of its text, and the first fault of commands in theirs.
-use Rattle.std.proofs.Common.{◌≡◌, ℕ, Bool, true, false, cond, List, [], ◌∷◌, Option, Some, None, inl, inr, sym, subst}
+use Rattle.std.proofs.Common.{◌≡◌, ℕ, Bool, true, false, cond, List, [], ◌∷◌, Option, Some, None, inl, inr, refl, sym, subst}
 use Rattle.std.specs.Prelude.{Ok, Err}
 use Rattle.spec_text.specs.declared.Fault.TheVariants.{Full}
 use Rattle.spec_text.specs.Bytes.{among}
@@ -23,7 +23,7 @@ use Rattle.spec_proofs.specs.declared.Rule.{Rule}
 use Rattle.spec_proofs.specs.declared.ProofKind.TheVariants.{TwiceName}
 use Rattle.spec_proofs.specs.RuleNames.{rule_named}
 use Rattle.spec_proofs.specs.Faults.{Fault, Read, wrong}
-use Rattle.spec_checking.specs.Commands.{Known, Command, Shape, assumes, steps, defines, shape_of}
+use Rattle.spec_checking.specs.Commands.{Known, Statement, assumed, stepped, nothing, Command, Shape, assumes, steps, defines, shape_of}
 use Rattle.spec_checking.specs.Reading.{clause_of, entry_names, fresh_name, named_in, named_in_all, in_proof, room, literals_in, roomy_literals, roomy_formula, roomy_definitions, rule_at, clause_at, premise_of, premises_of, read_shape, shaped, command_of}
 use Rattle.spec_checking.specs.Judging.{with_command, fault_of, wide_fault, FaultBy, FirstFault}
 use Rattle.spec_checking.proofs.Parts.{ShapeStands, shape_stands}
@@ -137,6 +137,12 @@ module _ (P : ℕ → Type 0) where
   command_stands limit k (list at ts end) h =
       gives_in_turn (ShapeStands P) CommandStands (shaped at (shape_of ts)) _ (shaped_stands at (shape_of ts) h.0 (shape_stands P ts h.1)) λ s parts. read_stands limit k at s h.0 parts
 
+  -- a step that is wide has its fault where it has that of one that is not right
+  wide_offset : (s : Statement) → (wide_fault s).offset ≡ (fault_of s).offset
+  wide_offset (assumed at n t) = refl
+  wide_offset (stepped s) = refl
+  wide_offset (nothing at) = refl
+
   -- the first fault of commands stands at one of their offsets, or it is that of their end
   pub first_stands : (limit : Option ℕ) (k : Known) (end : ℕ) (ending : Option Fault) (ts : Trees) (f : Fault) → P end → Holds (λ (e : Fault). P e.offset) ending → AllOffsetsOf P ts → FirstFault limit k end ending ts (Some f) → P f.offset
   unfolding FirstFault
@@ -147,7 +153,7 @@ module _ (P : ℕ → Type 0) where
       go : (o : Read Command) → Gives CommandStands o → FaultBy k o (λ next. FirstFault limit next end ending ts (Some f)) (Some f) → ((next : Known) → FirstFault limit next end ending ts (Some f) → P f.offset) → P f.offset
       go (Err e) s found rest = let is : e ≡ f = let same : Some f ≡ Some e = found in cc in subst (λ (x : Fault). P x.offset) is s
       go (Ok c) s (inl right) rest = rest (with_command k c) right.1
-      go (Ok c) s (inr (inl x)) rest = let is : wide_fault c.statement ≡ f = let same : Some f ≡ Some (wide_fault c.statement) = x.1 in cc in subst (λ (y : Fault). P y.offset) is s
+      go (Ok c) s (inr (inl x)) rest = let is : wide_fault c.statement ≡ f = let same : Some f ≡ Some (wide_fault c.statement) = x.1 in cc in subst (λ (y : Fault). P y.offset) is (subst P (sym (wide_offset c.statement)) s)
       go (Ok c) s (inr (inr x)) rest = let is : fault_of c.statement ≡ f = let same : Some f ≡ Some (fault_of c.statement) = x.2 in cc in subst (λ (y : Fault). P y.offset) is s
 
 -- the fault of reading a command, and that of one that is not right

@@ -3,7 +3,7 @@ use Rattle.std.specs.Prelude.{◌≡◌, ℕ, List, [], ◌∷◌, ◌++◌, Any
 use Rattle.spec_text.specs.Trees.{Trees, none, more}
 use Rattle.spec_sorts.specs.Signatures.{with_definitions}
 use Rattle.spec_rules.specs.Rules.{IsRight, IsWide}
-use Rattle.spec_proofs.specs.declared.ProofKind.TheVariants.{BadShape, NotAsserted, RuleFails, NoEmptyClause}
+use Rattle.spec_proofs.specs.declared.ProofKind.TheVariants.{BadShape, NotAsserted, RuleFails, NoEmptyClause, Wide}
 use Rattle.spec_proofs.specs.Faults.{Fault, Read, fault_at}
 use Rattle.spec_checking.specs.Commands.{Known, Entry, Statement, assumed, stepped, nothing, Command}
 use Rattle.spec_checking.specs.Reading.{command_of}
@@ -35,8 +35,9 @@ fault_of (assumed at n t) = fault_at at NotAsserted
 fault_of (stepped s) = fault_at s.at RuleFails
 fault_of (nothing at) = fault_at at BadShape
 
--- the fault of a step that is wide; it gets a kind of its own with the first rule that has such steps
+-- the fault of a step that is wide; no other statement is
 abbrev pub wide_fault : Statement → Fault
+wide_fault (stepped s) = fault_at s.at Wide
 wide_fault s = fault_of s
 
 -- some clause is empty

@@ -17,8 +17,12 @@ use Rattle.spec_reading.specs.Names.{proof}
 use Rattle.spec_reading.specs.Reading.{plain, reading_of_sort}
 use Rattle.spec_proofs.specs.declared.Rule.{Rule}
 use Rattle.spec_proofs.specs.RuleNames.{rule_name}
+use Rattle.spec_arithmetic.specs.declared.ArithmeticRule.{ArithmeticRule}
+use Rattle.spec_arithmetic.specs.declared.ArithmeticRule.TheVariants as arithmetic
+use Rattle.spec_arithmetic.specs.Contradictions.{la_generic}
+use Rattle.spec_arithmetic.specs.ArithmeticRules.{IsArithmetic}
 use Rattle.spec_rules.specs.Rules.{IsRight}
-use Rattle.spec_rules.specs.Schemes.{Kind, opens, keeps, resolves, states, turns, equates, kind_of}
+use Rattle.spec_rules.specs.Schemes.{Kind, opens, keeps, resolves, states, turns, equates, calculates, kind_of}
 use Rattle.spec_rules.specs.Rules.{IsBy}
 use Rattle.spec_checking.specs.Commands.{Known, Entry, Step, Command, assumed, stepped, nothing}
 use Rattle.spec_checking.specs.Commands as checking
@@ -30,6 +34,7 @@ use Rattle.spec_proof_texts.specs.Lines.{Argument, Reference, DefinitionLine, St
 use Rattle.spec_proof_texts.specs.Meaning.{Told, with_definition, with_assume, with_step, AreTold, ArePremises, IsDefinition, IsAssume, IsStep}
 use Rattle.spec_proof_texts.specs.ReadBack.{AreScriptNames, definitions_in, numbers_in, numbers_among}
 use Rattle.spec_proof_texts.proofs.Names.{named}
+use Rattle.spec_proof_texts.proofs.MovedArguments.{moved_numbers}
 use Rattle.spec_proof_texts.proofs.Lookups.{entry, head_same, tail_same}
 use Rattle.spec_proof_texts.proofs.Arguments.{argument_read, arguments_held, term_whole}
 use Rattle.spec_proof_texts.proofs.Heads.{compound_read}
@@ -46,6 +51,14 @@ abbrev pub HasOne : List Entry → Type 0
 HasOne entries = (e : Entry) × Contains entries e × (e.clause ≡ [])
 
 -- the offsets of the texts of arguments change nothing
+moved_calculated : (rule : ArithmeticRule) (ps : List Clause) (ts : Trees) (at : ℕ) (c : Clause) → IsArithmetic rule ps ts c → IsArithmetic rule ps (moved_all at ts) c
+moved_calculated arithmetic.LaGeneric [] ts at c h = ap (la_generic c) (moved_numbers ts at) ∙ h
+moved_calculated arithmetic.LaGeneric (p ∷ ps) ts at c h = h
+moved_calculated arithmetic.LaDisequality [] ts at c h = h
+moved_calculated arithmetic.LaDisequality (p ∷ ps) ts at c h = h
+moved_calculated arithmetic.LaTotality [] ts at c h = h
+moved_calculated arithmetic.LaTotality (p ∷ ps) ts at c h = h
+
 moved_right : (r : Rule) (ps : List Clause) (ts : Trees) (at : ℕ) (c : Clause) → IsRight r ps ts c → IsRight r ps (moved_all at ts) c
 moved_right r ps ts at c h = go (kind_of r) h
   where
@@ -56,6 +69,7 @@ moved_right r ps ts at c h = go (kind_of r) h
     go (states s) h = h
     go (turns s) h = h
     go (equates rule) h = h
+    go (calculates rule) h = moved_calculated rule ps ts at c h
 
 -- a step with these premises and arguments
 abbrev with_parts : StepLine → List Reference → Trees → StepLine

@@ -3,6 +3,7 @@ pub mod Numbers
 mod Told
 mod Planned
 pub mod Names
+mod MovedArguments
 mod NoNumbers
 mod Written
 pub mod Lexed

@@ -165,6 +165,9 @@ named rules.Cong = (refl, refl)
 named rules.DistinctElim = (refl, refl)
 named rules.IteThen = (refl, refl)
 named rules.IteElse = (refl, refl)
+named rules.LaGeneric = (refl, refl)
+named rules.LaDisequality = (refl, refl)
+named rules.LaTotality = (refl, refl)
 
 -- the words of a name that needs no bars
 bare_name : (w : Name) → is_bare w ≡ true → IsWord Simple w

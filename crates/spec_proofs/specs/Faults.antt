@@ -5,7 +5,7 @@ use Rattle.spec_text.specs.declared.Fault.TheVariants as faults
 use Rattle.spec_text.specs.Places.{name_of}
 use Rattle.spec_text.specs.Faults.{Located}
 use Rattle.spec_proofs.specs.declared.ProofKind.{ProofKind}
-use Rattle.spec_proofs.specs.declared.ProofKind.TheVariants.{Lexical, BadShape, TwiceName, UnknownPremise, UnknownRule, NotAsserted, RuleFails, NoEmptyClause, Term, NoSuchCheck}
+use Rattle.spec_proofs.specs.declared.ProofKind.TheVariants.{Lexical, BadShape, TwiceName, UnknownPremise, UnknownRule, NotAsserted, RuleFails, NoEmptyClause, Wide, Term, NoSuchCheck}
 
 -- the name that is printed
 abbrev pub fault_name : ProofKind → List ℕ
@@ -17,6 +17,7 @@ fault_name UnknownRule = codes "UnknownRule"
 fault_name NotAsserted = codes "NotAsserted"
 fault_name RuleFails = codes "RuleFails"
 fault_name NoEmptyClause = codes "NoEmptyClause"
+fault_name Wide = codes "Wide"
 fault_name (Term f) = name_of f
 fault_name NoSuchCheck = codes "NoSuchCheck"
 
@@ -30,6 +31,7 @@ fault_number UnknownRule = 5
 fault_number NotAsserted = 6
 fault_number RuleFails = 7
 fault_number NoEmptyClause = 8
+fault_number Wide = 9
 fault_number (Term f) = 10
 fault_number NoSuchCheck = 11
 

@@ -127,6 +127,12 @@ pub enum Rule {
     IteThen,
     /// `x_ite_else`: the condition holds, or the choice is its second branch.
     IteElse,
+    /// `la_generic`: the negations of the literals, multiplied by the arguments and added, cannot hold.
+    LaGeneric,
+    /// `la_disequality`: numbers are equal, or one of them is not at most the other.
+    LaDisequality,
+    /// `la_totality`: one of two numbers is at most the other.
+    LaTotality,
 }
 
 /// Names a literal by an argument of a term: the argument as it stands, or its negation.
@@ -156,7 +162,7 @@ pub enum Rest {
     Innermost,
 }
 
-/// Tells why a proof is not accepted: P1 to P8, P10 and P11. Of several faults the first in the text counts, but for
+/// Tells why a proof is not accepted: P1 to P11. Of several faults the first in the text counts, but for
 /// `NoSuchCheck`, which counts before all others, and `NoEmptyClause`, which counts after all others.
 #[derive(Clone, Copy, Debug, PartialEq, Eq)]
 pub enum ProofKind {
@@ -177,6 +183,8 @@ pub enum ProofKind {
     RuleFails,
     /// P8: all commands are right, but no clause is empty: at the end of the proof.
     NoEmptyClause,
+    /// P9: an operation by which a step is tested leaves the bound on numbers: at the step's opening parenthesis.
+    Wide,
     /// P10: a term or a sort that cannot be read, a reserved word for a defined name, or terms or names without room, by a
     /// fault E10 to E18 or E24: at the fault's place.
     Term(Fault),
@@ -198,12 +206,13 @@ impl ProofKind {
             ProofKind::NotAsserted => "NotAsserted",
             ProofKind::RuleFails => "RuleFails",
             ProofKind::NoEmptyClause => "NoEmptyClause",
+            ProofKind::Wide => "Wide",
             ProofKind::Term(fault) => fault.name(),
             ProofKind::NoSuchCheck => "NoSuchCheck",
         }
     }
 
-    /// Gives the number of the fault: 1 to 8, 10 or 11.
+    /// Gives the number of the fault, from 1 to 11.
     pub fn number(self) -> u8
         ensures { result ≡ fault_number self }
     {
@@ -216,6 +225,7 @@ impl ProofKind {
             ProofKind::NotAsserted => 6,
             ProofKind::RuleFails => 7,
             ProofKind::NoEmptyClause => 8,
+            ProofKind::Wide => 9,
             ProofKind::Term(_) => 10,
             ProofKind::NoSuchCheck => 11,
         }

@@ -8,7 +8,7 @@ ghost use Rattle.spec_proofs.specs.RuleNames.{rule_name, named_rows, rule_named}
 use crate::Rule;
 
 /// All rules.
-const EVERY_RULE: [Rule; 57] = [
+const EVERY_RULE: [Rule; 60] = [
     Rule::Or,
     Rule::Contraction,
     Rule::Reordering,
@@ -66,6 +66,9 @@ const EVERY_RULE: [Rule; 57] = [
     Rule::DistinctElim,
     Rule::IteThen,
     Rule::IteElse,
+    Rule::LaGeneric,
+    Rule::LaDisequality,
+    Rule::LaTotality,
 ];
 
 /// Tells whether two names are the same.
@@ -150,6 +153,9 @@ impl Rule {
             Rule::DistinctElim => b"distinct_elim",
             Rule::IteThen => b"x_ite_then",
             Rule::IteElse => b"x_ite_else",
+            Rule::LaGeneric => b"la_generic",
+            Rule::LaDisequality => b"la_disequality",
+            Rule::LaTotality => b"la_totality",
         }
     }
 

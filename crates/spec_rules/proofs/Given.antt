@@ -159,6 +159,9 @@ there rules.Cong = (53, omega arith, refl)
 there rules.DistinctElim = (54, omega arith, refl)
 there rules.IteThen = (55, omega arith, refl)
 there rules.IteElse = (56, omega arith, refl)
+there rules.LaGeneric = (57, omega arith, refl)
+there rules.LaDisequality = (58, omega arith, refl)
+there rules.LaTotality = (59, omega arith, refl)
 
 -- a rule with a scheme that takes the step is among these
 taker : (ps : List Clause) (arguments : Trees) (c : Clause) (rule : Rule) → has_scheme (kind_of rule) ≡ true → IsRight rule ps arguments c → Contains (takers ps c) rule

@@ -1,7 +1,7 @@
 -- What follows by a rule from what is true is true.
-use Rattle.std.proofs.Common.{◌≡◌, Bool, true, false, not, ◌&&◌, ◌||◌, List, [], ◌∷◌, get_or, All, refl, sym, ap, ap₂, ◌∙◌}
+use Rattle.std.proofs.Common.{◌≡◌, Bool, true, false, not, ◌&&◌, ◌||◌, List, [], ◌∷◌, get_or, All, Result, Ok, Err, refl, sym, ap, ap₂, ◌∙◌}
 use Rattle.std.proofs.lemmas.Bool.{false≢true}
-use Rattle.std.proofs.lemmas.List.Elements.{All-head, All-tail}
+use Rattle.std.proofs.lemmas.List.Elements.{All-head, All-tail, recursion_from_All}
 use Rattle.std.proofs.lemmas.List.Folds.{Any-from_list_any, list_any_at}
 use Rattle.std.proofs.Math.Bool.{or-false, and-true}
 use Rattle.spec_sorts.specs.Terms.{Symbol, Not, Or, Term, Terms, app, nil, cons, list_of}
@@ -12,11 +12,15 @@ use Rattle.spec_text.specs.Trees.{Trees}
 use Rattle.spec_sorts.specs.Literals.{Clause, literal_of}
 use Rattle.spec_sorts.specs.TermValues.{value_at, values_at}
 use Rattle.spec_equality.proofs.Sound.{equating_true}
+use Rattle.spec_arithmetic.specs.declared.ArithmeticRule.{ArithmeticRule}
+use Rattle.spec_arithmetic.specs.declared.ArithmeticRule.TheVariants as arithmetic
+use Rattle.spec_arithmetic.specs.ArithmeticRules.{IsArithmetic, IsWideArithmetic}
+use Rattle.spec_arithmetic.proofs.Sound.{rules_sound}
 use Rattle.spec_proofs.specs.declared.Rule.{Rule}
 use Rattle.spec_proofs.specs.Resolution.{IsWithin}
 use Rattle.spec_rules.specs.Clauses.{IsResolvent, term_true, clause_true}
 use Rattle.spec_rules.specs.Rules.{IsOr, IsWeakening, IsStated, flipped, IsTurned, IsBy, IsRight, IsWideBy}
-use Rattle.spec_rules.specs.Schemes.{Scheme, Kind, opens, keeps, resolves, states, turns, equates, kind_of}
+use Rattle.spec_rules.specs.Schemes.{Scheme, Kind, opens, keeps, resolves, states, turns, equates, calculates, kind_of}
 use Rattle.spec_rules.specs.Truths.{term_true_by}
 use Rattle.spec_rules.proofs.Resolution.{complement_true, clause_true_by, resolvent_true}
 use Rattle.spec_rules.proofs.Schemes.{HasTruth, IsSound, IsSoundKind, kind_sound, given_true, none_given}
@@ -87,24 +91,41 @@ module _ (i : Interpretation) where
       remaining x false c e f h = h
   turned_true s sound _ clause each truths right = absurd right
 
-  by_true : (k : Kind) → IsSoundKind i k → (premises : List Clause) (arguments : Trees) (clause : Clause) → All IsTrue premises → All (HasTruth i) clause → IsBy k premises arguments clause → IsTrue clause
-  by_true opens sound premises arguments clause each truths right = or_true premises clause each right
-  by_true keeps sound premises arguments clause each truths right = weakening_true premises clause each right
-  by_true resolves sound premises arguments clause each truths right = resolution_true premises clause each right
-  by_true (states s) sound premises arguments clause each truths right = stated_true s sound premises clause truths right
-  by_true (turns s) sound premises arguments clause each truths right = turned_true s sound premises clause each truths right
-  by_true (equates rule) sound premises arguments clause each truths right = equating_true i rule premises clause each right
+  calculated_true : (symbols : List Symbol) (rule : ArithmeticRule) (premises : List Clause) (arguments : Trees) (clause : Clause) → Interprets i symbols → All (IsFormulaOver symbols) clause → IsArithmetic rule premises arguments clause → IsTrue clause
+  calculated_true symbols rule premises arguments clause interprets formulas right =
+      rules_sound symbols rule premises arguments clause i interprets (recursion_from_All (IsFormulaOver symbols) clause formulas) right
+
+  by_true : (symbols : List Symbol) (k : Kind) → IsSoundKind i k → (premises : List Clause) (arguments : Trees) (clause : Clause) → Interprets i symbols → All (IsFormulaOver symbols) clause
+      → All IsTrue premises → All (HasTruth i) clause → IsBy k premises arguments clause → IsTrue clause
+  by_true symbols opens sound premises arguments clause interprets formulas each truths right = or_true premises clause each right
+  by_true symbols keeps sound premises arguments clause interprets formulas each truths right = weakening_true premises clause each right
+  by_true symbols resolves sound premises arguments clause interprets formulas each truths right = resolution_true premises clause each right
+  by_true symbols (states s) sound premises arguments clause interprets formulas each truths right = stated_true s sound premises clause truths right
+  by_true symbols (turns s) sound premises arguments clause interprets formulas each truths right = turned_true s sound premises clause each truths right
+  by_true symbols (equates rule) sound premises arguments clause interprets formulas each truths right = equating_true i rule premises clause each right
+  by_true symbols (calculates rule) sound premises arguments clause interprets formulas each truths right = calculated_true symbols rule premises arguments clause interprets formulas right
 
   -- what follows by a rule from what is true is true, where its terms are formulas over the symbols that the interpretation has
   pub rule_true : (symbols : List Symbol) (rule : Rule) (premises : List Clause) (arguments : Trees) (clause : Clause) → Interprets i symbols → All (IsFormulaOver symbols) clause → All IsTrue premises → IsRight rule premises arguments clause → IsTrue clause
   rule_true symbols rule premises arguments clause interprets formulas each right =
-      by_true (kind_of rule) (kind_sound i rule) premises arguments clause each (λ k d h. formula_value i symbols (get_or clause k d) interprets (formulas k d h)) right
+      by_true symbols (kind_of rule) (kind_sound i rule) premises arguments clause interprets formulas each (λ k d h. formula_value i symbols (get_or clause k d) interprets (formulas k d h)) right
+
+-- what is taken is not wide
+never_wide : (rule : ArithmeticRule) (premises : List Clause) (arguments : Trees) (clause : Clause) → IsWideArithmetic rule premises arguments clause → IsArithmetic rule premises arguments clause → ⊥
+never_wide arithmetic.LaGeneric [] arguments clause (w, is_wide) right = apart (sym right ∙ is_wide)
+  where
+    apart : {E : Type 0} {e : E} → (let r : Result (Unit {0}) E = Ok tt in r) ≡ Err e → ⊥
+    apart e = cc
+never_wide arithmetic.LaGeneric (p ∷ ps) arguments clause is_wide right = is_wide
+never_wide arithmetic.LaDisequality premises arguments clause is_wide right = is_wide
+never_wide arithmetic.LaTotality premises arguments clause is_wide right = is_wide
 
 -- no step is right and wide
-pub never_both : (k : Kind) (premises : List Clause) (arguments : Trees) (clause : Clause) → IsWideBy k premises arguments clause → ⊥
-never_both opens premises arguments clause wide = wide
-never_both keeps premises arguments clause wide = wide
-never_both resolves premises arguments clause wide = wide
-never_both (states s) premises arguments clause wide = wide
-never_both (turns s) premises arguments clause wide = wide
-never_both (equates rule) premises arguments clause wide = wide
+pub never_both : (k : Kind) (premises : List Clause) (arguments : Trees) (clause : Clause) → IsWideBy k premises arguments clause → IsBy k premises arguments clause → ⊥
+never_both opens premises arguments clause is_wide right = is_wide
+never_both keeps premises arguments clause is_wide right = is_wide
+never_both resolves premises arguments clause is_wide right = is_wide
+never_both (states s) premises arguments clause is_wide right = is_wide
+never_both (turns s) premises arguments clause is_wide right = is_wide
+never_both (equates rule) premises arguments clause is_wide right = is_wide
+never_both (calculates rule) premises arguments clause is_wide right = never_wide rule premises arguments clause is_wide right

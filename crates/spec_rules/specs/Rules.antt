@@ -4,10 +4,11 @@ use Rattle.spec_sorts.specs.Terms.{Or, Not, Term, app, nil, cons, list_of, negat
 use Rattle.spec_text.specs.Trees.{Trees}
 use Rattle.spec_sorts.specs.Literals.{Clause}
 use Rattle.spec_equality.specs.EqualityRules.{IsEquating}
+use Rattle.spec_arithmetic.specs.ArithmeticRules.{IsArithmetic, IsWideArithmetic}
 use Rattle.spec_proofs.specs.declared.Rule.{Rule}
 use Rattle.spec_proofs.specs.Resolution.{IsWithin}
 use Rattle.spec_rules.specs.Clauses.{IsResolvent}
-use Rattle.spec_rules.specs.Schemes.{Scheme, Kind, opens, keeps, resolves, states, turns, equates, clauses_by, kind_of}
+use Rattle.spec_rules.specs.Schemes.{Scheme, Kind, opens, keeps, resolves, states, turns, equates, calculates, clauses_by, kind_of}
 
 -- one premise, whose one literal is a disjunction; each of its arguments is a literal of the clause
 abbrev pub IsOr : List Clause → Clause → Type 0
@@ -38,7 +39,7 @@ abbrev pub IsTurned : Scheme → List Clause → Clause → Type 0
 IsTurned s ((u ∷ []) ∷ []) clause = IsGiven s (flipped u ∷ clause)
 IsTurned s _ clause = ⊥
 
--- the step is as the rule asks; the texts of its arguments change nothing for now
+-- the step is as the rule asks; the texts of its arguments count for a rule of arithmetic alone
 abbrev pub IsBy : Kind → List Clause → Trees → Clause → Type 0
 IsBy opens premises arguments clause = IsOr premises clause
 IsBy keeps premises arguments clause = IsWeakening premises clause
@@ -46,12 +47,13 @@ IsBy resolves premises arguments clause = IsResolvent premises clause
 IsBy (states s) premises arguments clause = IsStated s premises clause
 IsBy (turns s) premises arguments clause = IsTurned s premises clause
 IsBy (equates rule) premises arguments clause = IsEquating rule premises clause
+IsBy (calculates rule) premises arguments clause = IsArithmetic rule premises arguments clause
 
 -- the clause follows from the premises by the rule, with the texts of its arguments
 abbrev pub IsRight : Rule → List Clause → Trees → Clause → Type 0
 IsRight rule premises arguments clause = IsBy (kind_of rule) premises arguments clause
 
--- an operation on numbers by which the step is tested leaves their bound; no rule has one for now
+-- an operation on numbers by which the step is tested leaves their bound; only rules of arithmetic have one
 abbrev pub IsWideBy : Kind → List Clause → Trees → Clause → Type 0
 IsWideBy opens premises arguments clause = ⊥
 IsWideBy keeps premises arguments clause = ⊥
@@ -59,6 +61,7 @@ IsWideBy resolves premises arguments clause = ⊥
 IsWideBy (states s) premises arguments clause = ⊥
 IsWideBy (turns s) premises arguments clause = ⊥
 IsWideBy (equates rule) premises arguments clause = ⊥
+IsWideBy (calculates rule) premises arguments clause = IsWideArithmetic rule premises arguments clause
 
 -- whether the step is right cannot be told within the bound on numbers; then it is not right
 abbrev pub IsWide : Rule → List Clause → Trees → Clause → Type 0

@@ -5,6 +5,8 @@ use Rattle.spec_sorts.specs.Subsets.{arguments_of}
 use Rattle.spec_sorts.specs.Literals.{Clause}
 use Rattle.spec_equality.specs.declared.EqualityRule.{EqualityRule}
 use Rattle.spec_equality.specs.declared.EqualityRule.TheVariants as equals
+use Rattle.spec_arithmetic.specs.declared.ArithmeticRule.{ArithmeticRule}
+use Rattle.spec_arithmetic.specs.declared.ArithmeticRule.TheVariants as arithmetic
 use Rattle.spec_proofs.specs.declared.Rule.{Rule}
 use Rattle.spec_proofs.specs.declared.Rule.TheVariants as rules
 use Rattle.spec_proofs.specs.declared.Side.{Side}
@@ -65,6 +67,8 @@ pub data Kind : Type 0 where
   turns : Scheme → Kind
   -- the step is one of equality and functions
   equates : EqualityRule → Kind
+  -- the step is one of linear arithmetic
+  calculates : ArithmeticRule → Kind
 
 -- a scheme of a term as it stands, and of a negated one
 abbrev pub plain : Head → Rest → Scheme
@@ -220,3 +224,6 @@ kind_of rules.Cong = equates equals.Cong
 kind_of rules.DistinctElim = equates equals.DistinctElim
 kind_of rules.IteThen = equates equals.IteThen
 kind_of rules.IteElse = equates equals.IteElse
+kind_of rules.LaGeneric = calculates arithmetic.LaGeneric
+kind_of rules.LaDisequality = calculates arithmetic.LaDisequality
+kind_of rules.LaTotality = calculates arithmetic.LaTotality

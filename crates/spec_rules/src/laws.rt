@@ -7,16 +7,18 @@ ghost use Rattle.spec_sorts.specs.Values.{Interpretation, Interprets};
 ghost use Rattle.spec_sorts.specs.WellSorted.{IsFormulaOver};
 ghost use Rattle.spec_equality.specs.declared.EqualityRule.{EqualityRule};
 ghost use Rattle.spec_equality.specs.EqualityRules.{equality_name};
+ghost use Rattle.spec_arithmetic.specs.declared.ArithmeticRule.{ArithmeticRule};
+ghost use Rattle.spec_arithmetic.specs.ArithmeticRules.{arithmetic_name};
 ghost use Rattle.spec_proofs.specs.declared.Rule.{Rule};
 ghost use Rattle.spec_proofs.specs.RuleNames.{rule_name};
 ghost use Rattle.spec_proofs.specs.Resolution.{IsWithin, IsChain};
 ghost use Rattle.spec_sorts.specs.Literals.{Clause, complement, literals_of};
 ghost use Rattle.spec_rules.specs.Clauses.{IsResolvent, clause_true};
 ghost use Rattle.spec_rules.specs.Rules.{IsRight, IsWide};
-ghost use Rattle.spec_rules.specs.Schemes.{equates, kind_of};
+ghost use Rattle.spec_rules.specs.Schemes.{equates, calculates, kind_of};
 
 /// States that what follows by a rule from clauses that are true is true, under the same interpretation of the symbols. The
-/// clause has formulas over these. Source: Alethe specification, rules; SMT-LIB 2.6, theory Core.
+/// clause has formulas over these. Source: Alethe specification, rules; SMT-LIB 2.6, theories Core and Reals.
 pub fn rules_are_sound()
     ensures { (symbols : List Symbol) (rule : Rule) (premises : List Clause) (arguments : Trees) (clause : Clause)
         → (i : Interpretation) → Interprets i symbols → All (IsFormulaOver symbols) clause
@@ -34,6 +36,12 @@ pub fn wide_steps_are_not_right()
 pub fn equality_rules_keep_their_names()
     ensures { (rule : Rule) (other : EqualityRule) → kind_of rule ≡ equates other
         → rule_name rule ≡ equality_name other }
+{}
+
+/// States that a rule of linear arithmetic has the name by which it is defined.
+pub fn arithmetic_rules_keep_their_names()
+    ensures { (rule : Rule) (other : ArithmeticRule) → kind_of rule ≡ calculates other
+        → rule_name rule ≡ arithmetic_name other }
 {}
 
 /// States that each chain of binary resolutions passes, where each resolves the clause up to here with a premise. Premises

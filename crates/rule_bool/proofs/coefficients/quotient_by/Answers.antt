@@ -1,0 +1,7 @@
+-- That the divisor is not 0.
+use Rattle.ratio128.specs.Meant.{fraction}
+use Rattle.rule_bool.proofs.CoefficientsRead.{not_zero}
+use Rattle.rule_bool.proofs.coefficients.quotient_by.Goals as goal
+
+pub div-requires : goal.div-requires
+div-requires c = not_zero (fraction c.args.divisor) c.requires
