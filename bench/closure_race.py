@@ -22,14 +22,12 @@ the terms are made. Those below 0.01 s, of which the start takes a good part, co
 more than two minutes is stopped. It needs Python 3 and its standard library.
 """
 
-import argparse
 import math
-import os
 import sys
 
 sys.dont_write_bytecode = True
 
-from runs import run
+from runs import asked_families, run, status_of
 
 SIZES = (1_000, 10_000, 100_000)
 RUNS = 3
@@ -117,21 +115,13 @@ def run_family(executable, name, sizes):
 
 def main():
     """Runs the families."""
-    parser = argparse.ArgumentParser(description=__doc__, formatter_class=argparse.RawDescriptionHelpFormatter)
-    parser.add_argument("executable")
-    parser.add_argument("families", nargs="*", metavar="FAMILY")
-    parser.add_argument("--most", type=int, default=SIZES[-1])
-    asked = parser.parse_args()
-    if set(asked.families) - set(FAMILIES):
-        parser.error("the families are " + ", ".join(FAMILIES))
-    executable, wrong = os.path.abspath(asked.executable), []
+    executable, families, sizes = asked_families(__doc__, FAMILIES, SIZES)
+    wrong = []
     print("| family | n | seconds | times the row before | peak memory in KB | bytes for each of n |")
     print("|---|---|---|---|---|---|")
-    for name in asked.families or FAMILIES:
-        wrong += run_family(executable, name, [n for n in SIZES if n <= asked.most])
-    for line in wrong:
-        print(line, file=sys.stderr)
-    return 1 if wrong else 0
+    for name in families:
+        wrong += run_family(executable, name, sizes)
+    return status_of(wrong)
 
 
 if __name__ == "__main__":

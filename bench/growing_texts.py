@@ -18,7 +18,6 @@ there is no room (`Full`), and `distinct` with repeated arguments, for whose pai
 many seconds as the table says. It needs Python 3, its standard library, and 6 GB of memory.
 """
 
-import argparse
 import os
 import sys
 import tempfile
@@ -28,7 +27,7 @@ sys.path.insert(0, os.path.join(os.path.dirname(os.path.abspath(__file__)), "gro
 
 import proof_families
 import script_families
-from runs import least, run
+from runs import asked_families, least, run, status_of
 
 SIZES = (1_000, 10_000, 100_000)
 RUNS = 3
@@ -145,24 +144,16 @@ def main():
     """Runs the families, or writes one instance."""
     if len(sys.argv) in (5, 6) and sys.argv[1] == "--write":
         return write_texts(*sys.argv[2:])
-    parser = argparse.ArgumentParser(description=__doc__, formatter_class=argparse.RawDescriptionHelpFormatter)
-    parser.add_argument("executable")
-    parser.add_argument("families", nargs="*", metavar="FAMILY")
-    parser.add_argument("--most", type=int, default=SIZES[-1])
-    asked = parser.parse_args()
-    if set(asked.families) - set(FAMILIES):
-        parser.error("the families are " + ", ".join(FAMILIES))
-    executable, wrong = os.path.abspath(asked.executable), []
+    executable, families, sizes = asked_families(__doc__, FAMILIES, SIZES)
+    wrong = []
     print("| family | n | bytes | seconds | times the row before | peak memory in KB |")
     print("|---|---|---|---|---|---|")
     with tempfile.TemporaryDirectory() as folder:
-        for name in asked.families or FAMILIES:
-            wrong += run_family(executable, name, [n for n in SIZES if n <= asked.most], folder)
-        if not asked.families:
+        for name in families:
+            wrong += run_family(executable, name, sizes, folder)
+        if len(families) == len(FAMILIES):
             wrong += run_ends(executable, folder)
-    for line in wrong:
-        print(line, file=sys.stderr)
-    return 1 if wrong else 0
+    return status_of(wrong)
 
 
 if __name__ == "__main__":

@@ -9,6 +9,7 @@ It needs Python 3 and its standard library.
 
 from __future__ import annotations
 
+import argparse
 import math
 import os
 import resource
@@ -99,3 +100,25 @@ def least(words, runs, seconds=None):
         if again.seconds < best.seconds:
             best = again
     return best
+
+
+def asked_families(doc, families, sizes):
+    """Reads the words `EXECUTABLE [--most N] [FAMILY ..]`; returns the executable, the families and the sizes up to N.
+
+    All families are meant where none is named. Other words end the script, with the families that there are.
+    """
+    parser = argparse.ArgumentParser(description=doc, formatter_class=argparse.RawDescriptionHelpFormatter)
+    parser.add_argument("executable")
+    parser.add_argument("families", nargs="*", metavar="FAMILY")
+    parser.add_argument("--most", type=int, default=sizes[-1])
+    asked = parser.parse_args()
+    if set(asked.families) - set(families):
+        parser.error("the families are " + ", ".join(families))
+    return os.path.abspath(asked.executable), asked.families or list(families), [n for n in sizes if n <= asked.most]
+
+
+def status_of(wrong):
+    """Prints what is wrong, a line each; returns the status to end with."""
+    for line in wrong:
+        print(line, file=sys.stderr)
+    return 1 if wrong else 0
