@@ -28,6 +28,11 @@ def with_constants(n):
     return refuted(f"(declare-fun q{i} () Bool)" for i in range(n))
 
 
+def with_numbers(n):
+    """A script of n + 1 constants of sort Real more."""
+    return refuted(f"(declare-fun x{i} () Real)" for i in range(n + 1))
+
+
 def with_definitions(n):
     """A script of n definitions, with constants."""
     lines = (f"(declare-fun q{i} () Bool)\n(define-fun d{i} ((x Bool)) Bool (or x q{i}))" for i in range(n))
@@ -87,6 +92,40 @@ def numbers(n):
     return proved(lines)
 
 
+def step_of_sums(name, literals):
+    """Returns a step of `la_generic`, each literal with the argument 1."""
+    return f"(step {name} (cl {' '.join(literals)}) :rule la_generic :args ({' '.join('1' for _ in literals)}))"
+
+
+def orders_round(n):
+    """One step with n literals over n numbers: each is less than the next, and the last than the first."""
+    return proved([step_of_sums("t", [f"(not (< x{i} x{(i + 1) % n}))" for i in range(n)])])
+
+
+def long_sums(n):
+    """One step with two literals, each over a sum of n numbers."""
+    total = f"(+ {' '.join(f'x{i}' for i in range(n))})"
+    return proved([step_of_sums("t", [f"(not (< {total} 1))", f"(not (<= 1 {total}))"])])
+
+
+def differences(n):
+    """One step over the difference of n numbers, nested as it is read."""
+    total = f"(- {' '.join(f'x{i}' for i in range(n))})"
+    return proved([step_of_sums("t", [f"(not (< {total} 1))", f"(not (<= 1 {total}))"])])
+
+
+def halves(n):
+    """A term with n subterms, of each of which the next has a half twice, and a step over it."""
+    lines = ["(define-fun @s0 () Real x0)"]
+    lines += [f"(define-fun @s{i} () Real (+ (* 0.5 @s{i - 1}) (* 0.5 @s{i - 1})))" for i in range(1, n)]
+    return proved([*lines, step_of_sums("t", [f"(not (< @s{n - 1} x0))"])])
+
+
+def sums(n):
+    """Steps with two literals each."""
+    return proved(step_of_sums(f"t{i}", [f"(not (< x{i} x{i + 1}))", f"(not (< x{i + 1} x{i}))"]) for i in range(n))
+
+
 class Family(NamedTuple):
     """A proof by a number, with its script."""
 
@@ -102,4 +141,9 @@ FAMILIES = {
     "proof: lets": Family(with_constants, lets),
     "proof: arguments": Family(plain, arguments),
     "proof: numbers": Family(plain, numbers),
+    "proof: orders round": Family(with_numbers, orders_round),
+    "proof: long sums": Family(with_numbers, long_sums),
+    "proof: differences": Family(with_numbers, differences),
+    "proof: halves": Family(with_numbers, halves),
+    "proof: sums": Family(with_numbers, sums),
 }
