@@ -10,7 +10,9 @@ processor, the least of the runs, those of z3, and how many times as long the pr
 Where the folder has a table LIST.tsv, its columns `script` and `answers` tell what several solvers agree on. Else what
 z3 answers is taken for that. A script counts as answered where no command was refused and each check has that answer,
 and as wrong where no command was refused and a check has another answer that is not `unknown`. With --certify the proof
-that `certify` writes for each `unsat` has to be `valid` to `check` too.
+that `certify` writes for each `unsat` has to be `valid` to `check` too, and what it writes is judged by the independent
+reading of bench/compare: each model makes all current assertions true, and each proof is right. Scripts with a command
+that was refused are left out of that.
 
 It prints the rows, and how many scripts were answered. The status is 1 where one is wrong, or ended by a signal or with
 a status that no script may have, else 0. It needs Python 3 and its standard library.
@@ -26,9 +28,11 @@ import sys
 import tempfile
 from collections import Counter
 
-sys.dont_write_bytecode = True  # so that the import below leaves no files here
+sys.dont_write_bytecode = True  # so that the imports below leave no files here
+sys.path.insert(0, os.path.join(os.path.dirname(os.path.abspath(__file__)), "compare"))
 
 from runs import least
+from sessions import judge_certify
 
 VERDICTS = ("sat", "unsat", "unknown")
 REFUSAL = re.compile(r'\(error "\d+:\d+: (\w+)"\)')
@@ -69,11 +73,15 @@ def proofs_of(lines):
 
 
 def judged(executable, script, seconds):
-    """Returns what is wrong with the proofs that `certify` writes, or nothing."""
+    """Returns what is wrong with the models and proofs that `certify` writes, or nothing."""
     certified = least([executable, "certify", script], 1, seconds)
     if certified.status is None:
         return ["certify stopped"]
-    wrong = []
+    if any(map(REFUSAL.fullmatch, certified.lines)):
+        return []
+    with open(script, "rb") as text:
+        said, _ = judge_certify(text.read(), certified.output, certified.status, is_foretold=False)
+    wrong = [said] if said else []
     with tempfile.TemporaryDirectory() as folder:
         path = os.path.join(folder, "proof.alethe")
         for number, proof in proofs_of(certified.lines):

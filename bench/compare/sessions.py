@@ -176,16 +176,19 @@ def model_end(check, output, at):
     return at + len(wanted)
 
 
-def judge_certify(script, output, status, conflicts=None):
+def judge_certify(script, output, status, conflicts=None, is_foretold=True):
     """Returns what is wrong with an output, or None, and its right proofs: pairs of a check's number and a text.
 
-    The limit on conflicts is given where the program was given it.
+    The limit on conflicts is given where the program was given it. Where answers are not foretold, their models and proofs
+    alone decide: to foretell them may take time exponential in the script.
     """
     answers, wanted_status = run_script(script)
     proofs, at, number = [], 0, 0
     try:
         for answer in answers:
             is_check = isinstance(answer, Check)
+            if is_check and not is_foretold:
+                answer.is_satisfiable = None
             line = line_at(script, answer, output, at, conflicts)
             at += len(line)
             number += is_check
