@@ -7,8 +7,8 @@ from layout import copied, plainly_written, raw, replaced, row, symbol, written
 from rules import RULES
 
 ALL_RULES = sorted(RULES)
-OTHER_RULES = b"""hole subproof reflexive transitive symmetric congr la_generic eq_symmetric x_ite_if distinct
-or1 xor_pos3 ite3 not_ite3 implies_pos1 tautology cl Resolution and_simplify equiv_simplify la_disequality""".split()
+OTHER_RULES = b"""hole subproof reflexive transitive symmetric congr lia_generic eq_symmetric x_ite_if distinct
+or1 xor_pos3 ite3 not_ite3 implies_pos1 tautology cl Resolution and_simplify equiv_simplify la_tautology""".split()
 OTHER_RULES.append(b"")
 ODD_TEXTS = b'"s" :k 5 1.5 let _ ! () (zz) zz |let| @p1 true cl (cl) and 0 assert |p| (and) (5\t5)'.split(b" ")
 ODD_TEXTS += [b"(not true)", b'("a" p)', b"(! true :named @n)", b"(! true :named n)", b"n", b"@n"]

@@ -2,7 +2,8 @@
 
 import random
 
-from rules import PREMISED, RESOLUTIONS, STATING, SUBSET_RULES, strip
+from literals import strip
+from rules import PREMISED, RESOLUTIONS, STATING, SUBSET_RULES
 
 LARGEST = 60
 

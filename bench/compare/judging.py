@@ -10,6 +10,7 @@ from language import BOOL, Definition, Reader, State, checks_of, define_fun, rea
 from proof_texts import step_parts, take_all
 from reading import Fault, error_line
 from rules import RULES, follows
+from values import Overflow
 
 
 class ProofReader(Reader):
@@ -46,13 +47,14 @@ class Assumed(NamedTuple):
 
 
 class Stepped(NamedTuple):
-    """A step: its offset, its name, its clause, its rule, and the clauses of its premises."""
+    """A step: its offset, its name, its clause, its rule, the clauses of its premises, and the items of its arguments."""
 
     start: int
     name: bytes
     clause: list
     rule: bytes
     premises: list
+    arguments: list
 
 
 class Defined(NamedTuple):
@@ -122,7 +124,8 @@ class Judge:
                 raise Fault(premise_start, b"UnknownPremise")
             premises.append(self.clauses[premise])
         self.names.functions.update(made)
-        return Stepped(start, name, clause, rule, premises)
+        arguments = found[b":args"][1] if b":args" in found else []
+        return Stepped(start, name, clause, rule, premises, arguments)
 
     def read(self, item):
         """Reads a command, or raises its first fault; a definition is known from there on."""
@@ -141,12 +144,16 @@ class Judge:
         """Raises the fault of a command that is read, but not right."""
         if isinstance(command, Assumed) and command.term not in self.assertions:
             raise Fault(command.start, b"NotAsserted")
-        if isinstance(command, Stepped) and not self.is_step(command):
+        try:
+            is_right = not isinstance(command, Stepped) or self.is_step(command)
+        except Overflow as overflow:
+            raise Fault(command.start, b"Wide") from overflow
+        if not is_right:
             raise Fault(command.start, b"RuleFails")
 
     def is_step(self, command):
         """Tells whether a step's clause follows by its rule."""
-        return follows(self.terms, command.rule, command.premises, command.clause)
+        return follows(self.terms, command.rule, command.premises, command.clause, command.arguments)
 
     def learn(self, command):
         """Keeps the clause of a command under its name."""

@@ -7,15 +7,17 @@ proof is made by terms, and each of these is written in one of the ways in which
 import random
 from typing import NamedTuple
 
+from arithmetic_steps import arithmetic_step
 from clauses import changed_clause, opened, resolved, single_step, stated_clause
 from equality_steps import equality_of_held, equality_step
 from faulty import DECLARATIONS, DEFINITIONS, ODD_TERMS, command_of_a_proof
 from judging import Judge
-from language import BOOL, Definition, checks_of, read_script
+from language import BOOL, REAL, Definition, checks_of, read_script
 from layout import damaged, tree_of_item
 from reading import Fault, printed_name, read_one
 from rules import PREMISED, RESOLUTIONS, RULES, STATING, SUBSET_RULES, follows
 from scripts import Maker, assertion_in_reach, one_of
+from values import Overflow
 
 BOOLS = [b"p", b"q", b"|a b|"]
 SINGLE_NAMES = [b"p", b"q", b"r"]
@@ -26,11 +28,13 @@ SINGLE_DECLARATIONS = b"""(declare-sort U 0)
 (declare-fun f (U Bool) U)
 (declare-fun g (U Bool) Bool)
 (declare-fun x () Real)
+(declare-fun y () Real)
+(declare-fun k (U) Real)
 (declare-fun h (Bool) U)""".split(b"\n")
 ALL_RULES = sorted(RULES)
 FRONTS = [b"unsat ", b"|unsat|", b"unsat unsat ", b"sat ", b":unsat ", b";unsat\n", b"() "]
 ENDS = [b" ()", b" unsat", b" )", b" (", b"\n\"s", b" ; (", b" |a\\", b" 1."]
-OTHER_RULES = b"hole congr reflexive la_generic eq_symmetric and_simplify Resolution or1 ite3 cl".split()
+OTHER_RULES = b"hole congr reflexive lia_generic eq_symmetric and_simplify Resolution or1 ite3 cl".split()
 PARAMETERS = [(b"v", b"Real"), (b"@w", b"Bool"), (b"p", b"U")]
 
 
@@ -262,19 +266,21 @@ class Invented:
         if random.random() < 0.15:
             clause = changed_clause(self.terms, clause)
         given = [self.judge.clauses.get(name, []) for name in premises]
-        if not follows(self.terms, rule, given, clause) and random.random() < 0.4:
+        if not is_taken(self.terms, rule, given, clause, None) and random.random() < 0.4:
             return self.assume()
         literals = b" ".join([b"cl", *map(self.writer.written, clause)])
         name = b"t%d" % (len(self.lines) + 1)
         return b"(step %s (%s) %s)" % (name, literals, b" ".join(self.attributes(rule, premises)))
 
-    def attributes(self, rule, premises):
+    def attributes(self, rule, premises, arguments=None):
         """Makes the keywords of a step, in any order."""
         rule = one_of([rule], [b"|" + rule + b"|"], 0.05)
         texts = [b":rule " + one_of([rule], OTHER_RULES + ALL_RULES, self.maker.share / 3)]
         if premises or random.random() < 0.05:
             texts.append(b":premises (" + b" ".join(premises) + b")")
-        if random.random() < 0.08:
+        if arguments is not None:
+            texts.append(b":args " + arguments)
+        elif random.random() < 0.08:
             texts.append(random.choice([b":args (1)", b":args ((- 2.5) zz let)", b":args ()"]))
         if random.random() < 0.05:
             texts.append(random.choice([b":discharge ()", b":discharge (zz)"]))
@@ -479,33 +485,47 @@ def proof_of_single_steps(limit, most=2):
     invented = Invented(checks_of(read_script(b"\n".join([*head, b"(check-sat)"]))[0])[0], 0)
     assertions = []
     for number in range(random.randint(1, most)):
-        rule, premises, clause = a_single_step(invented)
-        is_right = follows(invented.terms, rule, premises, clause)
+        rule, premises, clause, arguments = a_single_step(invented)
+        is_right = is_taken(invented.terms, rule, premises, clause, arguments)
         if not is_right and most > 2 and random.random() < 0.8:
             continue
         if not invented.terms.are_in_reach([literal for premise in premises for literal in premise]):
             continue
-        assertions += single_step_lines(invented, number, rule, premises, clause)
+        assertions += single_step_lines(invented, number, rule, premises, clause, arguments)
         if not is_right and most > 2:
             break
     script = Script(b"\n".join([*head, *assertions, b"(check-sat)"]) + b"\n", 1)
     return script, limit, joined(invented.lines)
 
 
+def is_taken(terms, rule, premises, clause, arguments):
+    """Tells whether a step is right, with the text of its arguments."""
+    items = read_one(arguments, 0)[0][1] if arguments is not None else []
+    try:
+        return follows(terms, rule, premises, clause, items)
+    except Overflow:
+        return False
+
+
 def a_single_step(invented):
-    """Returns a rule, clauses of premises and a clause, right or near to it."""
+    """Returns a rule, clauses of premises, a clause, and the text of arguments or None; right or near to it."""
 
     def atom():
         return random.choice([*(invented.known(name) for name in SINGLE_NAMES), invented.formula()])
 
-    if random.random() < 0.4:
-        return equality_step(invented.terms, lambda sort: atom() if sort == BOOL else invented.some(sort),
-                             invented.declared_sorts())
-    return single_step(invented.terms, atom)
+    choice = random.random()
+    if choice < 0.3:
+        variables = [invented.some(REAL) for _ in range(random.randint(1, 3))]
+        rule, clause, arguments = arithmetic_step(invented.terms, variables, atom)
+        return rule, random.choice([[]] * 19 + [[[atom()]]]), clause, arguments
+    if choice < 0.6:
+        return *equality_step(invented.terms, lambda sort: atom() if sort == BOOL else invented.some(sort),
+                              invented.declared_sorts()), None
+    return *single_step(invented.terms, atom), None
 
 
-def single_step_lines(invented, number, rule, premises, clause):
-    """Adds a single step with its premises; returns the assertions of these."""
+def single_step_lines(invented, number, rule, premises, clause, arguments):
+    """Adds a single step with its premises and arguments; returns the assertions of the premises."""
     assertions, names = [], []
     for place, premise in enumerate(premises):
         term = premise[0] if len(premise) == 1 else invented.terms.make(b"or", premise)
@@ -518,7 +538,7 @@ def single_step_lines(invented, number, rule, premises, clause):
             name = b"b" + name
         names.append(name)
     literals = b" ".join([b"cl", *map(invented.writer.written, clause)])
-    words = b" ".join(invented.attributes(rule, names))
+    words = b" ".join(invented.attributes(rule, names, arguments))
     invented.lines.append(b"(step c%d (%s) %s)" % (number, literals, words))
     return assertions
 

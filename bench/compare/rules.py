@@ -1,6 +1,8 @@
-"""The 57 rules of proofs as docs/ALETHE.md lists them, over terms by number; a clause is a list of these."""
+"""The 60 rules of proofs as docs/ALETHE.md lists them, over terms by number; a clause is a list of these."""
 
+from arithmetic_rules import ARITHMETIC_RULES, calculates
 from equality_rules import EQUALITY_RULES, equates
+from literals import strip
 
 HEADS = {
     b"and": b"and_pos and_neg",
@@ -35,17 +37,8 @@ PREMISED = {
 }
 SUBSET_RULES = (b"contraction", b"reordering", b"weakening")
 RESOLUTIONS = (b"resolution", b"th_resolution")
-RULES = STATING | set(PREMISED) | set(SUBSET_RULES) | set(RESOLUTIONS) | EQUALITY_RULES | {b"or"}
-assert len(RULES) == 57
-
-
-def strip(terms, term):
-    """Returns the term under all its negations, and whether their number is even."""
-    is_positive = True
-    while terms.nodes[term][0] == b"not":
-        term = terms.nodes[term][1][0]
-        is_positive = not is_positive
-    return term, is_positive
+RULES = STATING | set(PREMISED) | set(SUBSET_RULES) | set(RESOLUTIONS) | EQUALITY_RULES | ARITHMETIC_RULES | {b"or"}
+assert len(RULES) == 60
 
 
 def resolution(terms, premises, clause):
@@ -129,14 +122,16 @@ def states(terms, rule, clause):
     return rest == binary_rest(terms, rule, arguments)
 
 
-def follows(terms, rule, premises, clause):
-    """Tells whether the clause follows from the premises by the rule."""
+def follows(terms, rule, premises, clause, items=()):
+    """Tells whether the clause follows from the premises by the rule, with the items of its arguments."""
     if rule in STATING:
         return not premises and states(terms, rule, clause)
     if rule in RESOLUTIONS:
         return resolution(terms, premises, clause)
     if rule in EQUALITY_RULES:
         return equates(terms, rule, premises, clause)
+    if rule in ARITHMETIC_RULES:
+        return calculates(terms, rule, premises, clause, items)
     if len(premises) != 1:
         return False
     premise = premises[0]
