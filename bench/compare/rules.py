@@ -42,26 +42,38 @@ assert len(RULES) == 60
 
 
 def resolution(terms, premises, clause):
-    """Tells whether unit propagation from the negated clause and the premises meets a conflict."""
-    values = {}
+    """Tells whether unit propagation from the negated clause and the premises meets a conflict.
+
+    Each literal that comes to be false is looked up once in the premises that have it.
+    """
+    values, false = {}, []
     for literal in clause:
         inner, sign = strip(terms, literal)
         if values.get(inner, not sign) == sign:
             return True
-        values[inner] = not sign
+        if inner not in values:
+            values[inner] = not sign
+            false.append((inner, sign))
     clauses = [{strip(terms, literal) for literal in premise} for premise in premises]
-    has_changed = True
-    while has_changed:
-        has_changed = False
-        for literals in clauses:
-            if any(values.get(inner) == sign for inner, sign in literals):
-                continue
-            unset = [(inner, sign) for inner, sign in literals if inner not in values]
-            if not unset:
-                return True
-            if len(unset) == 1:
-                values[unset[0][0]] = unset[0][1]
-                has_changed = True
+    left, having = [len(literals) for literals in clauses], {}
+    for number, literals in enumerate(clauses):
+        for literal in literals:
+            having.setdefault(literal, []).append(number)
+    units = [number for number, count in enumerate(left) if count <= 1]
+    while units or false:
+        if not units:
+            for number in having.get(false.pop(), ()):
+                left[number] -= 1
+                if left[number] <= 1:
+                    units.append(number)
+            continue
+        open_ones = [(inner, sign) for inner, sign in clauses[units.pop()] if values.get(inner, sign) == sign]
+        if not open_ones:
+            return True
+        inner, sign = open_ones[0]
+        if len(open_ones) == 1 and inner not in values:
+            values[inner] = sign
+            false.append((inner, not sign))
     return False
 
 
