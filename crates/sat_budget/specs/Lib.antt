@@ -1,2 +1,2 @@
--- What a budget holds, and what comes of a conflict.
+-- What a budget holds, and what is spent of it.
 pub mod Budgets

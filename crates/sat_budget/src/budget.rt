@@ -1,7 +1,7 @@
-//! The budget of conflicts of one check.
+//! The budget of one check: of conflicts, and of exchanges.
 
-ghost use Rattle.std.specs.Prelude.{◌≡◌, ◌<◌, ◌≤◌, [], length, slice_index_or, IfOk, MatchOption, MatchResult};
-ghost use Rattle.sat_budget.specs.Budgets.{Learns};
+ghost use Rattle.std.specs.Prelude.{◌≡◌, ◌<◌, ◌≤◌, [], length, get_or, slice_index_or, IfOk, MatchOption, MatchResult};
+ghost use Rattle.sat_budget.specs.Budgets.{Learns, Exchanges, no_exchange};
 
 use crate::limits::{BudgetStop, Limits};
 use std::alloc::Global;
@@ -9,14 +9,18 @@ use std::marker::Model;
 use term_core::Lit;
 use world_io::NoMemory;
 
-/// Holds the limit on the conflicts of one check, and the clauses that it has learned, oldest first.
+/// Holds the limits of one check on conflicts and on exchanges, the clauses that it has learned, and the exchanges that it has
+/// made, oldest first.
 ///
-/// Each conflict that is learned from is a clause here, so that what is spent can be seen.
+/// Each conflict that is learned from is a clause here, and each pivot of arithmetic an exchange of two variables by their
+/// numbers, so that what is spent can be seen.
 #[derive(Drop)]
 pub struct Budget {
     alloc: Global,
     limit: u64,
     learned: Vec<Vec<Lit>>,
+    pivots: u64,
+    exchanges: Vec<(u64, u64)>,
 }
 
 impl Model for Budget {
@@ -25,22 +29,34 @@ impl Model for Budget {
 
     ghost Value = { BudgetView };
 
-    ghost view = { λ b. record { limit = b.limit; learned = lists b.learned.items } };
+    ghost view = { λ b. record {
+      limit = b.limit;
+      learned = lists b.learned.items;
+      pivots = b.pivots;
+      exchanges = b.exchanges.items;
+    } };
 
-    ghost invariant = { λ b. length b.learned.items ≤ b.limit };
+    ghost invariant = { λ b. (length b.learned.items ≤ b.limit) × (length b.exchanges.items ≤ b.pivots) };
 }
 
 impl Budget {
-    /// Makes the budget of a new check, which has learned nothing.
+    /// Makes the budget of a new check, which has learned and exchanged nothing.
     ///
-    /// `NoMemory` never comes, as an empty list of clauses takes no memory.
+    /// `NoMemory` never comes, as empty lists take no memory.
     pub fn new(alloc: Global, limits: &Limits) -> Result<Budget, NoMemory>
-        ensures { MatchResult result (λ b. b ≡ record { limit = limits.now.conflicts; learned = [] }) (λ _. ⊥) }
+        ensures { MatchResult result (λ b. b ≡ record {
+          limit = limits.now.conflicts;
+          learned = [];
+          pivots = limits.now.pivots;
+          exchanges = [];
+        }) (λ _. ⊥) }
     {
         Ok(Budget {
             alloc,
             limit: limits.conflicts,
             learned: Vec::new(alloc),
+            pivots: limits.pivots,
+            exchanges: Vec::new(alloc),
         })
     }
 
@@ -86,9 +102,39 @@ impl Budget {
         self.learned[n as usize].as_slice()
     }
 
+    /// Puts an exchange last: the variable that leaves the basis and the one that enters it, by their numbers.
+    ///
+    /// `Spent` comes exactly where as many exchanges were made as the limit allows, and says that number; `Memory` where its place
+    /// finds no memory before that. After both the budget is as it was.
+    pub fn exchanged(&mut self, leaving: u64, entering: u64) -> Result<(), BudgetStop>
+        ensures { Exchanges self.old (leaving, entering) result self.new }
+    {
+        if self.exchanges.len() as u64 >= self.pivots {
+            return Err(BudgetStop::Spent(self.pivots));
+        }
+        self.exchanges.push((leaving, entering))?;
+        Ok(())
+    }
+
+    /// Counts the exchanges. It takes no memory.
+    pub fn exchanged_len(&self) -> u64
+        ensures { result ≡ length self.now.exchanges }
+    {
+        self.exchanges.len() as u64
+    }
+
+    /// Gives an exchange by its number, from 0 for the oldest: the variable that left the basis, and the one that entered it. It takes
+    /// no memory.
+    pub fn exchange(&self, n: u64) -> (u64, u64)
+        requires { n < length self.now.exchanges }
+        ensures { result ≡ get_or self.now.exchanges n no_exchange }
+    {
+        self.exchanges[n as usize]
+    }
+
     /// Makes a copy, which is spent as far.
     ///
-    /// `NoMemory` comes where a clause or its place find no memory.
+    /// `NoMemory` comes where one of the lists, a clause or its place find no memory.
     pub fn copy(&self) -> Result<Budget, NoMemory>
         ensures { IfOk result (λ b. b ≡ self.now) }
     {
@@ -96,16 +142,20 @@ impl Budget {
         for clause in &self.learned {
             learned.push(Vec::from_slice(self.alloc, clause)?)?;
         }
+        let exchanges = Vec::from_slice(self.alloc, &self.exchanges)?;
         Ok(Budget {
             alloc: self.alloc,
             limit: self.limit,
             learned,
+            pivots: self.pivots,
+            exchanges,
         })
     }
 
-    /// States that no more clauses are learned than the limit allows.
+    /// States that no more clauses are learned, and no more exchanges made, than the limits allow.
     pub fn is_within(&self)
-        ensures { length self.now.learned ≤ self.now.limit }
+        ensures learned { length self.now.learned ≤ self.now.limit }
+        ensures exchanges { length self.now.exchanges ≤ self.now.pivots }
     {
         let _ = &self.limit;
     }

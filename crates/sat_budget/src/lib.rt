@@ -1,9 +1,11 @@
-//! What a check may spend, and the learned clauses that it has spent it on.
+//! What a check may spend, and the learned clauses and the exchanges that it has spent it on.
 #![tactic(auto)]
 
 mod budget;
 mod limits;
 
 pub use budget::Budget;
-pub use limits::{BudgetStop, Limits, Reason, Stop};
+pub use delta_num::Delta;
+pub use limits::{Basis, BudgetStop, Limits, Reason, Stop, Strain};
+pub use ratio128::Wide;
 pub use term_core::{Lit, TermId};

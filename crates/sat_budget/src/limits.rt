@@ -2,6 +2,8 @@
 
 ghost use Rattle.std.specs.Prelude.{◌≡◌};
 
+use delta_num::Delta;
+use ratio128::Wide;
 use std::alloc::{AllocError, AllocFailed};
 use thiserror::Error;
 use world_io::NoMemory;
@@ -9,13 +11,13 @@ use world_io::NoMemory;
 /// Limits what a check may spend, and how much a script may ask to be held.
 ///
 /// Each check may spend `conflicts` and `pivots` anew; one that would pass either ends with the answer `unknown`. `terms` is not spent:
-/// a command that would pass it is refused with the fault `Full`, and no check ends by it. Nothing takes `pivots` yet.
+/// a command that would pass it is refused with the fault `Full`, and no check ends by it. No theory takes `pivots` yet.
 /// Source: SMT-LIB 2.6, section 4.1.7, for the option of a limit on what is spent.
 #[derive(Clone, Copy, Debug, PartialEq, Eq)]
 pub struct Limits {
     /// How many conflicts may be learned from, each as a clause, from 0.
     pub conflicts: u64,
-    /// How many pivots arithmetic may make, from 0.
+    /// How many pivots arithmetic may make, each of which exchanges two variables, from 0.
     pub pivots: u64,
     /// How many different subterms the terms of one command may have, all together; and how many names of a script may be live at once.
     /// Each from 0.
@@ -31,9 +33,33 @@ pub enum Reason {
     Conflicts(u64),
 }
 
+/// Has what is needed to work an overflow out again.
+#[derive(Debug, PartialEq, Eq, Drop)]
+pub struct Basis {
+    /// The numbers of the basic variables, each from 0.
+    pub variables: Vec<u64>,
+    /// The value of each variable, basic or not, by its number from 0.
+    pub values: Vec<Delta>,
+}
+
+/// Says which operation left the bound of 128 bits, and where.
+#[derive(Debug, PartialEq, Eq, Drop)]
+pub struct Strain {
+    /// The operation, with its operands as they were.
+    pub wide: Wide,
+    /// The basic variables and the values where it was asked for.
+    pub basis: Basis,
+}
+
 /// Says why a theory's call came to no end.
-#[derive(Clone, Copy, Debug, PartialEq, Eq, Error)]
+#[derive(Debug, PartialEq, Eq, Drop, Error)]
 pub enum Stop {
+    /// An operation on fractions leaves 128 bits.
+    #[error("a number leaves 128 bits")]
+    Strained(Strain),
+    /// The limit on exchanges, which is this number, is reached, and a further one is needed.
+    #[error("the budget of {0} pivots is spent")]
+    Pivots(u64),
     /// Memory ran out.
     #[error("out of memory")]
     Memory,
@@ -49,11 +75,11 @@ impl From<NoMemory> for Stop {
     }
 }
 
-/// Says why a clause is not learned.
+/// Says why a clause is not learned, or an exchange not made.
 #[derive(Clone, Copy, Debug, PartialEq, Eq, Error)]
 pub enum BudgetStop {
-    /// The limit, this number of clauses, is reached.
-    #[error("the budget of {0} conflicts is spent")]
+    /// The limit, this number of conflicts or of exchanges, is reached.
+    #[error("the budget of {0} is spent")]
     Spent(u64),
     /// Memory ran out.
     #[error("out of memory")]
