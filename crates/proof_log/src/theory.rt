@@ -1,9 +1,11 @@
 //! What the search asks of a theory.
 
-ghost use Rattle.std.specs.Prelude.{◌≡◌, ◌≤◌, List, length, Contains, MatchResult};
+ghost use Rattle.std.specs.Prelude.{◌≡◌, ◌≤◌, List, length, Contains, IfErr, MatchResult};
 ghost use Rattle.spec_sorts.specs.Terms.{Term};
 ghost use Rattle.spec_sorts.specs.Literals.{Literal};
 ghost use Rattle.term_core.specs.Tables.{TableView, Extends};
+ghost use Rattle.sat_budget.specs.declared.limits.Strain.{Strain};
+ghost use Rattle.sat_budget.specs.Budgets.{Spends, StopsBy, AreSpent};
 ghost use Rattle.proof_log.specs.Logs.{IsLogOf};
 ghost use Rattle.proof_log.specs.Theories.{TheoryView, with_held, with_watched, with_mark, gone_back, IsTermIn, IsOver, terms_watched, literals_held, Checks};
 
@@ -41,16 +43,25 @@ pub trait Theory {
     /// What a check shows of them that answers `Clash`.
     ghost refuses: { Self → List Term → List Literal → Type 0 };
 
+    /// What shows that a stop by an overflow is one, over the watched terms.
+    ghost strains: { Self → List Term → Strain → Type 0 };
+
+    /// What shows that a further exchange is needed, over the watched terms.
+    ghost needs_more: { Self → List Term → Type 0 };
+
     /// Watches a term that it does not watch yet, which must be one over the table's symbols. It takes the memory for literals of it, too.
     ///
-    /// `Memory` comes where memory ran out; then it watches what it did.
+    /// `Memory` comes where memory ran out, and `Strained` where a number of the term, or one made of it, leaves 128 bits; `Pivots` never
+    /// comes. After a stop it watches what it did.
     fn watch_term(&mut self, table: &TermTable, id: TermId) -> Result<(), Stop>
         requires term { IsTermIn table.now id }
         requires new { Contains (view self.old).watched id → ⊥ }
         requires with { goes_with self.old table.now }
         ensures with { goes_with self.new table.now }
         ensures watches { MatchResult result (λ _. view self.new ≡ with_watched (view self.old) id)
-            (λ _. view self.new ≡ view self.old) };
+            (λ _. view self.new ≡ view self.old) }
+        ensures stops { IfErr result (StopsBy
+            (strains self.new (terms_watched table.now (with_watched (view self.old) id))) (λ _. ⊥)) };
 
     /// Holds a literal more, of a term that it watches. It takes no memory.
     fn assume_lit(&mut self, lit: Lit)
@@ -62,8 +73,10 @@ pub trait Theory {
     /// Checks whether something is wrong with the literals that it holds.
     ///
     /// It may put terms into the table and steps into the log. These steps rest on each other alone, and their clauses are of terms
-    /// made of the watched ones. `Clash` names one of them, whose clause is false under the held literals. `Memory` comes where
-    /// memory ran out; then table and log are as they were. It spends nothing of the budget yet.
+    /// made of the watched ones. `Clash` names one of them, whose clause is false under the held literals. Of the budget it may spend
+    /// exchanges. `Memory` comes where memory ran out, `Strained` where a number leaves 128 bits, and `Pivots` where as many exchanges
+    /// are made as the budget's limit, which it says, and a further one is needed. After a stop table and log are as they were, and the
+    /// budget keeps the exchanges that were made.
     ///
     /// Conditions: with each watched term its arguments are watched.
     fn check(
@@ -77,11 +90,13 @@ pub trait Theory {
         requires log { IsLogOf table.old log.old }
         ensures with { goes_with self.new table.new }
         ensures same { view self.new ≡ view self.old }
-        ensures budget { budget.new ≡ budget.old }
+        ensures budget { Spends budget.old budget.new }
         ensures checks { Checks (agrees self.new (terms_watched table.old (view self.old)) (literals_held table.old (view self.old)))
             (refuses self.old (terms_watched table.old (view self.old)) (literals_held table.old (view self.old)))
             (view self.old) (record { table = table.old; log = log.old }) result
-            (record { table = table.new; log = log.new }) };
+            (record { table = table.new; log = log.new }) }
+        ensures stops { IfErr result (StopsBy (strains self.new (terms_watched table.old (view self.old)))
+            (AreSpent (needs_more self.new (terms_watched table.old (view self.old))) budget.new)) };
 
     /// Marks what it holds and watches.
     ///
