@@ -1,12 +1,14 @@
 //! Congruence closure as a theory.
 
-ghost use Rattle.std.specs.Prelude.{◌≡◌, ◌-◌, ◌≤◌, ◌++◌, ◌∷◌, [], true, length, get_or, take, MatchResult, IfOk, OnOk, OnErr, Ok};
+ghost use Rattle.std.specs.Prelude.{◌≡◌, ◌-◌, ◌≤◌, ◌++◌, ◌∷◌, [], true, length, get_or, take, Contains, MatchResult, IfOk, IfErr, OnOk, OnErr, Ok};
 ghost use Rattle.spec_congruence.specs.Congruence.{IsFine, IsRefuted};
 ghost use Rattle.term_core.specs.Tables.{TableView};
+ghost use Rattle.sat_budget.specs.declared.limits.Stop.TheVariants as stops;
+ghost use Rattle.sat_budget.specs.Budgets.{Spends, StopsBy, AreSpent};
 ghost use Rattle.proof_log.specs.declared.theory.Verdict.TheVariants.{Fine};
 ghost use Rattle.proof_log.specs.Logs.{IsLogOf};
 ghost use Rattle.proof_log.specs.Clashes.{IsClash};
-ghost use Rattle.proof_log.specs.Theories.{with_mark, gone_back, IsOver, terms_watched, literals_held, Derives, Checks};
+ghost use Rattle.proof_log.specs.Theories.{with_watched, with_mark, gone_back, IsTermIn, IsOver, terms_watched, literals_held, Derives, Checks};
 ghost use Rattle.congruence_relation.specs.Relation.{Facts, AreOf, terms_listed};
 ghost use Rattle.congruence_relation.specs.Edges.{IsConflict};
 ghost use Rattle.congruence.specs.Views.{theory_of};
@@ -66,7 +68,22 @@ impl Theory for Congruence {
 
     ghost refuses = { λ c ts ls. IsRefuted ts ls };
 
-    fn watch_term(&mut self, table: &TermTable, id: TermId) -> Result<(), Stop> {
+    ghost strains = { λ _ _ _. ⊥ };
+
+    ghost needs_more = { λ _ _. ⊥ };
+
+    /// Watches a term that it does not watch yet, which must be one over the table's symbols. `Memory` comes where memory ran out, the one
+    /// stop, as it computes with no numbers; then it watches what it did.
+    fn watch_term(&mut self, table: &TermTable, id: TermId) -> Result<(), Stop>
+        requires term { IsTermIn table.now id }
+        requires new { Contains (theory_of self.old).watched id → ⊥ }
+        requires with { AreOf table.now self.old.now.facts }
+        ensures with { AreOf table.now self.new.now.facts }
+        ensures watches { MatchResult result (λ _. theory_of self.new ≡ with_watched (theory_of self.old) id)
+            (λ _. theory_of self.new ≡ theory_of self.old) }
+        ensures stops { IfErr result (StopsBy (λ _. ⊥) (λ _. ⊥)) }
+        ensures memory { IfErr result (λ stop. stop ≡ stops.Memory) }
+    {
         self.closure.watch(id, table.node(id))?;
         Ok(())
     }
@@ -76,8 +93,8 @@ impl Theory for Congruence {
     }
 
     /// Checks the held literals: `Clash` comes exactly where their congruence joins `true` and `false`, or the sides of a held negated
-    /// equality. After `Fine` it is settled. It costs about the users of the classes that are renumbered, and, where there is a clash,
-    /// what `explain` costs.
+    /// equality. After `Fine` it is settled. `Memory` comes where memory ran out, the one stop. It costs about the users of the classes
+    /// that are renumbered, and, where there is a clash, what `explain` costs. It spends nothing of the budget.
     fn check(
         &mut self,
         table: &mut TermTable,
@@ -89,13 +106,16 @@ impl Theory for Congruence {
         requires log { IsLogOf table.old log.old }
         ensures with { AreOf table.new self.new.now.facts }
         ensures same { theory_of self.new ≡ theory_of self.old }
-        ensures budget { budget.new ≡ budget.old }
+        ensures budget { Spends budget.old budget.new }
+        ensures kept { budget.new ≡ budget.old }
         ensures settled { result ≡ Ok Fine → self.new.now.settled ≡ true }
         ensures checks { Checks (IsFine (terms_watched table.old (theory_of self.old)) (literals_held table.old (theory_of self.old))
             × (self.new.now.settled ≡ true))
             (IsRefuted (terms_watched table.old (theory_of self.old)) (literals_held table.old (theory_of self.old)))
             (theory_of self.old) (record { table = table.old; log = log.old }) result
             (record { table = table.new; log = log.new }) }
+        ensures stops { IfErr result (StopsBy (λ _. ⊥) (AreSpent ⊥ budget.new)) }
+        ensures memory { IfErr result (λ stop. stop ≡ stops.Memory) }
     {
         let _ = budget;
         facts_stay_over_more_terms();
