@@ -16,6 +16,7 @@ pub mod SearchConflicts
 pub mod SearchShows
 pub mod SearchBegins
 pub mod SearchRounds
+pub mod SearchSpends
 pub mod SearchLooks
 pub mod SearchTruths
 pub mod SearchChosen

@@ -11,7 +11,7 @@ use Rattle.term_core.specs.declared.ids.Lit.{Lit}
 use Rattle.spec_sorts.specs.Literals.{Literal}
 use Rattle.term_core.specs.Tables.{TableView, Extends, clause_at}
 use Rattle.term_core.proofs.TermsExtend.{clause_at-kept}
-use Rattle.sat_budget.specs.Budgets.{BudgetView}
+use Rattle.sat_budget.specs.Budgets.{BudgetView, Spends}
 use Rattle.proof_log.specs.Logs.{Logged, inference_of, derivation_in}
 use Rattle.proof_log.specs.Theories.{TheoryView, IsTermIn, IsOver, terms_watched, literals_held, Derives, Checks}
 use Rattle.proof_log.specs.declared.theory.Verdict.{Verdict}
@@ -25,6 +25,7 @@ use Rattle.solve_core.specs.Asking.{KeepsUp, IsAsked, state, HasLooked, Looks}
 use Rattle.solve_core.proofs.SearchLists.{lits_kept}
 use Rattle.solve_core.proofs.SearchReady.{ready_propagated, atom_in, all_of_atoms}
 use Rattle.solve_core.proofs.SearchRounds.{propagated, continues_same, continues_on}
+use Rattle.solve_core.proofs.SearchSpends.{spends_nothing, ready_spent, continues_spent}
 use Rattle.solve_core.proofs.SearchGrown.{ready_grown, continues_grown}
 use Rattle.solve_core.proofs.SearchTheories.{fed, keeps_propagated, keeps_fed}
 
@@ -47,7 +48,7 @@ module _ (t : TableView) (x : Search) (r : IsReady t x) (v : TheoryView) (asked 
     ready = ready_after;
     continues = continues_same t x after refl same.clauses refl adds.vars refl;
     asked = record { keeps = keeps_after; terms = asked.terms; fed = asked.fed };
-    budget = refl;
+    budget = spends_nothing x.budget;
     literals = more_literals;
   }
 
@@ -69,24 +70,29 @@ module _ (t : TableView) (x : Search) (r : IsReady t x) (v : TheoryView) (asked 
   }
 
   -- and checks it
-  module _ (u : TableView) (log : List Logged) (d : Derives (terms_watched t (fed v w.literals)) (record { table = t; log = x.log }) (record { table = u; log = log })) (kept : derivation_in u x.log ≡ derivation_in t x.log) where
+  module _ (u : TableView) (log : List Logged) (b : BudgetView) (spends : Spends x.budget b) (d : Derives (terms_watched t (fed v w.literals)) (record { table = t; log = x.log }) (record { table = u; log = log })) (kept : derivation_in u x.log ≡ derivation_in t x.log) where
     abbrev checked : Search
     checked = record after { log = log; fed = length w.literals }
+
+    abbrev spent : Search
+    spent = record checked { budget = b }
 
     lemmas : All (λ (l : Logged). IsLemma (clause_at t x.terms.items) (length x.log) (inference_of u l)) d.more
     lemmas = subst (λ (ids : List TermId). All (λ (l : Logged). IsLemma (clause_at t ids) (length x.log) (inference_of u l)) d.more) asked.terms d.lemmas
 
-    pub looked_checked : HasLooked (state t x) (state u checked) (fed v w.literals)
+    pub looked_checked : HasLooked (state t x) (state u spent) (fed v w.literals)
     looked_checked = record {
-      ready = ready_grown t u d.table d.declared after (length w.literals) log d.more d.log d.right kept ready_after;
-      continues = continues_on t t u x after checked looked_after.continues (continues_grown t u d.table d.declared after (length w.literals) log d.more d.log d.right kept ready_after lemmas);
+      ready = ready_spent u checked b spends (ready_grown t u d.table d.declared after (length w.literals) log d.more d.log d.right kept ready_after);
+      continues = continues_on t u u x checked spent
+          (continues_on t t u x after checked looked_after.continues (continues_grown t u d.table d.declared after (length w.literals) log d.more d.log d.right kept ready_after lemmas))
+          (continues_spent u checked b spends);
       asked = record { keeps = keeps_fed v w keeps_after; terms = asked.terms; fed = refl };
-      budget = refl;
+      budget = spends;
       literals = more_literals;
     }
 
   -- so what the theory answers is what the look does
-  module _ (u : TableView) (log : List Logged) (b : BudgetView) (same_budget : b ≡ x.budget) (kept : Extends t u → derivation_in u x.log ≡ derivation_in t x.log)
+  module _ (u : TableView) (log : List Logged) (b : BudgetView) (spends : Spends x.budget b) (kept : Extends t u → derivation_in u x.log ≡ derivation_in t x.log)
       (agrees : List Term → List Literal → Type 0) (refuses : Type 0) (quiet : IsQuiet x.store.clauses w.literals) (n : ℕ) (all : n ≡ length w.literals) (v2 : TheoryView) (held : v2 ≡ fed v w.literals) where
     abbrev Checked : Verdict → Type 0
     Checked verdict = Checks (agrees (terms_watched t (fed v w.literals)) (literals_held t (fed v w.literals))) refuses (fed v w.literals) (record { table = t; log = x.log }) (Ok verdict) (record { table = u; log = log })
@@ -100,18 +106,17 @@ module _ (t : TableView) (x : Search) (r : IsReady t x) (v : TheoryView) (asked 
     literals_same : Extends t u → literals_held u (fed v w.literals) ≡ literals_held t (fed v w.literals)
     literals_same g = lits_kept t u g w.literals (λ k e lt. (is_over.atoms k e lt).0.0)
 
-    -- over the theory and the budget as they are now
-    over_now : (verdict : Verdict) → Looks (state t x) (state u (record after { log = log; fed = length w.literals })) (fed v w.literals) (agrees (terms_watched u (fed v w.literals)) (literals_held u (fed v w.literals))) verdict → Looked verdict
+    -- over the theory as it is now
+    over_now : (verdict : Verdict) → Looks (state t x) (state u (record after { log = log; fed = length w.literals; budget = b })) (fed v w.literals) (agrees (terms_watched u (fed v w.literals)) (literals_held u (fed v w.literals))) verdict → Looked verdict
     over_now verdict h = subst (λ (k : ℕ). Looks (state t x) (state u (record after { log = log; fed = k; budget = b })) v2 (agrees (terms_watched u v2) (literals_held u v2)) verdict) (sym all)
-        (subst (λ (y : BudgetView). Looks (state t x) (state u (record after { log = log; fed = length w.literals; budget = y })) v2 (agrees (terms_watched u v2) (literals_held u v2)) verdict) (sym same_budget)
-        (subst (λ (z : TheoryView). Looks (state t x) (state u (record after { log = log; fed = length w.literals })) z (agrees (terms_watched u z) (literals_held u z)) verdict) (sym held) h))
+        (subst (λ (z : TheoryView). Looks (state t x) (state u (record after { log = log; fed = length w.literals; budget = b })) z (agrees (terms_watched u z) (literals_held u z)) verdict) (sym held) h)
 
     pub looks : (verdict : Verdict) → Checked verdict → Looked verdict
     looks Fine h = over_now Fine (
-      looked_checked u log h.1 (kept h.1.table),
+      looked_checked u log b spends h.1 (kept h.1.table),
       subst (λ (cs : List (List Lit)). IsQuiet cs w.literals) (sym same.clauses) quiet,
       refl,
       subst (λ (ls : List Literal). agrees (terms_watched u (fed v w.literals)) ls) (sym (literals_same h.1.table))
           (subst (λ (ts : List Term). agrees ts (literals_held t (fed v w.literals))) (sym (terms_same h.1.table)) h.0),
     )
-    looks (Clash step) h = over_now (Clash step) (looked_checked u log h.1 (kept h.1.table), h.2)
+    looks (Clash step) h = over_now (Clash step) (looked_checked u log b spends h.1 (kept h.1.table), h.2)

@@ -1,6 +1,7 @@
 -- How a theory keeps up with a search, and what a search shows that rests. Source: Nieuwenhuis, Oliveras and Tinelli, Solving SAT and SAT modulo theories, JACM 2006.
 use Rattle.std.specs.Prelude.{◌≡◌, ◌+◌, ◌<◌, ◌≤◌, ℕ, suc, length, take, get_or, All, Option, Some, None}
 use Rattle.term_core.specs.Tables.{TableView}
+use Rattle.sat_budget.specs.Budgets.{Spends}
 use Rattle.proof_log.specs.declared.theory.Verdict.{Verdict}
 use Rattle.proof_log.specs.declared.theory.Verdict.TheVariants.{Fine, Clash}
 use Rattle.proof_log.specs.Clashes.{IsClash}
@@ -76,8 +77,8 @@ pub record HasLooked (old new : State) (v : TheoryView) : Type 0 where
   pub continues : Continues old.table new.table old.search new.search
   -- the theory keeps up
   pub asked : IsAsked v new.search
-  -- nothing was learned
-  pub budget : new.search.budget ≡ old.search.budget
+  -- nothing was learned, and the theory may have made exchanges
+  pub budget : Spends old.search.budget new.search.budget
   -- no literal was taken back
   pub literals : length old.search.trail.literals ≤ length new.search.trail.literals
 

@@ -60,8 +60,15 @@ impl Search {
         logs_stand_in_grown_tables();
         let truths = truth_values(self.alloc, table)?;
         let mut theory = Congruence::new(self.alloc, table, truths)?;
-        watch_all(&mut theory, table, &self.terms)?;
-        match self.run(table, &mut theory)? {
+        // This theory stops for memory alone, as it computes with no numbers.
+        let Ok(()) = watch_all(&mut theory, table, &self.terms) else {
+            return Err(NoMemory);
+        };
+        // So it does in a check.
+        let Ok(end) = self.run(table, &mut theory) else {
+            return Err(NoMemory);
+        };
+        match end {
             End::Rests => {
                 let model = self.model(table, &theory)?;
                 Ok(Answer::Sat(model))

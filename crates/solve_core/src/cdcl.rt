@@ -1,8 +1,9 @@
 //! The search loop: propagate, ask the theory, decide, learn, go back. Source: Marques Silva and Sakallah 1999; Nieuwenhuis, Oliveras
 //! and Tinelli, JACM 2006, for the theory.
 
-ghost use Rattle.std.specs.Prelude.{◌≡◌, IfOk};
+ghost use Rattle.std.specs.Prelude.{◌≡◌, IfOk, IfErr};
 ghost use Rattle.term_core.specs.Tables.{declared_in, Extends};
+ghost use Rattle.sat_budget.specs.Budgets.{StopsBy, AreSpent};
 ghost use Rattle.proof_log.specs.Logs.{IsLogOf};
 ghost use Rattle.proof_log.specs.Theories.{terms_watched, literals_held};
 ghost use Rattle.solve_core.specs.Search.{IsReady};
@@ -11,10 +12,9 @@ ghost use Rattle.solve_core.specs.Asking.{IsAsked, HasRested, state, Ends};
 use crate::search::Search;
 use clause_store::laws::{reasons_stay_right, what_is_marked_was_seen};
 use proof_log::{StepId, Theory, Verdict};
-use sat_budget::Reason;
+use sat_budget::{Reason, Stop};
 use term_core::TermTable;
 use term_walks::Interp;
-use world_io::NoMemory;
 
 /// What a check is answered, with the evidence for it.
 #[derive(Drop)]
@@ -43,11 +43,13 @@ impl Search {
     ///
     /// Each round assigns an atom more, or learns a clause and takes one from the budget. The theory is asked wherever propagation is
     /// quiet. A clash that it finds is a step of the log, as one of the clauses is; its clause is not kept.
+    ///
+    /// `Memory` comes where memory ran out, here or in the theory. The other stops are those of the theory's check.
     pub(crate) fn run<T: Theory>(
         &mut self,
         table: &mut TermTable,
         theory: &mut T,
-    ) -> Result<End, NoMemory>
+    ) -> Result<End, Stop>
         requires ready { IsReady table.old self.old }
         requires asked { IsAsked (T.view theory.old) self.old }
         requires with { T.goes_with theory.old table.old }
@@ -59,6 +61,8 @@ impl Search {
         ensures ends { IfOk result (Ends (state table.old self.old) (state table.new self.new)
             (HasRested table.new self.new (T.view theory.new) (T.agrees theory.new
             (terms_watched table.new (T.view theory.new)) (literals_held table.new (T.view theory.new))))) }
+        ensures stops { IfErr result (StopsBy (T.strains theory.new (terms_watched table.new (T.view theory.new)))
+            (AreSpent (T.needs_more theory.new (terms_watched table.new (T.view theory.new))) self.new.budget)) }
     {
         what_is_marked_was_seen();
         reasons_stay_right();

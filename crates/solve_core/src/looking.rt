@@ -1,7 +1,8 @@
 //! What follows from the literals that hold, and whether something is wrong with them.
 
-ghost use Rattle.std.specs.Prelude.{◌≡◌, IfOk};
+ghost use Rattle.std.specs.Prelude.{◌≡◌, IfOk, IfErr};
 ghost use Rattle.term_core.specs.Tables.{declared_in, Extends};
+ghost use Rattle.sat_budget.specs.Budgets.{StopsBy, AreSpent};
 ghost use Rattle.proof_log.specs.Theories.{terms_watched, literals_held};
 ghost use Rattle.solve_core.specs.Search.{IsReady};
 ghost use Rattle.solve_core.specs.Asking.{IsAsked, state, Looks};
@@ -14,16 +15,18 @@ use proof_log::laws::logs_stand_in_grown_tables;
 use proof_log::{Theory, Verdict};
 use sat_budget::Stop;
 use term_core::TermTable;
-use world_io::NoMemory;
 
 impl Search {
     /// Propagates, lets the theory hold what the trail holds, and lets it check that: `Clash` comes where a clause of the store is false,
     /// and else where the theory finds that something is wrong.
+    ///
+    /// `Memory` comes where memory ran out, here or in the theory. The other stops are the theory's; then the budget keeps the exchanges
+    /// that it made.
     pub(crate) fn look<T: Theory>(
         &mut self,
         table: &mut TermTable,
         theory: &mut T,
-    ) -> Result<Verdict, NoMemory>
+    ) -> Result<Verdict, Stop>
         requires ready { IsReady table.old self.old }
         requires asked { IsAsked (T.view theory.old) self.old }
         requires with { T.goes_with theory.old table.old }
@@ -32,6 +35,8 @@ impl Search {
         ensures with { IfOk result (λ _. T.goes_with theory.new table.new) }
         ensures looks { IfOk result (Looks (state table.old self.old) (state table.new self.new) (T.view theory.new)
             (T.agrees theory.new (terms_watched table.new (T.view theory.new)) (literals_held table.new (T.view theory.new)))) }
+        ensures stops { IfErr result (StopsBy (T.strains theory.new (terms_watched table.new (T.view theory.new)))
+            (AreSpent (T.needs_more theory.new (terms_watched table.new (T.view theory.new))) self.new.budget)) }
     {
         what_is_marked_was_seen();
         reasons_stay_right();
@@ -43,9 +48,7 @@ impl Search {
         }
         feed(theory, &self.trail, self.fed);
         self.fed = self.trail.len();
-        match theory.check(table, &mut self.log, &mut self.budget) {
-            Ok(verdict) => Ok(verdict),
-            Err(Stop::Memory) => Err(NoMemory),
-        }
+        let verdict = theory.check(table, &mut self.log, &mut self.budget)?;
+        Ok(verdict)
     }
 }

@@ -16,14 +16,14 @@ use std::alloc::Global;
 use term_core::{TermId, TermTable};
 use world_io::NoMemory;
 
-/// A check's answer, with the log of its steps, and the budget: its limits and what was learned.
+/// A check's answer, with the log of its steps, and the budget: its limits, what was learned and what was exchanged.
 #[derive(Drop)]
 pub struct Outcome {
     /// The answer.
     pub answer: Answer,
     /// The clauses of the terms, what was learned, and how they are derived.
     pub log: ProofLog,
-    /// The clauses that were learned, and how many might have been.
+    /// The clauses that were learned and the exchanges that were made, and how many might have been.
     pub budget: Budget,
 }
 

@@ -28,7 +28,7 @@ pub(crate) struct Search {
     pub(crate) decider: Decider,
     /// When it begins again from level 0.
     pub(crate) restarts: Restarts,
-    /// The clauses that were learned, and how many may be.
+    /// The clauses that were learned and the exchanges that were made, and how many may be.
     pub(crate) budget: Budget,
     /// How many of the oldest literals that hold the theory holds.
     pub(crate) fed: u64,

@@ -35,12 +35,14 @@ impl Model for Solver {
 }
 
 impl Solver {
-    /// Makes a solver that has decided nothing: its log is empty, and its budget has the limit and no clause.
+    /// Makes a solver that has decided nothing: its log is empty, and its budget has the limits, no clause and no exchange.
     ///
     /// `NoMemory` never comes, as empty lists take no memory.
     pub fn new(alloc: Global, limits: &Limits) -> Result<Solver, NoMemory>
-        ensures { MatchResult result
-            (λ s. s ≡ record { log = []; budget = record { limit = limits.now.conflicts; learned = [] } }) (λ _. ⊥) }
+        ensures { MatchResult result (λ s. s ≡ record {
+          log = [];
+          budget = record { limit = limits.now.conflicts; learned = []; pivots = limits.now.pivots; exchanges = [] };
+        }) (λ _. ⊥) }
     {
         let budget = Budget::new(alloc, limits)?;
         Ok(Solver {
@@ -87,7 +89,7 @@ impl Solver {
         &self.log
     }
 
-    /// Lends the budget of the last decision, with what was learned. It takes no memory.
+    /// Lends the budget of the last decision, with what was learned and exchanged. It takes no memory.
     pub fn budget(&self) -> &Budget
         ensures { result.now ≡ self.now.budget }
     {

@@ -1,8 +1,9 @@
 //! What a theory watches.
 
-ghost use Rattle.std.specs.Prelude.{◌≡◌, ◌<◌, [], ℕ, length, get_or, All, IfOk, OnOk};
+ghost use Rattle.std.specs.Prelude.{◌≡◌, ◌+◌, ◌<◌, [], ℕ, length, get_or, take, All, IfOk, IfErr, OnOk};
 ghost use Rattle.spec_sorts.specs.Terms.{True, False, of};
-ghost use Rattle.term_core.specs.Tables.{declared_in, Extends, IsIn, term_at};
+ghost use Rattle.term_core.specs.Tables.{declared_in, Extends, IsIn, clause_at, term_at};
+ghost use Rattle.sat_budget.specs.Budgets.{StopsBy};
 ghost use Rattle.proof_log.specs.Theories.{IsTermIn};
 ghost use Rattle.clausify.specs.SearchTerms.{no_id};
 
@@ -32,12 +33,12 @@ pub(crate) fn truth_values(alloc: Global, table: &mut TermTable) -> Result<Truth
 
 /// Lets a theory that watches nothing watch these terms.
 ///
-/// Where memory runs out, it watches some of them.
+/// After a stop, which is out of memory or the theory's at one of them, it watches those before.
 pub(crate) fn watch_all<T: Theory>(
     theory: &mut T,
     table: &TermTable,
     terms: &[TermId],
-) -> Result<(), NoMemory>
+) -> Result<(), Stop>
     requires terms { All (IsTermIn table.now) terms.now }
     requires rising { (i j : ℕ) → i < j → j < length terms.now → (get_or terms.now i no_id).0 < (get_or terms.now j no_id).0 }
     requires none { (T.view theory.old).watched ≡ [] }
@@ -48,12 +49,11 @@ pub(crate) fn watch_all<T: Theory>(
       watched = terms.now;
       marks = (T.view theory.old).marks;
     }) }
+    ensures stops { IfErr result (λ stop. (k : ℕ) × (k < length terms.now)
+        × StopsBy (T.strains theory.new (clause_at table.now (take (k + 1) terms.now))) (λ _. ⊥) stop) }
 {
     'terms: for id in terms.iter() {
-        match theory.watch_term(table, *id) {
-            Ok(()) => {}
-            Err(Stop::Memory) => return Err(NoMemory),
-        }
+        theory.watch_term(table, *id)?;
     }
     Ok(())
 }

@@ -29,8 +29,8 @@ run-requires-clause-ready c =
     let r = c.requires.begins.2.ready in
     ready_wider t u e.grown e.declared x (c.logs_stand_in_grown_tables.ensures.right t u x.log r.right e.grown) (c.logs_stand_in_grown_tables.ensures.same t u x.log r.right e.grown) r
 
-pub returns-in_err-run-clause-grown : goal.returns-in_err-run-clause-grown
-returns-in_err-run-clause-grown c = Extends-trans c.args.table.now c.truth_values.new.table c.run.new.table c.truth_values.ensures.grown c.run.ensures.grown
+pub returns-in_default-run-clause-grown : goal.returns-in_default-run-clause-grown
+returns-in_default-run-clause-grown c = Extends-trans c.args.table.now c.truth_values.new.table c.run.new.table c.truth_values.ensures.grown c.run.ensures.grown
 
 pub returns-in_err-model-in-Rests-clause-grown : goal.returns-in_err-model-in-Rests-clause-grown
 returns-in_err-model-in-Rests-clause-grown c = Extends-trans c.args.table.now c.truth_values.new.table c.run.new.table c.truth_values.ensures.grown c.run.ensures.grown
@@ -55,7 +55,7 @@ returns-in-Rests-clause-shows c =
     let r = c.requires.begins.2.ready in
     let laws = c.logs_stand_in_grown_tables.ensures in
     let wider = continues_wider t u e.grown e.declared x (laws.right t u x.log r.right e.grown) (laws.same t u x.log r.right e.grown) r in
-    let ends = rw c.in-Rests.is at c.in_ok-run.ensures.ends in
+    let ends = rw c.in-Rests.is at (rw c.in-Ok-run.is at c.run.ensures.ends) in
     shows_on t w w x y y (Sat c.in_ok-model-in-Rests.model) (continues_on t u w x x y wider ends.1) c.in_ok-model-in-Rests.ensures
 
 pub returns-in-Refuted-clause-shows : goal.returns-in-Refuted-clause-shows
@@ -67,7 +67,7 @@ returns-in-Refuted-clause-shows c =
     let r = c.requires.begins.2.ready in
     let laws = c.logs_stand_in_grown_tables.ensures in
     let wider = continues_wider t u e.grown e.declared x (laws.right t u x.log r.right e.grown) (laws.same t u x.log r.right e.grown) r in
-    shows_on t u c.run.new.table x x c.run.new.self (Unsat c.in-Refuted.step) wider (rw c.in-Refuted.is at c.in_ok-run.ensures.ends)
+    shows_on t u c.run.new.table x x c.run.new.self (Unsat c.in-Refuted.step) wider (rw c.in-Refuted.is at (rw c.in-Ok-run.is at c.run.ensures.ends))
 
 pub returns-clause-shows : goal.returns-clause-shows
 returns-clause-shows c =
@@ -78,4 +78,4 @@ returns-clause-shows c =
     let r = c.requires.begins.2.ready in
     let laws = c.logs_stand_in_grown_tables.ensures in
     let wider = continues_wider t u e.grown e.declared x (laws.right t u x.log r.right e.grown) (laws.same t u x.log r.right e.grown) r in
-    shows_on t u c.run.new.table x x c.run.new.self (Unknown c.in-Stopped.reason) wider (rw c.in-Stopped.is at c.in_ok-run.ensures.ends)
+    shows_on t u c.run.new.table x x c.run.new.self (Unknown c.in-Stopped.reason) wider (rw c.in-Stopped.is at (rw c.in-Ok-run.is at c.run.ensures.ends))

@@ -1,12 +1,17 @@
 -- That propagation and the theory's check leave all as it should be.
+use Rattle.std.specs.Prelude.{Ok}
 use Rattle.std.proofs.Common.{◌∙◌, List, sym, ap, subst}
 use Rattle.spec_sorts.specs.Terms.{Term}
 use Rattle.spec_sorts.specs.Literals.{Literal}
 use Rattle.term_core.specs.Tables.{TableView, Extends}
 use Rattle.term_core.proofs.TermsExtend.{Extends-self}
+use Rattle.sat_budget.specs.declared.limits.Stop.{Stop}
+use Rattle.sat_budget.specs.declared.limits.Strain.{Strain}
+use Rattle.sat_budget.specs.Budgets.{StopsBy, AreSpent}
 use Rattle.proof_log.specs.Theories.{TheoryView, Derived, IsOver, terms_watched, literals_held, Checks}
 use Rattle.solve_core.proofs.SearchReasons.{clash_is}
 use Rattle.solve_core.proofs.SearchTheories.{fed}
+use Rattle.solve_core.proofs.SearchSpends.{handed_on}
 use Rattle.solve_core.proofs.SearchLooks.{looked_after, fed_within, front_held, watches_held, is_over, looks}
 use Rattle.solve_core.proofs.search.Search.look.Goals as goal
 
@@ -60,8 +65,8 @@ check-requires-clause-over g c =
     (is_over c.args.table.now x c.requires.ready (g.T.Theory.view c.args.theory.now) c.requires.asked c.is_sound.ensures.leveled.levels_paired c.propagate.new.self c.propagate.new.trail p.same p.seen
     (c.reasons_stay_right.ensures.propagated x.store x.trail c.propagate.new.trail c.requires.ready.implied p.adds) p.adds)
 
-pub returns-in-Ok-clause-looks : goal.returns-in-Ok-clause-looks
-returns-in-Ok-clause-looks g c =
+pub returns-clause-looks : goal.returns-clause-looks
+returns-clause-looks g c =
     let t = c.args.table.now in
     let x = c.args.self.now in
     let v = g.T.Theory.view c.args.theory.now in
@@ -75,13 +80,23 @@ returns-in-Ok-clause-looks g c =
     let agrees : List Term → List Literal → Type 0 = g.T.Theory.agrees c.check.new.self in
     let refuses : List Term → List Literal → Type 0 = g.T.Theory.refuses c.feed.new.theory in
     let implied = c.reasons_stay_right.ensures.propagated x.store x.trail w r.implied p.adds in
-    let checks = subst (λ (z : TheoryView). Checks (agrees (terms_watched t z) (literals_held t z)) (refuses (terms_watched t z) (literals_held t z)) z (record { table = t; log = x.log }) c.check.result (record { table = u; log = log }))
-    c.feed.ensures.holds c.check.ensures.checks in
+    let checks = subst (λ (z : TheoryView). Checks (agrees (terms_watched t z) (literals_held t z)) (refuses (terms_watched t z) (literals_held t z)) z (record { table = t; log = x.log }) (Ok c.in_ok-verdict.verdict) (record { table = u; log = log }))
+    c.feed.ensures.holds c.in_ok-verdict.ensures.checks in
     looks t x r v c.requires.asked c.is_sound.ensures.leveled.levels_paired s w p.same p.seen implied p.adds u log c.check.new.budget c.check.ensures.budget
     (λ grown. c.logs_stand_in_grown_tables.ensures.same t u x.log r.right grown) agrees (refuses (terms_watched t (fed v w.literals)) (literals_held t (fed v w.literals))) ends c.len-self.result c.len-self.ensures
-    (g.T.Theory.view c.check.new.self) (c.check.ensures.same ∙ c.feed.ensures.holds) c.in-Ok.verdict (rw c.in-Ok.is at checks)
+    (g.T.Theory.view c.check.new.self) (c.check.ensures.same ∙ c.feed.ensures.holds) c.in_ok-verdict.verdict checks
 
-pub returns-in-Err-Memory-clause-grown : goal.returns-in-Err-Memory-clause-grown
-returns-in-Err-Memory-clause-grown g c =
-    let same = rw c.in-Err-Memory.is at c.check.ensures.checks in
-    subst (λ (u : TableView). Extends c.args.table.now u) (sym (ap (λ (d : Derived). d.table) same)) (Extends-self c.args.table.now)
+pub returns-in_err-verdict-clause-grown : goal.returns-in_err-verdict-clause-grown
+returns-in_err-verdict-clause-grown g c =
+    subst (λ (u : TableView). Extends c.args.table.now u) (sym (ap (λ (d : Derived). d.table) c.in_err-verdict.ensures.checks)) (Extends-self c.args.table.now)
+
+pub returns-in_err-verdict-clause-stops : goal.returns-in_err-verdict-clause-stops
+returns-in_err-verdict-clause-stops g c =
+    let b = c.check.new.budget in
+    let strains : List Term → Strain → Type 0 = g.T.Theory.strains c.check.new.self in
+    let needs_more : List Term → Type 0 = g.T.Theory.needs_more c.check.new.self in
+    let shown : TableView → TheoryView → Stop → Type 0 = λ u v stop. StopsBy (strains (terms_watched u v)) (AreSpent (needs_more (terms_watched u v)) b) stop in
+    let stop = c.in_err-verdict.field-0.0 in
+    handed_on (shown c.check.new.table (g.T.Theory.view c.check.new.self)) c.from_residual-in_err-verdict.result stop c.from_residual-in_err-verdict.ensures.1
+    (subst (λ (v : TheoryView). shown c.check.new.table v stop) (sym c.check.ensures.same)
+    (subst (λ (u : TableView). shown u (g.T.Theory.view c.feed.new.theory) stop) (sym (ap (λ (d : Derived). d.table) c.in_err-verdict.ensures.checks)) c.in_err-verdict.ensures.stops))

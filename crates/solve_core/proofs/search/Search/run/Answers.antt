@@ -75,7 +75,7 @@ rounds-smaller-in-Fine g c =
     let l = looks.0 in
     let pushed = c.decide.ensures in
     let w = c.decide.new.self in
-    let b = l.budget in
+    let b = l.budget.1 in
     let more : length x.trail.literals < length w.literals = omega (arith, l.literals, ap length pushed.literals, length-append y.trail.literals (c.in-Some.l ∷ [])) in
     rw b (less_assigned (x.budget.limit - length x.budget.learned) x.trail.vars w.vars (length x.trail.literals) (length w.literals) (pushed.vars ∙ l.continues.vars) more c.is_sound-in-Fine.ensures.within)
 
@@ -117,6 +117,6 @@ rounds-smaller g c =
     let settles = rw c.in_default-2.is at c.in_ok-end-in-Clash.ensures.settles in
     let l = settles.0 in
     let size : z.trail.vars ≡ x.trail.vars = l.continues.vars ∙ looks.0.continues.vars in
-    let b = looks.0.budget in
+    let b = looks.0.budget.1 in
     less_learned x.budget.limit z.budget.limit x.trail.vars z.trail.vars (length x.budget.learned) (length z.budget.learned) (x.trail.vars - length x.trail.literals) (z.trail.vars - length z.trail.literals)
     (l.continues.limit ∙ looks.0.continues.limit) size (subst (λ (y : BudgetView). length y.learned < y.limit) b settles.2) (l.learned ∙ ap (λ (y : BudgetView). length y.learned + 1) b) (omega (arith, size))

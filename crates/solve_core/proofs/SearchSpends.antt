@@ -1,0 +1,59 @@
+-- That a search is the same where a theory made exchanges of its budget, and what is shown of a theory's stop.
+use Rattle.std.specs.Prelude.{◌≡◌, Result, Ok, Err, IfErr, IsErrAnd}
+use Rattle.std.proofs.Common.{ℕ, List, [], refl, sym, ap, subst}
+use Rattle.std.proofs.lemmas.List.{append-nil}
+use Rattle.term_core.specs.declared.ids.Lit.{Lit}
+use Rattle.term_core.specs.Tables.{TableView}
+use Rattle.term_core.proofs.TermsExtend.{Extends-self}
+use Rattle.sat_budget.specs.declared.limits.Stop.{Stop}
+use Rattle.sat_budget.specs.Budgets.{BudgetView, Spends}
+use Rattle.proof_log.specs.Logs.{derivation_in}
+use Rattle.solve_core.specs.declared.search.Search.{Search}
+use Rattle.solve_core.specs.Search.{images, AreAllOf, IsReady}
+use Rattle.solve_core.specs.Rounds.{HasDerived, Continues}
+
+-- where none were made
+pub spends_nothing : (b : BudgetView) → Spends b b
+spends_nothing b = ([], ap (λ (xs : List (ℕ × ℕ)). record b { exchanges = xs }) (sym (append-nil b.exchanges)))
+
+module _ (t : TableView) (x : Search) (b : BudgetView) (spends : Spends x.budget b) where
+  -- it fits together
+  pub ready_spent : IsReady t x → IsReady t (record x { budget = b })
+  ready_spent r = record {
+    right = r.right;
+    derives = r.derives;
+    known = r.known;
+    seen = r.seen;
+    implied = r.implied;
+    decided = r.decided;
+    atoms_are = r.atoms_are;
+    variables = r.variables;
+    covered = r.covered;
+    waiting = r.waiting;
+    sized = r.sized;
+    learned = subst (AreAllOf t) (sym (ap (λ (y : BudgetView). y.learned) spends.1)) r.learned;
+  }
+
+  -- and is for the same terms
+  pub continues_spent : Continues t t x (record x { budget = b })
+  continues_spent = record {
+    table = Extends-self t;
+    declared = refl;
+    limit = ap (λ (y : BudgetView). y.limit) spends.1;
+    vars = refl;
+    terms = refl;
+    search = λ problem s. record {
+      roots = s.roots;
+      roots_in = s.roots_in;
+      reached = s.reached;
+      meant = s.meant;
+      listed = s.listed;
+      derived = subst (λ (ls : List (List Lit)). HasDerived problem (derivation_in t x.log) (images t x.store.clauses) (images t ls))
+          (sym (ap (λ (y : BudgetView). y.learned) spends.1)) s.derived;
+    };
+  }
+
+-- what is shown of a stop is shown of a result that hands it on
+pub handed_on : {A : Type 0} (P : Stop → Type 0) (r : Result A Stop) (e : Stop) → IsErrAnd r (λ s. s ≡ e) → P e → IfErr r P
+handed_on P (Ok x) e is h = absurd is
+handed_on P (Err s) e is h = subst P (sym is) h
