@@ -26,7 +26,7 @@ pub sum_flattened : {A V : Type 0} (s : Space A V) → IsSpace s → (v : ℕ �
 sum_flattened s l v rs es [] h = sym (l.plus_origin _)
 sum_flattened s l v rs es (f ∷ fs) h = sum_flattened s l v rs (with_flattened s.numbers rs es f) fs h ∙ ap (s.plus (sum_of s v fs)) (sum_with_flattened s l v rs es f h) ∙ three s l _ _ _ ∙ sym (l.plus_associative _ _ _)
 
-solves_more : {A V : Type 0} (s : Space A V) (v : ℕ → V) (rs : List (Row A)) (r : Row A) → Solves s v (rs ++ r ∷ []) ↔ (Solves s v rs × Holds s v r)
+pub solves_more : {A V : Type 0} (s : Space A V) (v : ℕ → V) (rs : List (Row A)) (r : Row A) → Solves s v (rs ++ r ∷ []) ↔ (Solves s v rs × Holds s v r)
 solves_more s v [] r = (λ h. (tt, h.0), λ h. (h.1, tt))
 solves_more s v (q ∷ rs) r = let g = solves_more s v rs r in (λ h. let k = g.0 h.1 in ((h.0, k.0), k.1), λ h. (h.0.0, g.1 (h.0.1, h.1)))
 
@@ -45,7 +45,7 @@ over_plus : {A V : Type 0} (s : Space A V) (p : ℕ → Type 0) (k : A) (es gs :
 over_plus s p k es [] t u = t
 over_plus s p k es (g ∷ gs) t u = over_put s p g.variable (s.numbers.times k g.coefficient) (plus_times s.numbers es k gs) u.0 (over_plus s p k es gs t u.1)
 
-tidy_flattened : {A V : Type 0} (s : Space A V) (rs : List (Row A)) (es gs : List (Entry A)) → IsTidy s.numbers 0 es → IsTidy s.numbers 0 (flattened s.numbers rs es gs)
+pub tidy_flattened : {A V : Type 0} (s : Space A V) (rs : List (Row A)) (es gs : List (Entry A)) → IsTidy s.numbers 0 es → IsTidy s.numbers 0 (flattened s.numbers rs es gs)
 tidy_flattened s rs es [] t = t
 tidy_flattened s rs es (g ∷ gs) t = tidy_flattened s rs (with_flattened s.numbers rs es g) gs (by (is_basic g.variable rs))
   where
@@ -54,7 +54,7 @@ tidy_flattened s rs es (g ∷ gs) t = tidy_flattened s rs (with_flattened s.numb
     by false = tidy_put s 0 g.variable g.coefficient es (omega arith) t
 
 -- p holds of the variables of the rows, and of those that are added as they are
-over_flattened : {A V : Type 0} (s : Space A V) (p : ℕ → Type 0) (rs : List (Row A)) (es gs : List (Entry A)) → AreOver p rs → IsOver (λ y. IsNonbasic rs y → p y) gs → IsOver p es → IsOver p (flattened s.numbers rs es gs)
+pub over_flattened : {A V : Type 0} (s : Space A V) (p : ℕ → Type 0) (rs : List (Row A)) (es gs : List (Entry A)) → AreOver p rs → IsOver (λ y. IsNonbasic rs y → p y) gs → IsOver p es → IsOver p (flattened s.numbers rs es gs)
 over_flattened s p rs es [] o h t = t
 over_flattened s p rs es (g ∷ gs) o h t = over_flattened s p rs (with_flattened s.numbers rs es g) gs o h.1 (by (is_basic g.variable rs) refl)
   where
@@ -62,7 +62,7 @@ over_flattened s p rs es (g ∷ gs) o h t = over_flattened s p rs (with_flattene
     by true e = over_plus s p g.coefficient es (row_of g.variable rs).entries t (over_row p g.variable rs o)
     by false e = over_put s p g.variable g.coefficient es (h.0 e) t
 
-nonbasic_more : {A : Type 0} (y : ℕ) (rs : List (Row A)) (r : Row A) → is_basic y rs ≡ false → (r.basic == y) ≡ false → is_basic y (rs ++ r ∷ []) ≡ false
+pub nonbasic_more : {A : Type 0} (y : ℕ) (rs : List (Row A)) (r : Row A) → is_basic y rs ≡ false → (r.basic == y) ≡ false → is_basic y (rs ++ r ∷ []) ≡ false
 nonbasic_more y [] r h k = or_none _ _ k refl
 nonbasic_more y (q ∷ rs) r h k = let g = or_parts (q.basic == y) _ h in or_none _ _ g.0 (nonbasic_more y rs r g.1 k)
 
@@ -76,7 +76,7 @@ tidy_more : {A V : Type 0} (s : Space A V) (rs : List (Row A)) (r : Row A) → A
 tidy_more s [] r t h = (h, tt)
 tidy_more s (q ∷ rs) r t h = (t.0, tidy_more s rs r t.1 h)
 
-over_rows : {A : Type 0} (p q : ℕ → Type 0) (rs : List (Row A)) (r : Row A) → ((y : ℕ) → p y → q y) → AreOver p rs → IsOver p r.entries → AreOver q (rs ++ r ∷ [])
+pub over_rows : {A : Type 0} (p q : ℕ → Type 0) (rs : List (Row A)) (r : Row A) → ((y : ℕ) → p y → q y) → AreOver p rs → IsOver p r.entries → AreOver q (rs ++ r ∷ [])
 over_rows p q [] r w o h = (over_more p q r.entries w h, tt)
 over_rows p q (a ∷ rs) r w o h = (over_more p q a.entries w o.0, over_rows p q rs r w o.1 h)
 

@@ -11,6 +11,7 @@ pub mod Steps
 pub mod Explanations
 pub mod Unique
 pub mod Growing
+pub mod PairSolutions
 pub mod Settling
 pub mod Returns
 pub mod Ends

@@ -44,7 +44,7 @@ not_negative_test : (z : ℤ) → pos 0 ≤ℤ z → int_lt z (pos 0) ≡ false
 not_negative_test z h = grind (arith, nat_tests)
 
 -- a fraction is less than 0 where its numerator is
-beside_zero : (x : Fraction) → compare x zero_fraction ≡ int_cmp x.num (pos 0)
+pub beside_zero : (x : Fraction) → compare x zero_fraction ≡ int_cmp x.num (pos 0)
 unfolding compare
 beside_zero x = λ i. int_cmp (times_whole x.num i) (zero-times (pos x.den) i)
 

@@ -101,7 +101,7 @@ over_without s p at x (e ∷ es) t o = by (over_without s p (suc e.variable) x e
     by go false h = ((o.0, h), go)
 
 -- a tidy list whose coefficient_of of x is 0 has no entry of x
-entry_absent : {A V : Type 0} (s : Space A V) (at x : ℕ) (es : List (Entry A)) → IsTidy s.numbers at es → s.numbers.is_zero (coefficient_of s.numbers x es) ≡ true → IsOver (λ y. (y == x) ≡ false) es
+pub entry_absent : {A V : Type 0} (s : Space A V) (at x : ℕ) (es : List (Entry A)) → IsTidy s.numbers at es → s.numbers.is_zero (coefficient_of s.numbers x es) ≡ true → IsOver (λ y. (y == x) ≡ false) es
 entry_absent s at x [] t z = tt
 entry_absent s at x (e ∷ es) t z = by (e.variable == x) refl (entry_absent s (suc e.variable) x es t.2) z
   where
@@ -176,10 +176,10 @@ tidy_after s t (r ∷ rs) m i = (by (r.basic == t.leaving), tidy_after s t rs m 
     by false = tidy_substituted s t (coefficient_of s.numbers t.entering r.entries) r.entries i.0
 
 -- q holds of what leaves, of the others of the turn, and of what p holds of but for the entering variable
-record Carries (A : Type 0) (p q : ℕ → Type 0) (t : Pivot A) : Type 0 where
-  stay : (y : ℕ) → p y → (y == t.entering) ≡ false → q y
-  leave : q t.leaving
-  others : IsOver q t.others
+pub record Carries (A : Type 0) (p q : ℕ → Type 0) (t : Pivot A) : Type 0 where
+  pub stay : (y : ℕ) → p y → (y == t.entering) ≡ false → q y
+  pub leave : q t.leaving
+  pub others : IsOver q t.others
 
 -- an entry of x is there, or its coefficient_of is 0
 over_substituted : {A V : Type 0} (s : Space A V) → IsSpace s → (p q : ℕ → Type 0) (t : Pivot A) (es : List (Entry A)) → Carries A p q t → IsTidy s.numbers 0 es → IsOver p es → IsOver q (substituted s.numbers t (coefficient_of s.numbers t.entering es) es)
@@ -191,7 +191,7 @@ over_substituted s l p q t es w i o = by (s.numbers.is_zero (coefficient_of s.nu
         (over_minus s q (coefficient_of s.numbers t.entering es) (without t.entering es) t.others
         (over_more (λ y. p y × ((y == t.entering) ≡ false)) q (without t.entering es) (λ y h. w.stay y h.0 h.1) (over_without s p 0 t.entering es i o)) w.others)
 
-over_after : {A V : Type 0} (s : Space A V) → IsSpace s → (p q : ℕ → Type 0) (t : Pivot A) (rs : List (Row A)) → Carries A p q t → AreTidy s.numbers rs → AreOver p rs → IsOver q (pivot_row s.numbers t).entries → AreOver q (map (exchanged_row s.numbers t) rs)
+pub over_after : {A V : Type 0} (s : Space A V) → IsSpace s → (p q : ℕ → Type 0) (t : Pivot A) (rs : List (Row A)) → Carries A p q t → AreTidy s.numbers rs → AreOver p rs → IsOver q (pivot_row s.numbers t).entries → AreOver q (map (exchanged_row s.numbers t) rs)
 over_after s l p q t [] w i o m = tt
 over_after s l p q t (r ∷ rs) w i o m = (by (r.basic == t.leaving), over_after s l p q t rs w i.1 o.1 m)
   where

@@ -1,4 +1,4 @@
--- Ordered fields, rows and exchanges over them, bounds, and the least-variable rule.
+-- Ordered fields, rows and exchanges over them, bounds, the least-variable rule, and overflows.
 pub mod Fields
 pub mod Spaces
 pub mod Rows
@@ -6,4 +6,5 @@ pub mod SolvedForms
 pub mod Ranges
 pub mod LeastVariable
 pub mod Numbers
+pub mod Strains
 pub mod Examples

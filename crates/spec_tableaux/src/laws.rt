@@ -3,7 +3,7 @@
 
 ghost use Rattle.std.specs.Prelude.{◌≡◌, ◌↔◌, ℕ, ◌<◌, ◌^◌, ◌==◌, true, false, List, length};
 ghost use Rattle.spec_tableaux.specs.Fields.{Field, IsOrderedField};
-ghost use Rattle.spec_tableaux.specs.Spaces.{Space, IsSpace, IsOrdered, TellsApart, minus, as_space, pairs};
+ghost use Rattle.spec_tableaux.specs.Spaces.{Space, Pair, IsSpace, IsOrdered, TellsApart, minus, as_space, pairs};
 ghost use Rattle.spec_tableaux.specs.Rows.{Entry, Row, sum_of, coefficient_of, row_of, is_basic, exchanged};
 ghost use Rattle.spec_tableaux.specs.Rows.{with_row, Holds, Solves};
 ghost use Rattle.spec_tableaux.specs.SolvedForms.{IsOver, AreOver, IsNonbasic, IsSolved, IsPivot, extended};
@@ -46,6 +46,12 @@ pub fn rows_are_added<A, V>()
     ensures solved { (s : Space A V) (rs : List (Row A)) (b : ℕ) (es : List (Entry A)) → IsSolved s.numbers rs
         → IsNonbasic rs b → AreOver (λ y. (y == b) ≡ false) rs → IsOver (λ y. (y == b) ≡ false) es
         → IsSolved s.numbers (with_row s.numbers rs b es) }
+{}
+
+/// States that the solutions of rows in pairs of a base and a tilt are those in both parts.
+pub fn solutions_in_pairs_are_of_both_parts<A>()
+    ensures { (f : Field A) (rs : List (Row A)) (v : ℕ → Pair A) → Solves (pairs f) v rs
+        ↔ (Solves (as_space f) (λ y. (v y).base) rs × Solves (as_space f) (λ y. (v y).tilt) rs) }
 {}
 
 /// States that rows in solved form have one solution for all values of the nonbasic variables.
