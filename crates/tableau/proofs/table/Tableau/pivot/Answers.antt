@@ -1,0 +1,84 @@
+use Rattle.std.proofs.Common.{◌∙◌, [], ap, sym, subst, refl, set, length, ◌<◌, arith}
+use Rattle.std.proofs.lemmas.List.{get_or_default}
+use Rattle.tableau.specs.Entries.{rows_of}
+use Rattle.tableau.specs.Kept.{AreOverColumns, AreNoted}
+use Rattle.tableau.specs.Pivots.{changes_meant, exchange_changes, AreNumbered}
+use Rattle.tableau.proofs.Exchanged.{Leaving, x_low, within_items, made_over, made_numbered, kept_still, entering_mid, kept_after, view_after, solutions_kept}
+use Rattle.tableau.proofs.table.Tableau.pivot.Goals as goal
+
+pub changes-requires-clause-column : goal.changes-requires-clause-column
+changes-requires-clause-column c =
+    let i = c.self.inside in
+    let w : Leaving i c.args.self.now c.args.leaving c.args.entering c.in-Some.number = record { is = c.self.view_is; kept = c.self.invariant; pivot = c.requires; at = c.in-Some.ensures.place; there = c.in-Some.ensures.row } in
+    within_items i c.args.self.now c.args.leaving c.args.entering c.in-Some.number w c.as_slice.result.now
+    (c.as_slice.ensures.same ∙ c.index.ensures ∙ get_or_default i.columns.items c.args.entering c.index.result.now [] (x_low i c.args.self.now c.args.leaving c.args.entering c.in-Some.number w))
+    c.deref.result.now c.deref.ensures.value
+
+pub note_changes-requires : goal.note_changes-requires
+note_changes-requires c =
+    let i = c.self.inside in
+    let w : Leaving i c.args.self.now c.args.leaving c.args.entering c.in-Some.number = record { is = c.self.view_is; kept = c.self.invariant; pivot = c.requires; at = c.in-Some.ensures.place; there = c.in-Some.ensures.row } in
+    subst (λ z. AreOverColumns (length i.columns.items) (changes_meant z)) (sym c.deref-2.ensures.value)
+    (made_over i c.args.self.now c.args.leaving c.args.entering c.in-Some.number w c.as_slice.result.now
+    (c.as_slice.ensures.same ∙ c.index.ensures ∙ get_or_default i.columns.items c.args.entering c.index.result.now [] (x_low i c.args.self.now c.args.leaving c.args.entering c.in-Some.number w))
+    (changes_meant c.in_ok-made.made.items) (c.in_ok-made.ensures.ok ∙ ap (λ z. exchange_changes (rows_of z) c.as_slice.result.now c.in-Some.number c.args.leaving c.args.entering) c.deref.ensures.value))
+
+pub invariant_of-self : goal.invariant_of-self
+invariant_of-self c =
+    let i = c.self.inside in
+    let w : Leaving i c.args.self.now c.args.leaving c.args.entering c.in-Some.number = record { is = c.self.view_is; kept = c.self.invariant; pivot = c.requires; at = c.in-Some.ensures.place; there = c.in-Some.ensures.row } in
+    kept_still i c.args.self.now c.args.leaving c.args.entering c.in-Some.number w c.as_slice.result.now
+    (c.as_slice.ensures.same ∙ c.index.ensures ∙ get_or_default i.columns.items c.args.entering c.index.result.now [] (x_low i c.args.self.now c.args.leaving c.args.entering c.in-Some.number w))
+    (changes_meant c.in_ok-made.made.items) (c.in_ok-made.ensures.ok ∙ ap (λ z. exchange_changes (rows_of z) c.as_slice.result.now c.in-Some.number c.args.leaving c.args.entering) c.deref.ensures.value)
+    c.note_changes.new.columns.items (λ n h. c.note_changes.ensures.grown n (subst (λ z. AreNumbered (λ k. k < n) (changes_meant z)) (sym c.deref-2.ensures.value) h)) _ refl refl refl refl
+
+pub put_changes-requires : goal.put_changes-requires
+put_changes-requires c =
+    let i = c.self.inside in
+    let w : Leaving i c.args.self.now c.args.leaving c.args.entering c.in-Some.number = record { is = c.self.view_is; kept = c.self.invariant; pivot = c.requires; at = c.in-Some.ensures.place; there = c.in-Some.ensures.row } in
+    made_numbered i c.args.self.now c.args.leaving c.args.entering c.in-Some.number w c.as_slice.result.now
+    (c.as_slice.ensures.same ∙ c.index.ensures ∙ get_or_default i.columns.items c.args.entering c.index.result.now [] (x_low i c.args.self.now c.args.leaving c.args.entering c.in-Some.number w))
+    (changes_meant c.in_ok-made.made.items) (c.in_ok-made.ensures.ok ∙ ap (λ z. exchange_changes (rows_of z) c.as_slice.result.now c.in-Some.number c.args.leaving c.args.entering) c.deref.ensures.value)
+
+pub index_mut-requires-3 : goal.index_mut-requires-3
+index_mut-requires-3 c =
+    let i = c.self.inside in
+    let w : Leaving i c.args.self.now c.args.leaving c.args.entering c.in-Some.number = record { is = c.self.view_is; kept = c.self.invariant; pivot = c.requires; at = c.in-Some.ensures.place; there = c.in-Some.ensures.row } in
+    let low = entering_mid i c.args.self.now c.args.leaving c.args.entering c.in-Some.number w c.as_slice.result.now
+    (c.as_slice.ensures.same ∙ c.index.ensures ∙ get_or_default i.columns.items c.args.entering c.index.result.now [] (x_low i c.args.self.now c.args.leaving c.args.entering c.in-Some.number w))
+    (changes_meant c.in_ok-made.made.items) (c.in_ok-made.ensures.ok ∙ ap (λ z. exchange_changes (rows_of z) c.as_slice.result.now c.in-Some.number c.args.leaving c.args.entering) c.deref.ensures.value)
+    c.note_changes.new.columns.items (λ n h. c.note_changes.ensures.grown n (subst (λ z. AreNumbered (λ k. k < n) (changes_meant z)) (sym c.deref-2.ensures.value) h)) in
+    omega (arith, low)
+
+pub invariant_of-self-2 : goal.invariant_of-self-2
+invariant_of-self-2 c =
+    let i = c.self.inside in
+    let w : Leaving i c.args.self.now c.args.leaving c.args.entering c.in-Some.number = record { is = c.self.view_is; kept = c.self.invariant; pivot = c.requires; at = c.in-Some.ensures.place; there = c.in-Some.ensures.row } in
+    kept_after i c.args.self.now c.args.leaving c.args.entering c.in-Some.number w c.as_slice.result.now
+    (c.as_slice.ensures.same ∙ c.index.ensures ∙ get_or_default i.columns.items c.args.entering c.index.result.now [] (x_low i c.args.self.now c.args.leaving c.args.entering c.in-Some.number w))
+    (changes_meant c.in_ok-made.made.items) (c.in_ok-made.ensures.ok ∙ ap (λ z. exchange_changes (rows_of z) c.as_slice.result.now c.in-Some.number c.args.leaving c.args.entering) c.deref.ensures.value)
+    c.note_changes.new.columns.items (λ n h. c.note_changes.ensures.grown n (subst (λ z. AreNumbered (λ k. k < n) (changes_meant z)) (sym c.deref-2.ensures.value) h))
+    (subst (λ z. AreNoted c.note_changes.new.columns.items (changes_meant z)) c.deref-2.ensures.value c.in_ok-note_changes.ensures.noted)
+    c.put_changes.new.rows.items c.put_changes.ensures _ refl refl refl (ap (set c.note_changes.new.columns.items c.args.entering) c.clear.ensures)
+
+pub returns-clause-ok : goal.returns-clause-ok
+returns-clause-ok c =
+    let i = c.self.inside in
+    let w : Leaving i c.args.self.now c.args.leaving c.args.entering c.in-Some.number = record { is = c.self.view_is; kept = c.self.invariant; pivot = c.requires; at = c.in-Some.ensures.place; there = c.in-Some.ensures.row } in
+    view_after i c.args.self.now c.args.leaving c.args.entering c.in-Some.number w c.as_slice.result.now
+    (c.as_slice.ensures.same ∙ c.index.ensures ∙ get_or_default i.columns.items c.args.entering c.index.result.now [] (x_low i c.args.self.now c.args.leaving c.args.entering c.in-Some.number w))
+    (changes_meant c.in_ok-made.made.items) (c.in_ok-made.ensures.ok ∙ ap (λ z. exchange_changes (rows_of z) c.as_slice.result.now c.in-Some.number c.args.leaving c.args.entering) c.deref.ensures.value)
+    c.note_changes.new.columns.items (λ n h. c.note_changes.ensures.grown n (subst (λ z. AreNumbered (λ k. k < n) (changes_meant z)) (sym c.deref-2.ensures.value) h))
+    (subst (λ z. AreNoted c.note_changes.new.columns.items (changes_meant z)) c.deref-2.ensures.value c.in_ok-note_changes.ensures.noted)
+    c.put_changes.new.rows.items c.put_changes.ensures _ refl
+
+pub returns-clause-keeps : goal.returns-clause-keeps
+returns-clause-keeps c =
+    let i = c.self.inside in
+    let w : Leaving i c.args.self.now c.args.leaving c.args.entering c.in-Some.number = record { is = c.self.view_is; kept = c.self.invariant; pivot = c.requires; at = c.in-Some.ensures.place; there = c.in-Some.ensures.row } in
+    solutions_kept i c.args.self.now c.args.leaving c.args.entering c.in-Some.number w c.as_slice.result.now
+    (c.as_slice.ensures.same ∙ c.index.ensures ∙ get_or_default i.columns.items c.args.entering c.index.result.now [] (x_low i c.args.self.now c.args.leaving c.args.entering c.in-Some.number w))
+    (changes_meant c.in_ok-made.made.items) (c.in_ok-made.ensures.ok ∙ ap (λ z. exchange_changes (rows_of z) c.as_slice.result.now c.in-Some.number c.args.leaving c.args.entering) c.deref.ensures.value)
+    c.note_changes.new.columns.items (λ n h. c.note_changes.ensures.grown n (subst (λ z. AreNumbered (λ k. k < n) (changes_meant z)) (sym c.deref-2.ensures.value) h))
+    (subst (λ z. AreNoted c.note_changes.new.columns.items (changes_meant z)) c.deref-2.ensures.value c.in_ok-note_changes.ensures.noted)
+    c.put_changes.new.rows.items c.put_changes.ensures
