@@ -1,0 +1,5 @@
+-- What numbers with an infinitesimal part, their ranges, and bounds that are held stand for.
+pub mod Deltas
+pub mod Held
+pub mod Limits
+pub mod Kept
