@@ -1,0 +1,2 @@
+-- Literals of watched terms, with marks.
+pub mod Room
