@@ -1,0 +1,32 @@
+use Rattle.std.proofs.Common.{◌≡◌, ℕ, map, ap, sym, ◌∙◌, subst}
+use Rattle.spec_tableaux.specs.SolvedForms.{IsNonbasic}
+use Rattle.spec_tableaux.specs.LeastVariable.{moved}
+use Rattle.simplex_bounds.specs.Deltas.{pair_of, deltas}
+use Rattle.simplex_check.specs.Boards.{BoardView, IsBoard, point_in}
+use Rattle.simplex_check.specs.Changes.{Lead, written}
+use Rattle.simplex_check.proofs.Shifts.{lead_written, same_lengths, moved_solve}
+use Rattle.simplex_check.proofs.board.Board.shift.Goals as goal
+
+values_moved : (c : goal.After-drop-changes) → (y : ℕ) → point_in (map pair_of c.write.new.values.items) y
+    ≡ moved deltas c.self.inside.tableau.rows c.args.first.variable (pair_of c.args.d) (point_in (map pair_of c.self.inside.values.items)) y
+values_moved c =
+    lead_written (point_in (map pair_of c.self.inside.values.items)) (moved deltas c.self.inside.tableau.rows c.args.first.variable (pair_of c.args.d) (point_in (map pair_of c.self.inside.values.items))) c.in_ok-changes.changes.items (point_in (map pair_of c.write.new.values.items))
+    (subst (λ vs. Lead (point_in (map pair_of vs)) (moved deltas c.self.inside.tableau.rows c.args.first.variable (pair_of c.args.d) (point_in (map pair_of vs))) c.in_ok-changes.changes.items) c.deref.ensures.value c.in_ok-changes.ensures.lead)
+    (λ y. c.write.ensures.point y ∙ ap (λ cs. written cs (point_in (map pair_of c.self.inside.values.items)) y) c.deref-2.ensures.value)
+
+board_moved : (c : goal.After-drop-changes) → IsBoard (record { tableau = c.self.inside.tableau; values = map pair_of c.write.new.values.items })
+board_moved c = record {
+  lengths = same_lengths c.self.inside.values.items c.write.new.values.items c.self.inside.tableau.variables c.write.ensures.lengths c.self.invariant.lengths;
+  solves = moved_solve c.self.inside.tableau.rows c.args.first.variable (pair_of c.args.d) (point_in (map pair_of c.self.inside.values.items)) (point_in (map pair_of c.write.new.values.items)) c.rows_are_in_solved_form.ensures.solved
+      (subst (λ (b : BoardView). IsNonbasic b.tableau.rows c.args.first.variable) (sym c.self.view_is) c.requires.nonbasic) (values_moved c) c.self.invariant.solves;
+}
+
+pub invariant_of-self : goal.invariant_of-self
+invariant_of-self c = board_moved c
+
+pub returns-clause-values : goal.returns-clause-values
+returns-clause-values c =
+    subst (λ (b : BoardView). (y : ℕ) → point_in (map pair_of c.write.new.values.items) y ≡ moved deltas b.tableau.rows c.args.first.variable (pair_of c.args.d) (point_in b.values) y) c.self.view_is (values_moved c)
+
+pub returns-clause-board : goal.returns-clause-board
+returns-clause-board c = board_moved c

@@ -1,0 +1,8 @@
+-- Tableaus with a value of each variable, and what a feasibility check does to them.
+pub mod Boards
+pub mod Kept
+pub mod Changes
+pub mod Strains
+pub mod Moves
+pub mod Ends
+pub mod Suspects

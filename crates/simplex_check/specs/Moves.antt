@@ -1,0 +1,20 @@
+-- What the moves of the code say, and the tests behind them.
+use Rattle.std.specs.Prelude.{Bool, not, ◌||◌}
+use Rattle.spec_tableaux.specs.Spaces.{Pair}
+use Rattle.spec_tableaux.specs.Ranges.{Range, below, above}
+use Rattle.spec_tableaux.specs.LeastVariable.{done, crossed, stuck, exchange, Move as RuleMove}
+use Rattle.spec_tableaux.specs.Numbers.{Number}
+use Rattle.simplex_bounds.specs.Deltas.{deltas}
+use Rattle.simplex_check.specs.declared.rule.Move.{Move}
+use Rattle.simplex_check.specs.declared.rule.Move.TheVariants.{Done, Crossed, Conflict, Exchange}
+
+-- what the least-variable rule says by a move
+abbrev pub said : Move → RuleMove
+said Done = done
+said (Crossed y) = crossed y
+said (Conflict b) = stuck b
+said (Exchange b x) = exchange b x
+
+-- the value x keeps the bounds of a range
+abbrev pub keeps : Range (Pair Number) → Pair Number → Bool
+keeps range x = not (below deltas x range.lower || above deltas x range.upper)

@@ -1,0 +1,123 @@
+//! The feasibility check.
+
+ghost use Rattle.std.specs.Prelude.{◌≡◌, ◌≤◌, OnOk, OnErr, IfErr};
+ghost use Rattle.spec_tableaux.specs.LeastVariable.{Says, Exchanges, Settles, exchange};
+ghost use Rattle.simplex_bounds.specs.Deltas.{deltas};
+ghost use Rattle.simplex_bounds.specs.Held.{ranges_in};
+ghost use Rattle.simplex_check.specs.Boards.{state_of};
+ghost use Rattle.simplex_check.specs.Ends.{Ends, StopsStep, StopsSettling};
+ghost use Rattle.simplex_check.specs.Suspects.{Suspect, SuspectBut};
+
+use crate::board::Board;
+use crate::rule::Move;
+use crate::suspects::Suspects;
+use sat_budget::{Budget, BudgetStop, Stop};
+use simplex_bounds::Bounds;
+
+/// Says what a check found.
+#[derive(Clone, Copy, PartialEq, Eq, Debug)]
+pub enum Outcome {
+    /// The values keep each bound.
+    Fine,
+    /// The bounds of this variable cross; it is the least of which they do.
+    Crossed(u64),
+    /// This basic variable violates a bound, and no variable of its row can move, so that no values keep each bound.
+    Conflict(u64),
+}
+
+impl Board {
+    /// Lets each nonbasic variable that violates a bound go to it, the least first.
+    fn settle(&mut self, bounds: &Bounds) -> Result<(), Stop>
+        requires { bounds.now.variables ≤ self.old.tableau.variables }
+        ensures tableau { self.new.tableau ≡ self.old.tableau }
+        ensures settles { OnOk result (Settles deltas (ranges_in bounds.now.held) (state_of self.old)
+            (state_of self.new)) }
+        ensures stops { IfErr result (λ stop. StopsSettling (ranges_in bounds.now.held) self.old self.new stop) }
+    {
+        self.values_solve_the_rows();
+        bounds.held_are_of_variables();
+        for y in 0..self.tableau().variables_len() {
+            if self.is_basic(y) {
+                continue;
+            }
+            match self.settle_one(bounds, y) {
+                Ok(()) => {}
+                Err(stop) => return Err(self.stop_of(stop)),
+            }
+        }
+        Ok(())
+    }
+
+    /// Makes an exchange that the rule says, and tells of a stop.
+    fn exchange_or_stop(
+        &mut self,
+        bounds: &Bounds,
+        leaving: u64,
+        entering: u64,
+        suspects: &mut Suspects,
+    ) -> Result<(), Stop>
+        requires says { Says deltas (ranges_in bounds.now.held) (state_of self.old) (exchange leaving entering) }
+        requires suspect { SuspectBut (ranges_in bounds.now.held) (state_of self.old) leaving suspects.old }
+        ensures suspect { OnOk result (Suspect (ranges_in bounds.now.held) (state_of self.new) suspects.new) }
+        ensures variables { self.new.tableau.variables ≡ self.old.tableau.variables }
+        ensures listed { self.new.tableau.listed ≡ self.old.tableau.listed }
+        ensures made { OnOk result (Exchanges deltas (ranges_in bounds.now.held) (state_of self.old) leaving entering
+            (state_of self.new)) }
+        ensures same { OnErr result (self.new ≡ self.old) }
+        ensures stops { IfErr result (λ stop. StopsStep (ranges_in bounds.now.held) self.new stop) }
+    {
+        match self.exchange(bounds, leaving, entering, suspects) {
+            Ok(()) => Ok(()),
+            Err(stop) => Err(self.stop_of(stop)),
+        }
+    }
+
+    /// Looks for values that solve the rows and keep the bounds.
+    ///
+    /// Crossed bounds are told first, and nothing is changed then. Else each nonbasic variable that violates a bound
+    /// goes to it, and variables are exchanged as `next_move` says, until it says none. Each exchange is kept in the
+    /// budget, and made then. The values keep each bound after `Fine`; after `Conflict` and `Crossed` none do.
+    ///
+    /// `Pivots` comes exactly where a further exchange is needed and the budget has no room for it. `Strained` comes
+    /// where a number leaves the bound on fractions, with the basic variables and the values at which it did; the
+    /// exchange that is kept last may not have been made then. `Memory` comes where there is no memory.
+    /// Source: Dutertre and de Moura, A Fast Linear-Arithmetic Solver for DPLL(T), CAV 2006.
+    pub fn check(&mut self, bounds: &Bounds, budget: &mut Budget) -> Result<Outcome, Stop>
+        requires { bounds.now.variables ≤ self.old.tableau.variables }
+        ensures ends { Ends (ranges_in bounds.now.held) self.old self.new budget.old budget.new result }
+        ensures variables { self.new.tableau.variables ≡ self.old.tableau.variables }
+        ensures listed { self.new.tableau.listed ≡ self.old.tableau.listed }
+        ensures budget { budget.new ≡ record budget.old { exchanges = budget.new.exchanges } }
+    {
+        if let Some(y) = bounds.crossed() {
+            return Ok(Outcome::Crossed(y));
+        }
+        match self.settle(bounds) {
+            Ok(()) => {}
+            Err(stop) => return Err(stop),
+        }
+        let mut suspects = match self.suspects(bounds) {
+            Ok(suspects) => suspects,
+            Err(_) => return Err(Stop::Memory),
+        };
+        budget.is_within();
+        'steps: loop {
+            match self.next_among(bounds, &mut suspects) {
+                Move::Done => return Ok(Outcome::Fine),
+                Move::Crossed(y) => return Ok(Outcome::Crossed(y)),
+                Move::Conflict(b) => return Ok(Outcome::Conflict(b)),
+                Move::Exchange(leaving, entering) => {
+                    match budget.exchanged(leaving, entering) {
+                        Ok(()) => {}
+                        Err(BudgetStop::Spent(n)) => return Err(Stop::Pivots(n)),
+                        Err(BudgetStop::Memory) => return Err(Stop::Memory),
+                    }
+                    match self.exchange_or_stop(bounds, leaving, entering, &mut suspects) {
+                        Ok(()) => {}
+                        Err(stop) => return Err(stop),
+                    }
+                }
+            }
+        }
+    }
+}

@@ -1,0 +1,140 @@
+//! The least-variable rule.
+
+ghost use Rattle.std.specs.Prelude.{◌≡◌, ℕ, List, false, IfOk, MatchOption};
+ghost use Rattle.spec_tableaux.specs.Ranges.{is_crossed};
+ghost use Rattle.spec_tableaux.specs.LeastVariable as rule;
+ghost use Rattle.simplex_bounds.specs.Deltas.{deltas};
+ghost use Rattle.simplex_bounds.specs.Held.{ranges_in};
+ghost use Rattle.simplex_check.specs.Boards.{state_of};
+ghost use Rattle.simplex_check.specs.Moves.{said};
+ghost use Rattle.simplex_check.specs.Suspects.{Suspect, SuspectBut, SuspectAfter};
+
+use crate::board::Board;
+use crate::entering::find_entering;
+use crate::ranges::is_within;
+use crate::suspects::Suspects;
+use simplex_bounds::Bounds;
+use simplex_bounds::ranges::below;
+use world_io::NoMemory;
+
+/// Says what the least-variable rule says at a board with bounds.
+#[derive(Clone, Copy, PartialEq, Eq, Debug)]
+pub enum Move {
+    /// Each bound is kept.
+    Done,
+    /// The bounds of this variable cross; it is the least of which they do.
+    Crossed(u64),
+    /// This basic variable violates a bound, and no variable of its row can move.
+    Conflict(u64),
+    /// The first variable, which is basic, leaves the basis, and the second one enters it.
+    Exchange(u64, u64),
+}
+
+/// Tells whether a variable is basic and violates a bound.
+fn is_out(board: &Board, bounds: &Bounds, y: u64) -> bool
+    ensures { result ≡ rule.is_out deltas (ranges_in bounds.now.held) (state_of board.now) y }
+{
+    if !board.is_basic(y) {
+        return false;
+    }
+    !is_within(bounds.range(y), board.value(y))
+}
+
+/// Gives the least basic variable that violates a bound.
+fn find_leaving(board: &Board, bounds: &Bounds) -> Option<u64>
+    ensures { MatchOption result
+        ((y : ℕ) → rule.is_out deltas (ranges_in bounds.now.held) (state_of board.now) y ≡ false)
+        (λ b. rule.IsLeast (rule.is_out deltas (ranges_in bounds.now.held) (state_of board.now)) b) }
+{
+    board.tableau().rows_are_in_solved_form();
+    for y in 0..board.tableau().variables_len() {
+        if is_out(board, bounds, y) {
+            return Some(y);
+        }
+    }
+    None
+}
+
+/// Takes suspects out up to the least that is basic and violates a bound, and gives it.
+fn pop_leaving(board: &Board, bounds: &Bounds, suspects: &mut Suspects) -> Option<u64>
+    requires { Suspect (ranges_in bounds.now.held) (state_of board.now) suspects.old }
+    ensures { MatchOption result
+        ((y : ℕ) → rule.is_out deltas (ranges_in bounds.now.held) (state_of board.now) y ≡ false)
+        (λ b. rule.IsLeast (rule.is_out deltas (ranges_in bounds.now.held) (state_of board.now)) b
+        × SuspectBut (ranges_in bounds.now.held) (state_of board.now) b suspects.new) }
+{
+    while let Some(y) = suspects.pop() {
+        if is_out(board, bounds, y) {
+            return Some(y);
+        }
+    }
+    None
+}
+
+impl Board {
+    /// Gives what the least-variable rule says. It takes no memory.
+    ///
+    /// Where bounds cross, it is the least variable whose bounds do. Else the least basic variable that violates a
+    /// bound leaves, and the least variable of its row that can move enters.
+    /// Source: Bland, New finite pivoting rules for the simplex method, 1977.
+    pub fn next_move(&self, bounds: &Bounds) -> Move
+        ensures { rule.Says deltas (ranges_in bounds.now.held) (state_of self.now) (said result) }
+    {
+        if let Some(y) = bounds.crossed() {
+            return Move::Crossed(y);
+        }
+        let Some(leaving) = find_leaving(self, bounds) else {
+            return Move::Done;
+        };
+        self.move_of(bounds, leaving)
+    }
+
+    /// Gives what the rule says where this basic variable is the least that violates a bound.
+    fn move_of(&self, bounds: &Bounds, leaving: u64) -> Move
+        requires uncrossed { (y : ℕ) → is_crossed deltas (ranges_in bounds.now.held) y ≡ false }
+        requires out { rule.IsLeast (rule.is_out deltas (ranges_in bounds.now.held) (state_of self.now)) leaving }
+        ensures says { rule.Says deltas (ranges_in bounds.now.held) (state_of self.now) (said result) }
+        ensures left { (ys : List ℕ) → SuspectBut (ranges_in bounds.now.held) (state_of self.now) leaving ys
+            → SuspectAfter (ranges_in bounds.now.held) (state_of self.now) result ys }
+    {
+        let Some(row) = self.tableau.row_of(leaving) else {
+            return Move::Done;
+        };
+        self.tableau.rows_are_in_solved_form();
+        let up = below(self.value(leaving), bounds.range(leaving).lower);
+        match find_entering(self, bounds, up, self.tableau.entries(row)) {
+            None => Move::Conflict(leaving),
+            Some(entering) => Move::Exchange(leaving, entering),
+        }
+    }
+
+    /// Gives what the rule says where no bounds cross and each basic variable that violates a bound is a suspect.
+    ///
+    /// Suspects that violate none are taken out, and so is the variable that leaves.
+    pub(crate) fn next_among(&self, bounds: &Bounds, suspects: &mut Suspects) -> Move
+        requires uncrossed { (y : ℕ) → is_crossed deltas (ranges_in bounds.now.held) y ≡ false }
+        requires suspect { Suspect (ranges_in bounds.now.held) (state_of self.now) suspects.old }
+        ensures says { rule.Says deltas (ranges_in bounds.now.held) (state_of self.now) (said result) }
+        ensures suspect { SuspectAfter (ranges_in bounds.now.held) (state_of self.now) result suspects.new }
+    {
+        let Some(leaving) = pop_leaving(self, bounds, suspects) else {
+            return Move::Done;
+        };
+        self.move_of(bounds, leaving)
+    }
+
+    /// Lists the basic variables that violate a bound. `NoMemory` comes where the list finds no memory.
+    pub(crate) fn suspects(&self, bounds: &Bounds) -> Result<Suspects, NoMemory>
+        ensures { IfOk result (λ suspects. Suspect (ranges_in bounds.now.held) (state_of self.now) suspects) }
+    {
+        let mut suspects = Suspects::new(self.alloc);
+        self.tableau().rows_are_in_solved_form();
+        for y in 0..self.tableau().variables_len() {
+            if !is_out(self, bounds, y) {
+                continue;
+            }
+            suspects.add(y)?;
+        }
+        Ok(suspects)
+    }
+}
