@@ -1,0 +1,133 @@
+-- Atoms that fit a table, a board and bounds fit them as these grow.
+use Rattle.std.proofs.Common.{◌≡◌, ℕ, ◌≤◌, Bool, true, false, List, [], ◌∷◌, ◌++◌, length, cond, Option, Some, None, nat_eq, refl, sym, ◌∙◌, ap, subst, arith}
+use Rattle.std.proofs.Math.ListN.{get_or-append}
+use Rattle.std.proofs.lemmas.List.{length-append}
+use Rattle.std.proofs.lemmas.Bool.{eqb-true}
+use Rattle.spec_sorts.specs.Terms.{Term, no_term}
+use Rattle.spec_arithmetic.specs.Forms.{Form}
+use Rattle.spec_tableaux.specs.Spaces.{Space, as_space}
+use Rattle.spec_tableaux.specs.Rows.{Row, Solves}
+use Rattle.spec_tableaux.specs.Numbers.{Number, numbers}
+use Rattle.term_core.specs.declared.ids.TermId.{TermId}
+use Rattle.term_core.specs.Tables.{TableView, term_at, IsIn, Extends}
+use Rattle.simplex_bounds.specs.Held.{BoundsView}
+use Rattle.simplex_check.specs.Boards.{BoardView, empty_board}
+use Rattle.simplex_atoms.specs.declared.place.Place.{Place}
+use Rattle.simplex_atoms.specs.Owners.{owner_at, AreOwned, AreOwnersIn}
+use Rattle.simplex_atoms.specs.Places.{Setting, IsFormOf, IsPlaced, place_in}
+use Rattle.simplex_atoms.specs.Atoms.{AtomsView, Ground, ground_of, setting_of, Grows, IsPlaceOf, ArePlaced, AreRight}
+use Rattle.simplex_atoms.proofs.Owning.{owner_kept, owner_below, some_same}
+
+solves_first : {A V : Type 0} (s : Space A V) (v : ℕ → V) (rs more : List (Row A)) → Solves s v (rs ++ more) → Solves s v rs
+solves_first s v [] more h = tt
+solves_first s v (r ∷ rs) more h = (h.0, solves_first s v rs more h.1)
+
+-- over more variables and rows
+
+form_on : (t : TableView) (g h : Ground) (place : Place) (f : Form) → Grows g h → IsFormOf (setting_of t g) place f → IsFormOf (setting_of t h) place f
+form_on t g h place f grows is = record {
+  factor = is.factor;
+  bound = is.bound;
+  variable = omega (arith, is.variable, ap (λ (l : List (Option TermId)). length l) grows.owners, length-append g.owners grows.more_owners);
+  constant = is.constant;
+  value = λ n v o s. is.value n v
+      (λ y id e. o y id (subst (λ (l : List (Option TermId)). owner_at l y ≡ Some id) (sym grows.owners) (owner_kept g.owners grows.more_owners y id e)))
+      (solves_first (as_space numbers) v g.board.tableau.listed grows.more_rows (subst (λ (l : List (Row Number)). Solves (as_space numbers) v l) grows.listed s));
+}
+
+pub place_on : (t : TableView) (g h : Ground) (a b : ℕ) (id : TermId) (place : Place) → Grows g h → a ≤ b → IsPlaceOf (setting_of t g) a id place → IsPlaceOf (setting_of t h) b id place
+place_on t g h a b id place grows le p = record {
+  is_in = p.is_in;
+  is = record {
+    constraint = p.is.constraint;
+    says = p.is.says;
+    kind = p.is.kind;
+    form = p.is.form;
+    has = p.is.has;
+    is = form_on t g h place p.is.form grows p.is.is;
+  };
+  reached = omega (arith, p.reached, le);
+}
+
+pub placed_on : (t : TableView) (g h : Ground) (a b : ℕ) (placed : List (ℕ × Place)) → Grows g h → a ≤ b → ArePlaced (setting_of t g) a placed → ArePlaced (setting_of t h) b placed
+placed_on t g h a b placed grows le all id place e = place_on t g h a b id place grows le (all id place e)
+
+-- one place more
+pub placed_more : (s : Setting) (reach : ℕ) (old new : List (ℕ × Place)) (id : TermId) (place : Place) → ArePlaced s reach old → IsPlaceOf s reach id place
+    → ((q : ℕ) → place_in new (record { 0 = q }) ≡ cond (nat_eq id.0 q) (Some place) (place_in old (record { 0 = q }))) → ArePlaced s reach new
+placed_more s reach old new id place all one updates other p e = by (nat_eq id.0 other.0) refl
+  where
+    by : (b : Bool) → nat_eq id.0 other.0 ≡ b → IsPlaceOf s reach other p
+    by true h =
+        let same : id ≡ other = λ i. record { 0 = eqb-true id.0 other.0 h i } in
+        let mine : place ≡ p = some_same place p (sym (ap (λ b. cond b (Some place) (place_in old other)) h) ∙ sym (updates other.0) ∙ e) in
+        subst (λ (x : Place). IsPlaceOf s reach other x) mine (subst (λ (x : TermId). IsPlaceOf s reach x place) same one)
+    by false h = all other p (sym (ap (λ b. cond b (Some place) (place_in old other)) h) ∙ sym (updates other.0) ∙ e)
+
+-- over a table that has grown
+
+term_stays : (old new : TableView) → Extends old new → (id : TermId) → IsIn old id → term_at new id ≡ term_at old id
+term_stays old new x id there = ap (λ (ts : List Term). term_at (record { sorts = []; symbols = []; terms = ts }) id) x.terms ∙ get_or-append old.terms x.more_terms no_term id.0 there
+
+is_in_stays : (old new : TableView) → Extends old new → (id : TermId) → IsIn old id → IsIn new id
+is_in_stays old new x id there = omega (arith, there, ap (λ (ts : List Term). length ts) x.terms, length-append old.terms x.more_terms)
+
+module _ (old new : TableView) (x : Extends old new) (g : Ground) (owners : AreOwnersIn old g.owners) where
+  owned_before : {V : Type 0} (n : Term → V) (v : ℕ → V) → AreOwned new g.owners n v → AreOwned old g.owners n v
+  owned_before n v o y id e = o y id e ∙ ap n (term_stays old new x id (owners y id e))
+
+  form_after : (place : Place) (f : Form) → IsFormOf (setting_of old g) place f → IsFormOf (setting_of new g) place f
+  form_after place f is = record {
+    factor = is.factor;
+    bound = is.bound;
+    variable = is.variable;
+    constant = is.constant;
+    value = λ n v o s. is.value n v (owned_before n v o) s;
+  }
+
+  place_after : (reach : ℕ) (id : TermId) (place : Place) → IsPlaceOf (setting_of old g) reach id place → IsPlaceOf (setting_of new g) reach id place
+  place_after reach id place p = record {
+    is_in = is_in_stays old new x id p.is_in;
+    is = subst (λ (u : Term). IsPlaced (setting_of new g) place u) (sym (term_stays old new x id p.is_in)) (record {
+      constraint = p.is.constraint;
+      says = p.is.says;
+      kind = p.is.kind;
+      form = p.is.form;
+      has = p.is.has;
+      is = form_after place p.is.form p.is.is;
+    });
+    reached = p.reached;
+  }
+
+-- the law
+pub right_after : (old new : TableView) → Extends old new → (a : AtomsView) (b : BoardView) (bounds : BoundsView) → AreRight old a b bounds → AreRight new a b bounds
+right_after old new x a b bounds r = record {
+  counted = r.counted;
+  within = r.within;
+  owners_in = λ y id e. is_in_stays old new x id (r.owners_in y id e);
+  once = r.once;
+  are_placed = λ id place e. place_after old new x (ground_of a.owners b) r.owners_in bounds.variables id place (r.are_placed id place e);
+}
+
+-- at first
+
+abbrev pub no_atoms : AtomsView
+no_atoms = record { owners = []; placed = [] }
+
+abbrev pub no_bounds : BoundsView
+no_bounds = record { variables = 0; held = []; room = 0 }
+
+pub right_first : (t : TableView) → AreRight t no_atoms empty_board no_bounds
+right_first t = record {
+  counted = refl;
+  within = omega arith;
+  owners_in = λ y id e. absurd (none_here y id e);
+  once = λ x y id e h. absurd (none_here x id e);
+  are_placed = λ id place e. absurd (no_place place e);
+}
+  where
+    none_here : (y : ℕ) (id : TermId) → owner_at [] y ≡ Some id → ⊥
+    none_here y id e = let lt = owner_below [] y id e in omega (arith, lt)
+
+    no_place : (place : Place) → (let o : Option Place = None in o) ≡ Some place → ⊥
+    no_place place e = cc

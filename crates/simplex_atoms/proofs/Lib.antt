@@ -1,0 +1,11 @@
+-- The lemmas of this crate.
+pub mod Owning
+pub mod Growth
+pub mod Numbered
+pub mod Making
+pub mod AtomsRead
+pub mod Values
+pub mod Keeping
+pub mod Weighing
+pub mod Fitting
+pub mod Watched

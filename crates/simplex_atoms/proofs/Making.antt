@@ -1,0 +1,159 @@
+-- How the place of a form is made.
+use Rattle.std.proofs.Common.{◌≡◌, ℕ, ◌<◌, false, List, [], ◌∷◌, ◌++◌, length, map, Option, None, Result, Ok, Err, refl, sym, ◌∙◌, ap, subst, arith}
+use Rattle.std.specs.Prelude.{IfOk, IfErr, IsErrAnd}
+use Rattle.std.proofs.lemmas.List.{length-append}
+use Rattle.spec_numbers.specs.Fractions.{Fraction, opposite}
+use Rattle.spec_numbers.specs.Bounds.{divided}
+use Rattle.spec_arithmetic.specs.Forms.{variables_value}
+use Rattle.spec_simplex.specs.Entries.{AreEntries}
+use Rattle.spec_tableaux.specs.Spaces.{Space, as_space}
+use Rattle.spec_tableaux.specs.Rows.{Row, Holds, Solves, sum_of}
+use Rattle.spec_tableaux.specs.SolvedForms.{IsOver}
+use Rattle.spec_tableaux.specs.Numbers.{Number, numbers, fractions}
+use Rattle.spec_tableaux.proofs.Numbers.{numbers_are_ordered_field}
+use Rattle.spec_tableaux.proofs.Signs.{sum_zero_right}
+use Rattle.ratio128.specs.declared.ratio.Ratio.{Ratio}
+use Rattle.ratio128.specs.declared.wide.Wide.{Wide}
+use Rattle.ratio128.specs.Meant.{fraction, overflow}
+use Rattle.term_core.specs.declared.ids.TermId.{TermId}
+use Rattle.term_core.specs.Tables.{TableView, term_at}
+use Rattle.linear_form.specs.Meant.{FormView, form_meant, pair_meant}
+use Rattle.linear_form.specs.Entries.{pair_view}
+use Rattle.tableau.specs.declared.entries.Entry.{Entry}
+use Rattle.tableau.specs.declared.stops.RowStop.{RowStop}
+use Rattle.tableau.specs.declared.stops.RowStop.TheVariants as rows
+use Rattle.tableau.specs.Numbers.{number_of}
+use Rattle.tableau.specs.Entries.{entries_of}
+use Rattle.tableau.specs.Views as views
+use Rattle.simplex_check.specs.Boards.{BoardView, board_with_sum, state_of}
+use Rattle.simplex_check.specs.Strains.{StrainsNew}
+use Rattle.simplex_atoms.specs.declared.place.Kind.{Kind}
+use Rattle.simplex_atoms.specs.declared.place.Place.{Place}
+use Rattle.simplex_atoms.specs.declared.stop.AtomStop.{AtomStop}
+use Rattle.simplex_atoms.specs.declared.stop.AtomStop.TheVariants as stops
+use Rattle.simplex_atoms.specs.Owners.{owner_term}
+use Rattle.simplex_atoms.specs.Stops.{of_row}
+use Rattle.simplex_atoms.specs.Places.{IsFormOf}
+use Rattle.simplex_atoms.specs.Atoms.{Ground, ground_of, setting_of, Grows}
+use Rattle.simplex_atoms.specs.Watching.{AreNumbered, OnWide, StrainsForm, bound, row}
+use Rattle.simplex_atoms.specs.Made as made
+use Rattle.simplex_atoms.specs.Made.{IsMade, Covers, StrainsEntries}
+use Rattle.simplex_atoms.proofs.Numbered.{numbered_kept, numbered_value, numbered_entries}
+
+-- minus a number, by its fraction
+pub opposite_of : (a b : Ratio) → number_of b ≡ numbers.opposite (number_of a) → fraction b ≡ opposite (fraction a)
+unfolding numbers fractions
+opposite_of a b e = ap (λ (n : Number). n.fraction) e
+
+-- why a place is not made
+
+pub wide_as : (x y d : Fraction) (r : Result Place Wide) (w : Wide) → x ≡ y → divided x d ≡ Err (overflow w) → IsErrAnd r (λ e. e ≡ w) → IfErr r (λ u. divided y d ≡ Err (overflow u))
+wide_as x y d (Ok p) w e h is = absurd is
+wide_as x y d (Err v) w e h is = subst (λ (u : Wide). divided y d ≡ Err (overflow u)) (sym is) (ap (λ z. divided z d) (sym e) ∙ h)
+
+pub row_strains : (b c : BoardView) (constant : Ratio) (es : List Entry) (s : RowStop) (r : Result Place AtomStop) → c ≡ b
+    → views.OnWide (StrainsNew (state_of b) (entries_of es)) s → IsErrAnd r (λ e. e ≡ of_row s) → IfErr r (OnWide (StrainsEntries c constant es))
+row_strains b c constant es s (Ok p) e h is = absurd is
+row_strains b c constant es s (Err a) e h is = subst (OnWide (StrainsEntries c constant es)) (sym is) (by s h)
+  where
+    by : (s : RowStop) → views.OnWide (StrainsNew (state_of b) (entries_of es)) s → OnWide (StrainsEntries c constant es) (of_row s)
+    by (rows.Wide w) h = made.row (subst (λ (x : BoardView). StrainsNew (state_of x) (entries_of es) (overflow w)) (sym e) h)
+    by rows.Memory h = tt
+
+pub variable_strains : (b : BoardView) (constant : Ratio) (es : List Entry) (e : Entry) (w : Wide) (r : Result Place AtomStop) → es ≡ e ∷ []
+    → divided (opposite (fraction constant)) (fraction e.coefficient) ≡ Err (overflow w) → IsErrAnd r (λ s. s ≡ stops.Wide w) → IfErr r (OnWide (StrainsEntries b constant es))
+variable_strains b constant es e w (Ok p) is h k = absurd k
+variable_strains b constant es e w (Err a) is h k = subst (OnWide (StrainsEntries b constant es)) (sym k) (made.bound e is h)
+
+-- a place on a row
+
+pub one_made : (k : Number) → k ≡ numbers.one → numbers.is_zero k ≡ false
+one_made k e = ap numbers.is_zero e ∙ numbers_are_ordered_field.one_is_not_zero
+
+inverse_one : numbers.inverse numbers.one ≡ numbers.one
+inverse_one =
+    let l = numbers_are_ordered_field in
+    sym (l.product_one (numbers.inverse numbers.one)) ∙ l.product_commutative numbers.one (numbers.inverse numbers.one) ∙ l.product_inverse numbers.one l.one_is_not_zero
+
+pub one_bound : (x k b : Number) → k ≡ numbers.one → b ≡ numbers.opposite x → b ≡ numbers.times (numbers.opposite x) (numbers.inverse k)
+one_bound x k b e h =
+    let l = numbers_are_ordered_field in
+    h ∙ sym (l.product_one (numbers.opposite x)) ∙ l.product_commutative numbers.one (numbers.opposite x)
+    ∙ ap (numbers.times (numbers.opposite x)) (sym (ap numbers.inverse e ∙ inverse_one))
+
+solves_last : {A V : Type 0} (s : Space A V) (v : ℕ → V) (rs : List (Row A)) (r : Row A) → Solves s v (rs ++ r ∷ []) → Holds s v r
+solves_last s v [] r h = h.0
+solves_last s v (q ∷ rs) r h = solves_last s v rs r h.1
+
+pub row_covers : (os us : List (Option TermId)) (b c : BoardView) (es : List Entry) (p : Place) → length os ≡ b.tableau.variables → us ≡ os ++ None ∷ []
+    → c ≡ board_with_sum b (entries_of es) → p.variable ≡ b.tableau.variables → number_of p.factor ≡ numbers.one → Covers (ground_of us c) es p
+row_covers os us b c es p count e f y k = record {
+  variable = omega (arith, y, count, ap (λ (l : List (Option TermId)). length l) e, length-append os (None ∷ []));
+  sum = λ v h.
+      let S : BoardView → Type 0 = λ x. Solves (as_space numbers) v x.tableau.listed in
+      let last = solves_last (as_space numbers) v b.tableau.listed (record { basic = b.tableau.variables; entries = entries_of es }) (subst S f h) in
+      sym last.is ∙ ap v (sym y) ∙ sym (numbers_are_ordered_field.product_one (v p.variable)) ∙ ap (λ n. numbers.times n (v p.variable)) (sym k);
+}
+
+-- a place on a variable
+
+pub variable_covers : (os : List (Option TermId)) (b : BoardView) (es : List Entry) (e : Entry) (p : Place) → length os ≡ b.tableau.variables
+    → IsOver (λ y. y < b.tableau.variables) (entries_of es) → es ≡ e ∷ [] → p.variable ≡ e.variable → p.factor ≡ e.coefficient → Covers (ground_of os b) es p
+variable_covers os b es e p count over is y k = record {
+  variable =
+      let Over : List Entry → Type 0 = λ xs. IsOver (λ y. y < b.tableau.variables) (entries_of xs) in
+      let first = (subst Over is over).0 in omega (arith, first, y, count);
+  sum = λ v h.
+      ap (λ (xs : List Entry). sum_of (as_space numbers) v (entries_of xs)) is
+      ∙ sum_zero_right numbers numbers_are_ordered_field _
+      ∙ (λ i. numbers.times (number_of (sym k i)) (v (sym y i)));
+}
+
+-- a place is that of its form
+pub formed : (t : TableView) (os : List (Option TermId)) (b : BoardView) (g : Ground) (f : FormView) (xs : List (TermId × Ratio)) (es : List Entry) (kind : Kind) (constant : Ratio) (p : Place)
+    → map pair_view xs ≡ f.variables → fraction constant ≡ f.constant → AreNumbered os es xs → Grows (ground_of os b) g → IsMade kind constant p → Covers g es p
+    → IsFormOf (setting_of t g) p (form_meant t f)
+formed t os b g f xs es kind constant p vs k numbered grows m covers =
+    let all : AreNumbered g.owners es xs = subst (λ l. AreNumbered l es xs) (sym grows.owners) (numbered_kept os grows.more_owners es xs numbered) in
+    record {
+      factor = m.factor;
+      bound = m.bound;
+      variable = covers.variable;
+      constant = sym k ∙ ap fraction (sym m.is_constant);
+      value = λ n v o h.
+          ap (λ (l : List (TermId × Fraction)). variables_value (λ u. (n u).fraction) (map (pair_meant t) l)) (sym vs)
+          ∙ numbered_value t g.owners n v es xs all o ∙ ap (λ (x : Number). x.fraction) (covers.sum v h);
+    }
+
+-- what the place of a form comes to
+pub form_strains : (os : List (Option TermId)) (b : BoardView) (g : Ground) (f : FormView) (xs : List (TermId × Ratio)) (es : List Entry) (constant : Ratio) (s : AtomStop)
+    → map pair_view xs ≡ f.variables → fraction constant ≡ f.constant → AreNumbered os es xs → Grows (ground_of os b) g
+    → OnWide (StrainsEntries g.board constant es) s → OnWide (λ o. (t : TableView) → StrainsForm t g.owners g.board (form_meant t f) o) s
+form_strains os b g f xs es constant stops.Memory vs k numbered grows h = tt
+form_strains os b g f xs es constant (stops.Wide w) vs k numbered grows (made.row h) = λ t.
+    let all : AreNumbered g.owners es xs = subst (λ l. AreNumbered l es xs) (sym grows.owners) (numbered_kept os grows.more_owners es xs numbered) in
+    row (entries_of es) (subst (λ (l : List (TermId × Fraction)). AreEntries (owner_term t g.owners) (entries_of es) (map (pair_meant t) l)) vs (numbered_entries t g.owners es xs all)) h
+form_strains os b g f xs es constant (stops.Wide w) vs k numbered grows (made.bound e is h) = λ t.
+    let one = one_of e xs (subst (λ l. AreNumbered os l xs) is numbered) in
+    bound (term_at t one.0.0) (fraction e.coefficient)
+    (ap (λ (l : List (TermId × Fraction)). map (pair_meant t) l) (sym vs ∙ ap (λ l. map pair_view l) one.1) ∙ (λ i. (term_at t one.0.0, fraction (sym one.2 i)) ∷ []))
+    (ap (λ z. divided (opposite z) (fraction e.coefficient)) (sym k) ∙ h)
+  where
+    one_of : (e : Entry) (xs : List (TermId × Ratio)) → AreNumbered os (e ∷ []) xs → (x : TermId × Ratio) × (xs ≡ x ∷ []) × (e.coefficient ≡ x.1)
+    one_of e [] h = absurd h
+    one_of e (x ∷ []) h = (x, refl, h.0.coefficient)
+    one_of e (x ∷ y ∷ xs) h = absurd h.1
+
+-- the same by the result of a call
+
+pub result_formed : (os : List (Option TermId)) (b : BoardView) (g : Ground) (f : FormView) (xs : List (TermId × Ratio)) (es : List Entry) (kind : Kind) (constant : Ratio) (r : Result Place AtomStop)
+    → map pair_view xs ≡ f.variables → fraction constant ≡ f.constant → AreNumbered os es xs → Grows (ground_of os b) g → IfOk r (IsMade kind constant) → IfOk r (Covers g es)
+    → IfOk r (λ p. (t : TableView) → IsFormOf (setting_of t g) p (form_meant t f))
+result_formed os b g f xs es kind constant (Ok p) vs k numbered grows m covers = λ t. formed t os b g f xs es kind constant p vs k numbered grows m covers
+result_formed os b g f xs es kind constant (Err s) vs k numbered grows m covers = tt
+
+pub result_strains : (os : List (Option TermId)) (b : BoardView) (g : Ground) (f : FormView) (xs : List (TermId × Ratio)) (es : List Entry) (constant : Ratio) (r : Result Place AtomStop)
+    → map pair_view xs ≡ f.variables → fraction constant ≡ f.constant → AreNumbered os es xs → Grows (ground_of os b) g
+    → IfErr r (OnWide (StrainsEntries g.board constant es)) → IfErr r (OnWide (λ o. (t : TableView) → StrainsForm t g.owners g.board (form_meant t f) o))
+result_strains os b g f xs es constant (Ok p) vs k numbered grows h = tt
+result_strains os b g f xs es constant (Err s) vs k numbered grows h = form_strains os b g f xs es constant s vs k numbered grows h

@@ -1,0 +1,90 @@
+-- What watching an atom does.
+use Rattle.std.proofs.Common.{◌≡◌, ℕ, ◌≤◌, true, List, length, Option, Some, None, Result, Ok, Err, refl, sym, ap, subst, arith, true≢false}
+use Rattle.std.specs.Prelude.{IfErr, IsErrAnd, IsSome}
+use Rattle.std.specs.Option.{is_some}
+use Rattle.std.proofs.lemmas.List.{length-append}
+use Rattle.spec_simplex.specs.Constraints.{Constraint, constraint_of, form_of}
+use Rattle.term_core.specs.declared.ids.TermId.{TermId}
+use Rattle.term_core.specs.Tables.{TableView, IsIn, term_at, positive_literal}
+use Rattle.linear_form.specs.Meant.{FormView, form_meant}
+use Rattle.simplex_bounds.specs.Held.{BoundsView}
+use Rattle.simplex_check.specs.Boards.{BoardView}
+use Rattle.simplex_atoms.specs.declared.place.Place.{Place}
+use Rattle.simplex_atoms.specs.declared.reading.Sides.{Sides}
+use Rattle.simplex_atoms.specs.declared.stop.AtomStop.{AtomStop}
+use Rattle.simplex_atoms.specs.declared.stop.AtomStop.TheVariants as stops
+use Rattle.simplex_atoms.specs.Owners.{AreOnce, AreOwnersIn}
+use Rattle.simplex_atoms.specs.Places.{relation_meant, IsFormOf, place_in}
+use Rattle.simplex_atoms.specs.Atoms.{AtomsView, ground_of, setting_of, AreCounted, Grows, IsPlaceOf, AreRight}
+use Rattle.simplex_atoms.specs.Watching.{constraint_meant, Forms, OnWide, StrainsForm, StrainsAtom, in_form, in_place, IsWatched}
+use Rattle.simplex_atoms.proofs.Fitting.{placed_on}
+
+-- atoms with these parts
+abbrev pub atoms_of : List (Option TermId) → List (ℕ × Place) → AtomsView
+atoms_of os placed = record { owners = os; placed = placed }
+
+-- more variables, and places as before
+pub right_on : (t : TableView) (os us : List (Option TermId)) (old new : List (ℕ × Place)) (b c : BoardView) (bounds more : BoundsView) → AreRight t (atoms_of os old) b bounds → new ≡ old
+    → AreCounted (ground_of us c) → Grows (ground_of os b) (ground_of us c) → AreOwnersIn t us → AreOnce us → bounds.variables ≤ more.variables → more.variables ≤ c.tableau.variables
+    → AreRight t (atoms_of us new) c more
+right_on t os us old new b c bounds more r same counted grows there once le within = record {
+  counted = counted;
+  within = within;
+  owners_in = there;
+  once = once;
+  are_placed = λ id place e.
+      placed_on t (ground_of os b) (ground_of us c) bounds.variables more.variables old grows le r.are_placed id place
+      (subst (λ (l : List (ℕ × Place)). place_in l id ≡ Some place) same e);
+}
+
+-- no variable went
+pub reach_stays : (os us : List (Option TermId)) (b c : BoardView) (n : ℕ) → AreCounted (ground_of os b) → AreCounted (ground_of us c) → Grows (ground_of os b) (ground_of us c) → n ≤ b.tableau.variables → n ≤ c.tableau.variables
+reach_stays os us b c n x y grows le =
+    omega (arith, x, y, le, ap (λ (l : List (Option TermId)). length l) grows.owners, length-append os grows.more_owners)
+
+-- the place of an atom that came
+pub placed_now : (t : TableView) (us : List (Option TermId)) (c : BoardView) (n reach : ℕ) (id : TermId) (sides : Sides) (f : FormView) (place : Place) → IsIn t id
+    → (let o : Option Constraint = Some (constraint_meant t sides) in o) ≡ constraint_of (positive_literal (term_at t id)) → form_of (constraint_meant t sides) ≡ Ok (form_meant t f) → place.kind ≡ sides.kind
+    → IsFormOf (setting_of t (ground_of us c)) place (form_meant t f) → n ≡ length us → reach ≡ n → IsPlaceOf (setting_of t (ground_of us c)) reach id place
+placed_now t us c n reach id sides f place there says has kind is count all = record {
+  is_in = there;
+  is = record {
+    constraint = constraint_meant t sides;
+    says = sym says;
+    kind = ap relation_meant (sym kind);
+    form = form_meant t f;
+    has = has;
+    is = is;
+  };
+  reached = omega (arith, is.variable, count, all);
+}
+
+-- why there is no place
+
+module _ (t : TableView) (owners : List (Option TermId)) (b : BoardView) (id : TermId) (sides : Sides)
+    (says : (let o : Option Constraint = Some (constraint_meant t sides) in o) ≡ constraint_of (positive_literal (term_at t id))) where
+  pub form_wide : (s : AtomStop) (r : Result (Unit {0}) AtomStop) → Forms t (form_of (constraint_meant t sides)) (Err s) → IsErrAnd r (λ e. e ≡ s) → IfErr r (OnWide (StrainsAtom t owners b id))
+  form_wide s (Ok u) h is = absurd is
+  form_wide s (Err e) h is = subst (OnWide (StrainsAtom t owners b id)) (sym is) (by s h)
+    where
+      by : (s : AtomStop) → Forms t (form_of (constraint_meant t sides)) (Err s) → OnWide (StrainsAtom t owners b id) s
+      by (stops.Wide w) h = in_form (constraint_meant t sides) (sym says) h.0 h.1 h.2
+      by stops.Memory h = tt
+
+  pub place_wide : (f : FormView) (s : AtomStop) (r : Result (Unit {0}) AtomStop) → form_of (constraint_meant t sides) ≡ Ok (form_meant t f)
+      → OnWide (λ o. (t : TableView) → StrainsForm t owners b (form_meant t f) o) s → IsErrAnd r (λ e. e ≡ s) → IfErr r (OnWide (StrainsAtom t owners b id))
+  place_wide f s (Ok u) has h is = absurd is
+  place_wide f s (Err e) has h is = subst (OnWide (StrainsAtom t owners b id)) (sym is) (by s h)
+    where
+      by : (s : AtomStop) → OnWide (λ o. (t : TableView) → StrainsForm t owners b (form_meant t f) o) s → OnWide (StrainsAtom t owners b id) s
+      by (stops.Wide w) h = in_place (constraint_meant t sides) (sym says) (form_meant t f) has (h t)
+      by stops.Memory h = tt
+
+-- what has a place says something
+pub watched_before : (t : TableView) (a : AtomsView) (b : BoardView) (bounds : BoundsView) (id : TermId) → AreRight t a b bounds → is_some (place_in a.placed id) ≡ true
+    → IsWatched (place_in a.placed id) (constraint_of (positive_literal (term_at t id)))
+watched_before t a b bounds id r there = by (place_in a.placed id) refl there
+  where
+    by : (o : Option Place) → place_in a.placed id ≡ o → is_some o ≡ true → IsWatched o (constraint_of (positive_literal (term_at t id)))
+    by None e h = absurd (true≢false (sym h))
+    by (Some place) e h = subst (λ (c : Option Constraint). IsSome c) (sym (r.are_placed id place e).is.says) refl

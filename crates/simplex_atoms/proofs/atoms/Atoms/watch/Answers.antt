@@ -1,0 +1,93 @@
+-- A place comes, or none does.
+use Rattle.std.proofs.Common.{ℕ, refl, sym, ◌∙◌, ap, subst, arith}
+use Rattle.std.specs.Option.{is_some}
+use Rattle.simplex_atoms.specs.Atoms.{AtomsView, ground_of, setting_of, AreRight}
+use Rattle.simplex_atoms.proofs.Growth.{grows_same}
+use Rattle.simplex_atoms.proofs.Fitting.{placed_more}
+use Rattle.simplex_atoms.proofs.Watched.{atoms_of, right_on, reach_stays, placed_now, form_wide, place_wide, watched_before}
+use Rattle.simplex_atoms.proofs.atoms.Atoms.watch.Goals as goal
+
+pub returns-then-is_some-clause-grows : goal.returns-then-is_some-clause-grows
+returns-then-is_some-clause-grows c = grows_same c.args.self.now.owners _ c.args.board.now _ refl refl
+
+pub returns-then-is_some-clause-watched : goal.returns-then-is_some-clause-watched
+returns-then-is_some-clause-watched c =
+    watched_before c.args.table.now c.args.self.now c.args.board.now c.args.bounds.now c.args.id c.requires.right (ap is_some (sym c.place.ensures) ∙ sym c.if-is_some.ensures)
+
+pub returns-in_default-clause-grows : goal.returns-in_default-clause-grows
+returns-in_default-clause-grows c = grows_same c.args.self.now.owners _ c.args.board.now _ refl refl
+
+pub returns-in_err-form-clause-grows : goal.returns-in_err-form-clause-grows
+returns-in_err-form-clause-grows c = grows_same c.args.self.now.owners _ c.args.board.now _ refl refl
+
+pub returns-in_err-form-clause-wide : goal.returns-in_err-form-clause-wide
+returns-in_err-form-clause-wide c =
+    form_wide c.args.table.now c.args.self.now.owners c.args.board.now c.args.id c.in-Some.sides c.in-Some.ensures.means c.in_err-form.field-0.0 c.from_residual.result
+    c.in_err-form.ensures.exact c.from_residual.ensures.1
+
+pub returns-in_err-place-clause-right : goal.returns-in_err-place-clause-right
+returns-in_err-place-clause-right c =
+    let t = c.args.table.now in
+    let os = c.self.inside.owners.list in
+    let us = c.place_of-made.new.owners.list in
+    let b = c.args.board.now in
+    let Right : AtomsView → Type 0 = λ a. AreRight t a b c.args.bounds.now in
+    let right : Right (atoms_of os c.self.inside.places.entries) = subst Right (sym c.self.view_is) c.requires.right in
+    right_on t os us c.self.inside.places.entries c.self.inside.places.entries b c.place_of-made.new.board c.args.bounds.now c.args.bounds.now right refl
+    c.place_of-made.ensures.counted c.place_of-made.ensures.grows (c.place_of-made.ensures.there t c.in_ok-form.ensures.there right.owners_in) c.are_once.ensures (omega arith)
+    (reach_stays os us b c.place_of-made.new.board c.args.bounds.now.variables right.counted c.place_of-made.ensures.counted c.place_of-made.ensures.grows right.within)
+
+pub returns-in_err-place-clause-wide : goal.returns-in_err-place-clause-wide
+returns-in_err-place-clause-wide c =
+    place_wide c.args.table.now c.place_of-made.new.owners.list c.place_of-made.new.board c.args.id c.in-Some.sides c.in-Some.ensures.means c.in_ok-form.form c.in_err-place.field-0.0
+    c.from_residual-in_err-place.result c.in_ok-form.ensures.exact c.in_err-place.ensures.wide c.from_residual-in_err-place.ensures.1
+
+pub returns-in_err-reach-clause-right : goal.returns-in_err-reach-clause-right
+returns-in_err-reach-clause-right c =
+    let t = c.args.table.now in
+    let os = c.self.inside.owners.list in
+    let us = c.place_of-made.new.owners.list in
+    let b = c.args.board.now in
+    let Right : AtomsView → Type 0 = λ a. AreRight t a b c.args.bounds.now in
+    let right : Right (atoms_of os c.self.inside.places.entries) = subst Right (sym c.self.view_is) c.requires.right in
+    right_on t os us c.self.inside.places.entries c.self.inside.places.entries b c.place_of-made.new.board c.args.bounds.now c.reach.new.bounds right refl
+    c.place_of-made.ensures.counted c.place_of-made.ensures.grows (c.place_of-made.ensures.there t c.in_ok-form.ensures.there right.owners_in) c.are_once.ensures c.reach.ensures.kept.variables
+    (omega (arith, c.reach.ensures.within, c.len.ensures, c.place_of-made.ensures.counted))
+
+pub returns-in_err-insert-clause-right : goal.returns-in_err-insert-clause-right
+returns-in_err-insert-clause-right c =
+    let t = c.args.table.now in
+    let os = c.self.inside.owners.list in
+    let us = c.place_of-made.new.owners.list in
+    let b = c.args.board.now in
+    let Right : AtomsView → Type 0 = λ a. AreRight t a b c.args.bounds.now in
+    let right : Right (atoms_of os c.self.inside.places.entries) = subst Right (sym c.self.view_is) c.requires.right in
+    right_on t os us c.self.inside.places.entries c.insert.new.self.entries b c.place_of-made.new.board c.args.bounds.now c.reach.new.bounds right c.in_err-insert.ensures.err
+    c.place_of-made.ensures.counted c.place_of-made.ensures.grows (c.place_of-made.ensures.there t c.in_ok-form.ensures.there right.owners_in) c.are_once.ensures c.reach.ensures.kept.variables
+    (omega (arith, c.reach.ensures.within, c.len.ensures, c.place_of-made.ensures.counted))
+
+pub returns-clause-right : goal.returns-clause-right
+returns-clause-right c =
+    let t = c.args.table.now in
+    let os = c.self.inside.owners.list in
+    let us = c.place_of-made.new.owners.list in
+    let b = c.args.board.now in
+    let d = c.place_of-made.new.board in
+    let place = c.in_ok-place.place in
+    let Right : AtomsView → Type 0 = λ a. AreRight t a b c.args.bounds.now in
+    let right : Right (atoms_of os c.self.inside.places.entries) = subst Right (sym c.self.view_is) c.requires.right in
+    let on : AreRight t (atoms_of us c.self.inside.places.entries) d c.reach.new.bounds =
+    right_on t os us c.self.inside.places.entries c.self.inside.places.entries b d c.args.bounds.now c.reach.new.bounds right refl
+    c.place_of-made.ensures.counted c.place_of-made.ensures.grows (c.place_of-made.ensures.there t c.in_ok-form.ensures.there right.owners_in) c.are_once.ensures c.reach.ensures.kept.variables
+    (omega (arith, c.reach.ensures.within, c.len.ensures, c.place_of-made.ensures.counted)) in
+    let now = placed_now t us d c.len.result c.reach.new.bounds.variables c.args.id c.in-Some.sides c.in_ok-form.form place c.requires.there c.in-Some.ensures.means c.in_ok-form.ensures.exact
+    c.in_ok-place.ensures.kind (c.in_ok-place.ensures.is t) c.len.ensures c.in_ok-reach.ensures.ok in
+    record {
+      counted = on.counted;
+      within = on.within;
+      owners_in = on.owners_in;
+      once = on.once;
+      are_placed =
+          placed_more (setting_of t (ground_of us d)) c.reach.new.bounds.variables c.self.inside.places.entries c.insert.new.self.entries c.args.id place on.are_placed now
+          (λ (q : ℕ). c.in_ok-insert.ensures.updates.0 q);
+    }

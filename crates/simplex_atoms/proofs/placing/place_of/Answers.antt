@@ -1,0 +1,43 @@
+-- The entries are those of the form's variables.
+use Rattle.std.proofs.Common.{refl, sym, subst, List}
+use Rattle.tableau.specs.declared.entries.Entry.{Entry}
+use Rattle.simplex_atoms.specs.Atoms.{ground_of}
+use Rattle.simplex_atoms.specs.Watching.{AreNumbered}
+use Rattle.simplex_atoms.proofs.Growth.{grows_same}
+use Rattle.simplex_atoms.proofs.Numbered.{are_in, numbered_over, variables_as}
+use Rattle.simplex_atoms.proofs.Making.{result_formed, result_strains}
+use Rattle.simplex_atoms.proofs.placing.place_of.Goals as goal
+
+pub returns-in_err-variables-clause-grows : goal.returns-in_err-variables-clause-grows
+returns-in_err-variables-clause-grows c = grows_same c.args.owners.now.list _ c.args.board.now _ refl refl
+
+pub returns-in_err-entries-clause-there : goal.returns-in_err-entries-clause-there
+returns-in_err-entries-clause-there c t all h =
+    c.entries_of.ensures.there t
+    (are_in t c.deref.result.now c.args.form.now (variables_as c.deref.result.now c.in_ok-variables.variables.items c.args.form.now c.deref.ensures.value c.in_ok-variables.ensures) all) h
+
+pub place_by-requires-clause-over : goal.place_by-requires-clause-over
+place_by-requires-clause-over c =
+    numbered_over c.entries_of.new.owners.list c.entries_of.new.board.tableau.variables c.deref-2.result.now c.deref.result.now c.entries_of.ensures.counted
+    (subst (λ (es : List Entry). AreNumbered c.entries_of.new.owners.list es c.deref.result.now) (sym c.deref-2.ensures.value) c.in_ok-entries.ensures.ok)
+
+pub returns-clause-there : goal.returns-clause-there
+returns-clause-there c t all h =
+    c.place_by.ensures.there t (c.entries_of.ensures.there t
+    (are_in t c.deref.result.now c.args.form.now (variables_as c.deref.result.now c.in_ok-variables.variables.items c.args.form.now c.deref.ensures.value c.in_ok-variables.ensures) all) h)
+
+pub returns-clause-is : goal.returns-clause-is
+returns-clause-is c =
+    result_formed c.entries_of.new.owners.list c.entries_of.new.board (ground_of c.place_by.new.owners.list c.place_by.new.board) c.args.form.now c.deref.result.now c.deref-2.result.now
+    c.args.kind c.constant.result c.place_by.result
+    (variables_as c.deref.result.now c.in_ok-variables.variables.items c.args.form.now c.deref.ensures.value c.in_ok-variables.ensures) c.constant.ensures
+    (subst (λ (es : List Entry). AreNumbered c.entries_of.new.owners.list es c.deref.result.now) (sym c.deref-2.ensures.value) c.in_ok-entries.ensures.ok)
+    c.place_by.ensures.grows c.place_by.ensures.made c.place_by.ensures.covers
+
+pub returns-clause-wide : goal.returns-clause-wide
+returns-clause-wide c =
+    result_strains c.entries_of.new.owners.list c.entries_of.new.board (ground_of c.place_by.new.owners.list c.place_by.new.board) c.args.form.now c.deref.result.now c.deref-2.result.now
+    c.constant.result c.place_by.result
+    (variables_as c.deref.result.now c.in_ok-variables.variables.items c.args.form.now c.deref.ensures.value c.in_ok-variables.ensures) c.constant.ensures
+    (subst (λ (es : List Entry). AreNumbered c.entries_of.new.owners.list es c.deref.result.now) (sym c.deref-2.ensures.value) c.in_ok-entries.ensures.ok)
+    c.place_by.ensures.grows c.place_by.ensures.wide

@@ -1,0 +1,78 @@
+-- What atoms are placed on, beside a board and bounds, and how all of these grow.
+use Rattle.std.specs.Prelude.{◌≡◌, ℕ, ◌<◌, ◌≤◌, List, ◌++◌, length, Option, Some}
+use Rattle.spec_tableaux.specs.Spaces.{Pair}
+use Rattle.spec_tableaux.specs.Rows.{Row}
+use Rattle.spec_tableaux.specs.Numbers.{Number}
+use Rattle.term_core.specs.declared.ids.TermId.{TermId}
+use Rattle.term_core.specs.Tables.{TableView, term_at, IsIn}
+use Rattle.simplex_bounds.specs.Held.{BoundsView}
+use Rattle.simplex_check.specs.Boards.{BoardView}
+use Rattle.simplex_atoms.specs.declared.place.Place.{Place}
+use Rattle.simplex_atoms.specs.Owners.{AreOnce, AreOwnersIn}
+use Rattle.simplex_atoms.specs.Places.{Setting, IsPlaced, place_in}
+
+-- For each variable the term that it stands for, and the places of atoms.
+pub record AtomsView : Type 0 where
+  -- for each variable the term that it stands for; those of rows stand for none
+  pub owners : List (Option TermId)
+  -- the places, by the numbers of the atoms, in any order
+  pub placed : List (ℕ × Place)
+
+-- The variables: what they stand for, their rows and values.
+pub record Ground : Type 0 where
+  -- for each variable the term that it stands for, if it stands for one
+  pub owners : List (Option TermId)
+  pub board : BoardView
+
+-- there is an entry for each variable of the board
+abbrev pub AreCounted : Ground → Type 0
+AreCounted g = length g.owners ≡ g.board.tableau.variables
+
+-- Variables and rows came after those that were there.
+pub record Grows (old new : Ground) : Type 0 where
+  -- what the variables that came stand for
+  pub more_owners : List (Option TermId)
+  pub owners : new.owners ≡ old.owners ++ more_owners
+  -- the rows that came
+  pub more_rows : List (Row Number)
+  pub listed : new.board.tableau.listed ≡ old.board.tableau.listed ++ more_rows
+  -- the values of the variables that came
+  pub more_values : List (Pair Number)
+  pub values : new.board.values ≡ old.board.values ++ more_values
+
+-- Bounds can be held of more variables, and those that are held and the room for more are as before.
+pub record KeepBounds (old new : BoundsView) : Type 0 where
+  pub variables : old.variables ≤ new.variables
+  pub held : new.held ≡ old.held
+  pub room : new.room ≡ old.room
+
+-- what variables stand for, with a board
+abbrev pub ground_of : List (Option TermId) → BoardView → Ground
+ground_of owners board = record { owners = owners; board = board }
+
+-- what places are read by
+abbrev pub setting_of : TableView → Ground → Setting
+setting_of t g = record { table = t; owners = g.owners; listed = g.board.tableau.listed }
+
+-- A place of an atom is its place, and bounds can be held of its variable.
+pub record IsPlaceOf (s : Setting) (reach : ℕ) (id : TermId) (place : Place) : Type 0 where
+  pub is_in : IsIn s.table id
+  pub is : IsPlaced s place (term_at s.table id)
+  pub reached : place.variable < reach
+
+-- each place that an atom has is its place
+abbrev pub ArePlaced : Setting → ℕ → List (ℕ × Place) → Type 0
+ArePlaced s reach placed = (id : TermId) (place : Place) → place_in placed id ≡ Some place → IsPlaceOf s reach id place
+
+-- Atoms fit a table, a board and bounds.
+pub record AreRight (t : TableView) (a : AtomsView) (b : BoardView) (bounds : BoundsView) : Type 0 where
+  -- there is an entry for each variable of the board
+  pub counted : AreCounted (ground_of a.owners b)
+  -- bounds can be held of variables of the board alone; of all of them, but where memory ran out
+  pub within : bounds.variables ≤ b.tableau.variables
+  -- the terms that variables stand for are of the table
+  pub owners_in : AreOwnersIn t a.owners
+  -- no two variables stand for one term
+  pub once : AreOnce a.owners
+  -- each place is that of its atom
+  pub are_placed : ArePlaced (setting_of t (ground_of a.owners b)) bounds.variables a.placed

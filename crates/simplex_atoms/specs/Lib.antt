@@ -1,0 +1,8 @@
+-- Which variable of a tableau an atom of linear arithmetic bounds, and by which value.
+pub mod Owners
+pub mod Stops
+pub mod Places
+pub mod Limits
+pub mod Atoms
+pub mod Watching
+pub mod Made

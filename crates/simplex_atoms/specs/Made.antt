@@ -1,0 +1,45 @@
+-- Steps by which the place of a form is made.
+use Rattle.std.specs.Prelude.{◌≡◌, ℕ, ◌<◌, false, List, [], ◌∷◌, length, Option, Some, None, Err}
+use Rattle.spec_numbers.specs.Fractions.{opposite}
+use Rattle.spec_numbers.specs.Bounds.{Overflow, divided}
+use Rattle.spec_tableaux.specs.Spaces.{as_space}
+use Rattle.spec_tableaux.specs.Rows.{Solves, sum_of}
+use Rattle.spec_tableaux.specs.Numbers.{Number, numbers}
+use Rattle.ratio128.specs.declared.ratio.Ratio.{Ratio}
+use Rattle.ratio128.specs.Meant.{fraction}
+use Rattle.tableau.specs.declared.entries.Entry.{Entry}
+use Rattle.tableau.specs.Numbers.{number_of}
+use Rattle.tableau.specs.Entries.{entries_of}
+use Rattle.simplex_check.specs.Boards.{BoardView, state_of}
+use Rattle.simplex_check.specs.Strains.{StrainsNew}
+use Rattle.simplex_atoms.specs.declared.place.Kind.{Kind}
+use Rattle.simplex_atoms.specs.declared.place.Place.{Place}
+use Rattle.simplex_atoms.specs.Atoms.{Ground}
+
+-- The place has this kind and constant, and its bound is that of its factor.
+pub record IsMade (kind : Kind) (constant : Ratio) (place : Place) : Type 0 where
+  pub is_kind : place.kind ≡ kind
+  pub is_constant : place.constant ≡ constant
+  pub factor : numbers.is_zero (number_of place.factor) ≡ false
+  pub bound : number_of place.bound
+      ≡ numbers.times (numbers.opposite (number_of place.constant)) (numbers.inverse (number_of place.factor))
+
+-- The sum of entries is the factor times the variable, wherever the rows hold.
+pub record Covers (g : Ground) (es : List Entry) (place : Place) : Type 0 where
+  -- the variable is there
+  pub variable : place.variable < length g.owners
+  pub sum : (v : ℕ → Number) → Solves (as_space numbers) v g.board.tableau.listed
+      → sum_of (as_space numbers) v (entries_of es) ≡ numbers.times (number_of place.factor) (v place.variable)
+
+-- the one entry, whose coefficient is not 0, where the entries are such a one
+abbrev pub IsSingle : List Entry → Option Entry → Type 0
+IsSingle es (Some e) = (es ≡ e ∷ []) × (numbers.is_zero (number_of e.coefficient) ≡ false)
+IsSingle es None = (e : Entry) → es ≡ e ∷ [] → numbers.is_zero (number_of e.coefficient) ≡ false → ⊥
+
+-- The place of entries and a constant comes to the overflow o.
+pub data StrainsEntries (b : BoardView) (constant : Ratio) (es : List Entry) (o : Overflow) : Type 0 where
+  -- minus the constant, over the coefficient of the one entry
+  bound : (e : Entry) → es ≡ e ∷ [] → divided (opposite (fraction constant)) (fraction e.coefficient) ≡ Err o
+      → StrainsEntries b constant es o
+  -- the row of the entries
+  row : StrainsNew (state_of b) (entries_of es) o → StrainsEntries b constant es o

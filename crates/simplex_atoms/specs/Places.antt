@@ -1,0 +1,74 @@
+-- Which variable of a tableau an atom of linear arithmetic bounds: its form is a multiple of the variable, and a
+-- constant.
+use Rattle.std.specs.Prelude.{◌≡◌, ℕ, ◌<◌, Bool, true, false, List, length, nat_eq, Option, Some, None, Ok}
+use Rattle.std.specs.Map.{lookup}
+use Rattle.spec_sorts.specs.Terms.{Term}
+use Rattle.spec_arithmetic.specs.Forms.{Form, variables_value}
+use Rattle.spec_tableaux.specs.Spaces.{as_space}
+use Rattle.spec_tableaux.specs.Rows.{Row, Solves}
+use Rattle.spec_tableaux.specs.Numbers.{Number, numbers}
+use Rattle.spec_simplex.specs.Constraints.{Relation, below, at_most, equals, at_least, above, Constraint, constraint_of, form_of}
+use Rattle.ratio128.specs.Meant.{fraction}
+use Rattle.term_core.specs.declared.ids.TermId.{TermId}
+use Rattle.term_core.specs.Tables.{TableView, positive_literal}
+use Rattle.tableau.specs.Numbers.{number_of}
+use Rattle.simplex_atoms.specs.declared.place.Kind.{Kind}
+use Rattle.simplex_atoms.specs.declared.place.Kind.TheVariants as kinds
+use Rattle.simplex_atoms.specs.declared.place.Place.{Place}
+use Rattle.simplex_atoms.specs.Owners.{AreOwned}
+
+-- What places are read by.
+pub record Setting : Type 0 where
+  -- the terms
+  pub table : TableView
+  -- for each variable the term that it stands for, if it stands for one
+  pub owners : List (Option TermId)
+  -- the rows as they were added
+  pub listed : List (Row Number)
+
+-- what an atom of a kind says of its form
+abbrev pub relation_meant : Kind → Relation
+relation_meant kinds.Less = below
+relation_meant kinds.AtMost = at_most
+relation_meant kinds.Equal = equals
+
+-- what a literal says of the form of its atom, by the kind of this and whether it is meant positively; that numbers
+-- differ is nothing that bounds say
+abbrev pub relation_by : Kind → Bool → Option Relation
+relation_by kinds.Less true = Some below
+relation_by kinds.Less false = Some at_least
+relation_by kinds.AtMost true = Some at_most
+relation_by kinds.AtMost false = Some above
+relation_by kinds.Equal true = Some equals
+relation_by kinds.Equal false = None
+
+-- The form is the factor times the variable, plus the constant, wherever the rows hold.
+pub record IsFormOf (s : Setting) (place : Place) (f : Form) : Type 0 where
+  -- the factor is not 0
+  pub factor : numbers.is_zero (number_of place.factor) ≡ false
+  -- the form is 0 where the variable is at the bound
+  pub bound : number_of place.bound
+      ≡ numbers.times (numbers.opposite (number_of place.constant)) (numbers.inverse (number_of place.factor))
+  -- the variable is there
+  pub variable : place.variable < length s.owners
+  -- the constant is that of the form
+  pub constant : f.constant ≡ fraction place.constant
+  -- the form's variables come to the factor times the variable
+  pub value : (n : Term → Number) (v : ℕ → Number) → AreOwned s.table s.owners n v
+      → Solves (as_space numbers) v s.listed → variables_value (λ u. (n u).fraction) f.variables
+      ≡ (numbers.times (number_of place.factor) (v place.variable)).fraction
+
+-- The place of an atom: what it says of its form, and the variable of which the form is a multiple, but for a constant.
+pub record IsPlaced (s : Setting) (place : Place) (atom : Term) : Type 0 where
+  -- what the atom says
+  pub constraint : Constraint
+  pub says : constraint_of (positive_literal atom) ≡ Some constraint
+  pub kind : constraint.relation ≡ relation_meant place.kind
+  -- its form
+  pub form : Form
+  pub has : form_of constraint ≡ Ok form
+  pub is : IsFormOf s place form
+
+-- the place of an atom by its number, among all that are placed
+abbrev pub place_in : List (ℕ × Place) → TermId → Option Place
+place_in placed id = lookup (nat_eq id.0) placed

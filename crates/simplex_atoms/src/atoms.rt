@@ -1,0 +1,138 @@
+//! Atoms on the variables of a board.
+
+ghost use Rattle.std.specs.Prelude.{◌≡◌, ◌≤◌, OnOk, OnErr, IfErr, []};
+ghost use Rattle.spec_simplex.specs.Constraints.{constraint_of};
+ghost use Rattle.term_core.specs.Tables.{IsIn, term_at, positive_literal};
+ghost use Rattle.term_core.specs.declared.ids.TermId.{TermId as Number};
+ghost use Rattle.simplex_atoms.specs.Owners.{owner_at, IsNumberOf};
+ghost use Rattle.simplex_atoms.specs.Places.{place_in};
+ghost use Rattle.simplex_atoms.specs.Atoms.{ground_of, Grows, KeepBounds, AreRight};
+ghost use Rattle.simplex_atoms.specs.Watching.{OnWide, StrainsAtom, IsWatched};
+
+use crate::owners::Owners;
+use crate::place::Place;
+use crate::placing::place_of;
+use crate::reading::{difference_of, sides_of};
+use crate::stop::AtomStop;
+use simplex_bounds::Bounds;
+use simplex_check::Board;
+use std::alloc::Global;
+use std::collections::HashMap;
+use std::marker::Model;
+use term_core::{TermId, TermTable};
+use world_io::NoMemory;
+
+/// Holds which terms the variables of a board stand for, and the places of the atoms that are watched.
+///
+/// A term's variable and an atom's place are looked up by a hash of its number. Contracts see for each variable the
+/// term that it stands for, and the places by the numbers of the atoms.
+/// Source: Dutertre and de Moura, A Fast Linear-Arithmetic Solver for DPLL(T), CAV 2006.
+#[derive(Drop)]
+pub struct Atoms {
+    alloc: Global,
+    owners: Owners,
+    places: HashMap<u64, Place>,
+}
+
+impl Model for Atoms {
+    ghost use Rattle.simplex_atoms.specs.Atoms.{AtomsView};
+
+    ghost Value = { AtomsView };
+
+    ghost view = { λ a. record { owners = a.owners.list; placed = a.places.entries } };
+}
+
+/// Lets bounds be held of n variables.
+///
+/// `NoMemory` comes where there is no memory; they can then be held of more variables than before.
+fn reach(bounds: &mut Bounds, n: u64) -> Result<(), NoMemory>
+    requires { bounds.old.variables ≤ n }
+    ensures within { bounds.new.variables ≤ n }
+    ensures kept { KeepBounds bounds.old bounds.new }
+    ensures ok { OnOk result (bounds.new.variables ≡ n) }
+{
+    'variables: while bounds.variables() < n {
+        bounds.add_var()?;
+    }
+    Ok(())
+}
+
+impl Atoms {
+    /// Makes atoms of which none is watched, and no variable. It takes no memory.
+    pub fn new(alloc: Global) -> Atoms
+        ensures { result ≡ record { owners = []; placed = [] } }
+    {
+        Atoms {
+            alloc,
+            owners: Owners::new(alloc),
+            places: HashMap::new(alloc),
+        }
+    }
+
+    /// Gives the variable that stands for a term; `None` where none does. It takes no memory.
+    pub fn var(&self, id: TermId) -> Option<u64>
+        ensures { IsNumberOf self.now.owners id result }
+    {
+        self.owners.var(id)
+    }
+
+    /// Gives the term that a variable stands for; `None` where it stands for a row, or is not there. It takes no
+    /// memory.
+    pub fn owner(&self, y: u64) -> Option<TermId>
+        ensures { result ≡ owner_at self.now.owners y }
+    {
+        self.owners.owner(y)
+    }
+
+    /// Gives the place of an atom; `None` where it has none. It takes no memory.
+    pub fn place(&self, id: TermId) -> Option<Place>
+        ensures { result ≡ place_in self.now.placed id }
+    {
+        match self.places.get(&id.0) {
+            None => None,
+            Some(place) => Some(*place),
+        }
+    }
+
+    /// Watches a term: gives it a place, if it is an atom of linear arithmetic without one. The variables of its
+    /// form, and its form if it has not one variable, get variables of the board where they have none, of which
+    /// bounds can be held then. Room for the atom's bounds is left to the caller.
+    ///
+    /// `Wide` comes where an operation leaves the bound on fractions: the first one of the form, the quotient of its
+    /// constant by the coefficient of its one variable, or one of the new row. `Memory` comes where there is no
+    /// memory. Then places are as they were; there may be more variables and rows.
+    pub fn watch(
+        &mut self,
+        table: &TermTable,
+        id: TermId,
+        board: &mut Board,
+        bounds: &mut Bounds,
+    ) -> Result<(), AtomStop>
+        requires there { IsIn table.now id }
+        requires right { AreRight table.now self.old board.old bounds.old }
+        ensures right { AreRight table.now self.new board.new bounds.new }
+        ensures grows { Grows (ground_of self.old.owners board.old) (ground_of self.new.owners board.new) }
+        ensures bounds { KeepBounds bounds.old bounds.new }
+        ensures watched { OnOk result (IsWatched (place_in self.new.placed id)
+            (constraint_of (positive_literal (term_at table.now id)))) }
+        ensures others { (other : Number) → (id.0 ≡ other.0 → ⊥)
+            → place_in self.new.placed other ≡ place_in self.old.placed other }
+        ensures same { OnErr result ((other : Number)
+            → place_in self.new.placed other ≡ place_in self.old.placed other) }
+        ensures wide { IfErr result (OnWide (StrainsAtom table.now self.new.owners board.new id)) }
+    {
+        if self.place(id).is_some() {
+            return Ok(());
+        }
+        let Some(sides) = sides_of(table, id) else {
+            return Ok(());
+        };
+        let form = difference_of(self.alloc, table, sides)?;
+        let made = place_of(self.alloc, &mut self.owners, board, sides.kind, &form);
+        self.owners.are_once();
+        let place = made?;
+        reach(bounds, self.owners.len())?;
+        self.places.insert(id.0, place)?;
+        Ok(())
+    }
+}

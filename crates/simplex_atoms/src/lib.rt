@@ -1,0 +1,23 @@
+//! Atoms of linear arithmetic on the variables of a tableau: which variable an atom bounds, and by which value.
+//!
+//! The form of a watched atom is a multiple of one variable, plus a constant. Terms that are no sums become
+//! variables, and other sums become rows. A literal of the atom then bounds the variable.
+//! Source: Dutertre and de Moura, A Fast Linear-Arithmetic Solver for DPLL(T), CAV 2006.
+#![tactic(auto)]
+
+mod atoms;
+pub mod laws;
+mod limits;
+mod numbering;
+mod owners;
+mod place;
+mod placing;
+mod reading;
+mod stop;
+#[cfg(test)]
+mod tests;
+
+pub use atoms::Atoms;
+pub use limits::bounds_by;
+pub use place::{Kind, Place};
+pub use stop::AtomStop;

@@ -1,0 +1,85 @@
+//! Numbers of variables for terms, and entries for the variables of forms.
+
+ghost use Rattle.std.specs.Prelude.{◌≡◌, Some, All, IfOk};
+ghost use Rattle.term_core.specs.Tables.{TableView, IsIn};
+ghost use Rattle.term_core.specs.declared.ids.TermId.{TermId as Number};
+ghost use Rattle.ratio128.specs.declared.ratio.Ratio.{Ratio as Coefficient};
+ghost use Rattle.simplex_atoms.specs.Owners.{owner_at, AreOwnersIn};
+ghost use Rattle.simplex_atoms.specs.Atoms.{ground_of, AreCounted, Grows};
+ghost use Rattle.simplex_atoms.specs.Watching.{IsNumbered, AreNumbered};
+
+use crate::owners::Owners;
+use ratio128::Ratio;
+use simplex_check::Board;
+use std::alloc::Global;
+use tableau::Entry;
+use term_core::TermId;
+use world_io::NoMemory;
+
+/// Gives the variable that stands for a term, which is added where none does.
+///
+/// `NoMemory` comes where there is no memory; there may then be one variable more, which stands for no term.
+pub(crate) fn variable_of(
+    owners: &mut Owners,
+    board: &mut Board,
+    id: TermId,
+) -> Result<u64, NoMemory>
+    requires { AreCounted (ground_of owners.old.list board.old) }
+    ensures counted { AreCounted (ground_of owners.new.list board.new) }
+    ensures grows { Grows (ground_of owners.old.list board.old) (ground_of owners.new.list board.new) }
+    ensures there { (t : TableView) → IsIn t id → AreOwnersIn t owners.old.list → AreOwnersIn t owners.new.list }
+    ensures ok { IfOk result (λ y. owner_at owners.new.list y ≡ Some id) }
+{
+    if let Some(y) = owners.var(id) {
+        return Ok(y);
+    }
+    owners.reserve()?;
+    let y = owners.len();
+    board.add_var()?;
+    owners.add_term(id)?;
+    Ok(y)
+}
+
+/// Makes the entry of a variable of a form.
+fn entry_of(
+    owners: &mut Owners,
+    board: &mut Board,
+    variable: (TermId, Ratio),
+) -> Result<Entry, NoMemory>
+    requires { AreCounted (ground_of owners.old.list board.old) }
+    ensures counted { AreCounted (ground_of owners.new.list board.new) }
+    ensures grows { Grows (ground_of owners.old.list board.old) (ground_of owners.new.list board.new) }
+    ensures there { (t : TableView) → IsIn t variable.0 → AreOwnersIn t owners.old.list
+        → AreOwnersIn t owners.new.list }
+    ensures ok { IfOk result (λ e. IsNumbered owners.new.list e variable) }
+{
+    let y = variable_of(owners, board, variable.0)?;
+    Ok(Entry {
+        variable: y,
+        coefficient: variable.1,
+    })
+}
+
+/// Makes the entries of the variables of a form, in order. Terms for which no variable stands get one.
+///
+/// `NoMemory` comes where there is no memory; there may then be more variables.
+pub(crate) fn entries_of(
+    alloc: Global,
+    owners: &mut Owners,
+    board: &mut Board,
+    variables: &[(TermId, Ratio)],
+) -> Result<Vec<Entry>, NoMemory>
+    requires { AreCounted (ground_of owners.old.list board.old) }
+    ensures counted { AreCounted (ground_of owners.new.list board.new) }
+    ensures grows { Grows (ground_of owners.old.list board.old) (ground_of owners.new.list board.new) }
+    ensures there { (t : TableView) → All (λ (p : Number × Coefficient). IsIn t p.0) variables.now
+        → AreOwnersIn t owners.old.list → AreOwnersIn t owners.new.list }
+    ensures ok { IfOk result (λ es. AreNumbered owners.new.list es.items variables.now) }
+{
+    let mut entries = Vec::new(alloc);
+    'variables: for at in 0..variables.len() {
+        let entry = entry_of(owners, board, variables[at])?;
+        entries.push(entry)?;
+    }
+    Ok(entries)
+}

@@ -1,0 +1,143 @@
+//! The place of a form.
+
+ghost use Rattle.std.specs.Prelude.{◌≡◌, ◌<◌, false, IfOk, IfErr, Err};
+ghost use Rattle.spec_numbers.specs.Fractions.{opposite};
+ghost use Rattle.spec_numbers.specs.Bounds.{divided};
+ghost use Rattle.spec_tableaux.specs.SolvedForms.{IsOver};
+ghost use Rattle.spec_tableaux.specs.Numbers.{numbers};
+ghost use Rattle.ratio128.specs.Meant.{fraction, overflow};
+ghost use Rattle.term_core.specs.Tables.{TableView};
+ghost use Rattle.linear_form.specs.Meant.{form_meant, AreVariablesOf};
+ghost use Rattle.tableau.specs.Numbers.{number_of};
+ghost use Rattle.tableau.specs.Entries.{entries_of};
+ghost use Rattle.simplex_atoms.specs.Owners.{AreOwnersIn};
+ghost use Rattle.simplex_atoms.specs.Places.{IsFormOf};
+ghost use Rattle.simplex_atoms.specs.Atoms.{ground_of, setting_of, AreCounted, Grows};
+ghost use Rattle.simplex_atoms.specs.Watching.{OnWide, StrainsForm};
+ghost use Rattle.simplex_atoms.specs.Made.{IsMade, Covers, IsSingle, StrainsEntries};
+
+use crate::numbering::entries_of;
+use crate::owners::Owners;
+use crate::place::{Kind, Place};
+use crate::stop::AtomStop;
+use linear_form::Form;
+use ratio128::{Ratio, Wide};
+use simplex_check::Board;
+use std::alloc::Global;
+use tableau::Entry;
+use tableau::numbers::{is_zero, negative, one, quotient};
+
+/// Gives the one entry, whose coefficient is not 0; nothing where the entries are no such one.
+fn single(entries: &[Entry]) -> Option<Entry>
+    ensures { IsSingle entries.now result }
+{
+    let [entry] = entries else {
+        return None;
+    };
+    if is_zero(entry.coefficient) {
+        return None;
+    }
+    Some(*entry)
+}
+
+/// Makes the place on the variable of an entry.
+fn on_variable(kind: Kind, constant: Ratio, entry: Entry) -> Result<Place, Wide>
+    requires { numbers.is_zero (number_of entry.coefficient) ≡ false }
+    ensures made { IfOk result (IsMade kind constant) }
+    ensures variable { IfOk result (λ p. (p.variable ≡ entry.variable) × (p.factor ≡ entry.coefficient)) }
+    ensures wide { IfErr result (λ w.
+        divided (opposite (fraction constant)) (fraction entry.coefficient) ≡ Err (overflow w)) }
+{
+    let bound = quotient(negative(constant), entry.coefficient)?;
+    Ok(Place {
+        kind,
+        variable: entry.variable,
+        factor: entry.coefficient,
+        constant,
+        bound,
+    })
+}
+
+/// Makes the place on a new variable, which is the sum of the entries.
+fn on_row(
+    owners: &mut Owners,
+    board: &mut Board,
+    kind: Kind,
+    constant: Ratio,
+    entries: &[Entry],
+) -> Result<Place, AtomStop>
+    requires counted { AreCounted (ground_of owners.old.list board.old) }
+    requires over { IsOver (λ y. y < board.old.tableau.variables) (entries_of entries.now) }
+    ensures counted { AreCounted (ground_of owners.new.list board.new) }
+    ensures grows { Grows (ground_of owners.old.list board.old) (ground_of owners.new.list board.new) }
+    ensures there { (t : TableView) → AreOwnersIn t owners.old.list → AreOwnersIn t owners.new.list }
+    ensures made { IfOk result (IsMade kind constant) }
+    ensures covers { IfOk result (Covers (ground_of owners.new.list board.new) entries.now) }
+    ensures wide { IfErr result (OnWide (StrainsEntries board.new constant entries.now)) }
+{
+    owners.reserve()?;
+    let variable = board.add_row(entries)?;
+    owners.add_none();
+    Ok(Place {
+        kind,
+        variable,
+        factor: one(),
+        constant,
+        bound: negative(constant),
+    })
+}
+
+/// Makes the place of the form that has this constant, and the sum of the entries: on the variable of the one entry,
+/// else on a new variable.
+fn place_by(
+    owners: &mut Owners,
+    board: &mut Board,
+    kind: Kind,
+    constant: Ratio,
+    entries: &[Entry],
+) -> Result<Place, AtomStop>
+    requires counted { AreCounted (ground_of owners.old.list board.old) }
+    requires over { IsOver (λ y. y < board.old.tableau.variables) (entries_of entries.now) }
+    ensures counted { AreCounted (ground_of owners.new.list board.new) }
+    ensures grows { Grows (ground_of owners.old.list board.old) (ground_of owners.new.list board.new) }
+    ensures there { (t : TableView) → AreOwnersIn t owners.old.list → AreOwnersIn t owners.new.list }
+    ensures made { IfOk result (IsMade kind constant) }
+    ensures covers { IfOk result (Covers (ground_of owners.new.list board.new) entries.now) }
+    ensures wide { IfErr result (OnWide (StrainsEntries board.new constant entries.now)) }
+{
+    match single(entries) {
+        Some(entry) => {
+            let place = on_variable(kind, constant, entry)?;
+            Ok(place)
+        }
+        None => on_row(owners, board, kind, constant, entries),
+    }
+}
+
+/// Makes the place of a form. Its variables and, unless it has one variable, their sum get variables where they have
+/// none.
+///
+/// `Wide` comes where an operation leaves the bound on fractions, and `Memory` where there is no memory. There may
+/// then be more variables and rows.
+pub(crate) fn place_of(
+    alloc: Global,
+    owners: &mut Owners,
+    board: &mut Board,
+    kind: Kind,
+    form: &Form,
+) -> Result<Place, AtomStop>
+    requires { AreCounted (ground_of owners.old.list board.old) }
+    ensures counted { AreCounted (ground_of owners.new.list board.new) }
+    ensures grows { Grows (ground_of owners.old.list board.old) (ground_of owners.new.list board.new) }
+    ensures there { (t : TableView) → AreVariablesOf t form.now → AreOwnersIn t owners.old.list
+        → AreOwnersIn t owners.new.list }
+    ensures kind { IfOk result (λ p. p.kind ≡ kind) }
+    ensures is { IfOk result (λ p. (t : TableView)
+        → IsFormOf (setting_of t (ground_of owners.new.list board.new)) p (form_meant t form.now)) }
+    ensures wide { IfErr result (OnWide (λ o. (t : TableView)
+        → StrainsForm t owners.new.list board.new (form_meant t form.now) o)) }
+{
+    let variables = form.variables(alloc)?;
+    let entries = entries_of(alloc, owners, board, &variables)?;
+    place_by(owners, board, kind, form.constant(), &entries)
+}
