@@ -1,0 +1,5 @@
+-- The lemmas of this crate.
+pub mod Judged
+pub mod Terms
+pub mod Stated
+pub mod Free

@@ -1,0 +1,10 @@
+-- The term that is put has no parameter.
+use Rattle.std.proofs.Common.{sym, ◌∙◌}
+use Rattle.simplex_explain.proofs.Free.{free_node, free_put}
+use Rattle.simplex_explain.proofs.tests.put.Goals as goal
+
+pub returns-in_ok-put : goal.returns-in_ok-put
+returns-in_ok-put c =
+    let t = c.args.table.now in
+    let n = c.in_ok-node.node in
+    free_put t c.put.new.self n c.requires (free_node t n c.requires c.if-takes.ensures (λ k s e. c.in_default.not-Parameter k s (sym c.in_ok-node.ensures.0 ∙ e))) c.in_ok-put.ensures.added
