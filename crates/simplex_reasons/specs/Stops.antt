@@ -1,0 +1,79 @@
+-- The bounds that stop the variables of a sum.
+use Rattle.std.specs.Prelude.{◌≡◌, ℕ, Bool, true, false, not, cond, List, [], ◌∷◌, Option, Some, None, All, Contains}
+use Rattle.spec_tableaux.specs.Fields.{is_positive}
+use Rattle.spec_tableaux.specs.Spaces.{Pair, minus}
+use Rattle.spec_tableaux.specs.Rows.{Entry}
+use Rattle.spec_tableaux.specs.Numbers.{Number, numbers}
+use Rattle.term_core.specs.declared.ids.TermId.{TermId}
+use Rattle.tableau.specs.Numbers.{number_of}
+use Rattle.simplex_bounds.specs.declared.bounds.Bound.{Bound}
+use Rattle.simplex_bounds.specs.declared.bounds.Side.{Side}
+use Rattle.simplex_bounds.specs.Deltas.{pair_of, deltas}
+use Rattle.simplex_bounds.specs.Held.{strongest}
+use Rattle.simplex_atoms.specs.declared.place.Place.{Place}
+use Rattle.simplex_atoms.specs.Places.{place_in}
+use Rattle.simplex_atoms.specs.Limits.{side_by, limit_of, limits_by}
+
+-- A bound is one of those that its literal states.
+pub record IsStated (placed : List (ℕ × Place)) (b : Bound) : Type 0 where
+  -- the place of the literal's atom
+  pub place : Place
+  pub there : place_in placed b.literal.term ≡ Some place
+  pub states : Contains (limits_by place b.literal) (limit_of b)
+
+-- each of the bounds is stated by its literal
+abbrev pub AreStated : List (ℕ × Place) → List Bound → Type 0
+AreStated placed held = All (IsStated placed) held
+
+-- the factor of each place is not 0
+abbrev pub HaveFactors : List (ℕ × Place) → Type 0
+HaveFactors placed = (id : TermId) (place : Place) → place_in placed id ≡ Some place
+    → numbers.is_zero (number_of place.factor) ≡ false
+
+-- the side on which a variable with the coefficient c is stopped where a sum is to rise, or to fall where up is false
+abbrev pub stopping_side : Bool → Number → Side
+stopping_side up c = side_by (cond (is_positive numbers c) up (not up))
+
+-- the number, or minus it where up is false
+abbrev pub directed : Bool → Number → Number
+directed true c = c
+directed false c = numbers.opposite c
+
+-- the bound that stops the variable of an entry, where there is one
+abbrev pub stop_of : List Bound → Bool → Entry Number → Option Bound
+stop_of held up e = strongest (stopping_side up e.coefficient) e.variable held
+
+-- A bound stops the variable of an entry, whose coefficient is not 0.
+pub record IsStopped (held : List Bound) (up : Bool) (e : Entry Number) : Type 0 where
+  pub entry : numbers.is_zero e.coefficient ≡ false
+  -- the bound
+  pub bound : Bound
+  pub is : stop_of held up e ≡ Some bound
+
+-- the variable of each entry is stopped
+abbrev pub AreAllStopped : List Bound → Bool → List (Entry Number) → Type 0
+AreAllStopped held up [] = Unit {0}
+AreAllStopped held up (e ∷ es) = IsStopped held up e × AreAllStopped held up es
+
+-- the value of a bound, 0 where there is none
+abbrev pub value_of : Option Bound → Pair Number
+value_of None = deltas.origin
+value_of (Some b) = pair_of b.value
+
+-- how far values are beyond the stop of an entry, times the coefficient, with its sign by the direction
+abbrev pub beyond : List Bound → Bool → (ℕ → Pair Number) → Entry Number → Pair Number
+beyond held up v e =
+    deltas.scale (directed up e.coefficient) (minus deltas (v e.variable) (value_of (stop_of held up e)))
+
+-- the sum of this over entries
+abbrev pub all_beyond : List Bound → Bool → (ℕ → Pair Number) → List (Entry Number) → Pair Number
+all_beyond held up v [] = deltas.origin
+all_beyond held up v (e ∷ es) = deltas.plus (beyond held up v e) (all_beyond held up v es)
+
+-- the entries of a row with its basic variable, so that their sum is 0
+abbrev pub with_basic : ℕ → List (Entry Number) → List (Entry Number)
+with_basic b es = record { variable = b; coefficient = numbers.opposite numbers.one } ∷ es
+
+-- the one entry of a variable, with the coefficient 1
+abbrev pub unit_entries : ℕ → List (Entry Number)
+unit_entries y = record { variable = y; coefficient = numbers.one } ∷ []

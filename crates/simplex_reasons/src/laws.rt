@@ -1,0 +1,14 @@
+//! Laws that callers need: functions with empty bodies, whose clauses are proved of the definitions.
+
+ghost use Rattle.std.specs.Prelude.{◌≡◌, ℕ, false, List};
+ghost use Rattle.spec_tableaux.specs.Ranges.{is_crossed};
+ghost use Rattle.spec_tableaux.specs.LeastVariable.{IsSettled};
+ghost use Rattle.simplex_bounds.specs.Deltas.{deltas};
+ghost use Rattle.simplex_check.specs.Strains.{Ranges};
+ghost use Rattle.simplex_check.specs.Ends.{BoardState, Ran};
+
+/// States that nonbasic variables keep their bounds after the exchanges of a check, where no bounds cross.
+pub fn checks_keep_nonbasic_bounds()
+    ensures { (ranges : Ranges) (t u : BoardState) (old new : List (ℕ × ℕ))
+        → ((y : ℕ) → is_crossed deltas ranges y ≡ false) → Ran ranges t u old new → IsSettled deltas ranges u }
+{}

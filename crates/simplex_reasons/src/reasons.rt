@@ -1,0 +1,100 @@
+//! Why a row is stuck, and why bounds cross.
+
+ghost use Rattle.std.specs.Prelude.{◌≡◌, true, IfOk, IfErr};
+ghost use Rattle.spec_tableaux.specs.Rows.{row_of};
+ghost use Rattle.spec_tableaux.specs.Ranges.{is_crossed};
+ghost use Rattle.spec_tableaux.specs.LeastVariable.{Says, IsSettled, goes_up, stuck};
+ghost use Rattle.term_core.specs.Tables.{TableView};
+ghost use Rattle.simplex_bounds.specs.Deltas.{deltas};
+ghost use Rattle.simplex_bounds.specs.Held.{ranges_in};
+ghost use Rattle.simplex_check.specs.Boards.{state_of};
+ghost use Rattle.simplex_atoms.specs.Atoms.{AreRight};
+ghost use Rattle.simplex_explain.specs.Reasons.{Refutes};
+ghost use Rattle.simplex_reasons.specs.Grounded.{AreGrounded};
+ghost use Rattle.simplex_reasons.specs.Stops.{AreStated, with_basic, unit_entries};
+ghost use Rattle.simplex_reasons.specs.Reasons.{Meaning, footing, AreReasonsFor, AreOfHeld, StrainsReasons, OnWide};
+
+use crate::rows::{crossed_reasons, stuck_reasons};
+use crate::stop::ReasonStop;
+use simplex_atoms::Atoms;
+use simplex_atoms::laws::bounds_have_weights;
+use simplex_bounds::Bounds;
+use simplex_check::Board;
+use simplex_explain::Weighted;
+use std::alloc::Global;
+
+/// Tells why a basic variable cannot keep its bounds: by literals of bounds that cannot all hold, with weights under which
+/// their sum is a contradiction.
+///
+/// First comes the literal of the bound that the variable violates, and then for each entry of its row, in the order of the
+/// variables, that of the bound that stops the variable. Where the basic variable has to rise, its own number is -1, and that
+/// of an entry its coefficient; where it has to fall, minus these. The weight is this number over the factor of the place of
+/// the literal's atom: of an equality with its sign, of an order without.
+///
+/// Conditions: the rule is stuck at the variable, and nonbasic variables keep their bounds. Each bound that is held is
+/// stated by its literal, and rows have a solution for all values of terms.
+///
+/// `Wide` comes only where 1 or a coefficient over a factor leaves the bound on fractions, and `Memory` where there is no
+/// memory. Time goes in proportion to the row. Source: Farkas 1902; Dutertre and de Moura, A Fast Linear-Arithmetic Solver
+/// for DPLL(T), CAV 2006.
+pub fn row_reasons(
+    alloc: Global,
+    board: &Board,
+    bounds: &Bounds,
+    atoms: &Atoms,
+    b: u64,
+) -> Result<Vec<Weighted>, ReasonStop>
+    ghost t: { TableView }
+    requires right { AreRight t atoms.now board.now bounds.now }
+    requires grounded { AreGrounded atoms.now.owners 0 board.now.tableau.listed board.now.tableau.variables }
+    requires stated { AreStated atoms.now.placed bounds.now.held }
+    requires settled { IsSettled deltas (ranges_in bounds.now.held) (state_of board.now) }
+    requires says { Says deltas (ranges_in bounds.now.held) (state_of board.now) (stuck b) }
+    ensures reasons { IfOk result (λ reasons. AreReasonsFor (footing atoms.now bounds.now)
+        (goes_up deltas (ranges_in bounds.now.held) (state_of board.now) b)
+        (with_basic b (row_of b board.now.tableau.rows).entries) reasons.items) }
+    ensures refutes { IfOk result (λ reasons. Refutes t reasons.items) }
+    ensures held { IfOk result (λ reasons. AreOfHeld bounds.now.held reasons.items) }
+    ensures wide { IfErr result (OnWide (StrainsReasons (footing atoms.now bounds.now)
+        (goes_up deltas (ranges_in bounds.now.held) (state_of board.now) b)
+        (with_basic b (row_of b board.now.tableau.rows).entries))) }
+{
+    bounds_have_weights();
+    board.tableau().rows_are_in_solved_form();
+    let reasons = stuck_reasons(alloc, board, bounds, atoms, b)?;
+    Ok(reasons)
+}
+
+/// Tells why the bounds of a variable cross: by the literals of its lower and its upper bound, which cannot both hold, with
+/// weights under which their sum is a contradiction.
+///
+/// The number of the lower bound is -1, and that of the upper one 1. The weight is this number over the factor of the place of
+/// the literal's atom: of an equality with its sign, of an order without.
+///
+/// Conditions: the bounds cross, each bound that is held is stated by its literal, and the rows of the board have a solution
+/// for all values of terms.
+///
+/// `Wide` comes only where 1 over a factor leaves the bound on fractions, and `Memory` where there is no memory. Source:
+/// Dutertre and de Moura, A Fast Linear-Arithmetic Solver for DPLL(T), CAV 2006.
+pub fn crossing_reasons(
+    alloc: Global,
+    bounds: &Bounds,
+    atoms: &Atoms,
+    y: u64,
+) -> Result<Vec<Weighted>, ReasonStop>
+    ghost of: { Meaning }
+    requires right { AreRight of.table atoms.now of.board bounds.now }
+    requires grounded { AreGrounded atoms.now.owners 0 of.board.tableau.listed of.board.tableau.variables }
+    requires stated { AreStated atoms.now.placed bounds.now.held }
+    requires crossed { is_crossed deltas (ranges_in bounds.now.held) y ≡ true }
+    ensures reasons { IfOk result (λ reasons. AreReasonsFor (footing atoms.now bounds.now) true
+        (with_basic y (unit_entries y)) reasons.items) }
+    ensures refutes { IfOk result (λ reasons. Refutes of.table reasons.items) }
+    ensures held { IfOk result (λ reasons. AreOfHeld bounds.now.held reasons.items) }
+    ensures wide { IfErr result (OnWide (StrainsReasons (footing atoms.now bounds.now) true
+        (with_basic y (unit_entries y)))) }
+{
+    bounds_have_weights();
+    let reasons = crossed_reasons(alloc, bounds, atoms, y)?;
+    Ok(reasons)
+}

@@ -1,0 +1,104 @@
+//! The weight of the literal of a bound.
+
+ghost use Rattle.std.specs.Prelude.{◌≡◌, IfOk, IfErr, Err, false};
+ghost use Rattle.spec_numbers.specs.Bounds.{divided};
+ghost use Rattle.spec_arithmetic.specs.Signs as signs;
+ghost use Rattle.spec_tableaux.specs.Numbers.{numbers};
+ghost use Rattle.ratio128.specs.Meant.{fraction, overflow};
+ghost use Rattle.tableau.specs.Numbers.{number_of};
+ghost use Rattle.tableau.specs.Entries.{entry_of};
+ghost use Rattle.simplex_bounds.specs.Held as held;
+ghost use Rattle.simplex_atoms.specs.Places.{relation_by};
+ghost use Rattle.simplex_reasons.specs.Stops as stops;
+ghost use Rattle.simplex_reasons.specs.Stops.{AreStated, HaveFactors, IsStopped};
+ghost use Rattle.simplex_reasons.specs.Reasons.{weight_by, footing, IsReason, StrainsReason};
+
+use ratio128::{Ratio, Wide};
+use simplex_atoms::{Atoms, Kind, Place};
+use simplex_bounds::{Bound, Bounds, Lit, Side};
+use simplex_explain::Weighted;
+use tableau::Entry;
+use tableau::numbers::{is_negative, negative, quotient};
+
+/// Gives the size of a number.
+fn size(a: Ratio) -> Ratio
+    ensures { fraction result ≡ signs.size (fraction a) }
+{
+    if is_negative(a) { negative(a) } else { a }
+}
+
+/// Gives the weight of a literal with which the variable of its place has the weight `s`.
+///
+/// The error comes where `s` over the factor leaves the bound on fractions.
+fn weight_by(place: Place, literal: Lit, s: Ratio) -> Result<Ratio, Wide>
+    requires { numbers.is_zero (number_of place.factor) ≡ false }
+    ensures weight { IfOk result (λ w. fraction w
+        ≡ weight_by (relation_by place.kind literal.positive) place (number_of s)) }
+    ensures wide { IfErr result (λ w. divided (fraction s) (fraction place.factor) ≡ Err (overflow w)) }
+{
+    let part = quotient(s, place.factor)?;
+    Ok(match place.kind {
+        Kind::Equal => part,
+        Kind::Less => size(part),
+        Kind::AtMost => size(part),
+    })
+}
+
+/// Gives the side on which a variable with this coefficient is stopped, where the sum is to rise, or to fall if `up` is
+/// false.
+fn stopping_side(up: bool, coefficient: Ratio) -> Side
+    ensures { result ≡ stops.stopping_side up (number_of coefficient) }
+{
+    let rises = if is_negative(negative(coefficient)) {
+        up
+    } else {
+        !up
+    };
+    if rises { Side::Upper } else { Side::Lower }
+}
+
+/// Gives the number, or minus it where `up` is false.
+fn directed(up: bool, a: Ratio) -> Ratio
+    ensures { number_of result ≡ stops.directed up (number_of a) }
+{
+    if up { a } else { negative(a) }
+}
+
+/// Gives the strongest bound of a variable on a side.
+fn strongest(bounds: &Bounds, side: Side, y: u64) -> Option<Bound>
+    ensures { result ≡ held.strongest side y bounds.now.held }
+{
+    match side {
+        Side::Lower => bounds.lower(y),
+        Side::Upper => bounds.upper(y),
+    }
+}
+
+/// Gives the literal of the bound that stops the variable of an entry, with its weight.
+///
+/// The error comes where the coefficient over the factor of the literal's place leaves the bound on fractions.
+pub(crate) fn reason_for(
+    bounds: &Bounds,
+    atoms: &Atoms,
+    up: bool,
+    entry: Entry,
+) -> Result<Weighted, Wide>
+    requires stopped { IsStopped bounds.now.held up (entry_of entry) }
+    requires stated { AreStated atoms.now.placed bounds.now.held }
+    requires factors { HaveFactors atoms.now.placed }
+    ensures reason { IfOk result (IsReason (footing atoms.now bounds.now) up (entry_of entry)) }
+    ensures wide { IfErr result (λ w. StrainsReason (footing atoms.now bounds.now) up (entry_of entry) (overflow w)) }
+{
+    let side = stopping_side(up, entry.coefficient);
+    let Some(bound) = strongest(bounds, side, entry.variable) else {
+        unreachable!();
+    };
+    let Some(place) = atoms.place(bound.literal.term) else {
+        unreachable!();
+    };
+    let weight = weight_by(place, bound.literal, directed(up, entry.coefficient))?;
+    Ok(Weighted {
+        literal: bound.literal,
+        weight,
+    })
+}
