@@ -106,6 +106,7 @@ right_after old new x a b bounds r = record {
   within = r.within;
   owners_in = λ y id e. is_in_stays old new x id (r.owners_in y id e);
   once = r.once;
+  grounded = r.grounded;
   are_placed = λ id place e. place_after old new x (ground_of a.owners b) r.owners_in bounds.variables id place (r.are_placed id place e);
 }
 
@@ -123,6 +124,7 @@ right_first t = record {
   within = omega arith;
   owners_in = λ y id e. absurd (none_here y id e);
   once = λ x y id e h. absurd (none_here x id e);
+  grounded = omega arith;
   are_placed = λ id place e. absurd (no_place place e);
 }
   where

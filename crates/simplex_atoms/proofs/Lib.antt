@@ -1,6 +1,7 @@
 -- The lemmas of this crate.
 pub mod Owning
 pub mod Growth
+pub mod Grounding
 pub mod Numbered
 pub mod Making
 pub mod AtomsRead

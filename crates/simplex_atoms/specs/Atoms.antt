@@ -9,6 +9,7 @@ use Rattle.simplex_bounds.specs.Held.{BoundsView}
 use Rattle.simplex_check.specs.Boards.{BoardView}
 use Rattle.simplex_atoms.specs.declared.place.Place.{Place}
 use Rattle.simplex_atoms.specs.Owners.{AreOnce, AreOwnersIn}
+use Rattle.simplex_atoms.specs.Grounded.{AreGrounded}
 use Rattle.simplex_atoms.specs.Places.{Setting, IsPlaced, place_in}
 
 -- For each variable the term that it stands for, and the places of atoms.
@@ -27,6 +28,10 @@ pub record Ground : Type 0 where
 -- there is an entry for each variable of the board
 abbrev pub AreCounted : Ground → Type 0
 AreCounted g = length g.owners ≡ g.board.tableau.variables
+
+-- rows as they were added have a solution for all values of terms
+abbrev pub IsGrounded : Ground → Type 0
+IsGrounded g = AreGrounded g.owners 0 g.board.tableau.listed g.board.tableau.variables
 
 -- Variables and rows came after those that were there.
 pub record Grows (old new : Ground) : Type 0 where
@@ -74,5 +79,7 @@ pub record AreRight (t : TableView) (a : AtomsView) (b : BoardView) (bounds : Bo
   pub owners_in : AreOwnersIn t a.owners
   -- no two variables stand for one term
   pub once : AreOnce a.owners
+  -- rows as they were added have a solution for all values of terms
+  pub grounded : IsGrounded (ground_of a.owners b)
   -- each place is that of its atom
   pub are_placed : ArePlaced (setting_of t (ground_of a.owners b)) bounds.variables a.placed

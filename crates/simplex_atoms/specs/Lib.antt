@@ -3,6 +3,7 @@ pub mod Owners
 pub mod Stops
 pub mod Places
 pub mod Limits
+pub mod Grounded
 pub mod Atoms
 pub mod Watching
 pub mod Made

@@ -5,7 +5,7 @@ ghost use Rattle.term_core.specs.Tables.{TableView, IsIn};
 ghost use Rattle.term_core.specs.declared.ids.TermId.{TermId as Number};
 ghost use Rattle.ratio128.specs.declared.ratio.Ratio.{Ratio as Coefficient};
 ghost use Rattle.simplex_atoms.specs.Owners.{owner_at, AreOwnersIn};
-ghost use Rattle.simplex_atoms.specs.Atoms.{ground_of, AreCounted, Grows};
+ghost use Rattle.simplex_atoms.specs.Atoms.{ground_of, AreCounted, IsGrounded, Grows};
 ghost use Rattle.simplex_atoms.specs.Watching.{IsNumbered, AreNumbered};
 
 use crate::owners::Owners;
@@ -27,6 +27,8 @@ pub(crate) fn variable_of(
     requires { AreCounted (ground_of owners.old.list board.old) }
     ensures counted { AreCounted (ground_of owners.new.list board.new) }
     ensures grows { Grows (ground_of owners.old.list board.old) (ground_of owners.new.list board.new) }
+    ensures grounded { IsGrounded (ground_of owners.old.list board.old)
+        → IsGrounded (ground_of owners.new.list board.new) }
     ensures there { (t : TableView) → IsIn t id → AreOwnersIn t owners.old.list → AreOwnersIn t owners.new.list }
     ensures ok { IfOk result (λ y. owner_at owners.new.list y ≡ Some id) }
 {
@@ -49,6 +51,8 @@ fn entry_of(
     requires { AreCounted (ground_of owners.old.list board.old) }
     ensures counted { AreCounted (ground_of owners.new.list board.new) }
     ensures grows { Grows (ground_of owners.old.list board.old) (ground_of owners.new.list board.new) }
+    ensures grounded { IsGrounded (ground_of owners.old.list board.old)
+        → IsGrounded (ground_of owners.new.list board.new) }
     ensures there { (t : TableView) → IsIn t variable.0 → AreOwnersIn t owners.old.list
         → AreOwnersIn t owners.new.list }
     ensures ok { IfOk result (λ e. IsNumbered owners.new.list e variable) }
@@ -72,6 +76,8 @@ pub(crate) fn entries_of(
     requires { AreCounted (ground_of owners.old.list board.old) }
     ensures counted { AreCounted (ground_of owners.new.list board.new) }
     ensures grows { Grows (ground_of owners.old.list board.old) (ground_of owners.new.list board.new) }
+    ensures grounded { IsGrounded (ground_of owners.old.list board.old)
+        → IsGrounded (ground_of owners.new.list board.new) }
     ensures there { (t : TableView) → All (λ (p : Number × Coefficient). IsIn t p.0) variables.now
         → AreOwnersIn t owners.old.list → AreOwnersIn t owners.new.list }
     ensures ok { IfOk result (λ es. AreNumbered owners.new.list es.items variables.now) }

@@ -12,7 +12,7 @@ ghost use Rattle.tableau.specs.Numbers.{number_of};
 ghost use Rattle.tableau.specs.Entries.{entries_of};
 ghost use Rattle.simplex_atoms.specs.Owners.{AreOwnersIn};
 ghost use Rattle.simplex_atoms.specs.Places.{IsFormOf};
-ghost use Rattle.simplex_atoms.specs.Atoms.{ground_of, setting_of, AreCounted, Grows};
+ghost use Rattle.simplex_atoms.specs.Atoms.{ground_of, setting_of, AreCounted, IsGrounded, Grows};
 ghost use Rattle.simplex_atoms.specs.Watching.{OnWide, StrainsForm};
 ghost use Rattle.simplex_atoms.specs.Made.{IsMade, Covers, IsSingle, StrainsEntries};
 
@@ -70,6 +70,8 @@ fn on_row(
     requires over { IsOver (λ y. y < board.old.tableau.variables) (entries_of entries.now) }
     ensures counted { AreCounted (ground_of owners.new.list board.new) }
     ensures grows { Grows (ground_of owners.old.list board.old) (ground_of owners.new.list board.new) }
+    ensures grounded { IsGrounded (ground_of owners.old.list board.old)
+        → IsGrounded (ground_of owners.new.list board.new) }
     ensures there { (t : TableView) → AreOwnersIn t owners.old.list → AreOwnersIn t owners.new.list }
     ensures made { IfOk result (IsMade kind constant) }
     ensures covers { IfOk result (Covers (ground_of owners.new.list board.new) entries.now) }
@@ -100,6 +102,8 @@ fn place_by(
     requires over { IsOver (λ y. y < board.old.tableau.variables) (entries_of entries.now) }
     ensures counted { AreCounted (ground_of owners.new.list board.new) }
     ensures grows { Grows (ground_of owners.old.list board.old) (ground_of owners.new.list board.new) }
+    ensures grounded { IsGrounded (ground_of owners.old.list board.old)
+        → IsGrounded (ground_of owners.new.list board.new) }
     ensures there { (t : TableView) → AreOwnersIn t owners.old.list → AreOwnersIn t owners.new.list }
     ensures made { IfOk result (IsMade kind constant) }
     ensures covers { IfOk result (Covers (ground_of owners.new.list board.new) entries.now) }
@@ -129,6 +133,8 @@ pub(crate) fn place_of(
     requires { AreCounted (ground_of owners.old.list board.old) }
     ensures counted { AreCounted (ground_of owners.new.list board.new) }
     ensures grows { Grows (ground_of owners.old.list board.old) (ground_of owners.new.list board.new) }
+    ensures grounded { IsGrounded (ground_of owners.old.list board.old)
+        → IsGrounded (ground_of owners.new.list board.new) }
     ensures there { (t : TableView) → AreVariablesOf t form.now → AreOwnersIn t owners.old.list
         → AreOwnersIn t owners.new.list }
     ensures kind { IfOk result (λ p. p.kind ≡ kind) }

@@ -21,10 +21,10 @@ use Rattle.simplex_bounds.specs.declared.bounds.Bound.{Bound}
 use Rattle.simplex_bounds.specs.Deltas.{deltas}
 use Rattle.simplex_atoms.specs.declared.place.Place.{Place}
 use Rattle.simplex_atoms.specs.Owners.{AreOwned}
+use Rattle.simplex_atoms.specs.Grounded.{AreGrounded}
 use Rattle.simplex_atoms.specs.Places.{Setting, IsPlaced, place_in}
 use Rattle.simplex_explain.specs.declared.weighted.Weighted.{Weighted}
 use Rattle.simplex_explain.specs.Reasons.{literals_meant, weights_meant, Refutes}
-use Rattle.simplex_reasons.specs.Grounded.{AreGrounded}
 use Rattle.simplex_reasons.specs.Stops.{AreStated, AreAllStopped, beyond, all_beyond}
 use Rattle.simplex_reasons.specs.Reasons.{Footing, AreReasonsFor}
 use Rattle.simplex_reasons.proofs.Solutions.{solution}

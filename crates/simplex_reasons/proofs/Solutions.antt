@@ -9,7 +9,7 @@ use Rattle.spec_tableaux.proofs.Steps.{agreeing_sums, same_eqb}
 use Rattle.term_core.specs.declared.ids.TermId.{TermId}
 use Rattle.term_core.specs.Tables.{TableView, term_at}
 use Rattle.simplex_atoms.specs.Owners.{owner_at, AreOwned}
-use Rattle.simplex_reasons.specs.Grounded.{AreGrounded}
+use Rattle.simplex_atoms.specs.Grounded.{AreGrounded}
 
 -- the values with x for one variable
 abbrev set : ℕ → Number → (ℕ → Number) → ℕ → Number

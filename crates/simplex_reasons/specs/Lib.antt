@@ -1,5 +1,4 @@
 -- Why bounds of a tableau cannot all be kept, as literals with weights.
-pub mod Grounded
 pub mod Stops
 pub mod Reasons
 pub mod Held

@@ -10,7 +10,6 @@ ghost use Rattle.simplex_bounds.specs.Held.{ranges_in};
 ghost use Rattle.simplex_check.specs.Boards.{state_of};
 ghost use Rattle.simplex_atoms.specs.Atoms.{AreRight};
 ghost use Rattle.simplex_explain.specs.Reasons.{Refutes};
-ghost use Rattle.simplex_reasons.specs.Grounded.{AreGrounded};
 ghost use Rattle.simplex_reasons.specs.Stops.{AreStated, with_basic, unit_entries};
 ghost use Rattle.simplex_reasons.specs.Reasons.{Meaning, footing, AreReasonsFor, AreOfHeld, StrainsReasons, OnWide};
 
@@ -31,8 +30,8 @@ use std::alloc::Global;
 /// of an entry its coefficient; where it has to fall, minus these. The weight is this number over the factor of the place of
 /// the literal's atom: of an equality with its sign, of an order without.
 ///
-/// Conditions: the rule is stuck at the variable, and nonbasic variables keep their bounds. Each bound that is held is
-/// stated by its literal, and rows have a solution for all values of terms.
+/// Conditions: the rule is stuck at the variable, nonbasic variables keep their bounds, and each bound that is held is
+/// stated by its literal.
 ///
 /// `Wide` comes only where 1 or a coefficient over a factor leaves the bound on fractions, and `Memory` where there is no
 /// memory. Time goes in proportion to the row. Source: Farkas 1902; Dutertre and de Moura, A Fast Linear-Arithmetic Solver
@@ -46,7 +45,6 @@ pub fn row_reasons(
 ) -> Result<Vec<Weighted>, ReasonStop>
     ghost t: { TableView }
     requires right { AreRight t atoms.now board.now bounds.now }
-    requires grounded { AreGrounded atoms.now.owners 0 board.now.tableau.listed board.now.tableau.variables }
     requires stated { AreStated atoms.now.placed bounds.now.held }
     requires settled { IsSettled deltas (ranges_in bounds.now.held) (state_of board.now) }
     requires says { Says deltas (ranges_in bounds.now.held) (state_of board.now) (stuck b) }
@@ -71,8 +69,7 @@ pub fn row_reasons(
 /// The number of the lower bound is -1, and that of the upper one 1. The weight is this number over the factor of the place of
 /// the literal's atom: of an equality with its sign, of an order without.
 ///
-/// Conditions: the bounds cross, each bound that is held is stated by its literal, and the rows of the board have a solution
-/// for all values of terms.
+/// Conditions: the bounds cross, and each bound that is held is stated by its literal.
 ///
 /// `Wide` comes only where 1 over a factor leaves the bound on fractions, and `Memory` where there is no memory. Source:
 /// Dutertre and de Moura, A Fast Linear-Arithmetic Solver for DPLL(T), CAV 2006.
@@ -84,7 +81,6 @@ pub fn crossing_reasons(
 ) -> Result<Vec<Weighted>, ReasonStop>
     ghost of: { Meaning }
     requires right { AreRight of.table atoms.now of.board bounds.now }
-    requires grounded { AreGrounded atoms.now.owners 0 of.board.tableau.listed of.board.tableau.variables }
     requires stated { AreStated atoms.now.placed bounds.now.held }
     requires crossed { is_crossed deltas (ranges_in bounds.now.held) y ≡ true }
     ensures reasons { IfOk result (λ reasons. AreReasonsFor (footing atoms.now bounds.now) true

@@ -9,6 +9,7 @@ pub variables-init : goal.variables-init
 variables-init c = record {
   counted = c.requires;
   grows = grows_same c.args.owners.now.list _ c.args.board.now _ refl refl;
+  grounded = λ h. h;
   there = λ t _ h. h;
   so_far = numbered_none c.args.owners.now.list c.new-entries.result.items c.args.variables.now c.new-entries.ensures.items;
 }
@@ -27,6 +28,7 @@ variables-preserved c = record {
   grows =
       grows_on (ground_of c.args.owners.now.list c.args.board.now) (ground_of c.variables.owners.list c.variables.board) (ground_of c.entry_of.new.owners.list c.entry_of.new.board)
       c.variables.invariant.grows c.entry_of.ensures.grows;
+  grounded = λ h. c.entry_of.ensures.grounded (c.variables.invariant.grounded h);
   there = λ t all h. c.entry_of.ensures.there t
       (is_at t c.args.variables.now c.variables.at c.index-variables-at.result c.variables-test.true c.index-variables-at.is all) (c.variables.invariant.there t all h);
   so_far =

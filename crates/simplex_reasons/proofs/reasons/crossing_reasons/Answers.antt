@@ -15,5 +15,5 @@ returns-clause-refutes g c =
     let listed = g.of.board.tableau.listed in
     let laws : LimitLaws = record { states = c.bounds_have_weights.ensures.states; tilt = c.bounds_have_weights.ensures.tilt } in
     refutes laws g.of.table c.args.atoms.now.owners listed 0 g.of.board.tableau.variables (footing c.args.atoms.now c.args.bounds.now) true (with_basic c.args.y (unit_entries c.args.y)) c.in_ok-reasons.reasons.items
-    c.requires.1.0 c.requires.1.1.0 (λ l place e. (c.requires.0.are_placed l.term place e).is)
-    (crossing_contradicts c.args.bounds.now.held listed c.args.y c.requires.1.1.1) c.in_ok-reasons.ensures.reasons
+    c.requires.0.grounded c.requires.1.0 (λ l place e. (c.requires.0.are_placed l.term place e).is)
+    (crossing_contradicts c.args.bounds.now.held listed c.args.y c.requires.1.1) c.in_ok-reasons.ensures.reasons

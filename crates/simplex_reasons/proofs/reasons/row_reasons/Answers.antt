@@ -32,5 +32,5 @@ returns-clause-refutes g c =
     let is : IsTableau board.tableau = subst IsTableau c.tableau.ensures c.rows_are_in_solved_form.ensures in
     let laws : LimitLaws = record { states = c.bounds_have_weights.ensures.states; tilt = c.bounds_have_weights.ensures.tilt } in
     refutes laws g.t c.args.atoms.now.owners board.tableau.listed 0 board.tableau.variables (footing c.args.atoms.now c.args.bounds.now) up (with_basic c.args.b (row_of c.args.b board.tableau.rows).entries) c.in_ok-reasons.reasons.items
-    c.requires.1.0 c.requires.1.1.0 (λ l place e. (c.requires.0.are_placed l.term place e).is)
-    (stuck_contradicts held board.tableau.listed (state_of board) c.args.b is.solved is.same c.requires.1.1.1.0 c.requires.1.1.1.1) c.in_ok-reasons.ensures.reasons
+    c.requires.0.grounded c.requires.1.0 (λ l place e. (c.requires.0.are_placed l.term place e).is)
+    (stuck_contradicts held board.tableau.listed (state_of board) c.args.b is.solved is.same c.requires.1.1.0 c.requires.1.1.1) c.in_ok-reasons.ensures.reasons

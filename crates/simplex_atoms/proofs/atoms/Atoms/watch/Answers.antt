@@ -34,7 +34,7 @@ returns-in_err-place-clause-right c =
     let Right : AtomsView → Type 0 = λ a. AreRight t a b c.args.bounds.now in
     let right : Right (atoms_of os c.self.inside.places.entries) = subst Right (sym c.self.view_is) c.requires.right in
     right_on t os us c.self.inside.places.entries c.self.inside.places.entries b c.place_of-made.new.board c.args.bounds.now c.args.bounds.now right refl
-    c.place_of-made.ensures.counted c.place_of-made.ensures.grows (c.place_of-made.ensures.there t c.in_ok-form.ensures.there right.owners_in) c.are_once.ensures (omega arith)
+    c.place_of-made.ensures.counted c.place_of-made.ensures.grounded c.place_of-made.ensures.grows (c.place_of-made.ensures.there t c.in_ok-form.ensures.there right.owners_in) c.are_once.ensures (omega arith)
     (reach_stays os us b c.place_of-made.new.board c.args.bounds.now.variables right.counted c.place_of-made.ensures.counted c.place_of-made.ensures.grows right.within)
 
 pub returns-in_err-place-clause-wide : goal.returns-in_err-place-clause-wide
@@ -51,7 +51,7 @@ returns-in_err-reach-clause-right c =
     let Right : AtomsView → Type 0 = λ a. AreRight t a b c.args.bounds.now in
     let right : Right (atoms_of os c.self.inside.places.entries) = subst Right (sym c.self.view_is) c.requires.right in
     right_on t os us c.self.inside.places.entries c.self.inside.places.entries b c.place_of-made.new.board c.args.bounds.now c.reach.new.bounds right refl
-    c.place_of-made.ensures.counted c.place_of-made.ensures.grows (c.place_of-made.ensures.there t c.in_ok-form.ensures.there right.owners_in) c.are_once.ensures c.reach.ensures.kept.variables
+    c.place_of-made.ensures.counted c.place_of-made.ensures.grounded c.place_of-made.ensures.grows (c.place_of-made.ensures.there t c.in_ok-form.ensures.there right.owners_in) c.are_once.ensures c.reach.ensures.kept.variables
     (omega (arith, c.reach.ensures.within, c.len.ensures, c.place_of-made.ensures.counted))
 
 pub returns-in_err-insert-clause-right : goal.returns-in_err-insert-clause-right
@@ -63,7 +63,7 @@ returns-in_err-insert-clause-right c =
     let Right : AtomsView → Type 0 = λ a. AreRight t a b c.args.bounds.now in
     let right : Right (atoms_of os c.self.inside.places.entries) = subst Right (sym c.self.view_is) c.requires.right in
     right_on t os us c.self.inside.places.entries c.insert.new.self.entries b c.place_of-made.new.board c.args.bounds.now c.reach.new.bounds right c.in_err-insert.ensures.err
-    c.place_of-made.ensures.counted c.place_of-made.ensures.grows (c.place_of-made.ensures.there t c.in_ok-form.ensures.there right.owners_in) c.are_once.ensures c.reach.ensures.kept.variables
+    c.place_of-made.ensures.counted c.place_of-made.ensures.grounded c.place_of-made.ensures.grows (c.place_of-made.ensures.there t c.in_ok-form.ensures.there right.owners_in) c.are_once.ensures c.reach.ensures.kept.variables
     (omega (arith, c.reach.ensures.within, c.len.ensures, c.place_of-made.ensures.counted))
 
 pub returns-clause-right : goal.returns-clause-right
@@ -78,7 +78,7 @@ returns-clause-right c =
     let right : Right (atoms_of os c.self.inside.places.entries) = subst Right (sym c.self.view_is) c.requires.right in
     let on : AreRight t (atoms_of us c.self.inside.places.entries) d c.reach.new.bounds =
     right_on t os us c.self.inside.places.entries c.self.inside.places.entries b d c.args.bounds.now c.reach.new.bounds right refl
-    c.place_of-made.ensures.counted c.place_of-made.ensures.grows (c.place_of-made.ensures.there t c.in_ok-form.ensures.there right.owners_in) c.are_once.ensures c.reach.ensures.kept.variables
+    c.place_of-made.ensures.counted c.place_of-made.ensures.grounded c.place_of-made.ensures.grows (c.place_of-made.ensures.there t c.in_ok-form.ensures.there right.owners_in) c.are_once.ensures c.reach.ensures.kept.variables
     (omega (arith, c.reach.ensures.within, c.len.ensures, c.place_of-made.ensures.counted)) in
     let now = placed_now t us d c.len.result c.reach.new.bounds.variables c.args.id c.in-Some.sides c.in_ok-form.form place c.requires.there c.in-Some.ensures.means c.in_ok-form.ensures.exact
     c.in_ok-place.ensures.kind (c.in_ok-place.ensures.is t) c.len.ensures c.in_ok-reach.ensures.ok in
@@ -87,6 +87,7 @@ returns-clause-right c =
       within = on.within;
       owners_in = on.owners_in;
       once = on.once;
+      grounded = on.grounded;
       are_placed =
           placed_more (setting_of t (ground_of us d)) c.reach.new.bounds.variables c.self.inside.places.entries c.insert.new.self.entries c.args.id place on.are_placed now
           (λ (q : ℕ). c.in_ok-insert.ensures.updates.0 q);
