@@ -1,0 +1,86 @@
+-- Where values keep the bounds of held literals, the point of the terms keeps the literals.
+use Rattle.std.proofs.Common.{◌≡◌, ℕ, false, List, map, Contains, Option, Some, None, refl, sym, ◌∙◌, subst}
+use Rattle.std.proofs.lemmas.List.Elements.{All-contains, All-map}
+use Rattle.spec_tableaux.specs.Spaces.{Pair}
+use Rattle.spec_tableaux.specs.Rows.{Solves}
+use Rattle.spec_tableaux.specs.Numbers.{Number, numbers}
+use Rattle.spec_tableaux.proofs.PairSolutions.{pair_parts, parts_pair}
+use Rattle.spec_simplex.specs.Constraints.{constraint_of, HasForm, HaveForms}
+use Rattle.spec_simplex.specs.Points.{Point, Keeps, IsFeasible}
+use Rattle.term_core.specs.declared.ids.Lit.{Lit}
+use Rattle.term_core.specs.Tables.{TableView, term_at, literal_at, positive_literal}
+use Rattle.tableau.specs.Views.{TableauView, IsTableau}
+use Rattle.simplex_bounds.specs.declared.bounds.Bound.{Bound}
+use Rattle.simplex_bounds.specs.declared.bounds.Side.{Side}
+use Rattle.simplex_bounds.specs.declared.bounds.Side.TheVariants.{Lower, Upper}
+use Rattle.simplex_bounds.specs.Deltas.{pair_of, deltas}
+use Rattle.simplex_bounds.specs.Held.{BoundsView, is_tighter, Keeps as KeepsBound}
+use Rattle.simplex_bounds.proofs.Keeping.{ranges_kept}
+use Rattle.simplex_check.specs.Boards.{BoardView, point_in}
+use Rattle.simplex_atoms.specs.declared.place.Place.{Place}
+use Rattle.simplex_atoms.specs.Owners.{AreOwned}
+use Rattle.simplex_atoms.specs.Places.{place_in}
+use Rattle.simplex_atoms.specs.Limits.{Limit, limit_of, limits_by, violates, IsKept, AreKept}
+use Rattle.simplex_atoms.specs.Atoms.{AtomsView, setting_of, ground_of}
+use Rattle.simplex_atoms.specs.Watching.{IsWatched}
+use Rattle.simplex_atoms.proofs.Keeping.{kept}
+use Rattle.simplex_held.specs.Stated.{IsKnownIn}
+use Rattle.simplex_held.specs.Keeping.{KeepsHeld}
+use Rattle.simplex_held.proofs.Stating.{all_from, held_as_bound}
+use Rattle.simplex_held.proofs.Forms.{nothing_some, form_same, says_nothing}
+use Rattle.simplex_held.proofs.Owners.{point_of, owned}
+
+-- what solves the rows in solved form solves those that were added
+listed_solved : (t : TableauView) → IsTableau t → (v : ℕ → Pair Number) → Solves deltas v t.rows → Solves deltas v t.listed
+listed_solved t is v h =
+    let parts = pair_parts numbers v t.rows h in
+    parts_pair numbers v t.listed ((is.same (λ y. (v y).base)).0 parts.0) ((is.same (λ y. (v y).tilt)).0 parts.1)
+
+side_kept : (s : Side) (x y : Pair Number) → is_tighter s y x ≡ false → violates s x y ≡ false
+side_kept Lower x y h = h
+side_kept Upper x y h = h
+
+-- what keeps a bound keeps what it means
+bound_kept : (v : ℕ → Pair Number) (b : Bound) → KeepsBound v b → IsKept v (limit_of b)
+bound_kept v b h = side_kept b.side (v b.variable) (pair_of b.value) h
+
+module _ (t : TableView) (a : AtomsView) (b : BoardView) (bounds : BoundsView) (held : List Lit) (k : KeepsHeld t a b bounds held) where
+  abbrev v : ℕ → Pair Number
+  v = point_in b.values
+
+  abbrev p : Point
+  p = point_of t a.owners v
+
+  solved : Solves deltas v b.tableau.listed
+  solved = listed_solved b.tableau k.tableau v k.meets.solves
+
+  own : AreOwned t a.owners p v
+  own = owned t a.owners v k.unique k.right.owners_in k.right.once
+
+  limits_kept : (l : Lit) → Contains held l → (place : Place) → place_in a.placed l.term ≡ Some place → AreKept v (limits_by place l)
+  limits_kept l h place e = all_from (IsKept v) (limits_by place l) by
+    where
+      by : (x : Limit) → Contains (limits_by place l) x → IsKept v x
+      by x c =
+          let found = held_as_bound a.placed held bounds.held k.bounds_are l h place e x c in
+          subst (IsKept v) found.2 (bound_kept v found.0 ((ranges_kept bounds.held v).0 k.meets.within found.0 found.1))
+
+  -- a held literal has a form and is kept
+  literal_kept : (l : Lit) → Contains held l → HasForm (literal_at t l) × Keeps p (literal_at t l)
+  literal_kept l h = by (place_in a.placed l.term) refl (All-contains (λ (l : Lit). IsKnownIn t a.placed l.term) held l k.known h)
+    where
+      by : (o : Option Place) → place_in a.placed l.term ≡ o → IsWatched o (constraint_of (positive_literal (term_at t l.term))) → HasForm (literal_at t l) × Keeps p (literal_at t l)
+      by None e w =
+          let nothing = says_nothing (term_at t l.term) l.positive w in
+          (λ c f. absurd (nothing_some c (sym nothing ∙ f)), λ c f form g. absurd (nothing_some c (sym nothing ∙ f)))
+      by (Some place) e w =
+          let is = (k.right.are_placed l.term place e).is in (
+            λ c f. (is.form, form_same (term_at t l.term) l.positive is.constraint c is.says f ∙ is.has),
+            kept (setting_of t (ground_of a.owners b)) place (term_at t l.term) is p v own solved l (limits_kept l h place e),
+          )
+
+  pub feasible : HaveForms (map (literal_at t) held) × IsFeasible (map (literal_at t) held)
+  feasible = (
+    All-map HasForm (literal_at t) held (all_from (λ (l : Lit). HasForm (literal_at t l)) held (λ l h. (literal_kept l h).0)),
+    (p, All-map (Keeps p) (literal_at t) held (all_from (λ (l : Lit). Keeps p (literal_at t l)) held (λ l h. (literal_kept l h).1))),
+  )

@@ -1,0 +1,7 @@
+-- The lemmas of this crate.
+pub mod Stating
+pub mod Reasons
+pub mod Forms
+pub mod Owners
+pub mod Feasible
+pub mod Boards

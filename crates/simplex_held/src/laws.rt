@@ -1,0 +1,59 @@
+//! Laws of held literals and the bounds that they state: functions with empty bodies, whose clauses are proved of the
+//! definitions.
+
+ghost use Rattle.std.specs.Prelude.{◌≡◌, ℕ, List, map, All, Contains};
+ghost use Rattle.spec_simplex.specs.Constraints.{HaveForms};
+ghost use Rattle.spec_simplex.specs.Points.{IsFeasible, IsInfeasible};
+ghost use Rattle.term_core.specs.declared.ids.Lit.{Lit};
+ghost use Rattle.term_core.specs.Tables.{TableView, literal_at};
+ghost use Rattle.proof_log.specs.Theories.{TheoryView, IsOver, terms_watched};
+ghost use Rattle.simplex_bounds.specs.declared.bounds.Bound.{Bound};
+ghost use Rattle.simplex_bounds.specs.Held.{BoundsView};
+ghost use Rattle.simplex_check.specs.Boards.{BoardView};
+ghost use Rattle.simplex_atoms.specs.declared.place.Place.{Place};
+ghost use Rattle.simplex_atoms.specs.Atoms.{AtomsView, AreRight};
+ghost use Rattle.simplex_explain.specs.declared.weighted.Weighted.{Weighted};
+ghost use Rattle.simplex_explain.specs.Reasons.{Refutes, AreReasons, AreHeld};
+ghost use Rattle.simplex_reasons.specs.Stops.{AreStated};
+ghost use Rattle.simplex_reasons.specs.Reasons.{AreOfHeld};
+ghost use Rattle.simplex_held.specs.Stated.{AreBoundsOf};
+ghost use Rattle.simplex_held.specs.Keeping.{KeepsHeld};
+
+/// States that each bound of held literals is one that its literal states, and that this literal is held.
+pub fn held_bounds_are_stated()
+    ensures stated { (placed : List (ℕ × Place)) (held : List Lit) (bounds : List Bound)
+        → AreBoundsOf placed held bounds → AreStated placed bounds }
+    ensures held { (placed : List (ℕ × Place)) (held : List Lit) (bounds : List Bound)
+        → AreBoundsOf placed held bounds → (b : Bound) → Contains bounds b → Contains held b.literal }
+{}
+
+/// States that where values keep the bounds that held literals state, each literal that says something of linear
+/// arithmetic has a form, and there is a point that keeps all of them.
+pub fn kept_bounds_are_feasible()
+    ensures { (t : TableView) (a : AtomsView) (b : BoardView) (bounds : BoundsView) (held : List Lit)
+        → KeepsHeld t a b bounds held
+        → HaveForms (map (literal_at t) held) × IsFeasible (map (literal_at t) held) }
+{}
+
+/// States that no point keeps the held literals where some of them cannot all hold by their weights.
+pub fn refuting_reasons_are_infeasible()
+    ensures { (t : TableView) (held : List Lit) (rs : List Weighted) → Refutes t rs → AreHeld held rs
+        → IsInfeasible (map (literal_at t) held) }
+{}
+
+/// States that reasons of bounds that held literals state are held literals, of atoms that are watched where those of
+/// all held literals are.
+pub fn reasons_are_of_watched_atoms()
+    ensures reasons { (t : TableView) (view : TheoryView) (placed : List (ℕ × Place)) (bounds : List Bound)
+        → (rs : List Weighted) → AreBoundsOf placed view.held bounds → AreOfHeld bounds rs → IsOver t view
+        → All (λ (l : Lit). Contains view.watched l.term) view.held → AreReasons (terms_watched t view) t rs }
+    ensures held { (placed : List (ℕ × Place)) (held : List Lit) (bounds : List Bound) (rs : List Weighted)
+        → AreBoundsOf placed held bounds → AreOfHeld bounds rs → AreHeld held rs }
+{}
+
+/// States that atoms that fit a board fit each with as many variables and the same rows added, in whatever solved form
+/// these are and whatever the values.
+pub fn boards_fit_by_variables_and_rows_added()
+    ensures { (t : TableView) (a : AtomsView) (b c : BoardView) (bounds : BoundsView) → AreRight t a b bounds
+        → c.tableau.variables ≡ b.tableau.variables → c.tableau.listed ≡ b.tableau.listed → AreRight t a c bounds }
+{}
