@@ -68,7 +68,7 @@ has_both (t ∷ ts) l (zero, lt, e) = go l.positive refl
     go false s = (1, omega arith, λ i. record { term = e i; positive = sym s i })
 has_both (t ∷ ts) l (suc k, lt, e) = Contains-append_right (record { term = t; positive = true } ∷ record { term = t; positive = false } ∷ []) (both ts) l (has_both ts l (k, omega (arith, lt), e))
 
-bounded : (held : List Lit) (watched : List TermId) → AllPairs (λ l m. l ≢ m) held → All (λ (l : Lit). Contains watched l.term) held → length held ≤ 2 * length watched
+pub bounded : (held : List Lit) (watched : List TermId) → AllPairs (λ l m. l ≢ m) held → All (λ (l : Lit). Contains watched l.term) held → length held ≤ 2 * length watched
 bounded held watched once over =
     let le = length-le_from_is_member equivalence held (both watched) (IsDistinct-from_AllPairs decides held once)
     (λ l m. (is_member-Decides decides (both watched) l).1 (has_both watched l (All-contains (λ (x : Lit). Contains watched x.term) held l over ((is_member-Decides decides held l).0 m)))) in

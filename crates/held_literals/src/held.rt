@@ -2,7 +2,7 @@
 
 ghost use Rattle.std.specs.Prelude.{◌≡◌, ◌<◌, ◌≤◌, [], length, get_or, Contains, MatchResult};
 ghost use Rattle.proof_log.specs.Theories.{with_held, with_watched, with_mark, at_mark, gone_back};
-ghost use Rattle.held_literals.specs.Room.{IsHeldOver};
+ghost use Rattle.held_literals.specs.Room.{IsHeldOver, AreMarks};
 
 use std::alloc::Global;
 use std::marker::Model;
@@ -95,6 +95,13 @@ impl HeldLiterals {
     /// States that each literal is held once, and is one of a watched term.
     pub fn are_of_watched_terms(&self)
         ensures { IsHeldOver self.now.held self.now.watched }
+    {
+        let _ = &self.held;
+    }
+
+    /// States that marks are in order, each of no more than what is held and watched.
+    pub fn marks_are_prefixes(&self)
+        ensures { AreMarks self.now.held self.now.watched self.now.marks }
     {
         let _ = &self.held;
     }

@@ -1,0 +1,4 @@
+-- The lemmas of this crate.
+pub mod Stated
+pub mod Fitting
+pub mod Placed

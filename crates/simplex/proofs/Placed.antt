@@ -1,0 +1,106 @@
+-- The parts of simplex fit together as a term gets its place, room for bounds is taken, and the term is watched.
+use Rattle.std.proofs.Common.{◌≡◌, ◌*◌, ◌≤◌, ℕ, List, [], ◌∷◌, ◌++◌, length, map, take, get_or, All, Contains, Some, sym, ap, ◌∙◌, subst, arith}
+use Rattle.std.proofs.lemmas.List.Elements.{All-take, All-push, Contains-get_or}
+use Rattle.term_core.specs.declared.ids.TermId.{TermId}
+use Rattle.term_core.specs.declared.ids.Lit.{Lit}
+use Rattle.term_core.specs.Tables.{TableView}
+use Rattle.proof_log.specs.Theories.{TheoryView, no_mark, with_watched}
+use Rattle.held_literals.specs.Room.{AreMarks, AreOver}
+use Rattle.simplex_check.specs.Boards.{BoardView, IsBasisOf}
+use Rattle.simplex_atoms.specs.declared.place.Place.{Place}
+use Rattle.simplex_atoms.specs.Places.{place_in}
+use Rattle.simplex_atoms.specs.Limits.{limit_of}
+use Rattle.simplex_atoms.specs.Atoms.{AtomsView, AreRight, KeepBounds}
+use Rattle.simplex_atoms.specs.Watching.{StrainsAtom}
+use Rattle.ratio128.specs.declared.wide.Wide.{Wide}
+use Rattle.ratio128.specs.Meant.{overflow}
+use Rattle.sat_budget.specs.declared.limits.Stop.{Stop}
+use Rattle.sat_budget.specs.declared.limits.Stop.TheVariants.{Strained, Pivots}
+use Rattle.sat_budget.specs.declared.limits.Stop.TheVariants as stops
+use Rattle.sat_budget.specs.Budgets.{StopsBy}
+use Rattle.simplex.specs.Stops.{IsPlaceStrain}
+use Rattle.simplex.specs.Stated.{all_stated, IsKnownIn}
+use Rattle.simplex.specs.Views.{SimplexView, Fits, IsOf, start_of, placed_count}
+use Rattle.simplex.proofs.Stated.{early, stated_same, count_same}
+use Rattle.simplex.proofs.Fitting.{each_mark, right_with}
+
+-- What comes of a term that is not watched where it may get a place.
+pub record GivesPlace (t : TableView) (v : SimplexView) (id : TermId) (w : SimplexView) : Type 0 where
+  pub theory : w.theory ≡ v.theory
+  pub starts : w.starts ≡ v.starts
+  pub right : AreRight t w.atoms w.board w.bounds
+  pub bounds : KeepBounds v.bounds w.bounds
+  pub others : (other : TermId) → (id.0 ≡ other.0 → ⊥) → place_in w.atoms.placed other ≡ place_in v.atoms.placed other
+
+module _ (t : TableView) (v : SimplexView) (id : TermId) (new : Contains v.theory.watched id → ⊥) (w : SimplexView) (g : GivesPlace t v id w) where
+  abbrev p : List (ℕ × Place)
+  p = v.atoms.placed
+
+  abbrev q : List (ℕ × Place)
+  q = w.atoms.placed
+
+  unwatched : (other : TermId) → Contains v.theory.watched other → place_in q other ≡ place_in p other
+  unwatched other c = g.others other (λ e. let same : id ≡ other = λ i. record { 0 = e i } in new (subst (Contains v.theory.watched) (sym same) c))
+
+  pub watched_stay : All (λ other. place_in q other ≡ place_in p other) v.theory.watched
+  watched_stay k d lt = unwatched _ (Contains-get_or v.theory.watched k d lt)
+
+  pub count_stays : placed_count q v.theory.watched ≡ placed_count p v.theory.watched
+  count_stays = count_same p q v.theory.watched watched_stay
+
+  pub fits_placed : Fits v → AreOver v.theory.held v.theory.watched → Fits w
+  fits_placed f over =
+      let held : All (λ (l : Lit). place_in q l.term ≡ place_in p l.term) v.theory.held = λ k d lt. unwatched _ (over k d lt) in
+      record {
+        bounds_are = ap (map limit_of) g.bounds.held ∙ f.bounds_are ∙ sym (stated_same p q v.theory.held held)
+            ∙ ap (λ (x : TheoryView). all_stated q x.held) (sym g.theory);
+        starts_are = g.starts ∙ f.starts_are ∙ each_mark (start_of p v.theory) (start_of q v.theory) v.theory.marks (λ k lt. sym (λ i. record {
+          bounds = length (stated_same p q (take (get_or v.theory.marks k no_mark).held v.theory.held)
+              (All-take (λ (l : Lit). place_in q l.term ≡ place_in p l.term) (get_or v.theory.marks k no_mark).held v.theory.held held) i);
+          placed = count_same p q (take (get_or v.theory.marks k no_mark).watched v.theory.watched)
+              (All-take (λ other. place_in q other ≡ place_in p other) (get_or v.theory.marks k no_mark).watched v.theory.watched watched_stay) i;
+        })) ∙ ap (λ (x : TheoryView). map (start_of q x) x.marks) (sym g.theory);
+        room = omega (
+          arith,
+          f.room,
+          count_stays,
+          ap (λ (x : TheoryView). placed_count q x.watched) g.theory,
+          ap length g.bounds.held,
+          g.bounds.room,
+        );
+        reached = λ other place at. (g.right.are_placed other place at).reached;
+      }
+
+-- with a term more, for which there is room
+pub fits_watched : (v w : SimplexView) (id : TermId) → AreMarks v.theory.held v.theory.watched v.theory.marks → w.theory ≡ with_watched v.theory id
+    → (w.atoms.placed ≡ v.atoms.placed) × (w.starts ≡ v.starts) × (w.bounds.held ≡ v.bounds.held) × (w.bounds.variables ≡ v.bounds.variables)
+    → 4 * placed_count v.atoms.placed (v.theory.watched ++ id ∷ []) ≤ w.bounds.room → Fits v → Fits w
+fits_watched v w id m th (at, st, held, variables) room f =
+    let counts : placed_count w.atoms.placed w.theory.watched ≡ placed_count v.atoms.placed (v.theory.watched ++ id ∷ []) = λ i. placed_count (at i) (th i).watched in
+    record {
+      bounds_are = ap (map limit_of) held ∙ f.bounds_are ∙ sym (λ i. all_stated (at i) (th i).held);
+      starts_are = st ∙ f.starts_are
+          ∙ each_mark (start_of v.atoms.placed v.theory) (start_of v.atoms.placed (with_watched v.theory id)) v.theory.marks (λ k lt. sym (λ i. record {
+            bounds = length (all_stated v.atoms.placed (take (get_or v.theory.marks k no_mark).held v.theory.held));
+            placed = placed_count v.atoms.placed (early v.theory.watched (id ∷ []) (get_or v.theory.marks k no_mark).watched (m.watched_in k lt) i);
+          }))
+          ∙ sym (λ i. map (start_of (at i) (th i)) (th i).marks);
+      room = omega (arith, room, counts);
+      reached = λ other place is. omega (arith, variables, f.reached other place (subst (λ ps. place_in ps other ≡ Some place) at is));
+    }
+
+pub of_watched : (t : TableView) (v w : SimplexView) (id : TermId) → w.atoms ≡ v.atoms → w.board ≡ v.board → w.bounds.variables ≡ v.bounds.variables
+    → w.theory.watched ≡ v.theory.watched ++ id ∷ [] → IsOf v t × IsKnownIn t v.atoms.placed id → IsOf w t
+of_watched t v w id a b e is (o, known) = record {
+  right = subst (λ (x : AtomsView). AreRight t x w.board w.bounds) (sym a)
+      (subst (λ (x : BoardView). AreRight t v.atoms x w.bounds) (sym b) (right_with t v.atoms v.board v.bounds w.bounds (sym e) o.right));
+  known = subst (λ (x : AtomsView). All (IsKnownIn t x.placed) w.theory.watched) (sym a)
+      (subst (All (IsKnownIn t v.atoms.placed)) (sym is) (All-push (IsKnownIn t v.atoms.placed) v.theory.watched id o.known known));
+}
+
+-- the overflow's stop, with the board's basis
+pub stop_of : (t : TableView) (v : SimplexView) (id : TermId) (w : Wide) → StrainsAtom t v.atoms.owners v.board id (overflow w) → (stop : Stop)
+    → StopsBy (λ s. (s.wide ≡ w) × IsBasisOf v.board s.basis) (λ _. ⊥) stop → StopsBy (IsPlaceStrain t v id) (λ _. ⊥) stop
+stop_of t v id w cause (Strained s) h = (subst (λ x. StrainsAtom t v.atoms.owners v.board id (overflow x)) (sym h.0) cause, h.1)
+stop_of t v id w cause (Pivots n) h = h
+stop_of t v id w cause stops.Memory h = h

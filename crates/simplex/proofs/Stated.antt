@@ -1,0 +1,160 @@
+-- The bounds that literals state: of more literals, of the first ones, by other places, and how many they are.
+use Rattle.std.proofs.Common.{◌≡◌, ◌≢◌, ◌+◌, ◌*◌, ◌≤◌, ℕ, zero, suc, Bool, true, false, List, [], ◌∷◌, ◌++◌, length, take, cond, All, Contains, Option, Some, None, refl, sym, ap, ◌∙◌, subst, arith}
+use Rattle.std.specs.List.{filter}
+use Rattle.std.specs.Option.{is_some}
+use Rattle.std.proofs.lemmas.List.{length-append}
+use Rattle.std.proofs.lemmas.List.Elements.{All-head, All-tail, All-filter, filter_passes, Contains-append_right}
+use Rattle.std.proofs.lemmas.List.Kept.{AllPairs-filter}
+use Rattle.term_core.specs.declared.ids.TermId.{TermId}
+use Rattle.term_core.specs.declared.ids.Lit.{Lit}
+use Rattle.held_literals.specs.Room.{IsHeldOver}
+use Rattle.held_literals.proofs.Rooms.{bounded}
+use Rattle.spec_tableaux.specs.Fields.{is_positive}
+use Rattle.spec_tableaux.specs.Numbers.{numbers}
+use Rattle.tableau.specs.Numbers.{number_of}
+use Rattle.spec_simplex.specs.Constraints.{Relation, below, at_most, equals, at_least, above}
+use Rattle.simplex_atoms.specs.declared.place.Place.{Place}
+use Rattle.simplex_atoms.specs.Places.{place_in, relation_by}
+use Rattle.simplex_atoms.specs.Limits.{limits_by, limits_where}
+use Rattle.simplex.specs.Stated.{stated_at, stated_by, all_stated}
+use Rattle.simplex.specs.Views.{has_place, placed_count}
+
+joined : {A : Type 0} (xs ys zs : List A) → xs ++ (ys ++ zs) ≡ (xs ++ ys) ++ zs
+joined [] ys zs = refl
+joined (x ∷ xs) ys zs = ap (λ l. x ∷ l) (joined xs ys zs)
+
+pub nothing_after : {A : Type 0} (xs : List A) → xs ++ [] ≡ xs
+nothing_after [] = refl
+nothing_after (x ∷ xs) = ap (λ l. x ∷ l) (nothing_after xs)
+
+pub whole : {A : Type 0} (xs : List A) → take (length xs) xs ≡ xs
+whole [] = refl
+whole (x ∷ xs) = ap (λ l. x ∷ l) (whole xs)
+
+pub early : {A : Type 0} (xs ys : List A) (k : ℕ) → k ≤ length xs → take k (xs ++ ys) ≡ take k xs
+early [] [] zero le = refl
+early [] (y ∷ ys) zero le = refl
+early [] ys (suc k) le = absurd (omega (arith, le))
+early (x ∷ xs) ys zero le = refl
+early (x ∷ xs) ys (suc k) le = ap (λ l. x ∷ l) (early xs ys k (omega (arith, le)))
+
+pub first_of_first : {A : Type 0} (xs : List A) (k n : ℕ) → k ≤ n → take k (take n xs) ≡ take k xs
+first_of_first [] zero n le = refl
+first_of_first [] (suc k) zero le = absurd (omega (arith, le))
+first_of_first [] (suc k) (suc n) le = refl
+first_of_first (x ∷ xs) zero n le = refl
+first_of_first (x ∷ xs) (suc k) zero le = absurd (omega (arith, le))
+first_of_first (x ∷ xs) (suc k) (suc n) le = ap (λ l. x ∷ l) (first_of_first xs k n (omega (arith, le)))
+
+-- what stands in front stays, and so many of what follows
+past : {A : Type 0} (xs ys : List A) (n k : ℕ) → k ≡ length xs + n → take k (xs ++ ys) ≡ xs ++ take n ys
+past [] ys n k e = ap (λ j. take j ys) (omega (arith, e))
+past (x ∷ xs) ys n zero e = absurd (omega (arith, e))
+past (x ∷ xs) ys n (suc k) e = ap (λ l. x ∷ l) (past xs ys n k (omega (arith, e)))
+
+none : {A : Type 0} (xs : List A) → take 0 xs ≡ []
+none [] = refl
+none (x ∷ xs) = refl
+
+pub stated_append : (p : List (ℕ × Place)) (ls ms : List Lit) → all_stated p (ls ++ ms) ≡ all_stated p ls ++ all_stated p ms
+stated_append p [] ms = refl
+stated_append p (l ∷ ls) ms = ap (λ bs. stated_by p l ++ bs) (stated_append p ls ms) ∙ joined (stated_by p l) (all_stated p ls) (all_stated p ms)
+
+pub stated_more : (p : List (ℕ × Place)) (ls : List Lit) (l : Lit) → all_stated p (ls ++ l ∷ []) ≡ all_stated p ls ++ stated_by p l
+stated_more p ls l = stated_append p ls (l ∷ []) ∙ ap (λ bs. all_stated p ls ++ bs) (nothing_after (stated_by p l))
+
+pub stated_same : (p q : List (ℕ × Place)) (ls : List Lit) → All (λ (l : Lit). place_in q l.term ≡ place_in p l.term) ls → all_stated q ls ≡ all_stated p ls
+stated_same p q [] same = refl
+stated_same p q (l ∷ ls) same = λ i. stated_at (All-head (λ (m : Lit). place_in q m.term ≡ place_in p m.term) l ls same i) l
+    ++ stated_same p q ls (All-tail (λ (m : Lit). place_in q m.term ≡ place_in p m.term) l ls same) i
+
+pub stated_first : (p : List (ℕ × Place)) (m : ℕ) (ls : List Lit) → take (length (all_stated p (take m ls))) (all_stated p ls) ≡ all_stated p (take m ls)
+stated_first p zero [] = refl
+stated_first p (suc m) [] = refl
+stated_first p zero (l ∷ ls) = none (all_stated p (l ∷ ls))
+stated_first p (suc m) (l ∷ ls) =
+    past (stated_by p l) (all_stated p ls) (length (all_stated p (take m ls))) _ (length-append (stated_by p l) (all_stated p (take m ls)))
+    ∙ ap (λ bs. stated_by p l ++ bs) (stated_first p m ls)
+
+pub first_states_less : (p : List (ℕ × Place)) (m : ℕ) (ls : List Lit) → length (all_stated p (take m ls)) ≤ length (all_stated p ls)
+first_states_less p zero [] = omega arith
+first_states_less p (suc m) [] = omega arith
+first_states_less p zero (l ∷ ls) = omega arith
+first_states_less p (suc m) (l ∷ ls) = omega (
+  arith,
+  first_states_less p m ls,
+  length-append (stated_by p l) (all_stated p (take m ls)),
+  length-append (stated_by p l) (all_stated p ls),
+)
+
+-- how many have a place
+
+pub count_same : (p q : List (ℕ × Place)) (ids : List TermId) → All (λ id. place_in q id ≡ place_in p id) ids → placed_count q ids ≡ placed_count p ids
+count_same p q [] same = refl
+count_same p q (id ∷ ids) same = by
+    (ap is_some (All-head (λ i. place_in q i ≡ place_in p i) id ids same))
+    (count_same p q ids (All-tail (λ i. place_in q i ≡ place_in p i) id ids same))
+  where
+    each : (b : Bool) (xs ys : List TermId) → length xs ≡ length ys → length (cond b (id ∷ xs) xs) ≡ length (cond b (id ∷ ys) ys)
+    each true xs ys e = ap suc e
+    each false xs ys e = e
+
+    by : has_place q id ≡ has_place p id → placed_count q ids ≡ placed_count p ids → placed_count q (id ∷ ids) ≡ placed_count p (id ∷ ids)
+    by e same_rest = ap (λ b. length (cond b (id ∷ filter (has_place q) ids) (filter (has_place q) ids))) e
+        ∙ each (has_place p id) (filter (has_place q) ids) (filter (has_place p) ids) same_rest
+
+pub count_first : (p : List (ℕ × Place)) (n : ℕ) (ids : List TermId) → placed_count p (take n ids) ≤ placed_count p ids
+count_first p zero [] = omega arith
+count_first p (suc n) [] = omega arith
+count_first p zero (id ∷ ids) = omega arith
+count_first p (suc n) (id ∷ ids) = by (has_place p id) (count_first p n ids)
+  where
+    by : (b : Bool) → placed_count p (take n ids) ≤ placed_count p ids
+        → length (cond b (id ∷ filter (has_place p) (take n ids)) (filter (has_place p) (take n ids))) ≤ length (cond b (id ∷ filter (has_place p) ids) (filter (has_place p) ids))
+    by true le = omega (arith, le)
+    by false le = le
+
+-- how many bounds they are
+
+two_where : (r : Option Relation) (up : Bool) (place : Place) (l : Lit) → length (limits_where r up place l) ≤ 2
+two_where None up place l = omega arith
+two_where (Some below) up place l = omega arith
+two_where (Some at_most) up place l = omega arith
+two_where (Some equals) up place l = omega arith
+two_where (Some at_least) up place l = omega arith
+two_where (Some above) up place l = omega arith
+
+-- the literals whose term has a place
+abbrev with_place : List (ℕ × Place) → List Lit → List Lit
+with_place p ls = filter (λ (l : Lit). has_place p l.term) ls
+
+stated_twice : (p : List (ℕ × Place)) (ls : List Lit) → length (all_stated p ls) ≤ 2 * length (with_place p ls)
+stated_twice p [] = omega arith
+stated_twice p (l ∷ ls) = by (place_in p l.term) (stated_twice p ls)
+  where
+    rest : List Lit
+    rest = filter (λ (m : Lit). has_place p m.term) ls
+
+    by : (o : Option Place) → length (all_stated p ls) ≤ 2 * length rest → length (stated_at o l ++ all_stated p ls) ≤ 2 * length (cond (is_some o) (l ∷ rest) rest)
+    by None le = le
+    by (Some place) le = omega (arith, le, length-append (limits_by place l) (all_stated p ls), two_where (relation_by place.kind l.positive) (is_positive numbers (number_of place.factor)) place l)
+
+there_still : {A : Type 0} (p : A → Bool) (xs : List A) (x : A) → Contains xs x → p x ≡ true → Contains (filter p xs) x
+there_still p [] x c has = absurd (omega (arith, c.1))
+there_still p (y ∷ ys) x (zero, lt, e) has = subst (λ b. Contains (cond b (y ∷ filter p ys) (filter p ys)) x) (sym (ap p e ∙ has)) (0, omega arith, e)
+there_still p (y ∷ ys) x (suc k, lt, e) has = by (p y) (there_still p ys x (k, omega (arith, lt), e) has)
+  where
+    by : (b : Bool) → Contains (filter p ys) x → Contains (cond b (y ∷ filter p ys) (filter p ys)) x
+    by true c = Contains-append_right (y ∷ []) (filter p ys) x c
+    by false c = c
+
+pub stated_bounded : (p : List (ℕ × Place)) (held : List Lit) (watched : List TermId) → IsHeldOver held watched → length (all_stated p held) ≤ 4 * placed_count p watched
+stated_bounded p held watched h =
+    let passes = filter_passes (λ (l : Lit). has_place p l.term) held in
+    let over = All-filter (λ (l : Lit). has_place p l.term) (λ (l : Lit). Contains watched l.term) held h.over in
+    omega (
+      arith,
+      stated_twice p held,
+      bounded (with_place p held) (filter (has_place p) watched) (AllPairs-filter (λ l m. l ≢ m) (λ (l : Lit). has_place p l.term) held h.once)
+          (λ k d lt. there_still (has_place p) watched _ (over k d lt) (passes k d lt)),
+    )

@@ -1,0 +1,57 @@
+-- A term is watched, with room for the bounds of its literals.
+use Rattle.std.proofs.Common.{◌≡◌, ◌++◌, ◌∷◌, [], refl, ap, sym, subst, ◌∙◌, arith}
+use Rattle.proof_log.specs.Theories.{TheoryView}
+use Rattle.simplex.specs.Stated.{IsKnownIn}
+use Rattle.simplex.specs.Views.{SimplexView, IsOf, placed_count}
+use Rattle.simplex.proofs.Fitting.{of_kept}
+use Rattle.simplex.proofs.Placed.{fits_watched, of_watched}
+use Rattle.simplex.proofs.simplex.Simplex.watch_term.Goals as goal
+
+pub returns-in_err-watch-clause-with : goal.returns-in_err-watch-clause-with
+returns-in_err-watch-clause-with c =
+    let s = c.self.inside in
+    let t = c.args.table.now in
+    let v : SimplexView = record {
+      theory = s.literals;
+      atoms = s.atoms;
+      board = s.board;
+      bounds = s.bounds;
+      starts = s.starts.items;
+    } in
+    let w : SimplexView = record { theory = c.watch.new.self; atoms = s.atoms; board = s.board; bounds = c.reserve.new.self; starts = s.starts.items } in
+    of_kept t v w refl refl c.reserve.ensures.variables (ap (λ (x : TheoryView). x.watched) c.in_err-watch.ensures)
+    (subst (λ (x : SimplexView). IsOf x t) (sym c.self.view_is) c.place_term.ensures.with)
+
+pub invariant_of-self-2 : goal.invariant_of-self-2
+invariant_of-self-2 c =
+    let s = c.self.inside in
+    let id = c.args.id in
+    let v : SimplexView = record {
+      theory = s.literals;
+      atoms = s.atoms;
+      board = s.board;
+      bounds = s.bounds;
+      starts = s.starts.items;
+    } in
+    let w : SimplexView = record { theory = c.watch.new.self; atoms = s.atoms; board = s.board; bounds = c.reserve.new.self; starts = s.starts.items } in
+    let count : c.in_ok-placed.placed ≡ placed_count s.atoms.placed (s.literals.watched ++ id ∷ []) =
+    c.in_ok-placed.ensures.count ∙ ap (λ (x : SimplexView). placed_count x.atoms.placed (x.theory.watched ++ id ∷ [])) (sym c.self.view_is) in (
+      fits_watched v w id c.marks_are_prefixes.ensures c.in_ok-watch.ensures (refl, refl, c.reserve.ensures.held, c.reserve.ensures.variables)
+          (omega (arith, c.in_ok-reserve.ensures.ok, c.in-Some.ensures, count)) c.self.invariant.0,
+      count ∙ ap (λ (x : TheoryView). placed_count s.atoms.placed x.watched) (sym c.in_ok-watch.ensures),
+    )
+
+pub returns-clause-with : goal.returns-clause-with
+returns-clause-with c =
+    let s = c.self.inside in
+    let t = c.args.table.now in
+    let v : SimplexView = record {
+      theory = s.literals;
+      atoms = s.atoms;
+      board = s.board;
+      bounds = s.bounds;
+      starts = s.starts.items;
+    } in
+    let w : SimplexView = record { theory = c.watch.new.self; atoms = s.atoms; board = s.board; bounds = c.reserve.new.self; starts = s.starts.items } in
+    of_watched t v w c.args.id refl refl c.reserve.ensures.variables (ap (λ (x : TheoryView). x.watched) c.in_ok-watch.ensures)
+    (subst (λ (x : SimplexView). IsOf x t × IsKnownIn t x.atoms.placed c.args.id) (sym c.self.view_is) (c.place_term.ensures.with, c.in_ok-place_term.ensures.known))

@@ -1,0 +1,61 @@
+-- What simplex holds, how its parts fit together, and what they are over a table.
+use Rattle.std.specs.Prelude.{◌≡◌, ℕ, ◌+◌, ◌*◌, ◌≤◌, ◌<◌, Bool, List, length, map, take, All, Some}
+use Rattle.std.specs.List.{filter}
+use Rattle.std.specs.Option.{is_some}
+use Rattle.term_core.specs.declared.ids.TermId.{TermId}
+use Rattle.term_core.specs.Tables.{TableView}
+use Rattle.proof_log.specs.Theories.{TheoryView, Mark}
+use Rattle.simplex_bounds.specs.Held.{BoundsView}
+use Rattle.simplex_check.specs.Boards.{BoardView}
+use Rattle.simplex_atoms.specs.Atoms.{AtomsView, AreRight}
+use Rattle.simplex_atoms.specs.Places.{place_in}
+use Rattle.simplex_atoms.specs.declared.place.Place.{Place}
+use Rattle.simplex.specs.declared.starts.Start.{Start}
+use Rattle.simplex.specs.Stated.{all_stated, AreBoundsOf, IsKnownIn}
+
+-- Literals that are held, what their atoms are placed on, and the bounds that they state.
+pub record SimplexView : Type 0 where
+  -- the literals, the watched terms and the marks
+  pub theory : TheoryView
+  -- what variables stand for, and the places of atoms
+  pub atoms : AtomsView
+  -- the rows, and the values of variables
+  pub board : BoardView
+  -- the bounds
+  pub bounds : BoundsView
+  -- how many bounds were held at each mark, and how many watched terms had a place
+  pub starts : List Start
+
+-- an atom has a place
+abbrev pub has_place : List (ℕ × Place) → TermId → Bool
+has_place placed id = is_some (place_in placed id)
+
+-- how many of these have a place
+abbrev pub placed_count : List (ℕ × Place) → List TermId → ℕ
+placed_count placed ids = length (filter (has_place placed) ids)
+
+-- how many bounds the literals at a mark state, and how many terms watched there have a place
+abbrev pub start_of : List (ℕ × Place) → TheoryView → Mark → Start
+start_of placed theory m = record {
+  bounds = length (all_stated placed (take m.held theory.held));
+  placed = placed_count placed (take m.watched theory.watched);
+}
+
+-- The parts fit together.
+pub record Fits (v : SimplexView) : Type 0 where
+  -- the bounds that are held are those that the literals state
+  pub bounds_are : AreBoundsOf v.atoms.placed v.theory.held v.bounds.held
+  -- and so they were at each mark
+  pub starts_are : v.starts ≡ map (start_of v.atoms.placed v.theory) v.theory.marks
+  -- there is room for the bounds of both literals of each watched atom
+  pub room : 4 * placed_count v.atoms.placed v.theory.watched ≤ v.bounds.room + length v.bounds.held
+  -- bounds can be held of the variables of places
+  pub reached : (id : TermId) (place : Place) → place_in v.atoms.placed id ≡ Some place
+      → place.variable < v.bounds.variables
+
+-- What it keeps of the terms that it watches is right over a table.
+pub record IsOf (v : SimplexView) (t : TableView) : Type 0 where
+  -- what atoms are placed on
+  pub right : AreRight t v.atoms v.board v.bounds
+  -- watched terms have places exactly where they say something of linear arithmetic
+  pub known : All (IsKnownIn t v.atoms.placed) v.theory.watched

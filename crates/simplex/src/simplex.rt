@@ -1,0 +1,125 @@
+//! Simplex: the literals that it holds, with rows, values and bounds.
+
+ghost use Rattle.std.specs.Prelude.{◌≡◌, [], IfOk};
+ghost use Rattle.spec_tableaux.specs.LeastVariable as rule;
+ghost use Rattle.simplex_bounds.specs.Deltas.{pair_of, deltas};
+ghost use Rattle.simplex_bounds.specs.Held.{ranges_in};
+ghost use Rattle.simplex_check.specs.Boards.{state_of, point_in, empty_board, IsBasisOf};
+ghost use Rattle.simplex_check.specs.Moves.{said};
+ghost use Rattle.simplex_atoms.specs.Owners.{IsNumberOf};
+ghost use Rattle.simplex.specs.Views.{Fits};
+
+use crate::starts::Start;
+use delta_num::Delta;
+use held_literals::HeldLiterals;
+use sat_budget::Basis;
+use simplex_atoms::Atoms;
+use simplex_bounds::Bounds;
+use simplex_check::{Board, Move};
+use std::alloc::Global;
+use std::marker::Model;
+use term_core::TermId;
+use world_io::NoMemory;
+
+/// Holds literals of linear real arithmetic, and values of the variables that keep what was checked of them.
+///
+/// The form of an atom bounds a variable: one that stands for a term, or one that stands for a row of several. Literals are
+/// held as bounds, strict ones by an infinitesimal. Contracts see what it holds and watches, the rows and the bounds.
+/// Source: Dutertre and de Moura, A Fast Linear-Arithmetic Solver for DPLL(T), CAV 2006.
+#[derive(Drop)]
+pub struct Simplex {
+    pub(crate) alloc: Global,
+    pub(crate) literals: HeldLiterals,
+    pub(crate) atoms: Atoms,
+    pub(crate) board: Board,
+    pub(crate) bounds: Bounds,
+    /// What there was at each mark.
+    pub(crate) starts: Vec<Start>,
+    /// How many watched terms have a place.
+    pub(crate) placed: u64,
+}
+
+impl Model for Simplex {
+    ghost use Rattle.std.specs.Prelude.{◌≡◌};
+    ghost use Rattle.simplex.specs.Views.{SimplexView, Fits, placed_count};
+
+    ghost Value = { SimplexView };
+
+    ghost view = { λ s. record {
+      theory = s.literals;
+      atoms = s.atoms;
+      board = s.board;
+      bounds = s.bounds;
+      starts = s.starts.items;
+    } };
+
+    ghost invariant = { λ s. Fits (record {
+      theory = s.literals;
+      atoms = s.atoms;
+      board = s.board;
+      bounds = s.bounds;
+      starts = s.starts.items;
+    }) × (s.placed ≡ placed_count s.atoms.placed s.literals.watched) };
+}
+
+impl Simplex {
+    /// Makes a theory that holds and watches nothing. It takes no memory.
+    pub fn new(alloc: Global) -> Simplex
+        ensures { result ≡ record {
+          theory = record { held = []; watched = []; marks = [] };
+          atoms = record { owners = []; placed = [] };
+          board = empty_board;
+          bounds = record { variables = 0; held = []; room = 0 };
+          starts = [];
+        } }
+    {
+        Simplex {
+            alloc,
+            literals: HeldLiterals::new(alloc),
+            atoms: Atoms::new(alloc),
+            board: Board::new(alloc),
+            bounds: Bounds::new(alloc),
+            starts: Vec::new(alloc),
+            placed: 0,
+        }
+    }
+
+    /// States that the bounds that are held are those that the held literals state, and that there is room for those of both
+    /// literals of each watched atom.
+    pub fn parts_fit(&self)
+        ensures { Fits self.now }
+    {
+        let _ = &self.literals;
+    }
+
+    /// Gives the number of the variable that stands for a term; `None` exactly where none does, as it is no variable of a
+    /// watched term's form. It takes no memory.
+    pub fn var(&self, id: TermId) -> Option<u64>
+        ensures { IsNumberOf self.now.atoms.owners id result }
+    {
+        self.atoms.var(id)
+    }
+
+    /// Gives the value of a variable by its number, and 0 where there is none. It takes no memory.
+    pub fn point(&self, variable: u64) -> Delta
+        ensures { pair_of result ≡ point_in self.now.board.values variable }
+    {
+        self.board.value(variable)
+    }
+
+    /// Gives what the least-variable rule says of the rows, the values and the bounds. It takes no memory.
+    pub fn bland_step(&self) -> Move
+        ensures { rule.Says deltas (ranges_in self.now.bounds.held) (state_of self.now.board) (said result) }
+    {
+        self.board.next_move(&self.bounds)
+    }
+
+    /// Lists the basic variables, in the order of their rows, and the values of all variables.
+    ///
+    /// `NoMemory` comes where a list finds no memory.
+    pub fn basis(&self) -> Result<Basis, NoMemory>
+        ensures { IfOk result (λ basis. IsBasisOf self.now.board basis) }
+    {
+        self.board.basis()
+    }
+}

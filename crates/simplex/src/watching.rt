@@ -1,0 +1,95 @@
+//! Terms are watched, with places and room for their literals' bounds.
+
+ghost use Rattle.std.specs.Prelude.{◌≡◌, ◌++◌, ◌∷◌, [], Contains, OnOk, IfOk, IfErr, MatchResult};
+ghost use Rattle.ratio128.specs.declared.wide.Wide.{Wide};
+ghost use Rattle.term_core.specs.Tables.{TableView, IsIn};
+ghost use Rattle.sat_budget.specs.Budgets.{StopsBy};
+ghost use Rattle.sat_budget.specs.declared.limits.Stop.TheVariants as stops;
+ghost use Rattle.proof_log.specs.Theories.{with_watched, IsTermIn};
+ghost use Rattle.simplex_check.specs.Boards.{IsBasisOf};
+ghost use Rattle.simplex.specs.Stated.{IsKnownIn};
+ghost use Rattle.simplex.specs.Views.{IsOf, placed_count};
+ghost use Rattle.simplex.specs.Stops.{IsPlaceStrain};
+
+use crate::simplex::Simplex;
+use ratio128::Wide;
+use sat_budget::{Stop, Strain};
+use simplex_atoms::AtomStop;
+use simplex_check::Board;
+use term_core::{TermId, TermTable};
+
+/// Makes the stop of an overflow, with the basic variables and the values of the board. It is out of memory where their lists
+/// find none.
+fn strained(board: &Board, wide: Wide) -> Stop
+    ensures { StopsBy (λ s. (s.wide ≡ wide) × IsBasisOf board.now s.basis) (λ _. ⊥) result }
+{
+    match board.basis() {
+        Ok(basis) => Stop::Strained(Strain { wide, basis }),
+        Err(_) => Stop::Memory,
+    }
+}
+
+impl Simplex {
+    /// Gives an atom of linear arithmetic its place.
+    fn place_term(&mut self, table: &TermTable, id: TermId) -> Result<(), Stop>
+        requires term { IsIn table.now id }
+        requires new { Contains self.old.theory.watched id → ⊥ }
+        requires with { IsOf self.old table.now }
+        ensures with { IsOf self.new table.now }
+        ensures theory { self.new.theory ≡ self.old.theory }
+        ensures known { OnOk result (IsKnownIn table.now self.new.atoms.placed id) }
+        ensures stops { IfErr result (StopsBy (IsPlaceStrain table.now self.new id) (λ _. ⊥)) }
+    {
+        self.literals.are_of_watched_terms();
+        self.literals.marks_are_prefixes();
+        match self
+            .atoms
+            .watch(table, id, &mut self.board, &mut self.bounds)
+        {
+            Ok(()) => Ok(()),
+            Err(AtomStop::Wide(wide)) => Err(strained(&self.board, wide)),
+            Err(AtomStop::Memory) => Err(Stop::Memory),
+        }
+    }
+
+    /// Counts the watched terms that have a place, and a term more.
+    fn placed_with(&self, id: TermId) -> Result<u64, Stop>
+        ensures count { IfOk result (λ n. n ≡ placed_count self.now.atoms.placed (self.now.theory.watched ++ id ∷ [])) }
+        ensures stop { IfErr result (λ stop. stop ≡ stops.Memory) }
+    {
+        if self.atoms.place(id).is_none() {
+            return Ok(self.placed);
+        }
+        match self.placed.checked_add(1) {
+            Some(n) => Ok(n),
+            None => Err(Stop::Memory),
+        }
+    }
+
+    /// Watches a term that it does not watch yet, which must be one over the table's symbols. An atom of linear arithmetic gets
+    /// its place, and the room for the bounds of its two literals.
+    ///
+    /// `Memory` comes where memory ran out, and `Strained` where an operation on the atom's form or its row leaves 128 bits, with
+    /// the basic variables and the values there; `Pivots` never comes. After a stop it watches what it did.
+    pub fn watch_term(&mut self, table: &TermTable, id: TermId) -> Result<(), Stop>
+        requires term { IsTermIn table.now id }
+        requires new { Contains self.old.theory.watched id → ⊥ }
+        requires with { IsOf self.old table.now }
+        ensures with { IsOf self.new table.now }
+        ensures watches { MatchResult result (λ _. self.new.theory ≡ with_watched self.old.theory id)
+            (λ _. self.new.theory ≡ self.old.theory) }
+        ensures stops { IfErr result (StopsBy (IsPlaceStrain table.now self.new id) (λ _. ⊥)) }
+    {
+        self.place_term(table, id)?;
+        let placed = self.placed_with(id)?;
+        let Some(room) = placed.checked_mul(4) else {
+            return Err(Stop::Memory);
+        };
+        self.literals.are_of_watched_terms();
+        self.literals.marks_are_prefixes();
+        self.bounds.reserve(room)?;
+        self.literals.watch(id)?;
+        self.placed = placed;
+        Ok(())
+    }
+}
