@@ -13,7 +13,7 @@ use Rattle.simplex_atoms.specs.declared.place.Place.{Place}
 use Rattle.simplex_atoms.specs.Limits.{Limit, limit_of}
 use Rattle.simplex_atoms.specs.Atoms.{AtomsView, AreRight}
 use Rattle.simplex.specs.declared.starts.Start.{Start}
-use Rattle.simplex.specs.Stated.{stated_by, all_stated, IsKnownIn}
+use Rattle.simplex_held.specs.Stated.{stated_by, all_stated, IsKnownIn}
 use Rattle.simplex.specs.Views.{SimplexView, Fits, IsOf, start_of, placed_count}
 use Rattle.simplex.proofs.Stated.{nothing_after, whole, early, first_of_first, stated_more, stated_first, first_states_less, count_first, stated_bounded}
 

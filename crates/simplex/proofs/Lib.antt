@@ -2,3 +2,5 @@
 pub mod Stated
 pub mod Fitting
 pub mod Placed
+pub mod Judging
+pub mod Suiting

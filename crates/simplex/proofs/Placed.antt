@@ -19,7 +19,7 @@ use Rattle.sat_budget.specs.declared.limits.Stop.TheVariants.{Strained, Pivots}
 use Rattle.sat_budget.specs.declared.limits.Stop.TheVariants as stops
 use Rattle.sat_budget.specs.Budgets.{StopsBy}
 use Rattle.simplex.specs.Stops.{IsPlaceStrain}
-use Rattle.simplex.specs.Stated.{all_stated, IsKnownIn}
+use Rattle.simplex_held.specs.Stated.{all_stated, IsKnownIn}
 use Rattle.simplex.specs.Views.{SimplexView, Fits, IsOf, start_of, placed_count}
 use Rattle.simplex.proofs.Stated.{early, stated_same, count_same}
 use Rattle.simplex.proofs.Fitting.{each_mark, right_with}

@@ -1,4 +1,4 @@
 -- What simplex holds and watches.
-pub mod Stated
 pub mod Views
 pub mod Stops
+pub mod Checks

@@ -3,9 +3,11 @@
 //! It holds literals that compare linear terms, and watches their atoms. Going back takes bounds back, and leaves rows and values.
 #![tactic(auto)]
 
+mod checking;
 mod holding;
 mod simplex;
 mod starts;
+mod theory;
 mod watching;
 
 pub use delta_num::Delta;

@@ -7,7 +7,7 @@ ghost use Rattle.sat_budget.specs.Budgets.{StopsBy};
 ghost use Rattle.sat_budget.specs.declared.limits.Stop.TheVariants as stops;
 ghost use Rattle.proof_log.specs.Theories.{with_watched, IsTermIn};
 ghost use Rattle.simplex_check.specs.Boards.{IsBasisOf};
-ghost use Rattle.simplex.specs.Stated.{IsKnownIn};
+ghost use Rattle.simplex_held.specs.Stated.{IsKnownIn};
 ghost use Rattle.simplex.specs.Views.{IsOf, placed_count};
 ghost use Rattle.simplex.specs.Stops.{IsPlaceStrain};
 

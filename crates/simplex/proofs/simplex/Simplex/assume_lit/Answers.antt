@@ -4,7 +4,7 @@ use Rattle.proof_log.specs.Theories.{TheoryView}
 use Rattle.held_literals.proofs.Rooms.{held_more}
 use Rattle.simplex_atoms.specs.declared.place.Place.{Place}
 use Rattle.simplex_atoms.specs.Places.{place_in}
-use Rattle.simplex.specs.Stated.{stated_at, stated_by}
+use Rattle.simplex_held.specs.Stated.{stated_at, stated_by}
 use Rattle.simplex.specs.Views.{SimplexView, Fits, IsOf, placed_count}
 use Rattle.simplex.proofs.Fitting.{HoldsStated, room_for, fits_held, of_kept, no_place, nothing_stated}
 use Rattle.simplex.proofs.simplex.Simplex.assume_lit.Goals as goal

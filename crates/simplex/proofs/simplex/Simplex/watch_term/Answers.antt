@@ -1,7 +1,7 @@
 -- A term is watched, with room for the bounds of its literals.
 use Rattle.std.proofs.Common.{◌≡◌, ◌++◌, ◌∷◌, [], refl, ap, sym, subst, ◌∙◌, arith}
 use Rattle.proof_log.specs.Theories.{TheoryView}
-use Rattle.simplex.specs.Stated.{IsKnownIn}
+use Rattle.simplex_held.specs.Stated.{IsKnownIn}
 use Rattle.simplex.specs.Views.{SimplexView, IsOf, placed_count}
 use Rattle.simplex.proofs.Fitting.{of_kept}
 use Rattle.simplex.proofs.Placed.{fits_watched, of_watched}

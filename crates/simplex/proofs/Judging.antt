@@ -1,0 +1,149 @@
+-- What a check found, what it shows of held literals, and why it stops.
+use Rattle.std.proofs.Common.{◌≡◌, ℕ, false, List, [], ◌∷◌, ◌++◌, length, All, Contains, Result, Ok, Err, inl, inr, refl, sym, ap, ◌∙◌, subst, append_assoc, append-nil}
+use Rattle.std.proofs.lemmas.List.Elements.{All-contains, All-nil}
+use Rattle.spec_sorts.specs.Terms.{Term}
+use Rattle.spec_simplex.specs.Constraints.{constraint_of, HaveForms}
+use Rattle.spec_simplex.specs.Points.{IsFeasible}
+use Rattle.spec_tableaux.specs.Ranges.{is_crossed}
+use Rattle.spec_tableaux.specs.LeastVariable.{Makes, IsSettled}
+use Rattle.spec_tableaux.proofs.Settling.{settles_settled}
+use Rattle.spec_tableaux.proofs.Steps.{exchange_settled, done_meets}
+use Rattle.spec_derivations.specs.Lemmas.{IsLemma}
+use Rattle.ratio128.specs.Meant.{overflow}
+use Rattle.ratio128.specs.declared.wide.Wide.{Wide}
+use Rattle.term_core.specs.declared.ids.Lit.{Lit}
+use Rattle.term_core.specs.Tables.{TableView, positive_literal, IsIn, AreDifferent, Extends}
+use Rattle.sat_budget.specs.Budgets.{BudgetView, StopsBy, AreSpent}
+use Rattle.sat_budget.specs.declared.limits.Stop.{Stop}
+use Rattle.sat_budget.specs.declared.limits.Stop.TheVariants.{Strained, Pivots}
+use Rattle.sat_budget.specs.declared.limits.Stop.TheVariants as stops
+use Rattle.proof_log.specs.Theories.{IsOver, terms_watched, literals_held, Derives}
+use Rattle.proof_log.specs.Logs.{Logged, inference_of, IsLogOf}
+use Rattle.proof_log.specs.declared.theory.Verdict.{Verdict}
+use Rattle.proof_log.specs.declared.theory.Verdict.TheVariants as verdicts
+use Rattle.proof_log.specs.declared.premises.StepId.{StepId}
+use Rattle.held_literals.specs.Room.{AreOver}
+use Rattle.tableau.specs.Views.{IsTableau}
+use Rattle.simplex_bounds.specs.Deltas.{deltas}
+use Rattle.simplex_bounds.specs.Held.{ranges_in}
+use Rattle.simplex_check.specs.Boards.{BoardView, state_of, IsBasisOf}
+use Rattle.simplex_check.specs.Strains.{Ranges}
+use Rattle.simplex_check.specs.Ends.{BoardState, Ran, Stopped, settling, exchanging, Ends}
+use Rattle.simplex_check.specs.declared.check.Outcome.{Outcome}
+use Rattle.simplex_check.specs.declared.check.Outcome.TheVariants.{Fine, Crossed, Conflict}
+use Rattle.simplex_explain.specs.declared.weighted.Weighted.{Weighted}
+use Rattle.simplex_explain.specs.Reasons.{Refutes}
+use Rattle.simplex_reasons.specs.Reasons.{AreOfHeld}
+use Rattle.simplex_reasons.proofs.Distances.{ordered}
+use Rattle.simplex_held.specs.Stated.{AreBoundsOf, IsKnownIn}
+use Rattle.simplex_held.proofs.Stating.{all_from}
+use Rattle.simplex_held.proofs.Reasons.{reasons_held, reasons_watched}
+use Rattle.simplex_held.proofs.Feasible.{feasible}
+use Rattle.simplex_held.proofs.Boards.{fit}
+use Rattle.simplex_atoms.specs.Places.{place_in}
+use Rattle.simplex_atoms.specs.Watching.{IsWatched}
+use Rattle.simplex_atoms.proofs.Fitting.{right_after}
+use Rattle.simplex.specs.Views.{SimplexView, Fits, IsOf}
+use Rattle.simplex_explain.specs.Steps.{derived}
+use Rattle.term_core.proofs.TermsExtend.{Extends-self, term_at-kept}
+use Rattle.simplex.specs.Checks.{Found, Answers, AreRefuted, StrainsSimplex, checking, IsStrainOf, NeedsMore}
+
+makes_settled : (ranges : Ranges) (t : BoardState) (es : List (ℕ × ℕ)) (u : BoardState) → IsSettled deltas ranges t → Makes deltas ranges t es u → IsSettled deltas ranges u
+makes_settled ranges t [] u s m = subst (IsSettled deltas ranges) m s
+makes_settled ranges t (e ∷ es) u s m = makes_settled ranges m.1.0 es u (exchange_settled deltas ordered ranges t m.1.0 e.0 e.1 s m.0 m.1.1) m.1.2
+
+-- where no bounds cross, nonbasic variables keep theirs after the exchanges
+ran_settled : (ranges : Ranges) (t u : BoardState) (old new : List (ℕ × ℕ)) → ((y : ℕ) → is_crossed deltas ranges y ≡ false) → Ran ranges t u old new → IsSettled deltas ranges u
+ran_settled ranges t u old new n r = makes_settled ranges r.start r.made u (settles_settled deltas ordered ranges t r.start n r.settles) r.makes
+
+-- what a check says that something is wrong with is so
+pub found : (v : SimplexView) (b : BoardView) (old new : BudgetView) (o : Outcome) → (o ≡ Fine → ⊥) → Ends (ranges_in v.bounds.held) b v.board old new (Ok o) → Found v o
+found v b old new Fine n e = absurd (n refl)
+found v b old new (Crossed y) n e = e.2
+found v b old new (Conflict y) n e = (ran_settled (ranges_in v.bounds.held) (state_of b) (state_of v.board) old.exchanges new.exchanges e.1.0 e.0, e.1)
+
+stopped_more : (ranges : Ranges) (t u : BoardState) (old new : List (ℕ × ℕ)) → Stopped ranges t u old new → (more : List (ℕ × ℕ)) × (new ≡ old ++ more)
+stopped_more ranges t u old new (settling n s e) = ([], e ∙ sym (append-nil old))
+stopped_more ranges t u old new (exchanging r) = (r.ran.made ++ r.last ∷ [], r.kept ∙ ap (λ es. es ++ r.last ∷ []) r.ran.kept ∙ append_assoc old r.ran.made (r.last ∷ []))
+
+-- a check keeps exchanges behind those that there were
+pub spent : (ranges : Ranges) (b c : BoardView) (old new : BudgetView) (r : Result Outcome Stop) → Ends ranges b c old new r → (more : List (ℕ × ℕ)) × (new.exchanges ≡ old.exchanges ++ more)
+spent ranges b c old new (Ok Fine) e = (e.0.made, e.0.kept)
+spent ranges b c old new (Ok (Crossed y)) e = ([], ap (λ (x : BudgetView). x.exchanges) e.1 ∙ sym (append-nil old.exchanges))
+spent ranges b c old new (Ok (Conflict y)) e = (e.0.made, e.0.kept)
+spent ranges b c old new (Err (Pivots n)) e = (e.0.made, e.0.kept)
+spent ranges b c old new (Err (Strained s)) e = stopped_more ranges (state_of b) (state_of c) old.exchanges new.exchanges e.0
+spent ranges b c old new (Err stops.Memory) (inl ran) = (ran.made, ran.kept)
+spent ranges b c old new (Err stops.Memory) (inr s) = stopped_more ranges (state_of b) (state_of c) old.exchanges new.exchanges s
+
+-- its stop is one of simplex
+pub stopped : (ts : List Term) (v : SimplexView) (b : BoardView) (old new : BudgetView) (stop : Stop) → Ends (ranges_in v.bounds.held) b v.board old new (Err stop) → StopsBy (IsStrainOf ts v) (AreSpent (NeedsMore v) new) stop
+stopped ts v b old new (Strained s) e = (checking e.1.0, e.1.1)
+stopped ts v b old new (Pivots n) e = e.1
+stopped ts v b old new stops.Memory e = tt
+
+-- the stop of an overflow is one of simplex
+pub strained : (ts : List Term) (v : SimplexView) (w : Wide) (stop : Stop) → StrainsSimplex ts v (overflow w) → StopsBy (λ s. (s.wide ≡ w) × IsBasisOf v.board s.basis) (λ _. ⊥) stop → StopsBy (IsStrainOf ts v) (λ _. ⊥) stop
+strained ts v w (Strained s) h p = (subst (λ (x : Wide). StrainsSimplex ts v (overflow x)) (sym p.0) h, p.1)
+strained ts v w (Pivots n) h p = p
+strained ts v w stops.Memory h p = tt
+
+-- a stop that is no number of exchanges
+pub no_pivots : (ts : List Term) (v : SimplexView) (budget : BudgetView) (stop : Stop) → StopsBy (IsStrainOf ts v) (λ _. ⊥) stop → StopsBy (IsStrainOf ts v) (AreSpent (NeedsMore v) budget) stop
+no_pivots ts v budget (Strained s) p = p
+no_pivots ts v budget (Pivots n) p = absurd p
+no_pivots ts v budget stops.Memory p = tt
+
+-- reasons are held literals of watched atoms
+pub refuted : (t : TableView) (v : SimplexView) (rs : List Weighted) → Fits v → AreOver v.theory.held v.theory.watched → IsOver t v.theory → AreOfHeld v.bounds.held rs → Refutes t rs → AreRefuted (terms_watched t v.theory) v t rs
+refuted t v rs f over watched of r = record {
+  watched = reasons_watched t v.theory v.atoms.placed v.bounds.held rs f.bounds_are of watched over;
+  held = reasons_held v.atoms.placed v.theory.held v.bounds.held rs f.bounds_are of;
+  refutes = r;
+}
+
+-- a board of as many variables and the same rows added fits
+pub board_fits : (t : TableView) (v : SimplexView) (c : BoardView) → c.tableau.variables ≡ v.board.tableau.variables → c.tableau.listed ≡ v.board.tableau.listed → IsOf v t → IsOf (record v { board = c }) t
+board_fits t v c n l is = record { right = fit t v.atoms v.board c v.bounds is.right n l; known = is.known }
+
+-- what is right over a table is right over one that has more
+pub table_grows : (t u : TableView) (v : SimplexView) → Extends t u → All (IsIn t) v.theory.watched → IsOf v t → IsOf v u
+table_grows t u v more there is = record {
+  right = right_after t u more v.atoms v.board v.bounds is.right;
+  known = all_from (IsKnownIn u v.atoms.placed) v.theory.watched (λ id c. subst (λ (x : Term). IsWatched (place_in v.atoms.placed id) (constraint_of (positive_literal x))) (sym (term_at-kept t u more id (All-contains (IsIn t) v.theory.watched id there c))) (All-contains (IsKnownIn t v.atoms.placed) v.theory.watched id is.known c));
+}
+
+-- where a check finds nothing wrong the literals have forms, and a point keeps them
+pub fine : (t : TableView) (v : SimplexView) (b : BoardView) (old new : BudgetView) → AreDifferent t.terms → IsTableau v.board.tableau → IsOf v t → AreBoundsOf v.atoms.placed v.theory.held v.bounds.held → AreOver v.theory.held v.theory.watched
+    → Ends (ranges_in v.bounds.held) b v.board old new (Ok Fine) → HaveForms (literals_held t v.theory) × IsFeasible (literals_held t v.theory)
+fine t v b old new unique tableau is f over e = feasible t v.atoms v.board v.bounds v.theory.held (record {
+  right = is.right;
+  tableau = tableau;
+  unique = unique;
+  bounds_are = f;
+  known = all_from (λ (l : Lit). IsKnownIn t v.atoms.placed l.term) v.theory.held (λ l c. All-contains (IsKnownIn t v.atoms.placed) v.theory.watched l.term is.known (All-contains (λ (l : Lit). Contains v.theory.watched l.term) v.theory.held l over c));
+  meets = done_meets deltas (ranges_in v.bounds.held) (state_of v.board) (ran_settled (ranges_in v.bounds.held) (state_of b) (state_of v.board) old.exchanges new.exchanges e.1.0 e.0) e.1;
+})
+
+-- no terms and no steps came
+pub nothing_came : (ts : List Term) (t : TableView) (log : List Logged) → IsLogOf t log → Derives ts (derived t log) (derived t log)
+nothing_came ts t log right = record {
+  table = Extends-self t;
+  declared = refl;
+  more = [];
+  log = sym (append-nil log);
+  right = right;
+  lemmas = All-nil (λ l. IsLemma ts (length log) (inference_of t l));
+}
+
+-- another answer than that nothing is wrong
+pub answers : (o : Outcome) (r : Result Verdict Stop) → (o ≡ Fine → ⊥) → (r ≡ Ok verdicts.Fine → ⊥) → Answers (Ok o) r
+answers Fine r n d = absurd (n refl)
+answers (Crossed y) r n d = d
+answers (Conflict y) r n d = d
+
+pub clash_differs : (s : StepId) → (let r : Result Verdict Stop = Ok (verdicts.Clash s) in r) ≡ Ok verdicts.Fine → ⊥
+clash_differs s e = cc
+
+pub stop_differs : (s : Stop) → (let r : Result Verdict Stop = Err s in r) ≡ Ok verdicts.Fine → ⊥
+stop_differs s e = cc

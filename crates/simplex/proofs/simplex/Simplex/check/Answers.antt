@@ -1,0 +1,122 @@
+-- The rows stop, or say what is so of the literals.
+use Rattle.std.proofs.Common.{ℕ, List, Err, Ok, refl, sym, ◌∙◌, ap, subst}
+use Rattle.sat_budget.specs.Budgets.{BudgetView}
+use Rattle.std.proofs.lemmas.List.Elements.{All-weaker}
+use Rattle.spec_simplex.specs.Constraints.{HaveForms}
+use Rattle.spec_simplex.specs.Points.{IsFeasible, IsInfeasible}
+use Rattle.term_core.specs.Tables.{IsIn}
+use Rattle.sat_budget.specs.Budgets.{StopsBy, AreSpent}
+use Rattle.proof_log.specs.Clashes.{IsClash}
+use Rattle.proof_log.specs.Theories.{IsOver, IsTermIn, terms_watched, literals_held, Derives}
+use Rattle.tableau.specs.Views.{IsTableau}
+use Rattle.simplex_check.specs.Ends.{Ends}
+use Rattle.simplex_explain.specs.Steps.{derived}
+use Rattle.simplex.specs.Checks.{IsStrainOf, NeedsMore}
+use Rattle.simplex_bounds.specs.Held.{ranges_in}
+use Rattle.simplex.specs.Views.{SimplexView, IsOf}
+use Rattle.simplex.proofs.Judging.{spent, stopped, board_fits, table_grows, fine, found, no_pivots, nothing_came, answers, clash_differs, stop_differs}
+use Rattle.simplex.proofs.simplex.Simplex.check.Goals as goal
+
+pub returns-in-Err-clause-with : goal.returns-in-Err-clause-with
+returns-in-Err-clause-with c =
+    let s = c.self.inside in
+    board_fits c.args.table.now (record { theory = s.literals; atoms = s.atoms; board = s.board; bounds = s.bounds; starts = s.starts.items }) c.check.new.self c.check.ensures.variables c.check.ensures.listed
+    (subst (λ (v : SimplexView). IsOf v c.args.table.now) (sym c.self.view_is) c.requires.with)
+
+pub returns-in-Err-clause-budget : goal.returns-in-Err-clause-budget
+returns-in-Err-clause-budget c =
+    let s = c.self.inside in
+    let old = c.args.budget.now in
+    let more = spent (ranges_in s.bounds.held) s.board c.check.new.self old c.check.new.budget (Err c.in-Err.stop) c.in-Err.ensures.ends in
+    (more.0, c.check.ensures.budget ∙ ap (λ (es : List (ℕ × ℕ)). (let b : BudgetView = record { limit = old.limit; learned = old.learned; pivots = old.pivots; exchanges = es } in b)) more.1)
+
+pub returns-in-Err-clause-stops : goal.returns-in-Err-clause-stops
+returns-in-Err-clause-stops c =
+    let s = c.self.inside in
+    stopped (terms_watched c.args.table.now c.args.self.now.theory) (record { theory = s.literals; atoms = s.atoms; board = c.check.new.self; bounds = s.bounds; starts = s.starts.items }) s.board c.args.budget.now c.check.new.budget c.in-Err.stop c.in-Err.ensures.ends
+
+pub returns-in-Fine-clause-with : goal.returns-in-Fine-clause-with
+returns-in-Fine-clause-with c =
+    let s = c.self.inside in
+    board_fits c.args.table.now (record { theory = s.literals; atoms = s.atoms; board = s.board; bounds = s.bounds; starts = s.starts.items }) c.check.new.self c.check.ensures.variables c.check.ensures.listed
+    (subst (λ (v : SimplexView). IsOf v c.args.table.now) (sym c.self.view_is) c.requires.with)
+
+pub returns-in-Fine-clause-checks : goal.returns-in-Fine-clause-checks
+returns-in-Fine-clause-checks c =
+    let s = c.self.inside in
+    let t = c.args.table.now in
+    let v : SimplexView = record { theory = s.literals; atoms = s.atoms; board = c.check.new.self; bounds = s.bounds; starts = s.starts.items } in
+    let with : IsOf v t = board_fits c.args.table.now (record { theory = s.literals; atoms = s.atoms; board = s.board; bounds = s.bounds; starts = s.starts.items }) c.check.new.self c.check.ensures.variables c.check.ensures.listed
+    (subst (λ (v : SimplexView). IsOf v c.args.table.now) (sym c.self.view_is) c.requires.with) in
+    let ends = subst (λ o. Ends (ranges_in s.bounds.held) s.board c.check.new.self c.args.budget.now c.check.new.budget (Ok o)) c.in-Fine.is c.in-Ok.ensures.ends in (
+      subst (λ (w : SimplexView). HaveForms (literals_held t w.theory) × IsFeasible (literals_held t w.theory)) c.self.view_is
+          (fine t v s.board c.args.budget.now c.check.new.budget c.ids_are_unique.ensures (subst IsTableau c.tableau.ensures c.rows_are_in_solved_form.ensures) with c.self.invariant.0.bounds_are c.are_of_watched_terms.ensures.over ends),
+      nothing_came (terms_watched t c.args.self.now.theory) t c.args.log.now c.requires.log,
+    )
+
+pub clash-requires : goal.clash-requires
+clash-requires c =
+    let s = c.self.inside in
+    let t = c.args.table.now in
+    let v : SimplexView = record { theory = s.literals; atoms = s.atoms; board = c.check.new.self; bounds = s.bounds; starts = s.starts.items } in
+    let with : IsOf v t = board_fits c.args.table.now (record { theory = s.literals; atoms = s.atoms; board = s.board; bounds = s.bounds; starts = s.starts.items }) c.check.new.self c.check.ensures.variables c.check.ensures.listed
+    (subst (λ (v : SimplexView). IsOf v c.args.table.now) (sym c.self.view_is) c.requires.with) in (
+      refl,
+      (
+        subst (λ (w : SimplexView). IsOver t w.theory) (sym c.self.view_is) c.requires.over,
+        (with, (c.requires.log, found v s.board c.args.budget.now c.check.new.budget c.in-Ok.outcome c.in_default.not-Fine c.in-Ok.ensures.ends)),
+      ),
+    )
+
+pub returns-in-Ok-clash-clause-with : goal.returns-in-Ok-clash-clause-with
+returns-in-Ok-clash-clause-with c =
+    let s = c.self.inside in
+    let t = c.args.table.now in
+    let v : SimplexView = record { theory = s.literals; atoms = s.atoms; board = c.check.new.self; bounds = s.bounds; starts = s.starts.items } in
+    let with : IsOf v t = board_fits c.args.table.now (record { theory = s.literals; atoms = s.atoms; board = s.board; bounds = s.bounds; starts = s.starts.items }) c.check.new.self c.check.ensures.variables c.check.ensures.listed
+    (subst (λ (v : SimplexView). IsOf v c.args.table.now) (sym c.self.view_is) c.requires.with) in
+    let over = subst (λ (w : SimplexView). IsOver t w.theory) (sym c.self.view_is) c.requires.over in
+    table_grows t c.clash.new.table v c.in-Ok-clash.ensures.derives.table (All-weaker (IsTermIn t) (IsIn t) (λ id k. k.0) s.literals.watched over.terms) with
+
+pub returns-in-Ok-clash-clause-budget : goal.returns-in-Ok-clash-clause-budget
+returns-in-Ok-clash-clause-budget c =
+    let s = c.self.inside in
+    let old = c.args.budget.now in
+    let more = spent (ranges_in s.bounds.held) s.board c.check.new.self old c.check.new.budget (Ok c.in-Ok.outcome) c.in-Ok.ensures.ends in
+    (more.0, c.check.ensures.budget ∙ ap (λ (es : List (ℕ × ℕ)). (let b : BudgetView = record { limit = old.limit; learned = old.learned; pivots = old.pivots; exchanges = es } in b)) more.1)
+
+pub returns-in-Ok-clash-clause-ends : goal.returns-in-Ok-clash-clause-ends
+returns-in-Ok-clash-clause-ends c = (Ok c.in-Ok.outcome, answers c.in-Ok.outcome _ c.in_default.not-Fine (clash_differs c.in-Ok-clash.step), subst (λ (v : SimplexView). Ends (ranges_in v.bounds.held) v.board c.check.new.self c.args.budget.now c.check.new.budget (Ok c.in-Ok.outcome)) c.self.view_is c.in-Ok.ensures.ends)
+
+pub returns-in-Ok-clash-clause-checks : goal.returns-in-Ok-clash-clause-checks
+returns-in-Ok-clash-clause-checks c =
+    let t = c.args.table.now in
+    subst (λ (w : SimplexView). IsInfeasible (literals_held t w.theory) × Derives (terms_watched t w.theory) (derived t c.args.log.now) (derived c.clash.new.table c.clash.new.log) × IsClash c.clash.new.table c.clash.new.log w.theory.held c.in-Ok-clash.step) c.self.view_is
+    (c.in-Ok-clash.ensures.infeasible, c.in-Ok-clash.ensures.derives, c.in-Ok-clash.ensures.clash)
+
+pub returns-in-Err-clash-clause-with : goal.returns-in-Err-clash-clause-with
+returns-in-Err-clash-clause-with c =
+    let s = c.self.inside in
+    let t = c.args.table.now in
+    let v : SimplexView = record { theory = s.literals; atoms = s.atoms; board = c.check.new.self; bounds = s.bounds; starts = s.starts.items } in
+    let with : IsOf v t = board_fits c.args.table.now (record { theory = s.literals; atoms = s.atoms; board = s.board; bounds = s.bounds; starts = s.starts.items }) c.check.new.self c.check.ensures.variables c.check.ensures.listed
+    (subst (λ (v : SimplexView). IsOf v c.args.table.now) (sym c.self.view_is) c.requires.with) in
+    subst (IsOf v) (sym c.in-Err-clash.ensures.same.0) with
+
+pub returns-in-Err-clash-clause-budget : goal.returns-in-Err-clash-clause-budget
+returns-in-Err-clash-clause-budget c =
+    let s = c.self.inside in
+    let old = c.args.budget.now in
+    let more = spent (ranges_in s.bounds.held) s.board c.check.new.self old c.check.new.budget (Ok c.in-Ok.outcome) c.in-Ok.ensures.ends in
+    (more.0, c.check.ensures.budget ∙ ap (λ (es : List (ℕ × ℕ)). (let b : BudgetView = record { limit = old.limit; learned = old.learned; pivots = old.pivots; exchanges = es } in b)) more.1)
+
+pub returns-in-Err-clash-clause-ends : goal.returns-in-Err-clash-clause-ends
+returns-in-Err-clash-clause-ends c = (Ok c.in-Ok.outcome, answers c.in-Ok.outcome _ c.in_default.not-Fine (stop_differs c.in-Err-clash.stop), subst (λ (v : SimplexView). Ends (ranges_in v.bounds.held) v.board c.check.new.self c.args.budget.now c.check.new.budget (Ok c.in-Ok.outcome)) c.self.view_is c.in-Ok.ensures.ends)
+
+pub returns-in-Err-clash-clause-stops : goal.returns-in-Err-clash-clause-stops
+returns-in-Err-clash-clause-stops c =
+    let s = c.self.inside in
+    let t = c.args.table.now in
+    let v : SimplexView = record { theory = s.literals; atoms = s.atoms; board = c.check.new.self; bounds = s.bounds; starts = s.starts.items } in
+    subst (λ (w : SimplexView). StopsBy (IsStrainOf (terms_watched t w.theory) v) (AreSpent (NeedsMore v) c.check.new.budget) c.in-Err-clash.stop) c.self.view_is
+    (no_pivots (terms_watched t s.literals) v c.check.new.budget c.in-Err-clash.stop c.in-Err-clash.ensures.stops)

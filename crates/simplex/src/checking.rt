@@ -1,0 +1,145 @@
+//! The check of simplex: literals that it holds, and a step of the log where they cannot all hold.
+
+ghost use Rattle.std.specs.Prelude.{◌≡◌, Result, IfOk, IfErr, OnOk, OnErr};
+ghost use Rattle.spec_simplex.specs.Constraints.{HaveForms};
+ghost use Rattle.spec_simplex.specs.Points.{IsFeasible, IsInfeasible};
+ghost use Rattle.ratio128.specs.declared.wide.Wide.{Wide};
+ghost use Rattle.sat_budget.specs.Budgets.{Spends, StopsBy, AreSpent};
+ghost use Rattle.sat_budget.specs.declared.limits.Stop.{Stop};
+ghost use Rattle.proof_log.specs.Logs.{IsLogOf};
+ghost use Rattle.proof_log.specs.Clashes.{IsClash};
+ghost use Rattle.proof_log.specs.Theories.{IsOver, terms_watched, literals_held, Derives, Checks};
+ghost use Rattle.simplex_bounds.specs.Held.{ranges_in};
+ghost use Rattle.simplex_check.specs.Boards.{IsBasisOf};
+ghost use Rattle.simplex_check.specs.Ends.{Ends};
+ghost use Rattle.simplex_check.specs.declared.check.Outcome.{Outcome};
+ghost use Rattle.simplex_explain.specs.Reasons.{Refutes};
+ghost use Rattle.simplex_explain.specs.Steps.{derived};
+ghost use Rattle.simplex_reasons.specs.Reasons.{AreOfHeld, OnWide};
+ghost use Rattle.simplex.specs.Views.{IsOf};
+ghost use Rattle.simplex.specs.Checks.{Case, Found, StrainsFound, IsStrainOf, NeedsMore, Answers};
+
+use crate::simplex::Simplex;
+use proof_log::{ProofLog, StepId, Verdict};
+use ratio128::Wide;
+use sat_budget::{Budget, Stop, Strain};
+use simplex_check::Outcome;
+use simplex_explain::{ExplainStop, Weighted, explain};
+use simplex_reasons::{ReasonStop, crossing_reasons, row_reasons};
+use term_core::TermTable;
+
+impl Simplex {
+    /// Makes the stop of an overflow, with the basic variables and the values. It is out of memory where their lists find
+    /// none.
+    fn stop_of(&self, wide: Wide) -> Stop
+        ensures { StopsBy (λ s. (s.wide ≡ wide) × IsBasisOf self.now.board s.basis) (λ _. ⊥) result }
+    {
+        match self.board.basis() {
+            Ok(basis) => Stop::Strained(Strain { wide, basis }),
+            Err(_) => Stop::Memory,
+        }
+    }
+
+    /// Gives literals that cannot all hold, with their weights, where bounds cross or a basic variable is stuck.
+    ///
+    /// `Wide` comes where a weight leaves the bound on fractions, and `Memory` where there is no memory.
+    fn reasons(&self, outcome: Outcome) -> Result<Vec<Weighted>, ReasonStop>
+        ghost of: { Case }
+        requires of { of.simplex ≡ self.now }
+        requires with { IsOf self.now of.table }
+        requires found { Found self.now outcome }
+        ensures refutes { IfOk result (λ reasons. Refutes of.table reasons.items) }
+        ensures held { IfOk result (λ reasons. AreOfHeld self.now.bounds.held reasons.items) }
+        ensures wide { IfErr result (OnWide (StrainsFound self.now outcome)) }
+    {
+        match outcome {
+            Outcome::Fine => unreachable!(),
+            Outcome::Crossed(y) => crossing_reasons(self.alloc, &self.bounds, &self.atoms, y),
+            Outcome::Conflict(b) => {
+                row_reasons(self.alloc, &self.board, &self.bounds, &self.atoms, b)
+            }
+        }
+    }
+
+    /// Logs that held literals cannot all hold, where bounds cross or a basic variable is stuck: a step whose clause is false
+    /// under them.
+    ///
+    /// `Strained` comes where a weight, or a sum of the literals' forms by their weights, leaves 128 bits, with the basic
+    /// variables and the values; `Memory` comes where there is no memory, and `Pivots` never. After each, table and log are
+    /// as they were.
+    fn clash(
+        &self,
+        table: &mut TermTable,
+        log: &mut ProofLog,
+        outcome: Outcome,
+    ) -> Result<StepId, Stop>
+        ghost of: { Case }
+        requires of { of ≡ record { table = table.old; simplex = self.now } }
+        requires over { IsOver table.old self.now.theory }
+        requires with { IsOf self.now table.old }
+        requires log { IsLogOf table.old log.old }
+        requires found { Found self.now outcome }
+        ensures derives { OnOk result (Derives (terms_watched table.old self.now.theory) (derived table.old log.old)
+            (derived table.new log.new)) }
+        ensures clash { IfOk result (IsClash table.new log.new self.now.theory.held) }
+        ensures infeasible { OnOk result (IsInfeasible (literals_held table.old self.now.theory)) }
+        ensures same { OnErr result ((table.new ≡ table.old) × (log.new ≡ log.old)) }
+        ensures stops { IfErr result (StopsBy (IsStrainOf (terms_watched table.old self.now.theory) self.now) (λ _. ⊥)) }
+    {
+        self.literals.are_of_watched_terms();
+        let reasons = match self.reasons(outcome) {
+            Ok(reasons) => reasons,
+            Err(ReasonStop::Wide(wide)) => return Err(self.stop_of(wide)),
+            Err(ReasonStop::Memory) => return Err(Stop::Memory),
+        };
+        match explain(self.alloc, table, log, &reasons) {
+            Ok(step) => Ok(step),
+            Err(ExplainStop::Wide(wide)) => Err(self.stop_of(wide)),
+            Err(ExplainStop::Memory) => Err(Stop::Memory),
+        }
+    }
+
+    /// Checks the literals that it holds: `Fine` comes where they have forms and a point keeps them all, and `Clash` where none
+    /// does, with a step whose clause is false under them.
+    ///
+    /// Each exchange is kept in the budget. `Pivots` comes exactly where a further exchange is needed and the budget has no room
+    /// for it; `Strained` where a number leaves 128 bits, with the basic variables and the values at which it did; `Memory`
+    /// where there is no memory. After each, table and log are as they were.
+    /// Source: Dutertre and de Moura, A Fast Linear-Arithmetic Solver for DPLL(T), CAV 2006.
+    pub fn check(
+        &mut self,
+        table: &mut TermTable,
+        log: &mut ProofLog,
+        budget: &mut Budget,
+    ) -> Result<Verdict, Stop>
+        requires over { IsOver table.old self.old.theory }
+        requires with { IsOf self.old table.old }
+        requires log { IsLogOf table.old log.old }
+        ensures with { IsOf self.new table.new }
+        ensures same { self.new ≡ record self.old { board = self.new.board } }
+        ensures budget { Spends budget.old budget.new }
+        ensures ends { (found : Result Outcome Stop) × Answers found result
+            × Ends (ranges_in self.old.bounds.held) self.old.board self.new.board budget.old budget.new found }
+        ensures checks { Checks (HaveForms (literals_held table.old self.old.theory)
+            × IsFeasible (literals_held table.old self.old.theory))
+            (IsInfeasible (literals_held table.old self.old.theory))
+            self.old.theory (derived table.old log.old) result (derived table.new log.new) }
+        ensures stops { IfErr result (StopsBy (IsStrainOf (terms_watched table.old self.old.theory) self.new)
+            (AreSpent (NeedsMore self.new) budget.new)) }
+    {
+        self.literals.are_of_watched_terms();
+        table.ids_are_unique();
+        let outcome = match self.board.check(&self.bounds, budget) {
+            Ok(outcome) => outcome,
+            Err(stop) => return Err(stop),
+        };
+        if let Outcome::Fine = outcome {
+            self.board.tableau().rows_are_in_solved_form();
+            return Ok(Verdict::Fine);
+        }
+        match self.clash(table, log, outcome) {
+            Ok(step) => Ok(Verdict::Clash(step)),
+            Err(stop) => Err(stop),
+        }
+    }
+}

@@ -1,0 +1,73 @@
+//! Simplex as a theory of the search.
+
+use crate::simplex::Simplex;
+use proof_log::{ProofLog, Theory, Verdict};
+use sat_budget::{Budget, Stop};
+use term_core::{Lit, TermId, TermTable};
+use world_io::NoMemory;
+
+impl Theory for Simplex {
+    ghost use Rattle.std.proofs.Common.{sym, subst};
+    ghost use Rattle.std.proofs.lemmas.List.Elements.{All-weaker, All-contains};
+    ghost use Rattle.spec_sorts.specs.Terms.{Term};
+    ghost use Rattle.spec_simplex.specs.Constraints.{constraint_of, HaveForms};
+    ghost use Rattle.spec_simplex.specs.Points.{IsFeasible, IsInfeasible};
+    ghost use Rattle.term_core.specs.Tables.{IsIn, positive_literal};
+    ghost use Rattle.term_core.proofs.TermsExtend.{IsIn-kept, term_at-kept};
+    ghost use Rattle.simplex_atoms.specs.Places.{place_in};
+    ghost use Rattle.simplex_atoms.specs.Watching.{IsWatched};
+    ghost use Rattle.simplex_atoms.proofs.Fitting.{right_after};
+    ghost use Rattle.simplex_held.specs.Stated.{IsKnownIn};
+    ghost use Rattle.simplex_held.proofs.Stating.{all_from};
+    ghost use Rattle.simplex.specs.Checks.{Suits, IsStrainOf, NeedsMore};
+
+    ghost view = { λ s. s.theory };
+
+    ghost goes_with = { λ s t. Suits s t };
+
+    ghost agrees = { λ s ts ls. HaveForms ls × IsFeasible ls };
+
+    ghost refuses = { λ s ts ls. IsInfeasible ls };
+
+    ghost strains = { λ s ts x. IsStrainOf ts s x };
+
+    ghost needs_more = { λ s ts. NeedsMore s };
+
+    fn watch_term(&mut self, table: &TermTable, id: TermId) -> Result<(), Stop> {
+        Simplex::watch_term(self, table, id)
+    }
+
+    fn assume_lit(&mut self, lit: Lit) {
+        Simplex::assume_lit(self, lit)
+    }
+
+    fn check(
+        &mut self,
+        table: &mut TermTable,
+        log: &mut ProofLog,
+        budget: &mut Budget,
+    ) -> Result<Verdict, Stop> {
+        Simplex::check(self, table, log, budget)
+    }
+
+    fn mark(&mut self) -> Result<(), NoMemory> {
+        Simplex::mark(self)
+    }
+
+    fn back(&mut self, marks: u32) {
+        Simplex::back(self, marks)
+    }
+
+    ghost grown = { λ s t u more with. record {
+      is = record {
+        right = right_after t u more s.atoms s.board s.bounds with.is.right;
+        known = all_from (IsKnownIn u s.atoms.placed) s.theory.watched (λ id has. subst
+            (λ (x : Term). IsWatched (place_in s.atoms.placed id) (constraint_of (positive_literal x)))
+            (sym (term_at-kept t u more id (All-contains (IsIn t) s.theory.watched id with.there has)))
+            (All-contains (IsKnownIn t s.atoms.placed) s.theory.watched id with.is.known has));
+      };
+      there = All-weaker (IsIn t) (IsIn u) (λ id within. IsIn-kept t u more id within) s.theory.watched with.there;
+    } };
+
+    ghost exact = { λ s ts ls fine refuted. refuted fine.1.0 fine.1.1 };
+}
