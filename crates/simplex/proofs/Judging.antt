@@ -1,13 +1,10 @@
 -- What a check found, what it shows of held literals, and why it stops.
-use Rattle.std.proofs.Common.{◌≡◌, ℕ, false, List, [], ◌∷◌, ◌++◌, length, All, Contains, Result, Ok, Err, inl, inr, refl, sym, ap, ◌∙◌, subst, append_assoc, append-nil}
+use Rattle.std.proofs.Common.{◌≡◌, ℕ, List, [], ◌∷◌, ◌++◌, length, All, Contains, Result, Ok, Err, inl, inr, refl, sym, ap, ◌∙◌, subst, append_assoc, append-nil}
 use Rattle.std.proofs.lemmas.List.Elements.{All-contains, All-nil}
 use Rattle.spec_sorts.specs.Terms.{Term}
 use Rattle.spec_simplex.specs.Constraints.{constraint_of, HaveForms}
 use Rattle.spec_simplex.specs.Points.{IsFeasible}
-use Rattle.spec_tableaux.specs.Ranges.{is_crossed}
-use Rattle.spec_tableaux.specs.LeastVariable.{Makes, IsSettled}
-use Rattle.spec_tableaux.proofs.Settling.{settles_settled}
-use Rattle.spec_tableaux.proofs.Steps.{exchange_settled, done_meets}
+use Rattle.spec_tableaux.proofs.Steps.{done_meets}
 use Rattle.spec_derivations.specs.Lemmas.{IsLemma}
 use Rattle.ratio128.specs.Meant.{overflow}
 use Rattle.ratio128.specs.declared.wide.Wide.{Wide}
@@ -28,13 +25,13 @@ use Rattle.simplex_bounds.specs.Deltas.{deltas}
 use Rattle.simplex_bounds.specs.Held.{ranges_in}
 use Rattle.simplex_check.specs.Boards.{BoardView, state_of, IsBasisOf}
 use Rattle.simplex_check.specs.Strains.{Ranges}
-use Rattle.simplex_check.specs.Ends.{BoardState, Ran, Stopped, settling, exchanging, Ends}
+use Rattle.simplex_check.specs.Ends.{BoardState, Stopped, settling, exchanging, Ends}
 use Rattle.simplex_check.specs.declared.check.Outcome.{Outcome}
 use Rattle.simplex_check.specs.declared.check.Outcome.TheVariants.{Fine, Crossed, Conflict}
 use Rattle.simplex_explain.specs.declared.weighted.Weighted.{Weighted}
 use Rattle.simplex_explain.specs.Reasons.{Refutes}
 use Rattle.simplex_reasons.specs.Reasons.{AreOfHeld}
-use Rattle.simplex_reasons.proofs.Distances.{ordered}
+use Rattle.simplex_reasons.proofs.Holding.{ran_settled}
 use Rattle.simplex_held.specs.Stated.{AreBoundsOf, IsKnownIn}
 use Rattle.simplex_held.proofs.Stating.{all_from}
 use Rattle.simplex_held.proofs.Reasons.{reasons_held, reasons_watched}
@@ -47,14 +44,6 @@ use Rattle.simplex.specs.Views.{SimplexView, Fits, IsOf}
 use Rattle.simplex_explain.specs.Steps.{derived}
 use Rattle.term_core.proofs.TermsExtend.{Extends-self, term_at-kept}
 use Rattle.simplex.specs.Checks.{Found, Answers, AreRefuted, StrainsSimplex, checking, IsStrainOf, NeedsMore}
-
-makes_settled : (ranges : Ranges) (t : BoardState) (es : List (ℕ × ℕ)) (u : BoardState) → IsSettled deltas ranges t → Makes deltas ranges t es u → IsSettled deltas ranges u
-makes_settled ranges t [] u s m = subst (IsSettled deltas ranges) m s
-makes_settled ranges t (e ∷ es) u s m = makes_settled ranges m.1.0 es u (exchange_settled deltas ordered ranges t m.1.0 e.0 e.1 s m.0 m.1.1) m.1.2
-
--- where no bounds cross, nonbasic variables keep theirs after the exchanges
-ran_settled : (ranges : Ranges) (t u : BoardState) (old new : List (ℕ × ℕ)) → ((y : ℕ) → is_crossed deltas ranges y ≡ false) → Ran ranges t u old new → IsSettled deltas ranges u
-ran_settled ranges t u old new n r = makes_settled ranges r.start r.made u (settles_settled deltas ordered ranges t r.start n r.settles) r.makes
 
 -- what a check says that something is wrong with is so
 pub found : (v : SimplexView) (b : BoardView) (old new : BudgetView) (o : Outcome) → (o ≡ Fine → ⊥) → Ends (ranges_in v.bounds.held) b v.board old new (Ok o) → Found v o

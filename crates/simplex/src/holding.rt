@@ -2,7 +2,7 @@
 
 ghost use Rattle.std.specs.Prelude.{◌≡◌, ◌+◌, ◌<◌, ◌≤◌, ◌++◌, length, map, Contains, IfSome, MatchResult};
 ghost use Rattle.term_core.specs.Tables.{TableView};
-ghost use Rattle.proof_log.specs.Theories.{with_held, with_mark, at_mark, gone_back};
+ghost use Rattle.proof_log.specs.Theories.{with_held, with_mark, gone_back};
 ghost use Rattle.simplex_atoms.specs.Limits.{limit_of, one_of, limits_by};
 ghost use Rattle.simplex.specs.Views.{IsOf};
 

@@ -2,7 +2,7 @@
 
 ghost use Rattle.std.specs.Prelude.{◌≡◌, ◌++◌, ◌∷◌, [], Contains, OnOk, IfOk, IfErr, MatchResult};
 ghost use Rattle.ratio128.specs.declared.wide.Wide.{Wide};
-ghost use Rattle.term_core.specs.Tables.{TableView, IsIn};
+ghost use Rattle.term_core.specs.Tables.{IsIn};
 ghost use Rattle.sat_budget.specs.Budgets.{StopsBy};
 ghost use Rattle.sat_budget.specs.declared.limits.Stop.TheVariants as stops;
 ghost use Rattle.proof_log.specs.Theories.{with_watched, IsTermIn};
