@@ -5,8 +5,6 @@
 #![tactic(auto)]
 
 pub mod laws;
-#[cfg(test)]
-mod tests;
 mod trail;
 
 pub use term_core::{Lit, TermId};

@@ -8,8 +8,6 @@ mod commands;
 mod reading;
 mod settings;
 mod shapes;
-#[cfg(test)]
-mod tests;
 
 pub use commands::{Command, Parts};
 pub use reading::command;

@@ -10,13 +10,13 @@ ghost use Rattle.solve_core.specs.Rounds.{Begins};
 
 use crate::atoms::atoms_of;
 use crate::decider::Decider;
-use crate::restarts::Restarts;
 use crate::search::Search;
 use clause_store::ClauseStore;
 use clause_store::laws::{reasons_stay_right, what_is_marked_was_seen};
 use clausify::{Stated, clauses_of_all};
 use proof_log::laws::empty_logs_are_right;
 use proof_log::{ProofLog, StepId};
+use restarts::Restarts;
 use sat_budget::{Budget, Limits};
 use sat_trail::SatTrail;
 use spec_derivations::search_laws::{search_clauses_are_over_search_terms, search_terms_are_known};

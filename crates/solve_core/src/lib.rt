@@ -17,11 +17,8 @@ mod decision;
 mod feeding;
 mod looking;
 mod outcome;
-mod restarts;
 mod search;
 mod solver;
-#[cfg(test)]
-mod tests;
 mod waiting;
 mod watching;
 

@@ -13,8 +13,6 @@ mod naming;
 mod reads;
 mod sorted;
 mod splitting;
-#[cfg(test)]
-mod tests;
 mod walk;
 
 pub use reads::{Parts, Room, define, term, terms};

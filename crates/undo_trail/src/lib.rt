@@ -5,8 +5,6 @@
 #![tactic(auto)]
 
 mod laws;
-#[cfg(test)]
-mod tests;
 mod trail;
 
 pub use laws::{later_calls_keep_the_mark, undoing_gives_back_what_was_pushed};

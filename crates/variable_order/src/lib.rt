@@ -8,8 +8,6 @@ mod order;
 mod places;
 mod score;
 mod sift;
-#[cfg(test)]
-mod tests;
 
 pub use order::VariableOrder;
 pub use term_core::TermId;

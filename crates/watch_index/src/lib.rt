@@ -6,8 +6,6 @@
 
 mod index;
 mod lists;
-#[cfg(test)]
-mod tests;
 
 pub use index::WatchIndex;
 pub use term_core::{Lit, TermId};

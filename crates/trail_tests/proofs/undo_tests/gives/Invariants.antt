@@ -1,6 +1,6 @@
 -- The marks that are counted are there.
 use Rattle.std.proofs.Common.{◌≤◌, length}
-use Rattle.undo_trail.proofs.tests.gives.Given as goal
+use Rattle.trail_tests.proofs.undo_tests.gives.Given as goal
 
 abbrev pub invariant-loop-call : goal.invariant-loop-call
 invariant-loop-call l =

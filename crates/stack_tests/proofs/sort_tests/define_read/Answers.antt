@@ -1,7 +1,7 @@
 -- A definition is read, or the table and the scope are as they were.
 use Rattle.sort_check.specs.Reads.{store}
 use Rattle.sort_check.proofs.Scoping.{still_stands}
-use Rattle.sort_check.proofs.tests.define_read.Goals as goal
+use Rattle.stack_tests.proofs.sort_tests.define_read.Goals as goal
 
 pub returns : goal.returns
 returns c =

@@ -2,10 +2,10 @@
 
 ghost use Rattle.term_reader.specs.Scopes.{HasSignature};
 
-use crate::{Parts, Room, define};
 use smt_sexpr::{
     LimitedText, Place, Refused, Sexpr, Trees, list_first, list_inside, split, word_first,
 };
+use sort_check::{Parts, Room, define};
 use std::alloc::Global;
 use std::test::Fail;
 use term_core::{TermId, TermTable};
@@ -278,7 +278,7 @@ fn begin(alloc: Global, table: &mut TermTable, scope: &mut Scope) -> bool
 }
 
 /// Defines a function `a` after `h` and `k`, by the sort and the text of its body.
-#[tactic(auto, using(crate::proofs::Scoping::nothing_stands))]
+#[tactic(auto, using(sort_check::proofs::Scoping::nothing_stands))]
 fn read_alone(
     alloc: Global,
     sort: &str,
@@ -302,7 +302,7 @@ fn body_of(scope: &Scope, name: &[u8]) -> Option<TermId> {
 }
 
 /// Defines two functions after `h` and `k`, and tells whether they stand for one term.
-#[tactic(auto, using(crate::proofs::Scoping::nothing_stands))]
+#[tactic(auto, using(sort_check::proofs::Scoping::nothing_stands))]
 fn are_one(alloc: Global, sort: &str, first: &str, second: &str) -> Option<bool> {
     let mut table = TermTable::new(alloc);
     let mut scope = Scope::new(alloc);

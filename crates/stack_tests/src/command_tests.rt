@@ -1,6 +1,6 @@
 //! Tests of commands: which command an s-expression is, or its fault with line and column; which names settings know.
 
-use crate::{Command, Logic, OptionKey, Refused, command, truth_in};
+use smt_command::{Command, Logic, OptionKey, Refused, command, truth_in};
 use smt_sexpr::{LimitedText, Sexpr, offset};
 use std::alloc::Global;
 use std::test::Fail;

@@ -1,8 +1,8 @@
 //! Tests of the trail: what is given back, in which order, and what is left.
 
-use crate::Trail;
 use std::alloc::Global;
 use std::test::Fail;
+use undo_trail::Trail;
 use world_io::NoMemory;
 
 /// Calls on an empty trail, and after `=` the answers of those that undo.

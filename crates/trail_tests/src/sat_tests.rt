@@ -1,6 +1,6 @@
 //! Tests of the trail, over one text of rows.
 
-use crate::{Lit, SatTrail, TermId};
+use sat_trail::{Lit, SatTrail, TermId};
 use std::alloc::Global;
 use std::test::Fail;
 use world_io::NoMemory;

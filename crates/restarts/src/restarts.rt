@@ -10,7 +10,7 @@ const SHORTEST_RUN: u64 = 64;
 /// The runs between restarts are 64 times as long as the numbers 1, 1, 2, 1, 1, 2, 4 and so on say. Nothing depends on it but time.
 /// Source: Luby, Sinclair and Zuckerman 1993, for the sequence; Knuth, The Art of Computer Programming, 4B, 7.2.2.2, for its steps.
 #[derive(Drop)]
-pub(crate) struct Restarts {
+pub struct Restarts {
     /// How many numbers were followed by 1, counted from 1. The next is 1 where the greatest power of two that divides this is reached.
     count: u64,
     /// The number of the sequence for this run.
@@ -21,7 +21,7 @@ pub(crate) struct Restarts {
 
 impl Restarts {
     /// Begins the first run.
-    pub(crate) fn new() -> Restarts {
+    pub fn new() -> Restarts {
         Restarts {
             count: 1,
             number: 1,
@@ -41,7 +41,7 @@ impl Restarts {
     }
 
     /// Counts a conflict, and gives the level to go back to: this one, or 0 where a run ends.
-    pub(crate) fn level_after(&mut self, level: u64) -> u64
+    pub fn level_after(&mut self, level: u64) -> u64
         ensures { result ≤ level }
     {
         self.left = self.left.saturating_sub(1);

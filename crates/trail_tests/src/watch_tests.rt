@@ -1,8 +1,8 @@
 //! Tests of the index, over one text of rows.
 
-use crate::{Lit, TermId, WatchIndex};
 use std::alloc::Global;
 use std::test::Fail;
+use watch_index::{Lit, TermId, WatchIndex};
 use world_io::NoMemory;
 
 /// What is done to an index of no lists, and after `=` some literals with the numbers of their lists.
