@@ -1,19 +1,21 @@
 -- A term's form has the term's value, where the term is well sorted and of sort Real.
-use Rattle.std.proofs.Common.{◌≡◌, ◌<◌, Bool, true, false, List, [], ◌∷◌, Option, Some, None, Ok, Err, refl, sym, ◌∙◌, ap, subst}
+use Rattle.std.proofs.Common.{◌≡◌, ◌<◌, Bool, true, false, List, [], ◌∷◌, map, Option, Some, None, Ok, Err, refl, sym, ◌∙◌, ap, subst}
+use Rattle.std.proofs.lemmas.Bool.{false≢true}
 use Rattle.spec_text.specs.Answers.{◌>>=◌}
 use Rattle.spec_text.proofs.AnswerLaws.{went}
 use Rattle.spec_numbers.specs.Fractions.{Fraction, zero_fraction, one_fraction, plus, times, opposite, minus, divide, IsReduced}
 use Rattle.spec_numbers.proofs.Field.{plus-zero, times-comm, zero-reduced, one-reduced}
 use Rattle.spec_sorts.specs.Lists.{left}
-use Rattle.spec_sorts.specs.Terms.{Symbol, Minus, Plus, Times, Divide, Literal, Term, Terms, app, nil, cons}
+use Rattle.spec_sorts.specs.Terms.{Symbol, Head, Minus, Plus, Times, Divide, Literal, Term, Terms, app, nil, cons, list_of}
 use Rattle.spec_sorts.specs.Values.{Value, number, Interpretation, Interprets, number_in}
 use Rattle.spec_sorts.specs.TermValues.{by_numbers, head_value, value_at, values_at}
+use Rattle.spec_sorts.specs.Theory.{keeps_constant}
 use Rattle.spec_arithmetic.specs.Signs.{is_zero}
 use Rattle.spec_arithmetic.specs.Forms.{Answer, Form, constant_form, variable_form, adding, subtracting, combined, scaled, shared_out, factor_of, all_added, all_multiplied, divisor_of, divisor_by, quotient_form, form_by, at_term, form, forms, variables_value, form_value}
 use Rattle.spec_arithmetic.proofs.General.{same_ok, same_some}
 use Rattle.spec_arithmetic.proofs.Zero.{plus-zero_left, times-one_left}
 use Rattle.spec_arithmetic.proofs.FormValues.{IsProper, adding_fair, subtracting_fair, combined_value, scaled_value, shared_value, opposite_value}
-use Rattle.spec_arithmetic.proofs.Reals.{IsNumber, number_at, IsReal, AreReal, arguments_real, reals_parts, real_number, plus_takes, times_takes, minus_takes, divide_takes}
+use Rattle.spec_arithmetic.proofs.Reals.{IsNumber, numbers_by, number_under, IsReal, AreReal, arguments_real, reals_parts, real_number, plus_takes, times_takes, minus_takes, divide_takes}
 
 -- A form that has a value, where terms have these numbers.
 pub record Gives (n : Term → Fraction) (v : Value) (f : Form) : Type 0 where
@@ -30,12 +32,12 @@ unfolding form_value variables_value
 variable_value n t r =
     ap (plus zero_fraction) (plus-zero (times one_fraction (n t)) (subst IsReduced (sym (times-one_left (n t) r)) r) ∙ times-one_left (n t) r) ∙ plus-zero_left (n t) r
 
-variable_gives : (i : Interpretation) (t : Term) → IsNumber (value_at i [] t) → Gives (number_at i) (value_at i [] t) (variable_form t)
-variable_gives i t h =
-    let is : number_at i t ≡ h.fraction = ap number_in h.same in
-    let r : IsReduced (number_at i t) = subst IsReduced (sym is) h.reduced in
+variable_gives : (w : Term → Value) (t : Term) → IsNumber (w t) → Gives (numbers_by w) (w t) (variable_form t)
+variable_gives w t h =
+    let is : numbers_by w t ≡ h.fraction = ap number_in h.same in
+    let r : IsReduced (numbers_by w t) = subst IsReduced (sym is) h.reduced in
     record {
-      value = h.same ∙ ap number (sym is ∙ sym (variable_value (number_at i) t r));
+      value = h.same ∙ ap number (sym is ∙ sym (variable_value (numbers_by w) t r));
       proper = record { constant = zero-reduced; variables = (record { coefficient = one-reduced; number = r }, tt) };
     }
 
@@ -146,97 +148,136 @@ at_ok t (Ok a) r e = cc
 at_ok t (Err w) r e = cc
 
 -- the value of a variable, where it is the term's
-alone : (i : Interpretation) (t : Term) (v : Value) (r : Form) → value_at i [] t ≡ v → IsNumber (value_at i [] t) → variable_form t ≡ r → Gives (number_at i) v r
-alone i t v r e h s =
-    let g = variable_gives i t h in
-    subst (Gives (number_at i) v) s (record { value = sym e ∙ g.value; proper = g.proper })
+alone : (w : Term → Value) (t : Term) (v : Value) (r : Form) → w t ≡ v → IsNumber (w t) → variable_form t ≡ r → Gives (numbers_by w) v r
+alone w t v r e h s =
+    let g = variable_gives w t h in
+    subst (Gives (numbers_by w) v) s (record { value = sym e ∙ g.value; proper = g.proper })
 
-of_product : (i : Interpretation) (t : Term) (v : Value) (r : Form) → value_at i [] t ≡ v → IsNumber (value_at i [] t) → ProductOr (number_at i) t v r → Gives (number_at i) v r
-of_product i t v r e h (product c) = c
-of_product i t v r e h (opaque_term s) = alone i t v r e h s
+of_product : (w : Term → Value) (t : Term) (v : Value) (r : Form) → w t ≡ v → IsNumber (w t) → ProductOr (numbers_by w) t v r → Gives (numbers_by w) v r
+of_product w t v r e h (product c) = c
+of_product w t v r e h (opaque_term s) = alone w t v r e h s
 
-plus_gives : (i : Interpretation) (t : Term) (vs : List Value) (fs : List Form) (r : Form) → form_by t Plus fs ≡ Ok r → value_at i [] t ≡ head_value i Plus vs → IsNumber (value_at i [] t)
-    → AreValues (number_at i) vs fs → Gives (number_at i) (head_value i Plus vs) r
-plus_gives i t [] [] r e w h k = alone i t _ r w h (same_ok _ _ e)
-plus_gives i t (v ∷ vs) [] r e w h k = absurd k
-plus_gives i t [] (f ∷ fs) r e w h k = absurd k
-plus_gives i t (v ∷ vs) (f ∷ fs) r e w h k =
-    let c = added_gives (number_at i) (number zero_fraction) vs f fs r e k.0.proper k.1 in
+plus_gives : (i : Interpretation) (w : Term → Value) (t : Term) (vs : List Value) (fs : List Form) (r : Form) → form_by t Plus fs ≡ Ok r → w t ≡ head_value i Plus vs → IsNumber (w t)
+    → AreValues (numbers_by w) vs fs → Gives (numbers_by w) (head_value i Plus vs) r
+plus_gives i w t [] [] r e o h k = alone w t _ r o h (same_ok _ _ e)
+plus_gives i w t (v ∷ vs) [] r e o h k = absurd k
+plus_gives i w t [] (f ∷ fs) r e o h k = absurd k
+plus_gives i w t (v ∷ vs) (f ∷ fs) r e o h k =
+    let c = added_gives (numbers_by w) (number zero_fraction) vs f fs r e k.0.proper k.1 in
     record { value = ap (λ u. left (number zero_fraction) (by_numbers plus) (u ∷ vs)) k.0.value ∙ c.value; proper = c.proper }
 
-times_gives : (i : Interpretation) (t : Term) (vs : List Value) (fs : List Form) (r : Form) → form_by t Times fs ≡ Ok r → value_at i [] t ≡ head_value i Times vs → IsNumber (value_at i [] t)
-    → AreValues (number_at i) vs fs → Gives (number_at i) (head_value i Times vs) r
-times_gives i t [] [] r e w h k = alone i t _ r w h (same_ok _ _ e)
-times_gives i t (v ∷ vs) [] r e w h k = absurd k
-times_gives i t [] (f ∷ fs) r e w h k = absurd k
-times_gives i t (v ∷ vs) (f ∷ fs) r e w h k =
-    let c = multiplied_gives (number_at i) (number one_fraction) t vs f fs r e k.0.proper k.1 in
-    of_product i t _ r w h (subst (λ u. ProductOr (number_at i) t (left (number one_fraction) (by_numbers times) (u ∷ vs)) r) (sym k.0.value) c)
+times_gives : (i : Interpretation) (w : Term → Value) (t : Term) (vs : List Value) (fs : List Form) (r : Form) → form_by t Times fs ≡ Ok r → w t ≡ head_value i Times vs → IsNumber (w t)
+    → AreValues (numbers_by w) vs fs → Gives (numbers_by w) (head_value i Times vs) r
+times_gives i w t [] [] r e o h k = alone w t _ r o h (same_ok _ _ e)
+times_gives i w t (v ∷ vs) [] r e o h k = absurd k
+times_gives i w t [] (f ∷ fs) r e o h k = absurd k
+times_gives i w t (v ∷ vs) (f ∷ fs) r e o h k =
+    let c = multiplied_gives (numbers_by w) (number one_fraction) t vs f fs r e k.0.proper k.1 in
+    of_product w t _ r o h (subst (λ u. ProductOr (numbers_by w) t (left (number one_fraction) (by_numbers times) (u ∷ vs)) r) (sym k.0.value) c)
 
-minus_gives : (i : Interpretation) (t : Term) (vs : List Value) (fs : List Form) (r : Form) → form_by t Minus fs ≡ Ok r → value_at i [] t ≡ head_value i Minus vs → IsNumber (value_at i [] t)
-    → AreValues (number_at i) vs fs → Gives (number_at i) (head_value i Minus vs) r
-minus_gives i t [] [] r e w h k = alone i t _ r w h (same_ok _ _ e)
-minus_gives i t (v ∷ vs) [] r e w h k = absurd k
-minus_gives i t [] (f ∷ fs) r e w h k = absurd k
-minus_gives i t (v ∷ []) (f ∷ []) r e w h k =
-    let c = opposite_value (number_at i) f k.0.proper in
-    subst (Gives (number_at i) (number (opposite (number_in v)))) (same_ok _ _ e)
-    (record { value = ap number (ap opposite (number_is (number_at i) v f k.0) ∙ sym c.value); proper = c.proper })
-minus_gives i t (v ∷ []) (f ∷ g ∷ gs) r e w h k = absurd k.1
-minus_gives i t (v ∷ u ∷ vs) (f ∷ []) r e w h k = absurd k.1
-minus_gives i t (v ∷ u ∷ vs) (f ∷ g ∷ []) r e w h k =
-    let c = combined_value (number_at i) subtracting subtracting_fair f g r e k.0.proper k.1.0.proper in
-    record { value = ap number ((λ j. minus (number_is (number_at i) v f k.0 j) (number_is (number_at i) u g k.1.0 j)) ∙ sym c.value); proper = c.proper }
-minus_gives i t (v ∷ u ∷ vs) (f ∷ g ∷ x ∷ xs) r e w h k = alone i t _ r w h (same_ok _ _ e)
+minus_gives : (i : Interpretation) (w : Term → Value) (t : Term) (vs : List Value) (fs : List Form) (r : Form) → form_by t Minus fs ≡ Ok r → w t ≡ head_value i Minus vs → IsNumber (w t)
+    → AreValues (numbers_by w) vs fs → Gives (numbers_by w) (head_value i Minus vs) r
+minus_gives i w t [] [] r e o h k = alone w t _ r o h (same_ok _ _ e)
+minus_gives i w t (v ∷ vs) [] r e o h k = absurd k
+minus_gives i w t [] (f ∷ fs) r e o h k = absurd k
+minus_gives i w t (v ∷ []) (f ∷ []) r e o h k =
+    let c = opposite_value (numbers_by w) f k.0.proper in
+    subst (Gives (numbers_by w) (number (opposite (number_in v)))) (same_ok _ _ e)
+    (record { value = ap number (ap opposite (number_is (numbers_by w) v f k.0) ∙ sym c.value); proper = c.proper })
+minus_gives i w t (v ∷ []) (f ∷ g ∷ gs) r e o h k = absurd k.1
+minus_gives i w t (v ∷ u ∷ vs) (f ∷ []) r e o h k = absurd k.1
+minus_gives i w t (v ∷ u ∷ vs) (f ∷ g ∷ []) r e o h k =
+    let c = combined_value (numbers_by w) subtracting subtracting_fair f g r e k.0.proper k.1.0.proper in
+    record { value = ap number ((λ j. minus (number_is (numbers_by w) v f k.0 j) (number_is (numbers_by w) u g k.1.0 j)) ∙ sym c.value); proper = c.proper }
+minus_gives i w t (v ∷ u ∷ vs) (f ∷ g ∷ x ∷ xs) r e o h k = alone w t _ r o h (same_ok _ _ e)
 
-divide_gives : (i : Interpretation) (t : Term) (vs : List Value) (fs : List Form) (r : Form) → form_by t Divide fs ≡ Ok r → value_at i [] t ≡ head_value i Divide vs → IsNumber (value_at i [] t)
-    → AreValues (number_at i) vs fs → Gives (number_at i) (head_value i Divide vs) r
-divide_gives i t [] [] r e w h k = alone i t _ r w h (same_ok _ _ e)
-divide_gives i t (v ∷ vs) [] r e w h k = absurd k
-divide_gives i t [] (f ∷ fs) r e w h k = absurd k
-divide_gives i t (v ∷ []) (f ∷ []) r e w h k = alone i t _ r w h (same_ok _ _ e)
-divide_gives i t (v ∷ []) (f ∷ g ∷ gs) r e w h k = absurd k.1
-divide_gives i t (v ∷ u ∷ vs) (f ∷ []) r e w h k = absurd k.1
-divide_gives i t (v ∷ u ∷ vs) (f ∷ g ∷ []) r e w h k = of_product i t _ r w h (quotient_gives (number_at i) t v u f g r e k.0 k.1.0)
-divide_gives i t (v ∷ u ∷ vs) (f ∷ g ∷ x ∷ xs) r e w h k = alone i t _ r w h (same_ok _ _ e)
+divide_gives : (i : Interpretation) (w : Term → Value) (t : Term) (vs : List Value) (fs : List Form) (r : Form) → form_by t Divide fs ≡ Ok r → w t ≡ head_value i Divide vs → IsNumber (w t)
+    → AreValues (numbers_by w) vs fs → Gives (numbers_by w) (head_value i Divide vs) r
+divide_gives i w t [] [] r e o h k = alone w t _ r o h (same_ok _ _ e)
+divide_gives i w t (v ∷ vs) [] r e o h k = absurd k
+divide_gives i w t [] (f ∷ fs) r e o h k = absurd k
+divide_gives i w t (v ∷ []) (f ∷ []) r e o h k = alone w t _ r o h (same_ok _ _ e)
+divide_gives i w t (v ∷ []) (f ∷ g ∷ gs) r e o h k = absurd k.1
+divide_gives i w t (v ∷ u ∷ vs) (f ∷ []) r e o h k = absurd k.1
+divide_gives i w t (v ∷ u ∷ vs) (f ∷ g ∷ []) r e o h k = of_product w t _ r o h (quotient_gives (numbers_by w) t v u f g r e k.0 k.1.0)
+divide_gives i w t (v ∷ u ∷ vs) (f ∷ g ∷ x ∷ xs) r e o h k = alone w t _ r o h (same_ok _ _ e)
 
-module _ (i : Interpretation) (symbols : List Symbol) (interprets : Interprets i symbols) where
+-- Values of terms that are numbers where the terms are of sort Real, and obey the heads of arithmetic.
+pub record ObeyArithmetic (i : Interpretation) (symbols : List Symbol) (w : Term → Value) : Type 0 where
+  pub numbers : (t : Term) → IsReal symbols t → IsNumber (w t)
+  pub obeys : (h : Head) (ts : Terms) → keeps_constant h ≡ true → IsReal symbols (app h ts) → w (app h ts) ≡ head_value i h (map w (list_of ts))
+
+module _ (i : Interpretation) (symbols : List Symbol) (w : Term → Value) (good : ObeyArithmetic i symbols w) where
   -- a term whose form is itself as a variable
-  itself : (t : Term) (f : Form) → variable_form t ≡ f → IsReal symbols t → Gives (number_at i) (value_at i [] t) f
-  itself t f s w = alone i t _ f refl (real_number symbols i interprets t w) s
+  itself : (t : Term) (f : Form) → variable_form t ≡ f → IsReal symbols t → Gives (numbers_by w) (w t) f
+  itself t f s r = alone w t _ f refl (good.numbers t r) s
 
   mutual
-    unfolding form forms value_at values_at
+    unfolding form forms
 
-    pub form_gives : (t : Term) (f : Form) → form t ≡ Ok f → IsReal symbols t → Gives (number_at i) (value_at i [] t) f
-    form_gives (app Plus ts) f e w =
+    -- a form has the value of its term
+    pub obeying_gives : (t : Term) (f : Form) → form t ≡ Ok f → IsReal symbols t → Gives (numbers_by w) (w t) f
+    obeying_gives (app Plus ts) f e r =
         let t = app Plus ts in
         let a = went (forms ts) (λ fs. at_term t (form_by t Plus fs)) f e in
-        plus_gives i t (values_at i [] ts) a.first f (at_ok _ _ _ a.then) refl (real_number symbols i interprets t w) (forms_give ts a.first a.was (arguments_real symbols Plus ts plus_takes w.term))
-    form_gives (app Times ts) f e w =
+        let o = good.obeys Plus ts refl r in
+        let s = obeying_give ts a.first a.was (arguments_real symbols Plus ts plus_takes r.term) in
+        subst (λ v. Gives (numbers_by w) v f) (sym o) (plus_gives i w t (map w (list_of ts)) a.first f (at_ok _ _ _ a.then) o (good.numbers t r) s)
+    obeying_gives (app Times ts) f e r =
         let t = app Times ts in
         let a = went (forms ts) (λ fs. at_term t (form_by t Times fs)) f e in
-        times_gives i t (values_at i [] ts) a.first f (at_ok _ _ _ a.then) refl (real_number symbols i interprets t w) (forms_give ts a.first a.was (arguments_real symbols Times ts times_takes w.term))
-    form_gives (app Minus ts) f e w =
+        let o = good.obeys Times ts refl r in
+        let s = obeying_give ts a.first a.was (arguments_real symbols Times ts times_takes r.term) in
+        subst (λ v. Gives (numbers_by w) v f) (sym o) (times_gives i w t (map w (list_of ts)) a.first f (at_ok _ _ _ a.then) o (good.numbers t r) s)
+    obeying_gives (app Minus ts) f e r =
         let t = app Minus ts in
         let a = went (forms ts) (λ fs. at_term t (form_by t Minus fs)) f e in
-        minus_gives i t (values_at i [] ts) a.first f (at_ok _ _ _ a.then) refl (real_number symbols i interprets t w) (forms_give ts a.first a.was (arguments_real symbols Minus ts minus_takes w.term))
-    form_gives (app Divide ts) f e w =
+        let o = good.obeys Minus ts refl r in
+        let s = obeying_give ts a.first a.was (arguments_real symbols Minus ts minus_takes r.term) in
+        subst (λ v. Gives (numbers_by w) v f) (sym o) (minus_gives i w t (map w (list_of ts)) a.first f (at_ok _ _ _ a.then) o (good.numbers t r) s)
+    obeying_gives (app Divide ts) f e r =
         let t = app Divide ts in
         let a = went (forms ts) (λ fs. at_term t (form_by t Divide fs)) f e in
-        divide_gives i t (values_at i [] ts) a.first f (at_ok _ _ _ a.then) refl (real_number symbols i interprets t w) (forms_give ts a.first a.was (arguments_real symbols Divide ts divide_takes w.term))
-    form_gives (app (Literal q) ts) f e w =
-        subst (Gives (number_at i) (number q)) (same_ok _ _ e) (literal_gives (number_at i) q (real_number symbols i interprets (app (Literal q) ts) w))
-    form_gives (app h ts) f e w = itself (app h ts) f (same_ok _ _ e) w
+        let o = good.obeys Divide ts refl r in
+        let s = obeying_give ts a.first a.was (arguments_real symbols Divide ts divide_takes r.term) in
+        subst (λ v. Gives (numbers_by w) v f) (sym o) (divide_gives i w t (map w (list_of ts)) a.first f (at_ok _ _ _ a.then) o (good.numbers t r) s)
+    obeying_gives (app (Literal q) ts) f e r =
+        let o = good.obeys (Literal q) ts refl r in
+        subst (λ v. Gives (numbers_by w) v f) (sym o)
+        (subst (Gives (numbers_by w) (number q)) (same_ok _ _ e) (literal_gives (numbers_by w) q (subst IsNumber o (good.numbers (app (Literal q) ts) r))))
+    obeying_gives (app h ts) f e r = itself (app h ts) f (same_ok _ _ e) r
 
-    forms_give : (ts : Terms) (fs : List Form) → forms ts ≡ Ok fs → AreReal symbols ts → AreValues (number_at i) (values_at i [] ts) fs
-    forms_give nil fs e w = subst (AreValues (number_at i) []) (same_ok _ _ e) tt
-    forms_give (cons t ts) fs e w =
+    obeying_give : (ts : Terms) (fs : List Form) → forms ts ≡ Ok fs → AreReal symbols ts → AreValues (numbers_by w) (map w (list_of ts)) fs
+    obeying_give nil fs e r = subst (AreValues (numbers_by w) []) (same_ok _ _ e) tt
+    obeying_give (cons t ts) fs e r =
         let a = went (form t) (λ f. forms ts >>= λ fs. Ok (f ∷ fs)) fs e in
         let b = went (forms ts) (λ fs. Ok (a.first ∷ fs)) fs a.then in
-        let parts = reals_parts symbols t ts w in
-        subst (AreValues (number_at i) (value_at i [] t ∷ values_at i [] ts)) (same_ok _ _ b.then) (form_gives t a.first a.was parts.0, forms_give ts b.first b.was parts.1)
+        let parts = reals_parts symbols t ts r in
+        subst (AreValues (numbers_by w) (w t ∷ map w (list_of ts))) (same_ok _ _ b.then) (obeying_gives t a.first a.was parts.0, obeying_give ts b.first b.was parts.1)
 
--- a form has the value of its term
-pub form_term_value : (symbols : List Symbol) (i : Interpretation) (t : Term) (f : Form) → Interprets i symbols → IsReal symbols t → form t ≡ Ok f → value_at i [] t ≡ number (form_value (number_at i) f)
+-- the values of terms are those of their list
+values_listed : (i : Interpretation) (ts : Terms) → values_at i [] ts ≡ map (value_at i []) (list_of ts)
+unfolding values_at
+values_listed i nil = refl
+values_listed i (cons t ts) = ap (λ vs. value_at i [] t ∷ vs) (values_listed i ts)
+
+module _ (i : Interpretation) (symbols : List Symbol) (interprets : Interprets i symbols) where
+  head_obeys : (h : Head) (ts : Terms) → keeps_constant h ≡ true → value_at i [] (app h ts) ≡ head_value i h (values_at i [] ts)
+  unfolding value_at
+  head_obeys Minus ts e = refl
+  head_obeys Plus ts e = refl
+  head_obeys Times ts e = refl
+  head_obeys Divide ts e = refl
+  head_obeys (Literal q) ts e = refl
+  head_obeys h ts e = absurd (false≢true e)
+
+  -- values under an interpretation obey
+  values_obey : ObeyArithmetic i symbols (value_at i [])
+  values_obey = record { numbers = real_number symbols i interprets; obeys = λ h ts e r. head_obeys h ts e ∙ ap (head_value i h) (values_listed i ts) }
+
+  pub form_gives : (t : Term) (f : Form) → form t ≡ Ok f → IsReal symbols t → Gives (number_under i) (value_at i [] t) f
+  form_gives = obeying_gives i symbols (value_at i []) values_obey
+
+-- a form has the value of its term under an interpretation
+pub form_term_value : (symbols : List Symbol) (i : Interpretation) (t : Term) (f : Form) → Interprets i symbols → IsReal symbols t → form t ≡ Ok f → value_at i [] t ≡ number (form_value (number_under i) f)
 form_term_value symbols i t f interprets w e = (form_gives i symbols interprets t f e w).value

@@ -29,7 +29,7 @@ multiplied_ok : (x y z : Fraction) → multiplied x y ≡ Ok z → times x y ≡
 unfolding multiplied
 multiplied_ok x y z e = checked_ok _ _ _ _ e
 
-divided_ok : (x y z : Fraction) → divided x y ≡ Ok z → divide x y ≡ z
+pub divided_ok : (x y z : Fraction) → divided x y ≡ Ok z → divide x y ≡ z
 unfolding divided
 divided_ok x y z e = checked_ok _ _ _ _ e
 

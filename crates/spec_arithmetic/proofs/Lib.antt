@@ -5,6 +5,8 @@ pub mod Differences
 pub mod FormValues
 pub mod Reals
 pub mod FormTerms
+pub mod FormNumbers
+pub mod Linear
 pub mod Coefficients
 pub mod Denials
 pub mod Sums

@@ -6,7 +6,7 @@ use Rattle.spec_sorts.specs.TermValues.{at_most, value_at, values_at}
 use Rattle.spec_sorts.proofs.SameTerms.{fraction_itself}
 use Rattle.spec_arithmetic.specs.ArithmeticRules.{split, order}
 use Rattle.spec_arithmetic.proofs.Differences.{at_most_both, at_most_other}
-use Rattle.spec_arithmetic.proofs.Reals.{IsNumber, number_at}
+use Rattle.spec_arithmetic.proofs.Reals.{IsNumber, number_under}
 
 -- numbers in order both ways are one value
 same_both : (v w : Value) → IsNumber v → IsNumber w → at_most (number_in v) (number_in w) ≡ true → at_most (number_in w) (number_in v) ≡ true → same_value v w ≡ true
@@ -38,4 +38,4 @@ split_true i s t hs ht =
 pub order_true : (i : Interpretation) (s t : Term) → is_true (value_at i [] (order s t)) ≡ true
 unfolding value_at values_at
 order_true i s t =
-    one_of_two (at_most (number_at i s) (number_at i t)) (at_most (number_at i t) (number_at i s)) (at_most_other (number_at i s) (number_at i t))
+    one_of_two (at_most (number_under i s) (number_under i t)) (at_most (number_under i t) (number_under i s)) (at_most_other (number_under i s) (number_under i t))

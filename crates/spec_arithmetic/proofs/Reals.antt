@@ -20,9 +20,13 @@ number_of_sort (number q) h = record { fraction = q; same = refl; reduced = h }
 number_of_sort (truth b) h = absurd h
 number_of_sort (element n k) h = absurd h
 
--- the number of a term
-abbrev pub number_at : Interpretation → Term → Fraction
-number_at i t = number_in (value_at i [] t)
+-- the numbers of terms that have these values
+abbrev pub numbers_by : (Term → Value) → Term → Fraction
+numbers_by v t = number_in (v t)
+
+-- the number of a term under an interpretation
+abbrev pub number_under : Interpretation → Term → Fraction
+number_under i t = numbers_by (value_at i []) t
 
 module _ (symbols : List Symbol) where
   -- A well-sorted term of sort Real.

@@ -19,7 +19,7 @@ use Rattle.spec_arithmetic.specs.Coefficients.{coefficients_of}
 use Rattle.spec_arithmetic.specs.ArithmeticRules.{at_most, split, order, IsArithmetic}
 use Rattle.spec_arithmetic.proofs.General.{same_ok, same_some}
 use Rattle.spec_arithmetic.proofs.FormValues.{subtracting_fair, combined_value, form_value_reduced}
-use Rattle.spec_arithmetic.proofs.Reals.{IsReal, number_at, first_argument, second_argument, real_number}
+use Rattle.spec_arithmetic.proofs.Reals.{IsReal, number_under, first_argument, second_argument, real_number}
 use Rattle.spec_arithmetic.proofs.FormTerms.{form_gives, at_ok}
 use Rattle.spec_arithmetic.proofs.Coefficients.{IsReducedCoefficient, AreReduced, coefficients_reduced}
 use Rattle.spec_arithmetic.proofs.Denials.{Stands, IsDenied, denied}
@@ -77,27 +77,27 @@ module _ (symbols : List Symbol) (i : Interpretation) (interprets : Interprets i
 
   -- the form of the difference of the sides
   part_holds : (m : Negation) (c : Fraction) (f : Form) → IsDenied symbols i m → difference m.atom m.left m.right ≡ Ok f → IsReduced c
-      → IsPart (number_at i) (record { relation = m.relation; form = f; weight = c })
+      → IsPart (number_under i) (record { relation = m.relation; form = f; weight = c })
   unfolding difference
   part_holds m c f d e r =
       let a = went (form m.left) (λ f. form m.right >>= λ g. at_term m.atom (combined subtracting f g)) f e in
       let b = went (form m.right) (λ g. at_term m.atom (combined subtracting a.first g)) f a.then in
       let left = form_gives i symbols interprets m.left a.first a.was d.left in
       let right = form_gives i symbols interprets m.right b.first b.was d.right in
-      let s = combined_value (number_at i) subtracting subtracting_fair a.first b.first f (at_ok _ _ _ b.then) left.proper right.proper in
+      let s = combined_value (number_under i) subtracting subtracting_fair a.first b.first f (at_ok _ _ _ b.then) left.proper right.proper in
       record {
-        stands = subst (Stands m.relation) (sym s.value) (d.stands _ _ left.value right.value (form_value_reduced (number_at i) b.first right.proper));
+        stands = subst (Stands m.relation) (sym s.value) (d.stands _ _ left.value right.value (form_value_reduced (number_under i) b.first right.proper));
         proper = s.proper;
         weight = r;
       }
 
-  parts_hold : (ns : List (Negation × Fraction)) (ps : List Part) → parts_of ns ≡ Ok ps → AreNumbered ns → AreParts (number_at i) ps
+  parts_hold : (ns : List (Negation × Fraction)) (ps : List Part) → parts_of ns ≡ Ok ps → AreNumbered ns → AreParts (number_under i) ps
   unfolding parts_of
-  parts_hold [] ps e h = subst (AreParts (number_at i)) (same_ok _ _ e) tt
+  parts_hold [] ps e h = subst (AreParts (number_under i)) (same_ok _ _ e) tt
   parts_hold ((m, c) ∷ rest) ps e h =
       let a = went (without_term (difference m.atom m.left m.right)) (λ f. parts_of rest >>= λ r. Ok (record { relation = m.relation; form = f; weight = c } ∷ r)) ps e in
       let b = went (parts_of rest) (λ r. Ok (record { relation = m.relation; form = a.first; weight = c } ∷ r)) ps a.then in
-      subst (AreParts (number_at i)) (same_ok _ _ b.then) (part_holds m c a.first h.0 (without_ok _ _ a.was) h.1, parts_hold rest b.first b.was h.2)
+      subst (AreParts (number_under i)) (same_ok _ _ b.then) (part_holds m c a.first h.0 (without_ok _ _ a.was) h.1, parts_hold rest b.first b.was h.2)
 
   generic_not : (clause : Clause) (cs : List Coefficient) → la_generic clause cs ≡ Ok tt → AllByRecursion (IsFormulaOver symbols) clause → AreReduced cs → list_any holds clause ≡ false → ⊥
   unfolding la_generic
@@ -108,7 +108,7 @@ module _ (symbols : List Symbol) (i : Interpretation) (interprets : Interprets i
       by (Some ps) o e =
           let a = went (as_failure (numbered ps)) (λ ns. as_failure (parts_of ns) >>= λ qs. judged_parts qs) tt e in
           let b = went (as_failure (parts_of a.first)) (λ qs. judged_parts qs) tt a.then in
-          judged_not (number_at i) b.first (parts_hold a.first b.first (as_ok _ _ b.was) (numbered_hold ps a.first (as_ok _ _ a.was) (pairs_hold clause cs ps o fs rs none))) b.then
+          judged_not (number_under i) b.first (parts_hold a.first b.first (as_ok _ _ b.was) (numbered_hold ps a.first (as_ok _ _ a.was) (pairs_hold clause cs ps o fs rs none))) b.then
 
   generic_true : (clause : Clause) (cs : List Coefficient) → la_generic clause cs ≡ Ok tt → AllByRecursion (IsFormulaOver symbols) clause → AreReduced cs → list_any holds clause ≡ true
   generic_true clause cs e fs rs = by (list_any holds clause) refl

@@ -6,10 +6,12 @@ use Rattle.spec_numbers.specs.Fractions.{Fraction, gcd, whole, zero_fraction, on
 use Rattle.spec_numbers.specs.Bounds.{is_small, fits, sum_fits, added, subtracted, multiplied, divided}
 use Rattle.spec_numbers.specs.declared.Op.TheVariants.{Add, Mul, Div}
 use Rattle.spec_sorts.specs.Terms.{Number, Declared, Equal, Minus, Plus, Times, Divide, Less, AtMost, Literal, Term, of, pair, negated, constant, constant_term, same_term, same_terms, sort_of, second_sort}
+use Rattle.spec_sorts.specs.Theory.{is_constant, are_constant, is_divisor, is_zero_divisor}
 use Rattle.spec_sorts.specs.Numerals.{literal_value}
 use Rattle.spec_sorts.specs.Written.{built, trees_in}
 use Rattle.spec_arithmetic.specs.Signs.{is_zero, is_above_zero, size}
 use Rattle.spec_arithmetic.specs.Forms.{joined, all_joined, combined, each_number, changed, all_added, all_multiplied, quotient_form, form, forms, difference}
+use Rattle.spec_arithmetic.specs.Numbers.{number_at, numbers_at, IsLinear, AreLinear}
 use Rattle.spec_arithmetic.specs.Contradictions.{Coefficient, given, too_wide, malformed, negation_of, paired, numbered, parts_of, summed, is_strict, shape, no_contradiction, wide, la_generic}
 use Rattle.spec_arithmetic.specs.Coefficients.{coefficient_of, coefficients_of}
 
@@ -114,6 +116,28 @@ no_product = refl
 pub no_quotient : form (quotient x (natural 0)) ≡ Ok (record { constant = zero_fraction; variables = (quotient x (natural 0), one_fraction) ∷ [] })
 unfolding forms_on_literals
 no_quotient = refl
+
+-- a term has its head's number, a product of variables too, though this is a variable of its form
+pub number_of_sum : number_at (λ t. whole (pos 3)) (of Plus (natural 1 ∷ product (natural 2) x ∷ quotient y (natural 6) ∷ [])) ≡ over (whole (pos 15)) 2
+unfolding forms_on_literals number_at numbers_at
+number_of_sum = refl
+
+pub number_of_product : number_at (λ t. whole (pos 3)) (minus (product x y) (of Minus (z ∷ []))) ≡ whole (pos 12)
+unfolding forms_on_literals number_at numbers_at
+number_of_product = refl
+
+-- a product of a constant and a sum is linear, and one of two variables, or a quotient by 0, is not
+pub linear_product : IsLinear (product (sum (natural 1) (natural 2)) (sum x (quotient y (natural 6))))
+unfolding IsLinear AreLinear is_constant are_constant is_divisor is_zero_divisor
+linear_product = (refl, ((tt, ((tt, tt), ((tt, tt), tt))), ((tt, ((tt, tt), ((refl, ((tt, tt), ((tt, tt), tt))), tt))), tt)))
+
+pub no_linear_product : IsLinear (sum z (product x y)) → ⊥
+unfolding IsLinear AreLinear is_constant are_constant
+no_linear_product l = let e = l.1.1.0.0 in cc
+
+pub no_linear_quotient : IsLinear (quotient x (natural 0)) → ⊥
+unfolding IsLinear AreLinear is_divisor is_zero_divisor
+no_linear_quotient l = let e = l.0 in cc
 
 -- the first operation that leaves the bound, with the term whose head makes it
 pub first_overflow : form (sum (product (literal greatest) (sum x (natural 2))) (sum (literal greatest) (natural 1))) ≡ Err (record { term = product (literal greatest) (sum x (natural 2)); overflow = record { op = Mul; left = greatest; right = whole (pos 2) } })
