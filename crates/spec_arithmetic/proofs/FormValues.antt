@@ -25,7 +25,7 @@ subtracted_ok : (x y z : Fraction) → subtracted x y ≡ Ok z → minus x y ≡
 unfolding subtracted
 subtracted_ok x y z e = checked_ok _ _ _ _ e
 
-multiplied_ok : (x y z : Fraction) → multiplied x y ≡ Ok z → times x y ≡ z
+pub multiplied_ok : (x y z : Fraction) → multiplied x y ≡ Ok z → times x y ≡ z
 unfolding multiplied
 multiplied_ok x y z e = checked_ok _ _ _ _ e
 

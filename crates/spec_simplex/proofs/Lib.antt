@@ -8,3 +8,4 @@ pub mod PairSigns
 pub mod Infeasible
 pub mod Taken
 pub mod PairOrder
+pub mod Comparisons

@@ -3,14 +3,14 @@ use Rattle.std.proofs.Common.{◌≡◌, ℕ, zero, suc, ◌*◌, ◌/◌, ◌<�
 use Rattle.std.proofs.Math.Nat.{zero-div}
 use Rattle.spec_text.specs.Answers.{◌>>=◌}
 use Rattle.spec_text.proofs.AnswerLaws.{went}
-use Rattle.spec_numbers.specs.Fractions.{Fraction, plus, times, opposite, divide, inverse, IsReduced}
-use Rattle.spec_numbers.specs.Bounds.{Overflow, checked, multiplied, divided}
+use Rattle.spec_numbers.specs.Fractions.{Fraction, plus, times, opposite, inverse, IsReduced}
+use Rattle.spec_numbers.specs.Bounds.{multiplied, divided}
 use Rattle.spec_numbers.proofs.Field.{plus-reduced, times-reduced, opposite-reduced, one-reduced}
 use Rattle.spec_sorts.specs.Terms.{Plus, Times, Minus, Divide, Literal, Term, Terms, app, nil, cons, same_term}
 use Rattle.spec_arithmetic.specs.Signs.{is_zero}
 use Rattle.spec_arithmetic.specs.Forms.{Answer, Form, Way, adding, subtracting, variable_form, unless_zero, with_variable, joined, all_joined, combined, opposites, opposite_form, each_number, changed, scaled, shared_out, factor_of, all_added, all_multiplied, divisor_of, quotient_form, form_by, at_term, form, forms}
 use Rattle.spec_arithmetic.proofs.General.{same_ok, same_some}
-use Rattle.spec_arithmetic.proofs.FormValues.{IsFair, adding_fair, subtracting_fair, AreProper}
+use Rattle.spec_arithmetic.proofs.FormValues.{IsFair, multiplied_ok, divided_ok, adding_fair, subtracting_fair, AreProper}
 use Rattle.spec_arithmetic.proofs.FormTerms.{at_ok}
 
 -- all coefficients are in lowest terms
@@ -53,19 +53,6 @@ plus_positive x y h = factors_positive x.den y.den (divided_positive (x.den * y.
 pub times_positive : (x y : Fraction) → 0 < (times x y).den → (0 < x.den) × (0 < y.den)
 unfolding times
 times_positive x y h = factors_positive x.den y.den (divided_positive (x.den * y.den) _ h)
-
--- operations within the bound are exact
-checked_ok : (t : Bool) (x : Fraction) (o : Overflow) (y : Fraction) → checked t x o ≡ Ok y → x ≡ y
-checked_ok true x o y e = cc
-checked_ok false x o y e = cc
-
-multiplied_ok : (x y z : Fraction) → multiplied x y ≡ Ok z → times x y ≡ z
-unfolding multiplied
-multiplied_ok x y z e = checked_ok _ _ _ _ e
-
-divided_ok : (x y z : Fraction) → divided x y ≡ Ok z → divide x y ≡ z
-unfolding divided
-divided_ok x y z e = checked_ok _ _ _ _ e
 
 -- A fair way that keeps denominators.
 pub record IsEven (way : Way) : Type 0 where

@@ -53,7 +53,7 @@ opposite_twice x = λ i. record { num = twice x.num i; den = x.den }
     twice z = omega (arith, ints)
 
 -- x - y is minus y - x
-turned : (x y : Fraction) → plus y (opposite x) ≡ opposite (plus x (opposite y))
+pub turned : (x y : Fraction) → plus y (opposite x) ≡ opposite (plus x (opposite y))
 turned x y = plus-comm y (opposite x) ∙ ap (plus (opposite x)) (sym (opposite_twice y)) ∙ sym (opposite-plus x (opposite y))
 
 -- The forms of two terms, and their difference.

@@ -1,11 +1,12 @@
 -- Constraints, points and weights worked out, with two numbers x and y and a value u of another sort.
 use Rattle.std.specs.Prelude.{◌≡◌, refl, ℕ, nat_eq, Bool, true, false, cond, List, [], ◌∷◌, Some, None, Ok, pos, negsuc, map, ⊤}
 use Rattle.std.proofs.Common.{subst}
-use Rattle.spec_numbers.specs.Fractions.{IsReduced, whole, zero_fraction, one_fraction}
+use Rattle.spec_numbers.specs.Fractions.{IsReduced, compare, whole, zero_fraction, one_fraction}
 use Rattle.spec_numbers.proofs.Field.{zero-reduced, one-reduced}
 use Rattle.spec_sorts.specs.Terms.{And, Term, pair, negated, same_term}
 use Rattle.spec_sorts.specs.Literals.{Literal}
 use Rattle.spec_arithmetic.specs.Forms.{Form, Fault, variables_value, form_value}
+use Rattle.spec_arithmetic.specs.Numbers.{number_at, numbers_at, IsLinear}
 use Rattle.spec_arithmetic.specs.Contradictions.{la_generic}
 use Rattle.spec_arithmetic.specs.Examples as texts
 use Rattle.spec_arithmetic.specs.Examples.{forms_on_literals, clauses_on_literals, x, y, u}
@@ -16,6 +17,7 @@ use Rattle.spec_tableaux.specs.Numbers as tableaux
 use Rattle.spec_simplex.specs.Constraints.{Relation, below, at_most, equals, at_least, above, Constraint, saying, constraint_by, constraint_of, form_of}
 use Rattle.spec_simplex.specs.Points.{Point, is_below_zero, is_over, is_under, stands, base_at, tilt_at, Stands, Keeps}
 use Rattle.spec_simplex.specs.Weights.{Summand, signed_weight, weighted_sum, has_strict, denials, arguments_of}
+use Rattle.spec_simplex.specs.Numbers.{Compares, HoldsAt}
 use Rattle.spec_simplex.specs.Entries.{AreEntries}
 
 -- what a proof unfolds to compute what literals say
@@ -138,6 +140,19 @@ level_keeps c is f has = absurd (none_is c is)
   where
     none_is : (c : Constraint) → None ≡ Some c → ⊥
     none_is c e = cc
+
+-- where x has the number 5, and all others have 7, it holds that x is below y, and that 1 is at most 2 * y
+pub five_is_below_seven : HoldsAt (λ t. cond (same_term t x) (whole (pos 5)) (whole (pos 7))) (plain (texts.less x y))
+unfolding literals_that_say number_at numbers_at IsLinear compare
+five_is_below_seven c is = subst
+    (λ c. IsLinear c.left → IsLinear c.right → Compares c.relation (number_at (λ t. cond (same_term t x) (whole (pos 5)) (whole (pos 7))) c.left) (number_at (λ t. cond (same_term t x) (whole (pos 5)) (whole (pos 7))) c.right))
+    (same_some _ _ is) (λ left right. refl)
+
+pub one_is_up_to_double : HoldsAt (λ t. whole (pos 7)) (denied (texts.less (texts.product (texts.natural 2) y) (texts.natural 1)))
+unfolding literals_that_say number_at numbers_at IsLinear compare
+one_is_up_to_double c is = subst
+    (λ c. IsLinear c.left → IsLinear c.right → Compares c.relation (number_at (λ t. whole (pos 7)) c.left) (number_at (λ t. whole (pos 7)) c.right))
+    (same_some _ _ is) (λ left right. refl)
 
 -- a literal that says how x minus y stands to 0, with the weight 1
 abbrev pub summand : Literal → Relation → Summand

@@ -1,6 +1,7 @@
--- What literals of linear arithmetic say, points that keep them, sums that show that none does, and forms in a tableau.
+-- What literals of linear arithmetic say, points and numbers that keep them, sums that show that none does, and forms in a tableau.
 pub mod Constraints
 pub mod Points
 pub mod Weights
 pub mod Entries
+pub mod Numbers
 pub mod Examples

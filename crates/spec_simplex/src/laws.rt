@@ -1,17 +1,19 @@
 //! Laws of constraints, points and weights: functions with empty bodies, whose clauses are proved of the definitions.
 
 ghost use Rattle.std.specs.Prelude.{◌≡◌, ◌↔◌, ◌<◌, ℕ, true, List, Ok, All, map};
-ghost use Rattle.spec_numbers.specs.Fractions.{Fraction};
-ghost use Rattle.spec_sorts.specs.Terms.{Term};
+ghost use Rattle.spec_numbers.specs.Fractions.{Fraction, IsReduced, zero_fraction};
+ghost use Rattle.spec_sorts.specs.Terms.{Symbol, Term};
 ghost use Rattle.spec_sorts.specs.Literals.{Literal};
-ghost use Rattle.spec_arithmetic.specs.Forms.{variables_value};
+ghost use Rattle.spec_arithmetic.specs.Forms.{Form, variables_value, form_value};
+ghost use Rattle.spec_arithmetic.specs.Numbers.{number_at, IsLinearOver};
 ghost use Rattle.spec_arithmetic.specs.Contradictions.{la_generic};
 ghost use Rattle.spec_tableaux.specs.Spaces.{Pair, as_space, pairs};
 ghost use Rattle.spec_tableaux.specs.Rows.{Entry, sum_of};
 ghost use Rattle.spec_tableaux.specs.Numbers.{Number, numbers};
-ghost use Rattle.spec_simplex.specs.Constraints.{below, equals, above};
+ghost use Rattle.spec_simplex.specs.Constraints.{Constraint, below, equals, above, form_of};
 ghost use Rattle.spec_simplex.specs.Points.{Point, bases, tilts, stands, IsFeasible, IsInfeasible};
 ghost use Rattle.spec_simplex.specs.Weights.{Summand, IsSummand, CannotHold, literals_in, denials, arguments_of, IsTakenOrWide};
+ghost use Rattle.spec_simplex.specs.Numbers.{Compares};
 ghost use Rattle.spec_simplex.specs.Entries.{AreEntries, AreValues};
 
 /// States that weights under which literals cannot all hold make a clause that the rule `la_generic` takes, unless one
@@ -61,4 +63,13 @@ pub fn forms_are_sums_of_entries()
     ensures tilts { (at : ℕ → Term) (p : Point) (v : ℕ → Pair Number) (es : List (Entry Number))
         → (xs : List (Term × Fraction)) → AreEntries at es xs → AreValues at p v es
         → variables_value (tilts p) xs ≡ (sum_of (pairs numbers) v es).tilt.fraction }
+{}
+
+/// States that the sides of a constraint have numbers that stand to each other as it says exactly where its form has a
+/// value that stands so to 0.
+pub fn forms_compare_numbers()
+    ensures { (symbols : List Symbol) (n : Term → Fraction) (c : Constraint) (f : Form) → ((t : Term) → IsReduced (n t))
+        → IsLinearOver symbols c.left → IsLinearOver symbols c.right → form_of c ≡ Ok f
+        → Compares c.relation (number_at n c.left) (number_at n c.right)
+        ↔ (stands c.relation (form_value n f) zero_fraction ≡ true) }
 {}
