@@ -5,7 +5,7 @@ use Rattle.std.proofs.lemmas.Bool.{and_parts, cases_lt}
 use Rattle.std.proofs.lemmas.List.{append-nil, get_or_past}
 use Rattle.std.proofs.lemmas.List.Elements.{All-contains, All-from_recursion, Contains-get_or, Contains-append_left, Contains-append_right, Contains-append_cases, Contains-push_cases}
 use Rattle.spec_text.proofs.Members.{first, later, none, only, to_image}
-use Rattle.spec_sorts.specs.Terms.{True, Not, Ite, Term, app, nil, cons, of}
+use Rattle.spec_sorts.specs.Terms.{True, Not, Ite, Equal, Term, app, nil, cons, of, pair}
 use Rattle.spec_sorts.specs.Subterms.{subterms_of}
 use Rattle.spec_sorts.specs.Literals.{Clause, Literal, literal_of, literals_of}
 use Rattle.spec_commands.specs.Stack.{Assertion, terms_asserted, head_in_reach, is_in_reach, all_in_reach}
@@ -15,9 +15,9 @@ use Rattle.spec_derivations.specs.Base.{search_terms, search_clauses}
 use Rattle.spec_derivations.specs.Lemmas.{IsMadeOf, given, is_true, is_false, is_equality, is_negation, IsLemma}
 use Rattle.spec_derivations.specs.Examples.{asserting}
 use Rattle.spec_derivations.specs.Models.{AreInReach}
-use Rattle.spec_derivations.specs.Spent.{IsAtomOf, subterm, with_first, with_second, IsOverAtoms}
+use Rattle.spec_derivations.specs.Spent.{IsAtomOf, subterm, with_first, with_second, forth, back, IsOverAtoms}
 use Rattle.spec_derivations.proofs.Below.{subterms_have}
-use Rattle.spec_valuations.proofs.Reach.{reached_head, argument_reached, pair_reached, spoken_reached}
+use Rattle.spec_valuations.proofs.Reach.{reached_head, reached_sort, argument_reached, pair_reached, spoken_reached}
 use Rattle.spec_proof_texts.specs.Plans.{IsPrinted, in_clause, as_argument}
 use Rattle.spec_proof_texts.specs.Printable.{head_of}
 use Rattle.solve_core.specs.Rounds.{AreSteps, nothing, lemmas, learning, HasSteps}
@@ -78,7 +78,7 @@ module _ (ts : List Term) (reach : AreInReach ts) where
   known_reached : (t : Term) → Contains (known_subterms (asserting ts)) t → IsReached t
   known_reached t i = subterms_have IsReached argument_reached ts reach t (subst (λ us. Contains (subterms_of us) t) (append-nil (ts ++ []) ∙ append-nil ts) i)
 
-  -- what the literals of learned clauses are over is reached
+  -- what the literals of learned clauses are over is reached: no equality of numbers is, so there are no orders
   atom_reached : (t : Term) → IsAtomOf (asserting ts) t → IsReached t
   atom_reached _ (subterm t there sort no_true no_false) = known_reached t there
   atom_reached _ (with_first c s t there other) =
@@ -87,6 +87,8 @@ module _ (ts : List Term) (reach : AreInReach ts) where
   atom_reached _ (with_second c s t there other) =
       let choice = known_reached (of Ite (c ∷ s ∷ t ∷ [])) there in
       pair_reached (of Ite (c ∷ s ∷ t ∷ [])) t choice (argument_reached (of Ite (c ∷ s ∷ t ∷ [])) choice t (later c (s ∷ t ∷ []) t (later s (t ∷ []) t (first t []))))
+  atom_reached _ (forth s t h number) = absurd (reached_sort s (argument_reached (pair Equal s t) (atom_reached (pair Equal s t) h) s (first s (t ∷ []))) number)
+  atom_reached _ (back s t h number) = absurd (reached_sort s (argument_reached (pair Equal s t) (atom_reached (pair Equal s t) h) s (first s (t ∷ []))) number)
 
   -- each literal of these clauses is over a term that is reached
   abbrev AreReached : List (List Literal) → Type 0

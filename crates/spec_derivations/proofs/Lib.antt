@@ -16,4 +16,6 @@ pub mod Holding
 pub mod Over
 pub mod Asked
 pub mod Propagated
+pub mod Defining
 pub mod SearchTerms
+pub mod OrderedTerms

@@ -3,9 +3,8 @@ use Rattle.std.proofs.Common.{◌≡◌, ◌≢◌, Bool, true, false, cond, Lis
 use Rattle.std.specs.Prelude.{flat_map}
 use Rattle.std.specs.List.{AllByRecursion}
 use Rattle.std.proofs.lemmas.Bool.{false≢true}
-use Rattle.std.proofs.lemmas.List.{append-nil}
 use Rattle.std.proofs.lemmas.List.Elements.{All-contains, All-contains_itself, All-from_recursion, All-weaker, Contains-append_left, Contains-append_right, Contains-append_cases}
-use Rattle.spec_text.proofs.Members.{first, later, cases, none, only, to_image, from_image, in_flat, from_flat}
+use Rattle.spec_text.proofs.Members.{first, later, cases, none, only, in_flat, from_flat}
 use Rattle.spec_sorts.specs.Terms.{Sort, Truth, Symbol, True, False, Not, Ite, Equal, Term, app, nil, cons, of, pair, negated, same_sort, sort_of, second_sort, same_term, same_terms, head_takes}
 use Rattle.spec_sorts.specs.WellSorted.{IsWellSorted, IsFormulaOver}
 use Rattle.spec_sorts.specs.Subterms.{with_subterms, with_all_subterms, subterms_of}
@@ -18,6 +17,7 @@ use Rattle.spec_derivations.specs.Base.{clauses_of, base_clauses, truth_facts, b
 use Rattle.spec_derivations.specs.Spent.{IsAtomOf, subterm, with_first, with_second}
 use Rattle.spec_derivations.proofs.Below.{subterms_have, argument_sorted, head_fits}
 use Rattle.spec_derivations.proofs.Over.{base_over}
+use Rattle.spec_derivations.proofs.Defining.{defining_over}
 
 -- The equality of a choice of another sort than Bool with one of its branches.
 pub record IsBranchOf (w u : Term) : Type 0 where
@@ -72,7 +72,7 @@ fact_branches w u i = facts_have (λ w. Contains (branch_equalities w) u → ⊥
 abbrev IsBare : Term → Type 0
 IsBare t = literal_of t ≡ record { atom = t; positive = true } → t ≢ of True [] → t ≢ of False [] → (Contains truth_facts t → ⊥) → ⊥
 
-no_negation : (t u : Term) → literal_of t ≡ record { atom = u; positive = false } → literal_of t ≡ record { atom = t; positive = true } → ⊥
+pub no_negation : (t u : Term) → literal_of t ≡ record { atom = u; positive = false } → literal_of t ≡ record { atom = t; positive = true } → ⊥
 no_negation t u e f = false≢true (ap (λ (l : Literal). l.positive) (sym e ∙ f))
 
 -- so is each term of the facts
@@ -257,67 +257,14 @@ module _ (symbols : List Symbol) where
       go u (of_facts _ k) = facts_sorted u k
       go u (of_branch w _ k b) = branch_sorted w u (subterm_sorted w k) b
 
--- a clause of rules without premises that a term of a search gives, and one that is a term alone, are base clauses where a check asserts all terms of the search
 module _ (p : Problem) where
-  abbrev wide : Problem
-  wide = record { asserted = search_terms p; assumed = []; earlier = [] }
-
-  same : terms_of_problem wide ≡ search_terms p
-  same = append-nil (search_terms p)
-
-  wide_among : AreAmong (subterms_in wide) (search_terms p)
-  wide_among = (least_of (terms_of_problem wide)).least (search_terms p) (λ t i. subst (λ ts. Contains ts t) same i) (least_of (spoken_terms p)).closed
-
-  among_wide : AreAmong (search_terms p) (subterms_in wide)
-  among_wide t i = (least_of (terms_of_problem wide)).there t (subst (λ ts. Contains ts t) (sym same) i)
-
-  -- its literals are over terms of the search
-  wide_over : (c : Clause) (l : Literal) → Contains (base_clauses wide) c → Contains (literals_of c) l → Contains (search_terms p) l.atom
-  wide_over c l i j = wide_among l.atom (base_over (λ ts. (least_of ts).there) (λ ts. (least_of ts).closed) wide c l i j)
-
-  -- the atom of a term of the search is one too
-  atom_spoken : (t : Term) → Contains (search_terms p) t → Contains (search_terms p) (literal_of t).atom
-  atom_spoken t i = wide_over (t ∷ []) (literal_of t) (Contains-append_left (map (λ u. u ∷ []) (search_terms p)) _ (t ∷ []) (to_image (λ u. u ∷ []) (search_terms p) t i)) (first (literal_of t) [])
-
-  -- so are those of the clauses of a choice
-  choice_over : (w : Term) (c : Clause) (u : Term) → Contains (search_terms p) w → Contains (choice_clauses w) c → Contains c u → Contains (search_terms p) (literal_of u).atom
-  unfolding literal_of
-  choice_over (app Ite (cons c (cons s (cons t nil)))) d u w_in i j = go (same_sort Truth (sort_of s)) refl i
-    where
-      w : Term
-      w = of Ite (c ∷ s ∷ t ∷ [])
-
-      condition : Contains (search_terms p) (literal_of c).atom
-      condition = atom_spoken c ((least_of (spoken_terms p)).closed w w_in c (first c (s ∷ t ∷ [])))
-
-      branch : same_sort Truth (sort_of s) ≡ false → (v : Term) → Contains (pair Equal w s ∷ pair Equal w t ∷ []) v → Contains (search_terms p) v
-      branch e v k = equalities_spoken p w v w_in (subst (λ b. Contains (cond b [] (pair Equal w s ∷ pair Equal w t ∷ [])) v) (sym e) k)
-
-      both : (x v : Term) → Contains (search_terms p) (literal_of x).atom → Contains (search_terms p) (literal_of v).atom → Contains (x ∷ v ∷ []) u → Contains (search_terms p) (literal_of u).atom
-      both x v a b k = elim (cases x (v ∷ []) u k) [
-        | inl e ↦ subst (λ y. Contains (search_terms p) (literal_of y).atom) e a
-        | inr rest ↦ subst (λ y. Contains (search_terms p) (literal_of y).atom) (only v u rest) b
-      ]
-
-      go : (b : Bool) → same_sort Truth (sort_of s) ≡ b → Contains (cond b [] ((negated c ∷ pair Equal w s ∷ []) ∷ (c ∷ pair Equal w t ∷ []) ∷ [])) d → Contains (search_terms p) (literal_of u).atom
-      go true e h = absurd (none d h)
-      go false e h = elim (cases (negated c ∷ pair Equal w s ∷ []) ((c ∷ pair Equal w t ∷ []) ∷ []) d h) [
-        | inl f ↦ both (negated c) (pair Equal w s) condition (branch e (pair Equal w s) (first (pair Equal w s) (pair Equal w t ∷ []))) (subst (λ x. Contains x u) (sym f) j)
-        | inr k ↦ both c (pair Equal w t) condition (branch e (pair Equal w t) (later (pair Equal w s) (pair Equal w t ∷ []) (pair Equal w t) (first (pair Equal w t) [])))
-            (subst (λ x. Contains x u) (sym (only (c ∷ pair Equal w t ∷ []) d k)) j)
-      ]
-  choice_over _ d u w_in i j = absurd (none d i)
-
   -- each literal of a clause with which a search begins is over a term of which it speaks
   pub search_over : (c : Clause) (l : Literal) → Contains (search_clauses p) c → Contains (literals_of c) l → Contains (search_terms p) l.atom
   search_over c l i j = elim (Contains-append_cases (map (λ t. t ∷ []) p.asserted) (flat_map defining_clauses (search_terms p)) c i) [
     | inl root ↦ subterms_spoken p l.atom (base_over (λ ts. (least_of ts).there) (λ ts. (least_of ts).closed) p c l (Contains-append_left (map (λ t. t ∷ []) p.asserted) (flat_map clauses_of (subterms_in p)) c root) j)
     | inr sub ↦
         let t = from_flat defining_clauses (search_terms p) c sub in
-        elim (Contains-append_cases (clauses_of t.0) (choice_clauses t.0) c t.2) [
-          | inl k ↦ wide_over c l (Contains-append_right (map (λ u. u ∷ []) (search_terms p)) (flat_map clauses_of (subterms_in wide)) c (in_flat clauses_of (subterms_in wide) t.0 c (among_wide t.0 t.1) k)) j
-          | inr k ↦ let u = from_image literal_of c l j in subst (λ (x : Literal). Contains (search_terms p) x.atom) u.2 (choice_over t.0 c u.0 t.1 k u.1)
-        ]
+        defining_over (search_terms p) (least_of (spoken_terms p)).closed (equalities_spoken p) t.0 t.1 c l t.2 j
   ]
 
   -- the base clauses are among them

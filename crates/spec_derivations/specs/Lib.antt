@@ -3,6 +3,7 @@ pub mod Quiet
 pub mod Problems
 pub mod Derivations
 pub mod Base
+pub mod Orders
 pub mod Lemmas
 pub mod Learned
 pub mod Spent

@@ -1,6 +1,6 @@
 -- When a budget of conflicts is spent: as many clauses were learned as it allows, and each of them was worth it.
 use Rattle.std.specs.Prelude.{◌≡◌, ◌≢◌, ◌++◌, ℕ, List, [], ◌∷◌, length, map, All, Contains}
-use Rattle.spec_sorts.specs.Terms.{True, False, Ite, Equal, Truth, Term, of, pair, sort_of}
+use Rattle.spec_sorts.specs.Terms.{True, False, Ite, Equal, AtMost, Truth, Number, Term, of, pair, sort_of}
 use Rattle.spec_sorts.specs.Literals.{Literal, literals_of}
 use Rattle.spec_derivations.specs.Problems.{Problem, terms_of_problem, known_subterms}
 use Rattle.spec_derivations.specs.Derivations.{Derivation, conclusion_at, IsDerivation, IsDerivedFrom}
@@ -24,6 +24,10 @@ pub data IsAtomOf (p : Problem) : Term → Type 0 where
   with_first : (c s t : Term) → Contains (known_subterms p) (of Ite (c ∷ s ∷ t ∷ [])) → sort_of s ≢ Truth → IsAtomOf p (pair Equal (of Ite (c ∷ s ∷ t ∷ [])) s)
   -- or with the second
   with_second : (c s t : Term) → Contains (known_subterms p) (of Ite (c ∷ s ∷ t ∷ [])) → sort_of s ≢ Truth → IsAtomOf p (pair Equal (of Ite (c ∷ s ∷ t ∷ [])) t)
+  -- an order of the sides of an equality of numbers that is one
+  forth : (s t : Term) → IsAtomOf p (pair Equal s t) → sort_of s ≡ Number → IsAtomOf p (pair AtMost s t)
+  -- or the order the other way
+  back : (s t : Term) → IsAtomOf p (pair Equal s t) → sort_of s ≡ Number → IsAtomOf p (pair AtMost t s)
 
 -- each literal of the clause is over such a term
 abbrev pub IsOverAtoms : Problem → List Literal → Type 0

@@ -3,10 +3,11 @@
 //! y a declared one.
 
 ghost use Rattle.std.specs.Prelude.{◌≡◌, [], ◌∷◌};
-ghost use Rattle.spec_sorts.specs.Terms.{True, Equal, of, negated};
-ghost use Rattle.spec_rules.specs.Examples.{p, q, r, a, below};
+ghost use Rattle.spec_sorts.specs.Terms.{True, Or, Equal, AtMost, of, pair, negated};
+ghost use Rattle.spec_rules.specs.Examples.{p, q, r, a, b, below};
 ghost use Rattle.spec_derivations.specs.Problems.{Problem};
 ghost use Rattle.spec_derivations.specs.Base.{base_clauses};
+ghost use Rattle.spec_derivations.specs.Orders.{order_clauses};
 ghost use Rattle.spec_derivations.specs.Spent.{IsAtomOf};
 ghost use Rattle.spec_derivations.specs.Examples.{asserting, p_or_not_q, p_then_q_else_r, not_not_not_p, same};
 ghost use Rattle.spec_derivations.specs.Examples.{below_or_same, chosen, equals_chosen, of_disjunction};
@@ -59,11 +60,24 @@ pub fn base_clauses_of_other_sorts_are_stated()
         ∷ (p_or_not_q ∷ negated (negated q) ∷ []) ∷ [] }
 {}
 
-/// States what the clauses that a check learns may speak of: a constant of an earlier check, and the equality of a
-/// choice between numbers with its first branch. They speak of no truth value, and of no number as such.
+/// States the order clauses of an equality of numbers: one of three holds, and where the sides are equal each is at most
+/// the other. An equality of another sort has none, and an order has none.
+pub fn order_clauses_are_stated()
+    ensures numbers { order_clauses (pair Equal a b)
+        ≡ (of Or (pair Equal a b ∷ negated (pair AtMost a b) ∷ negated (pair AtMost b a) ∷ []) ∷ [])
+        ∷ (negated (pair Equal a b) ∷ pair AtMost a b ∷ [])
+        ∷ (negated (pair Equal a b) ∷ pair AtMost b a ∷ []) ∷ [] }
+    ensures others { order_clauses same ≡ [] }
+    ensures orders { order_clauses (pair AtMost a b) ≡ [] }
+{}
+
+/// States what the clauses that a check learns may speak of: a constant of an earlier check, the equality of a choice
+/// between numbers with its first branch, and the orders of both. They speak of no truth value, and of no number as
+/// such.
 pub fn atoms_are_found()
     ensures earlier { IsAtomOf (record { asserted = []; assumed = []; earlier = p_or_not_q ∷ [] }) p }
     ensures choice { IsAtomOf (asserting (equals_chosen ∷ [])) (of Equal (chosen ∷ a ∷ [])) }
+    ensures order { IsAtomOf (asserting (equals_chosen ∷ [])) (of AtMost (a ∷ chosen ∷ [])) }
     ensures no_truth_value { (k : Problem) → IsAtomOf k (of True []) → ⊥ }
     ensures no_number { (k : Problem) → IsAtomOf k a → ⊥ }
 {}

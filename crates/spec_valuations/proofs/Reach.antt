@@ -40,7 +40,7 @@ mutual
   unfolding sort_of second_sort are_in_reach
 
   -- a term in reach is no number
-  reached_sort : (t : Term) → is_in_reach t ≡ true → sort_of t ≢ Number
+  pub reached_sort : (t : Term) → is_in_reach t ≡ true → sort_of t ≢ Number
   reached_sort (app Ite ts) r e = second_reached ts (reached_arguments Ite ts r) e
   reached_sort (app (Apply f) ts) r e = gives_none f (reached_head (Apply f) ts r) e
   reached_sort (app True ts) r e = truth_differs e

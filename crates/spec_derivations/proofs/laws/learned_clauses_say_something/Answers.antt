@@ -8,7 +8,7 @@ use Rattle.spec_derivations.specs.Problems.{Problem}
 use Rattle.spec_derivations.specs.Base.{base_clauses}
 use Rattle.spec_derivations.specs.Derivations.{Derivation}
 use Rattle.spec_derivations.specs.Learned.{IsNew, AreNew}
-use Rattle.spec_derivations.specs.Spent.{IsAtomOf, subterm, with_first, with_second, IsOverAtoms, AreLearned}
+use Rattle.spec_derivations.specs.Spent.{IsAtomOf, subterm, with_first, with_second, forth, back, IsOverAtoms, AreLearned}
 use Rattle.spec_derivations.proofs.Saying.{no_tautology, not_empty, new_over, new_after}
 use Rattle.spec_derivations.proofs.Learned.{contains_none}
 use Rattle.spec_derivations.proofs.laws.learned_clauses_say_something.Goals as goal
@@ -29,6 +29,8 @@ no_truth : (p : Problem) (t : Term) → IsAtomOf p t → (t ≢ of True []) × (
 no_truth p _ (subterm t there sort not_true not_false) = (not_true, not_false)
 no_truth p _ (with_first c s t there other) = (λ e. cc, λ e. cc)
 no_truth p _ (with_second c s t there other) = (λ e. cc, λ e. cc)
+no_truth p _ (forth s t h number) = (λ e. cc, λ e. cc)
+no_truth p _ (back s t h number) = (λ e. cc, λ e. cc)
 
 pub returns-clause-no_truth_value : goal.returns-clause-no_truth_value
 returns-clause-no_truth_value c p d learned h clause l there l_in =
