@@ -53,6 +53,9 @@ one_bit true b f g = sym (f refl)
 one_bit false true f g = g refl
 one_bit false false f g = refl
 
+some_are : (t : Term) (ts : List Term) → t ∷ ts ≢ []
+some_are t ts e = cc
+
 declared_differs : (n : List ℕ) → Declared n ≡ Truth → ⊥
 declared_differs n e = cc
 
@@ -110,14 +113,19 @@ module _ (truths : Term → Bool) (point : Term → Fraction) (class : Term → 
 
   functional : IsFunctional v terms
   unfolding sort_of
-  functional s ts us c d e =
-      let sorts_ts = one_sorts s.parameters (sorts_of ts) (listed.takes (Apply s) ts c) in
-      let sorts_us = one_sorts s.parameters (sorts_of us) (listed.takes (Apply s) us d) in
-      one_worth (app (Apply s) ts) (app (Apply s) us)
-      (record { there = c; is_shared = λ f. joint.shares.values s ts c f })
-      (record { there = d; is_shared = λ f. joint.shares.values s us d f })
+  functional s nil nil c d e = refl
+  functional s nil (cons u us) c d e = absurd (omega (arith, ap length e))
+  functional s (cons t ts) nil c d e = absurd (omega (arith, ap length e))
+  functional s (cons t ts) (cons u us) c d e =
+      let left = cons t ts in
+      let right = cons u us in
+      let sorts_left = one_sorts s.parameters (sorts_of left) (listed.takes (Apply s) left c) in
+      let sorts_right = one_sorts s.parameters (sorts_of right) (listed.takes (Apply s) right d) in
+      one_worth (app (Apply s) left) (app (Apply s) right)
+      (record { there = c; is_shared = λ f. joint.shares.values s left c (some_are t (list_of ts)) f })
+      (record { there = d; is_shared = λ f. joint.shares.values s right d (some_are u (list_of us)) f })
       refl
-      (joint.classes.congruent s ts us c d (same_classes ts us (used s ts c) (used s us d) (sym sorts_ts ∙ sorts_us) e))
+      (joint.classes.congruent s left right c d (same_classes left right (used s left c) (used s right d) (sym sorts_left ∙ sorts_right) e))
 
   -- an equality has the value of its head at its sides' values
   equal_obeys : (s t : Term) → Contains terms (of Equal (s ∷ t ∷ [])) → (so : Sort) → so ≢ Truth → sort_of s ≡ so → sort_of t ≡ so → truths (of Equal (s ∷ t ∷ [])) ≡ same_value (v s) (v t)

@@ -8,5 +8,8 @@ pub mod Closures
 pub mod Formulas
 pub mod Speaking
 pub mod Reach
+pub mod Linear
 pub mod Rested
+pub mod Numberless
+pub mod Numbered
 pub mod Named

@@ -40,11 +40,11 @@ pub record Agrees (point : Term → Fraction) (class : Term → ℕ) (shared : L
   -- two of them
   pub same : (s t : Term) → Contains shared s → Contains shared t → (point s ≡ point t) ↔ (class s ≡ class t)
 
--- shared are the arguments and the values of declared symbols, those of sort Real
+-- shared are the arguments and the values of declared symbols with parameters, those of sort Real; on constants nothing has to agree
 pub record AreShared (terms shared : List Term) : Type 0 where
   -- applications of sort Real
-  pub values : (s : Symbol) (ts : Terms) → Contains terms (app (Apply s) ts) → sort_of (app (Apply s) ts) ≡ Number
-      → Contains shared (app (Apply s) ts)
+  pub values : (s : Symbol) (ts : Terms) → Contains terms (app (Apply s) ts) → list_of ts ≢ []
+      → sort_of (app (Apply s) ts) ≡ Number → Contains shared (app (Apply s) ts)
   -- arguments of sort Real
   pub arguments : (s : Symbol) (ts : Terms) (u : Term) → Contains terms (app (Apply s) ts) → Contains (list_of ts) u
       → sort_of u ≡ Number → Contains shared u

@@ -1,14 +1,20 @@
--- Where a search over equality and functions rests. Source: Nelson and Oppen 1979; Tseitin 1968.
-use Rattle.std.specs.Prelude.{◌≡◌, ◌≢◌, ◌↔◌, ℕ, true, List, All, Contains}
+-- Where a search over equality and functions rests, and one over linear arithmetic beside these. Source: Nelson and Oppen 1979; Tseitin 1968.
+use Rattle.std.specs.Prelude.{◌≡◌, ◌≢◌, ◌↔◌, ℕ, true, List, [], All, Contains}
 use Rattle.std.specs.List.{list_any}
-use Rattle.spec_sorts.specs.Terms.{Truth, Number, Symbol, Term, sort_of}
+use Rattle.spec_numbers.specs.Fractions.{Fraction, IsReduced}
+use Rattle.spec_sorts.specs.Terms.{Truth, Number, Symbol, Apply, Term, Terms, app, list_of, sort_of}
 use Rattle.spec_sorts.specs.WellSorted.{IsFormulaOver}
 use Rattle.spec_sorts.specs.Subsets.{AreAmong}
 use Rattle.spec_sorts.specs.Literals.{Clause, Literal, literal_of}
 use Rattle.spec_congruence.specs.Congruence.{signed, IsCongruent, IsFine}
+use Rattle.spec_arithmetic.specs.Numbers.{number_at, IsLinear}
+use Rattle.spec_simplex.specs.Numbers.{HoldsAt}
 use Rattle.spec_rules.specs.Truths.{Truths, term_true_by}
 use Rattle.spec_derivations.specs.Problems.{Problem, terms_of_problem}
 use Rattle.spec_derivations.specs.Base.{search_terms, search_clauses}
+use Rattle.spec_derivations.specs.Orders.{whole_terms, whole_clauses}
+use Rattle.spec_valuations.specs.Tables.{Valuation}
+use Rattle.spec_valuations.specs.Classes.{value_by}
 
 -- What a search over equality and functions has where it rests.
 pub record Rests (symbols : List Symbol) (p : Problem) (terms : List Term) (held : List Literal) (v : Truths) (class : Term → ℕ) : Type 0 where
@@ -28,3 +34,42 @@ pub record Rests (symbols : List Symbol) (p : Problem) (terms : List Term) (held
   pub fine : IsFine terms held
   -- classes tell which listed terms it makes equal
   pub classes : (t u : Term) → Contains terms t → Contains terms u → (class t ≡ class u) ↔ IsCongruent terms held t u
+
+-- What a search and its theories give each term: a truth, the number of its class, and a number.
+pub record TheoryValues : Type 0 where
+  -- the truths of terms of sort Bool
+  pub truths : Truths
+  -- the classes of terms
+  pub class : Term → ℕ
+  -- the numbers of terms of sort Real whose heads are none of arithmetic
+  pub number : Term → Fraction
+
+-- the values that these give, where terms with heads of arithmetic have the numbers of their heads
+abbrev pub values_of : TheoryValues → Valuation
+values_of a = value_by (term_true_by a.truths) (number_at a.number) a.class
+
+-- What a search over equality, functions and linear arithmetic has where it rests, if no function with parameters takes or gives numbers.
+pub record RestsOnNumbers (symbols : List Symbol) (p : Problem) (terms : List Term) (held : List Literal) (a : TheoryValues) : Type 0 where
+  -- the terms of the check are formulas over the symbols
+  pub formulas : All (IsFormulaOver symbols) (terms_of_problem p)
+  -- all terms that the search speaks of are listed
+  pub listed : AreAmong (whole_terms p) terms
+  -- and no others
+  pub only : AreAmong terms (whole_terms p)
+  -- no function with parameters gives a number or takes one
+  pub apart : (s : Symbol) (ts : Terms) → Contains terms (app (Apply s) ts) → list_of ts ≢ []
+      → (s.result ≢ Number) × ((u : Term) → Contains (list_of ts) u → sort_of u ≢ Number)
+  -- products and quotients are linear
+  pub linear : (t : Term) → Contains terms t → IsLinear t
+  -- one term of each clause is true
+  pub met : (c : Clause) → Contains (whole_clauses p) c → list_any (term_true_by a.truths) c ≡ true
+  -- each term of sort Bool that is no negation is held with its truth
+  pub truths : (t : Term) → Contains terms t → sort_of t ≡ Truth → literal_of t ≡ signed t true → Contains held (signed t (a.truths t))
+  -- what is held joins neither the truth values nor sides that are held apart
+  pub fine : IsFine terms held
+  -- classes tell which listed terms it makes equal
+  pub classes : (t u : Term) → Contains terms t → Contains terms u → (a.class t ≡ a.class u) ↔ IsCongruent terms held t u
+  -- each number is in lowest terms
+  pub reduced : (t : Term) → IsReduced (a.number t)
+  -- what is held is so of the numbers
+  pub kept : All (HoldsAt a.number) held

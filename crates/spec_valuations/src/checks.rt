@@ -10,9 +10,9 @@ ghost use Rattle.spec_commands.specs.Stack.{signature_of};
 ghost use Rattle.spec_commands.specs.Checks.{Check, IsCurrent, MakesTrue};
 ghost use Rattle.spec_rules.specs.Truths.{Truths, term_true_by};
 ghost use Rattle.spec_derivations.specs.Problems.{problem_of};
-ghost use Rattle.spec_valuations.specs.Resting.{Rests};
+ghost use Rattle.spec_valuations.specs.Resting.{Rests, TheoryValues, RestsOnNumbers};
 
-use crate::laws::resting_searches_have_models;
+use crate::laws::{resting_searches_have_models, searches_that_rest_on_numbers_have_models};
 
 /// States that a check has a model where a search of its terms rests that makes true what the check assumes. So where a
 /// search rests, `sat` is right.
@@ -24,6 +24,20 @@ pub fn resting_searches_give_current_checks_models()
         → (i : Interpretation) × MakesTrue limit i script k }
 {
     resting_searches_have_models();
+    spec_checking::laws::satisfied_scripts_have_a_model();
+    spec_commands::assertions_have_their_texts_value();
+}
+
+/// States that a check has a model where a search over equality, functions and linear arithmetic rests that makes true
+/// what the check assumes. No function with parameters takes or gives numbers. So where it rests, `sat` is right.
+pub fn searches_that_rest_on_numbers_give_current_checks_models()
+    ensures { (limit : ℕ) (script : List ℕ) (k : ℕ) (c : Check) (earlier terms : List Term) (held : List Literal)
+        (a : TheoryValues) → IsCurrent limit script k c
+        → RestsOnNumbers (symbols_in (signature_of c.stack)) (problem_of c earlier) terms held a
+        → All (λ t. term_true_by a.truths t ≡ true) (problem_of c earlier).assumed
+        → (i : Interpretation) × MakesTrue limit i script k }
+{
+    searches_that_rest_on_numbers_have_models();
     spec_checking::laws::satisfied_scripts_have_a_model();
     spec_commands::assertions_have_their_texts_value();
 }

@@ -6,14 +6,16 @@ ghost use Rattle.spec_sorts.specs.Terms.{Number, Symbol, Term, sort_of};
 ghost use Rattle.spec_sorts.specs.Values.{Interpretation, Interprets, truth};
 ghost use Rattle.spec_sorts.specs.TermValues.{value_at};
 ghost use Rattle.spec_sorts.specs.Literals.{Literal};
+ghost use Rattle.spec_arithmetic.specs.Numbers.{IsLinear};
 ghost use Rattle.spec_rules.specs.Truths.{Truths, term_true_by};
 ghost use Rattle.spec_derivations.specs.Problems.{Problem, terms_of_problem};
 ghost use Rattle.spec_derivations.specs.Base.{search_terms};
+ghost use Rattle.spec_derivations.specs.Orders.{whole_terms};
 ghost use Rattle.spec_derivations.specs.Models.{AreInReach};
 ghost use Rattle.spec_valuations.specs.Tables.{Valuation, IsModelBy, AreListed, IsValuation};
 ghost use Rattle.spec_valuations.specs.Classes.{value_by, class_in};
 ghost use Rattle.spec_valuations.specs.Classes.{AreClasses, TellsNumbers, Chooses, AreJoint, AreDefined};
-ghost use Rattle.spec_valuations.specs.Resting.{Rests};
+ghost use Rattle.spec_valuations.specs.Resting.{Rests, TheoryValues, values_of, RestsOnNumbers};
 
 /// States that under the interpretation that values of listed terms give, each of these terms has its value.
 pub fn values_are_met()
@@ -68,12 +70,36 @@ pub fn resting_searches_have_models()
         → IsModelBy i (value_by (term_true_by v) point class) symbols terms
         → All (λ t. term_true_by v t ≡ true) p.assumed
         → All (λ t. value_at i [] t ≡ truth true) (terms_of_problem p) }
-{
-    spec_sorts::subterms::subterms_are_least();
-}
+{}
+
+/// States that where a search over equality, functions and linear arithmetic rests, its truths, classes and numbers give a
+/// model. In it each symbol has its table, each listed term has its value, and each asserted term is true. The assumed
+/// terms are true where the truths make them so. No function with parameters takes or gives numbers, so nothing has to
+/// agree. Source: Nelson and Oppen 1979.
+pub fn searches_that_rest_on_numbers_have_models()
+    ensures interprets { (symbols : List Symbol) (p : Problem) (terms : List Term) (held : List Literal)
+        (a : TheoryValues) (i : Interpretation) → RestsOnNumbers symbols p terms held a
+        → IsModelBy i (values_of a) symbols terms → Interprets i symbols }
+    ensures values { (symbols : List Symbol) (p : Problem) (terms : List Term) (held : List Literal)
+        (a : TheoryValues) (i : Interpretation) → RestsOnNumbers symbols p terms held a
+        → IsModelBy i (values_of a) symbols terms → (t : Term) → Contains terms t → value_at i [] t ≡ values_of a t }
+    ensures asserted { (symbols : List Symbol) (p : Problem) (terms : List Term) (held : List Literal)
+        (a : TheoryValues) (i : Interpretation) → RestsOnNumbers symbols p terms held a
+        → IsModelBy i (values_of a) symbols terms → All (λ t. value_at i [] t ≡ truth true) p.asserted }
+    ensures all { (symbols : List Symbol) (p : Problem) (terms : List Term) (held : List Literal)
+        (a : TheoryValues) (i : Interpretation) → RestsOnNumbers symbols p terms held a
+        → IsModelBy i (values_of a) symbols terms → All (λ t. term_true_by a.truths t ≡ true) p.assumed
+        → All (λ t. value_at i [] t ≡ truth true) (terms_of_problem p) }
+{}
 
 /// States that where the search reaches the terms of a check, none of those that it speaks of is a number.
 pub fn terms_in_reach_have_no_numbers()
     ensures { (p : Problem) → AreInReach (terms_of_problem p)
         → (t : Term) → Contains (search_terms p) t → sort_of t ≢ Number }
+{}
+
+/// States that where the terms of a check are linear, so are all that a search over linear arithmetic speaks of.
+pub fn terms_of_linear_checks_are_linear()
+    ensures { (p : Problem) → All IsLinear (terms_of_problem p)
+        → (t : Term) → Contains (whole_terms p) t → IsLinear t }
 {}

@@ -1,19 +1,20 @@
 -- By truths, numbers and classes that fit together: there are no numbers.
 use Rattle.spec_valuations.proofs.Rested.{interpreted, valued, asserted_valued, all_valued}
+use Rattle.spec_valuations.proofs.Numberless.{at_rest, no_numbers}
 use Rattle.spec_valuations.proofs.laws.resting_searches_have_models.Goals as goal
 
 pub returns-clause-interprets : goal.returns-clause-interprets
 returns-clause-interprets c symbols p terms held v class point i rests =
-    interpreted symbols p terms held v class point rests c.subterms_are_least.ensures.there c.subterms_are_least.ensures.closed i
+    interpreted symbols p terms held v class (at_rest symbols p terms held v class rests) point (no_numbers symbols p terms held v class rests point) i
 
 pub returns-clause-values : goal.returns-clause-values
 returns-clause-values c symbols p terms held v class point i rests =
-    valued symbols p terms held v class point rests c.subterms_are_least.ensures.there c.subterms_are_least.ensures.closed i
+    valued symbols p terms held v class (at_rest symbols p terms held v class rests) point (no_numbers symbols p terms held v class rests point) i
 
 pub returns-clause-asserted : goal.returns-clause-asserted
 returns-clause-asserted c symbols p terms held v class point i rests =
-    asserted_valued symbols p terms held v class point rests c.subterms_are_least.ensures.there c.subterms_are_least.ensures.closed i
+    asserted_valued symbols p terms held v class (at_rest symbols p terms held v class rests) point (no_numbers symbols p terms held v class rests point) i
 
 pub returns-clause-all : goal.returns-clause-all
 returns-clause-all c symbols p terms held v class point i rests =
-    all_valued symbols p terms held v class point rests c.subterms_are_least.ensures.there c.subterms_are_least.ensures.closed i
+    all_valued symbols p terms held v class (at_rest symbols p terms held v class rests) point (no_numbers symbols p terms held v class rests point) i
