@@ -1,5 +1,7 @@
-//! Tests of the texts of models: names and values.
+//! Tests of the texts of models and reasons.
 #![tactic(auto)]
 
+#[cfg(test)]
+mod reason_tests;
 #[cfg(test)]
 mod text_tests;

@@ -1,4 +1,3 @@
 -- Lemmas on the texts of models.
-pub mod Numbers
 pub mod Texts
 pub mod Loops

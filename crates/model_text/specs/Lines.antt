@@ -1,24 +1,16 @@
 -- The pieces in which a model is written.
-use Rattle.std.specs.Prelude.{◌≡◌, ℕ, zero, suc, List, [], ◌∷◌, ◌++◌, flat_map, codes}
-use Rattle.spec_text.specs.Bytes.{Name}
+use Rattle.std.specs.Prelude.{ℕ, zero, suc, List, [], ◌∷◌, ◌++◌, flat_map, codes}
 use Rattle.spec_text.specs.Printed.{printed}
 use Rattle.spec_sorts.specs.Terms.{Sort, Symbol}
 use Rattle.spec_sorts.specs.Values.{Value, Row, Table}
 use Rattle.spec_models.specs.Values.{in_list, word_tree, sort_tree, value_tree}
 use Rattle.spec_models.specs.Models.{parameter, equality_tree, condition_tree, body_tree, definition_tree, indented}
-use Rattle.term_core.specs.Symbols.{SymbolsView, sort_name}
+use Rattle.term_core.specs.Symbols.{SymbolsView}
 use Rattle.term_core.specs.Tables.{TableView}
-use Rattle.term_walks.specs.declared.values.Value.{Value as CodeValue}
-use Rattle.term_walks.specs.declared.values.Value.TheVariants as values
 
 -- a table of these sorts and symbols, and of no terms
 abbrev pub without_terms : SymbolsView → TableView
 without_terms s = record { sorts = s.sorts; symbols = s.symbols; terms = [] }
-
--- the sort of an element has this name
-abbrev pub IsSortOf : List Name → CodeValue → Name → Type 0
-IsSortOf sorts (values.Element s k) n = sort_name sorts s ≡ n
-IsSortOf sorts v n = Unit {0}
 
 -- a space, before all but the first
 abbrev pub gap : ℕ → List ℕ

@@ -10,7 +10,7 @@ ghost use Rattle.world_io.specs.Writing.{Sends};
 ghost use Rattle.model_text.specs.Lines.{equalities_listed, row_front, body_text, line_text};
 
 use crate::sorts::{write_parameters, write_sort, write_value};
-use crate::values::{name, write_numeral};
+use reply_text::{name, write_numeral};
 use spec_models::laws::bodies_are_printed_by_rows;
 use term_core::{SymbolId, Symbols};
 use term_walks::{Row, Table, Value};

@@ -7,9 +7,10 @@ ghost use Rattle.spec_models.specs.Models.{parameters_from, parameter_trees};
 ghost use Rattle.term_core.specs.Symbols.{HasSortIn, HaveSortsIn, sort_meant, sorts_meant};
 ghost use Rattle.term_walks.specs.Valuations.{value_meant, IsNamed};
 ghost use Rattle.world_io.specs.Writing.{Sends};
-ghost use Rattle.model_text.specs.Lines.{IsSortOf, gap, parameter_text, parameters_listed};
+ghost use Rattle.reply_text.specs.Values.{IsSortOf};
+ghost use Rattle.model_text.specs.Lines.{gap, parameter_text, parameters_listed};
 
-use crate::values::{name, value, write_numeral};
+use reply_text::{name, value, write_numeral};
 use term_core::{Sort, Symbols};
 use term_walks::Value;
 use world_io::{Failed, Sink, write_all};

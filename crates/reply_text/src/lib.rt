@@ -1,14 +1,18 @@
-//! Lines of responses: an error, one word, what is spent. No call takes memory.
+//! Texts of responses: an error, one word, a reason, a name, a value. No call takes memory.
 #![tactic(auto)]
 
 ghost use Rattle.std.specs.Prelude.{◌≡◌};
 ghost use Rattle.world_io.specs.Writing.{Sends};
-ghost use Rattle.spec_replies.specs.Lines.{error_text, word_of, word_line, conflicts, reason_line};
+ghost use Rattle.spec_replies.specs.Lines.{error_text, word_of, word_line};
+
+mod reasons;
+mod values;
 
 use itoa::Buffer;
+pub use reasons::{overflow, pivots_spent, spent};
 use smt_lexer::Place;
-use spec_models::laws::numerals_are_decimal;
 pub use spec_replies::Word;
+pub use values::{name, value, write_numeral};
 use world_io::{Failed, Sink, write_pieces};
 
 /// Writes the line of an error: its line and column, both from 1, in decimal, and its name, as `(error "2:9: PopTooFar")`.
@@ -55,18 +59,4 @@ pub fn word<K: Sink>(w: Word, out: &mut K) -> Result<(), Failed>
     ensures { Sends (word_line w) result (K.state out.old) (K.state out.new) }
 {
     write_pieces(out, &[letters(w), b"\n"])
-}
-
-/// Writes the line of a check that learned from as many conflicts as it may, as `(conflicts 10)`.
-///
-/// It takes no memory. `Failed` comes only where the sink's count of faults rose in this call; a prefix was then appended.
-pub fn spent<K: Sink>(count: u64, out: &mut K) -> Result<(), Failed>
-    ensures { Sends (reason_line (conflicts count)) result (K.state out.old) (K.state out.new) }
-{
-    numerals_are_decimal();
-    let mut number = Buffer::new();
-    write_pieces(
-        out,
-        &[b"(conflicts ", number.format(count).as_bytes(), b")\n"],
-    )
 }

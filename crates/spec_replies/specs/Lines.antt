@@ -3,9 +3,12 @@ use Rattle.std.specs.Prelude.{ℕ, List, [], ◌∷◌, ◌++◌, codes, decimal
 use Rattle.spec_text.specs.Bytes.{Name}
 use Rattle.spec_text.specs.Trees.{Tree}
 use Rattle.spec_text.specs.Printed.{printed}
+use Rattle.spec_numbers.specs.Bounds.{Overflow}
+use Rattle.spec_numbers.specs.declared.Op.{Op}
+use Rattle.spec_numbers.specs.declared.Op.TheVariants.{Add, Sub, Mul, Div}
 use Rattle.spec_replies.specs.declared.Word.{Word}
 use Rattle.spec_replies.specs.declared.Word.TheVariants.{Success, Unsupported, Sat, Unsat, Unknown}
-use Rattle.spec_models.specs.Values.{in_list, word_tree, numeral_tree}
+use Rattle.spec_models.specs.Values.{in_list, word_tree, numeral_tree, fraction_tree}
 
 -- an error with its line and column, both from 1, and its name
 abbrev pub error_text : ℕ → ℕ → List ℕ → List ℕ
@@ -27,6 +30,21 @@ word_line w = word_of w ++ 10 ∷ []
 pub data Reason : Type 0 where
   -- so many conflicts were learned from, which is their limit
   conflicts : ℕ → Reason
+  -- so many pivots of linear arithmetic were made, which is their limit
+  pivots : ℕ → Reason
+  -- an operation of linear arithmetic on these fractions leaves the bound
+  overflow : Overflow → Reason
+
+-- an operation as a word
+abbrev pub operation_word : Op → Name
+operation_word Add = codes "add"
+operation_word Sub = codes "sub"
+operation_word Mul = codes "mul"
+operation_word Div = codes "div"
+
+-- an overflow: the operation, its left operand and its right one, as models print fractions
+abbrev pub overflow_tree : Overflow → Tree
+overflow_tree o = in_list (word_tree (codes "overflow") ∷ word_tree (operation_word o.op) ∷ fraction_tree o.left ∷ fraction_tree o.right ∷ [])
 
 -- a word before a number
 abbrev pub count_tree : Name → ℕ → Tree
@@ -35,6 +53,8 @@ count_tree what n = in_list (word_tree what ∷ numeral_tree n ∷ [])
 -- a reason as an s-expression
 abbrev pub reason_tree : Reason → Tree
 reason_tree (conflicts n) = count_tree (codes "conflicts") n
+reason_tree (pivots n) = count_tree (codes "pivots") n
+reason_tree (overflow o) = overflow_tree o
 
 -- what is printed of a reason
 abbrev pub reason_text : Reason → List ℕ

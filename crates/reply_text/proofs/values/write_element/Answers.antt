@@ -1,7 +1,7 @@
 -- The number of an element, and the name of its sort.
 use Rattle.world_io.proofs.Chains.{next, fails, last}
-use Rattle.model_text.proofs.Numbers.{element_start}
-use Rattle.model_text.proofs.values.write_element.Goals as goal
+use Rattle.reply_text.proofs.Numbers.{element_start}
+use Rattle.reply_text.proofs.values.write_element.Goals as goal
 
 pub returns-in_err-write_numeral : goal.returns-in_err-write_numeral
 returns-in_err-write_numeral g c = fails _ (element_start c.args.sort.now c.args.k _) c.in_err-write_numeral.ensures c.from_residual.ensures.0

@@ -2,8 +2,8 @@
 use Rattle.ratio128.specs.Meant.{fraction}
 use Rattle.world_io.proofs.Chains.{next, fails, last}
 use Rattle.world_io.proofs.Sending.{sends_same}
-use Rattle.model_text.proofs.Numbers.{whole_text, quotient_start}
-use Rattle.model_text.proofs.values.write_ratio.Goals as goal
+use Rattle.reply_text.proofs.Numbers.{whole_text, quotient_start}
+use Rattle.reply_text.proofs.values.write_ratio.Goals as goal
 
 pub returns-then-den-eq1 : goal.returns-then-den-eq1
 returns-then-den-eq1 g c = sends_same _ _ c.write_whole.result _ _ (whole_text (fraction c.args.q) _ c.denominator-den.ensures c.if-den-eq1.true) c.write_whole.ensures

@@ -1,4 +1,4 @@
-//! Names and values.
+//! Names, numerals and values.
 
 ghost use Rattle.std.specs.Prelude.{◌≡◌, ◌++◌, List, pos, unsigned_abs};
 ghost use Rattle.std.specs.Int.Signed.{lt_z};
@@ -8,7 +8,7 @@ ghost use Rattle.spec_models.specs.Values.{numeral, whole_tree, fraction_tree, e
 ghost use Rattle.ratio128.specs.Meant.{fraction};
 ghost use Rattle.term_walks.specs.Valuations.{value_meant};
 ghost use Rattle.world_io.specs.Writing.{Sends};
-ghost use Rattle.model_text.specs.Lines.{IsSortOf};
+ghost use Rattle.reply_text.specs.Values.{IsSortOf};
 
 use itoa::Buffer;
 use ratio128::Ratio;
@@ -29,8 +29,11 @@ pub fn name<K: Sink>(symbol: &[u8], out: &mut K) -> Result<(), Failed>
     write_pieces(out, &[before, symbol, after])
 }
 
-/// Writes a number in decimal, between the bytes before it and those after it.
-pub(crate) fn write_numeral<'a, K: Sink>(
+/// Writes a number in decimal, without zeros before it, between the bytes before it and those after it.
+///
+/// It takes no memory. `Failed` comes only where the sink's count of faults rose in this call; a prefix was then
+/// appended.
+pub fn write_numeral<'a, K: Sink>(
     before: &'a [u8],
     n: u128,
     after: &'a [u8],
@@ -84,7 +87,7 @@ fn write_whole<'a, K: Sink>(
 }
 
 /// Writes a fraction: a whole number alone, or a quotient.
-fn write_ratio<K: Sink>(q: Ratio, out: &mut K) -> Result<(), Failed>
+pub(crate) fn write_ratio<K: Sink>(q: Ratio, out: &mut K) -> Result<(), Failed>
     ensures { Sends (printed (fraction_tree (fraction q))) result (K.state out.old) (K.state out.new) }
 {
     let den = denominator(q);

@@ -2,8 +2,8 @@
 use Rattle.std.proofs.Common.{◌∙◌, sym}
 use Rattle.ratio128.specs.Meant.{fraction}
 use Rattle.world_io.proofs.Chains.{next, fails, last}
-use Rattle.model_text.proofs.Numbers.{negative_start}
-use Rattle.model_text.proofs.values.write_whole.Goals as goal
+use Rattle.reply_text.proofs.Numbers.{negative_start}
+use Rattle.reply_text.proofs.values.write_whole.Goals as goal
 
 pub returns-in_err-write_numeral : goal.returns-in_err-write_numeral
 returns-in_err-write_numeral g c =

@@ -1,0 +1,3 @@
+-- Lemmas on the texts of responses.
+pub mod Numbers
+pub mod Overflows
