@@ -99,6 +99,18 @@ module _ (held : List Lit) (watched : List TermId) (marks : List Mark) (m : AreM
     over = at (λ x. AreOver (take x.held held) (take x.watched watched)) m.over (subst (λ h. AreOver h (take (length watched) watched)) (sym (take_whole held)) (subst (AreOver held) (sym (take_whole watched)) over));
   }
 
+  -- the first of the marks
+  pub marks_first : (n : ℕ) → n ≤ length marks → AreMarks held watched (take n marks)
+  marks_first n le =
+      let size = take_length marks n le in
+      record {
+        held_in = λ k l. omega (arith, m.held_in k (omega (arith, l, size, le)), ap (λ (x : Mark). x.held) (take_get marks k n no_mark (omega (arith, l, size))));
+        watched_in = λ k l. omega (arith, m.watched_in k (omega (arith, l, size, le)), ap (λ (x : Mark). x.watched) (take_get marks k n no_mark (omega (arith, l, size))));
+        held_order = λ i j e l. let a = take_get marks i n no_mark (omega (arith, e, l, size)) in let b = take_get marks j n no_mark (omega (arith, l, size)) in omega (arith, m.held_order i j e (omega (arith, l, size, le)), ap (λ (x : Mark). x.held) a, ap (λ (x : Mark). x.held) b);
+        watched_order = λ i j e l. let a = take_get marks i n no_mark (omega (arith, e, l, size)) in let b = take_get marks j n no_mark (omega (arith, l, size)) in omega (arith, m.watched_order i j e (omega (arith, l, size, le)), ap (λ (x : Mark). x.watched) a, ap (λ (x : Mark). x.watched) b);
+        over = λ k l. subst (λ (x : Mark). AreOver (take x.held held) (take x.watched watched)) (sym (take_get marks k n no_mark (omega (arith, l, size)))) (m.over k (omega (arith, l, size, le)));
+      }
+
   -- going back to a mark
   module _ (kept : ℕ) (lt : kept < length marks) where
     abbrev back : Mark

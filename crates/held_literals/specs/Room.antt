@@ -1,9 +1,9 @@
 -- Literals of watched terms, each held once, the room that they need, and marks that fit them.
-use Rattle.std.specs.Prelude.{◌≢◌, ◌≤◌, ◌<◌, ◌*◌, ℕ, List, length, take, map, get_or, All, Contains}
+use Rattle.std.specs.Prelude.{◌≢◌, ◌≤◌, ◌<◌, ◌-◌, ◌*◌, ℕ, List, length, take, map, get_or, All, Contains}
 use Rattle.std.specs.List.{AllPairs}
 use Rattle.term_core.specs.declared.ids.TermId.{TermId}
 use Rattle.term_core.specs.declared.ids.Lit.{Lit}
-use Rattle.proof_log.specs.Theories.{Mark, no_mark}
+use Rattle.proof_log.specs.Theories.{Mark, TheoryView, no_mark}
 use Rattle.held_literals.specs.declared.held.Place.{Place}
 
 -- the mark of a place
@@ -13,6 +13,10 @@ mark_of p = record { held = p.held; watched = p.watched }
 -- the marks of places
 abbrev pub marks_of : List Place → List Mark
 marks_of ps = map mark_of ps
+
+-- what there is without the newest mark
+abbrev pub without_mark : TheoryView → TheoryView
+without_mark v = record { held = v.held; watched = v.watched; marks = take (length v.marks - 1) v.marks }
 
 -- the terms of the literals are watched
 abbrev pub AreOver : List Lit → List TermId → Type 0

@@ -2,7 +2,7 @@
 
 ghost use Rattle.std.specs.Prelude.{◌≡◌, ◌<◌, ◌≤◌, [], length, get_or, Contains, MatchResult};
 ghost use Rattle.proof_log.specs.Theories.{with_held, with_watched, with_mark, at_mark, gone_back};
-ghost use Rattle.held_literals.specs.Room.{IsHeldOver, AreMarks};
+ghost use Rattle.held_literals.specs.Room.{without_mark, IsHeldOver, AreMarks};
 
 use std::alloc::Global;
 use std::marker::Model;
@@ -117,6 +117,15 @@ impl HeldLiterals {
             watched: self.watched.len(),
         })?;
         Ok(())
+    }
+
+    /// Takes the newest mark away, and leaves what is held and watched. It takes no memory.
+    pub fn forget_mark(&mut self)
+        requires { 0 < length self.old.marks }
+        ensures { self.new ≡ without_mark self.old }
+    {
+        let kept = self.marks.len() - 1;
+        self.marks.truncate(kept);
     }
 
     /// Goes back so many marks. It takes no memory, and time only for the literals, terms and marks that go.

@@ -6,7 +6,7 @@ use Rattle.term_core.specs.declared.ids.TermId.{TermId}
 use Rattle.term_core.specs.declared.ids.Lit.{Lit}
 use Rattle.term_core.specs.Tables.{TableView}
 use Rattle.proof_log.specs.Theories.{TheoryView, Mark, no_mark, mark_now, with_held, with_mark, at_mark, gone_back}
-use Rattle.held_literals.specs.Room.{AreMarks, IsHeldOver}
+use Rattle.held_literals.specs.Room.{AreMarks, IsHeldOver, without_mark}
 use Rattle.simplex_bounds.specs.Held.{BoundsView}
 use Rattle.simplex_check.specs.Boards.{BoardView}
 use Rattle.simplex_atoms.specs.declared.place.Place.{Place}
@@ -81,6 +81,21 @@ module _ (v : SimplexView) (f : Fits v) where
           placed = (c ∙ ap (placed_count v.atoms.placed) (sym (whole v.theory.watched))) i;
         } in
         (λ i. f.starts_are i ++ is i ∷ []) ∙ sym (map_more (start_of v.atoms.placed v.theory) v.theory.marks (mark_now v.theory));
+    room = f.room;
+    reached = f.reached;
+  }
+
+  -- without the newest mark
+  abbrev unmarked : SimplexView
+  unmarked = record { theory = without_mark v.theory; atoms = v.atoms; board = v.board; bounds = v.bounds; starts = take (length v.theory.marks - 1) v.starts }
+
+  pub fits_unmarked : Fits unmarked
+  fits_unmarked = record {
+    bounds_are = f.bounds_are;
+    starts_are =
+        let n = length v.theory.marks - 1 in
+        ap (take n) f.starts_are ∙ take-map (start_of v.atoms.placed v.theory) n v.theory.marks
+        ∙ each_mark (start_of v.atoms.placed v.theory) (start_of v.atoms.placed (without_mark v.theory)) (take n v.theory.marks) (λ k lt. refl);
     room = f.room;
     reached = f.reached;
   }

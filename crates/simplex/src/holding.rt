@@ -3,6 +3,7 @@
 ghost use Rattle.std.specs.Prelude.{◌≡◌, ◌+◌, ◌<◌, ◌≤◌, ◌++◌, length, map, Contains, IfSome, MatchResult};
 ghost use Rattle.term_core.specs.Tables.{TableView};
 ghost use Rattle.proof_log.specs.Theories.{with_held, with_mark, gone_back};
+ghost use Rattle.held_literals.specs.Room.{without_mark};
 ghost use Rattle.simplex_atoms.specs.Limits.{limit_of, one_of, limits_by};
 ghost use Rattle.simplex.specs.Views.{IsOf};
 
@@ -78,6 +79,20 @@ impl Simplex {
         self.literals.mark()?;
         self.starts.push_reserved(start);
         Ok(())
+    }
+
+    /// Takes the newest mark away: what it holds and watches stays, with the bounds and the rows. It takes no memory.
+    pub fn forget_mark(&mut self)
+        requires there { 0 < length self.old.theory.marks }
+        ensures with { (t : TableView) → IsOf self.old t → IsOf self.new t }
+        ensures forgets { self.new.theory ≡ without_mark self.old.theory }
+        ensures atoms { self.new.atoms ≡ self.old.atoms }
+        ensures board { self.new.board ≡ self.old.board }
+        ensures bounds { self.new.bounds ≡ self.old.bounds }
+    {
+        let kept = self.starts.len() - 1;
+        self.literals.forget_mark();
+        self.starts.truncate(kept);
     }
 
     /// Goes back so many marks: it holds and watches what it did there, with the bounds of the literals that are left. The
