@@ -93,8 +93,9 @@ impl Theory for Congruence {
     }
 
     /// Checks the held literals: `Clash` comes exactly where their congruence joins `true` and `false`, or the sides of a held negated
-    /// equality. After `Fine` it is settled. `Memory` comes where memory ran out, the one stop. It costs about the users of the classes
-    /// that are renumbered, and, where there is a clash, what `explain` costs. It spends nothing of the budget.
+    /// equality. After `Fine` it is settled, and table and log are as they were. `Memory` comes where memory ran out, the one stop. It
+    /// costs about the users of the classes that are renumbered, and, where there is a clash, what `explain` costs. It spends nothing of
+    /// the budget.
     fn check(
         &mut self,
         table: &mut TermTable,
@@ -109,6 +110,7 @@ impl Theory for Congruence {
         ensures budget { Spends budget.old budget.new }
         ensures kept { budget.new ≡ budget.old }
         ensures settled { result ≡ Ok Fine → self.new.now.settled ≡ true }
+        ensures nothing_came { result ≡ Ok Fine → (table.new ≡ table.old) × (log.new ≡ log.old) }
         ensures checks { Checks (IsFine (terms_watched table.old (theory_of self.old)) (literals_held table.old (theory_of self.old))
             × (self.new.now.settled ≡ true))
             (IsRefuted (terms_watched table.old (theory_of self.old)) (literals_held table.old (theory_of self.old)))
