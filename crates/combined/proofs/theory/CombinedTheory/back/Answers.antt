@@ -1,0 +1,12 @@
+-- Both go with the table.
+use Rattle.std.proofs.Common.{subst}
+use Rattle.term_core.specs.Tables.{TableView}
+use Rattle.congruence_relation.specs.Relation.{AreOf}
+use Rattle.simplex.specs.Checks.{Suits}
+use Rattle.combined.specs.Views.{CombinedView}
+use Rattle.combined.proofs.theory.CombinedTheory.back.Goals as goal
+
+pub returns-clause-with : goal.returns-clause-with
+returns-clause-with c =
+    subst (λ (v : CombinedView). (t : TableView) → AreOf t v.congruence.now.facts × Suits v.simplex t → AreOf t c.back.new.self.now.facts × Suits c.back-2.new.self t)
+    c.self.view_is (λ t h. (c.back.ensures.with t h.0, c.back-2.ensures.with t h.1))

@@ -1,0 +1,2 @@
+-- What two theories are together.
+pub mod Views
