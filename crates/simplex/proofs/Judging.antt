@@ -1,10 +1,10 @@
 -- What a check found, what it shows of held literals, and why it stops.
 use Rattle.std.proofs.Common.{◌≡◌, ℕ, List, [], ◌∷◌, ◌++◌, length, All, Contains, Result, Ok, Err, inl, inr, refl, sym, ap, ◌∙◌, subst, append_assoc, append-nil}
 use Rattle.std.proofs.lemmas.List.Elements.{All-contains, All-nil}
+use Rattle.spec_numbers.specs.Bounds.{Overflow}
 use Rattle.spec_sorts.specs.Terms.{Term}
 use Rattle.spec_simplex.specs.Constraints.{constraint_of, HaveForms}
 use Rattle.spec_simplex.specs.Points.{IsFeasible}
-use Rattle.spec_tableaux.proofs.Steps.{done_meets}
 use Rattle.spec_derivations.specs.Lemmas.{IsLemma}
 use Rattle.ratio128.specs.Meant.{overflow}
 use Rattle.ratio128.specs.declared.wide.Wide.{Wide}
@@ -21,7 +21,6 @@ use Rattle.proof_log.specs.declared.theory.Verdict.TheVariants as verdicts
 use Rattle.proof_log.specs.declared.premises.StepId.{StepId}
 use Rattle.held_literals.specs.Room.{AreOver}
 use Rattle.tableau.specs.Views.{IsTableau}
-use Rattle.simplex_bounds.specs.Deltas.{deltas}
 use Rattle.simplex_bounds.specs.Held.{ranges_in}
 use Rattle.simplex_check.specs.Boards.{BoardView, state_of, IsBasisOf}
 use Rattle.simplex_check.specs.Strains.{Ranges}
@@ -33,6 +32,7 @@ use Rattle.simplex_explain.specs.Reasons.{Refutes}
 use Rattle.simplex_reasons.specs.Reasons.{AreOfHeld}
 use Rattle.simplex_reasons.proofs.Holding.{ran_settled}
 use Rattle.simplex_held.specs.Stated.{AreBoundsOf, IsKnownIn}
+use Rattle.simplex_held.specs.Keeping.{KeepsHeld}
 use Rattle.simplex_held.proofs.Stating.{all_from}
 use Rattle.simplex_held.proofs.Reasons.{reasons_held, reasons_watched}
 use Rattle.simplex_held.proofs.Feasible.{feasible}
@@ -43,7 +43,7 @@ use Rattle.simplex_atoms.proofs.Fitting.{right_after}
 use Rattle.simplex.specs.Views.{SimplexView, Fits, IsOf}
 use Rattle.simplex_explain.specs.Steps.{derived}
 use Rattle.term_core.proofs.TermsExtend.{Extends-self, term_at-kept}
-use Rattle.simplex.specs.Checks.{Found, Answers, AreRefuted, StrainsSimplex, checking, IsStrainOf, NeedsMore}
+use Rattle.simplex.specs.Checks.{KeepsBounds, Found, Answers, AreRefuted, StrainsSimplex, checking, IsStrainOf, NeedsMore}
 
 -- what a check says that something is wrong with is so
 pub found : (v : SimplexView) (b : BoardView) (old new : BudgetView) (o : Outcome) → (o ≡ Fine → ⊥) → Ends (ranges_in v.bounds.held) b v.board old new (Ok o) → Found v o
@@ -71,11 +71,16 @@ stopped ts v b old new (Strained s) e = (checking e.1.0, e.1.1)
 stopped ts v b old new (Pivots n) e = e.1
 stopped ts v b old new stops.Memory e = tt
 
--- the stop of an overflow is one of simplex
+-- the stop of an overflow, of which P holds
+pub strained_by : (P : Overflow → Type 0) (v : SimplexView) (w : Wide) (stop : Stop) → P (overflow w) → StopsBy (λ s. (s.wide ≡ w) × IsBasisOf v.board s.basis) (λ _. ⊥) stop
+    → StopsBy (λ s. P (overflow s.wide) × IsBasisOf v.board s.basis) (λ _. ⊥) stop
+strained_by P v w (Strained s) h p = (subst (λ (x : Wide). P (overflow x)) (sym p.0) h, p.1)
+strained_by P v w (Pivots n) h p = p
+strained_by P v w stops.Memory h p = tt
+
+-- it is one of simplex
 pub strained : (ts : List Term) (v : SimplexView) (w : Wide) (stop : Stop) → StrainsSimplex ts v (overflow w) → StopsBy (λ s. (s.wide ≡ w) × IsBasisOf v.board s.basis) (λ _. ⊥) stop → StopsBy (IsStrainOf ts v) (λ _. ⊥) stop
-strained ts v w (Strained s) h p = (subst (λ (x : Wide). StrainsSimplex ts v (overflow x)) (sym p.0) h, p.1)
-strained ts v w (Pivots n) h p = p
-strained ts v w stops.Memory h p = tt
+strained ts v w stop h p = strained_by (StrainsSimplex ts v) v w stop h p
 
 -- a stop that is no number of exchanges
 pub no_pivots : (ts : List Term) (v : SimplexView) (budget : BudgetView) (stop : Stop) → StopsBy (IsStrainOf ts v) (λ _. ⊥) stop → StopsBy (IsStrainOf ts v) (AreSpent (NeedsMore v) budget) stop
@@ -102,17 +107,22 @@ table_grows t u v more there is = record {
   known = all_from (IsKnownIn u v.atoms.placed) v.theory.watched (λ id c. subst (λ (x : Term). IsWatched (place_in v.atoms.placed id) (constraint_of (positive_literal x))) (sym (term_at-kept t u more id (All-contains (IsIn t) v.theory.watched id there c))) (All-contains (IsKnownIn t v.atoms.placed) v.theory.watched id is.known c));
 }
 
--- where a check finds nothing wrong the literals have forms, and a point keeps them
-pub fine : (t : TableView) (v : SimplexView) (b : BoardView) (old new : BudgetView) → AreDifferent t.terms → IsTableau v.board.tableau → IsOf v t → AreBoundsOf v.atoms.placed v.theory.held v.bounds.held → AreOver v.theory.held v.theory.watched
-    → Ends (ranges_in v.bounds.held) b v.board old new (Ok Fine) → HaveForms (literals_held t v.theory) × IsFeasible (literals_held t v.theory)
-fine t v b old new unique tableau is f over e = feasible t v.atoms v.board v.bounds v.theory.held (record {
+-- values that keep the bounds keep those of held literals
+pub keeps_held : (t : TableView) (v : SimplexView) → AreDifferent t.terms → IsTableau v.board.tableau → IsOf v t → AreBoundsOf v.atoms.placed v.theory.held v.bounds.held → AreOver v.theory.held v.theory.watched
+    → KeepsBounds v → KeepsHeld t v.atoms v.board v.bounds v.theory.held
+keeps_held t v unique tableau is f over meets = record {
   right = is.right;
   tableau = tableau;
   unique = unique;
   bounds_are = f;
   known = all_from (λ (l : Lit). IsKnownIn t v.atoms.placed l.term) v.theory.held (λ l c. All-contains (IsKnownIn t v.atoms.placed) v.theory.watched l.term is.known (All-contains (λ (l : Lit). Contains v.theory.watched l.term) v.theory.held l over c));
-  meets = done_meets deltas (ranges_in v.bounds.held) (state_of v.board) (ran_settled (ranges_in v.bounds.held) (state_of b) (state_of v.board) old.exchanges new.exchanges e.1.0 e.0) e.1;
-})
+  meets = meets;
+}
+
+-- so the literals have forms, and a point keeps them
+pub fine : (t : TableView) (v : SimplexView) → AreDifferent t.terms → IsTableau v.board.tableau → IsOf v t → AreBoundsOf v.atoms.placed v.theory.held v.bounds.held → AreOver v.theory.held v.theory.watched
+    → KeepsBounds v → HaveForms (literals_held t v.theory) × IsFeasible (literals_held t v.theory)
+fine t v unique tableau is f over meets = feasible t v.atoms v.board v.bounds v.theory.held (keeps_held t v unique tableau is f over meets)
 
 -- no terms and no steps came
 pub nothing_came : (ts : List Term) (t : TableView) (log : List Logged) → IsLogOf t log → Derives ts (derived t log) (derived t log)

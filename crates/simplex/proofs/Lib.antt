@@ -4,3 +4,4 @@ pub mod Fitting
 pub mod Placed
 pub mod Judging
 pub mod Suiting
+pub mod TermNumbers

@@ -5,6 +5,7 @@ use Rattle.spec_numbers.specs.Bounds.{Overflow}
 use Rattle.spec_sorts.specs.Terms.{Term}
 use Rattle.spec_arithmetic.specs.Contradictions.{wide}
 use Rattle.spec_tableaux.specs.Rows.{row_of}
+use Rattle.spec_tableaux.specs.Ranges.{Meets}
 use Rattle.spec_tableaux.specs.LeastVariable.{Says, IsSettled, goes_up, crossed, stuck}
 use Rattle.ratio128.specs.Meant.{overflow}
 use Rattle.term_core.specs.declared.ids.TermId.{TermId}
@@ -15,7 +16,7 @@ use Rattle.proof_log.specs.declared.theory.Verdict.{Verdict}
 use Rattle.proof_log.specs.declared.theory.Verdict.TheVariants as verdicts
 use Rattle.simplex_bounds.specs.Deltas.{deltas}
 use Rattle.simplex_bounds.specs.Held.{ranges_in}
-use Rattle.simplex_check.specs.Boards.{state_of, IsBasisOf}
+use Rattle.simplex_check.specs.Boards.{point_in, state_of, IsBasisOf}
 use Rattle.simplex_check.specs.Strains.{Strains}
 use Rattle.simplex_check.specs.Ends.{WantsMore}
 use Rattle.simplex_check.specs.declared.check.Outcome.{Outcome}
@@ -41,6 +42,10 @@ pub record Suits (v : SimplexView) (t : TableView) : Type 0 where
   pub is : IsOf v t
   -- the watched terms
   pub there : All (IsIn t) v.theory.watched
+
+-- the values solve the rows and keep the bounds that are held
+abbrev pub KeepsBounds : SimplexView → Type 0
+KeepsBounds v = Meets deltas v.board.tableau.rows (ranges_in v.bounds.held) (point_in v.board.values)
 
 -- what a check found is wrong at the rows, the values and the bounds: those of a variable cross; or a basic variable is
 -- stuck, and nonbasic ones keep their bounds

@@ -2,3 +2,4 @@
 pub mod Views
 pub mod Stops
 pub mod Checks
+pub mod Numbers

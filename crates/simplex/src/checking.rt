@@ -17,7 +17,7 @@ ghost use Rattle.simplex_explain.specs.Reasons.{Refutes};
 ghost use Rattle.simplex_explain.specs.Steps.{derived};
 ghost use Rattle.simplex_reasons.specs.Reasons.{AreOfHeld, OnWide};
 ghost use Rattle.simplex.specs.Views.{IsOf};
-ghost use Rattle.simplex.specs.Checks.{Case, Found, StrainsFound, IsStrainOf, NeedsMore, Answers};
+ghost use Rattle.simplex.specs.Checks.{Case, KeepsBounds, Found, StrainsFound, IsStrainOf, NeedsMore, Answers};
 
 use crate::simplex::Simplex;
 use proof_log::{ProofLog, StepId, Verdict};
@@ -31,7 +31,7 @@ use term_core::TermTable;
 impl Simplex {
     /// Makes the stop of an overflow, with the basic variables and the values. It is out of memory where their lists find
     /// none.
-    fn stop_of(&self, wide: Wide) -> Stop
+    pub(crate) fn stop_of(&self, wide: Wide) -> Stop
         ensures { StopsBy (λ s. (s.wide ≡ wide) × IsBasisOf self.now.board s.basis) (λ _. ⊥) result }
     {
         match self.board.basis() {
@@ -100,7 +100,7 @@ impl Simplex {
     }
 
     /// Checks the literals that it holds: `Fine` comes where they have forms and a point keeps them all, and `Clash` where none
-    /// does, with a step whose clause is false under them.
+    /// does, with a step whose clause is false under them. After `Fine` the values keep the bounds that are held.
     ///
     /// Each exchange is kept in the budget. `Pivots` comes exactly where a further exchange is needed and the budget has no room
     /// for it; `Strained` where a number leaves 128 bits, with the basic variables and the values at which it did; `Memory`
@@ -121,7 +121,7 @@ impl Simplex {
         ensures ends { (found : Result Outcome Stop) × Answers found result
             × Ends (ranges_in self.old.bounds.held) self.old.board self.new.board budget.old budget.new found }
         ensures checks { Checks (HaveForms (literals_held table.old self.old.theory)
-            × IsFeasible (literals_held table.old self.old.theory))
+            × IsFeasible (literals_held table.old self.old.theory) × KeepsBounds self.new)
             (IsInfeasible (literals_held table.old self.old.theory))
             self.old.theory (derived table.old log.old) result (derived table.new log.new) }
         ensures stops { IfErr result (StopsBy (IsStrainOf (terms_watched table.old self.old.theory) self.new)

@@ -5,6 +5,7 @@
 
 mod checking;
 mod holding;
+mod numbers;
 mod simplex;
 mod starts;
 mod theory;

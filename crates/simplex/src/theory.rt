@@ -19,13 +19,13 @@ impl Theory for Simplex {
     ghost use Rattle.simplex_atoms.proofs.Fitting.{right_after};
     ghost use Rattle.simplex_held.specs.Stated.{IsKnownIn};
     ghost use Rattle.simplex_held.proofs.Stating.{all_from};
-    ghost use Rattle.simplex.specs.Checks.{Suits, IsStrainOf, NeedsMore};
+    ghost use Rattle.simplex.specs.Checks.{Suits, KeepsBounds, IsStrainOf, NeedsMore};
 
     ghost view = { λ s. s.theory };
 
     ghost goes_with = { λ s t. Suits s t };
 
-    ghost agrees = { λ s ts ls. HaveForms ls × IsFeasible ls };
+    ghost agrees = { λ s ts ls. HaveForms ls × IsFeasible ls × KeepsBounds s };
 
     ghost refuses = { λ s ts ls. IsInfeasible ls };
 

@@ -1,11 +1,11 @@
 -- Where values keep the bounds of held literals, the point of the terms keeps the literals.
-use Rattle.std.proofs.Common.{◌≡◌, ℕ, false, List, map, Contains, Option, Some, None, refl, sym, ◌∙◌, subst}
+use Rattle.std.proofs.Common.{◌≡◌, ℕ, false, List, map, Contains, Option, Some, None, Ok, refl, sym, ◌∙◌, subst}
 use Rattle.std.proofs.lemmas.List.Elements.{All-contains, All-map}
 use Rattle.spec_tableaux.specs.Spaces.{Pair}
 use Rattle.spec_tableaux.specs.Rows.{Solves}
 use Rattle.spec_tableaux.specs.Numbers.{Number, numbers}
 use Rattle.spec_tableaux.proofs.PairSolutions.{pair_parts, parts_pair}
-use Rattle.spec_simplex.specs.Constraints.{constraint_of, HasForm, HaveForms}
+use Rattle.spec_simplex.specs.Constraints.{Constraint, constraint_of, form_of, HasForm, HaveForms}
 use Rattle.spec_simplex.specs.Points.{Point, Keeps, IsFeasible}
 use Rattle.term_core.specs.declared.ids.Lit.{Lit}
 use Rattle.term_core.specs.Tables.{TableView, term_at, literal_at, positive_literal}
@@ -19,7 +19,7 @@ use Rattle.simplex_bounds.proofs.Keeping.{ranges_kept}
 use Rattle.simplex_check.specs.Boards.{BoardView, point_in}
 use Rattle.simplex_atoms.specs.declared.place.Place.{Place}
 use Rattle.simplex_atoms.specs.Owners.{AreOwned}
-use Rattle.simplex_atoms.specs.Places.{place_in}
+use Rattle.simplex_atoms.specs.Places.{IsPlaced, place_in}
 use Rattle.simplex_atoms.specs.Limits.{Limit, limit_of, limits_by, violates, IsKept, AreKept}
 use Rattle.simplex_atoms.specs.Atoms.{AtomsView, setting_of, ground_of}
 use Rattle.simplex_atoms.specs.Watching.{IsWatched}
@@ -44,18 +44,19 @@ side_kept Upper x y h = h
 bound_kept : (v : ℕ → Pair Number) (b : Bound) → KeepsBound v b → IsKept v (limit_of b)
 bound_kept v b h = side_kept b.side (v b.variable) (pair_of b.value) h
 
+-- The place of the atom of a literal, whose form is that of what the literal says.
+pub record IsAt (t : TableView) (a : AtomsView) (b : BoardView) (l : Lit) (c : Constraint) : Type 0 where
+  pub place : Place
+  pub there : place_in a.placed l.term ≡ Some place
+  pub is : IsPlaced (setting_of t (ground_of a.owners b)) place (term_at t l.term)
+  pub has : form_of c ≡ Ok is.form
+
 module _ (t : TableView) (a : AtomsView) (b : BoardView) (bounds : BoundsView) (held : List Lit) (k : KeepsHeld t a b bounds held) where
   abbrev v : ℕ → Pair Number
   v = point_in b.values
 
-  abbrev p : Point
-  p = point_of t a.owners v
-
-  solved : Solves deltas v b.tableau.listed
+  pub solved : Solves deltas v b.tableau.listed
   solved = listed_solved b.tableau k.tableau v k.meets.solves
-
-  own : AreOwned t a.owners p v
-  own = owned t a.owners v k.unique k.right.owners_in k.right.once
 
   limits_kept : (l : Lit) → Contains held l → (place : Place) → place_in a.placed l.term ≡ Some place → AreKept v (limits_by place l)
   limits_kept l h place e = all_from (IsKept v) (limits_by place l) by
@@ -65,22 +66,25 @@ module _ (t : TableView) (a : AtomsView) (b : BoardView) (bounds : BoundsView) (
           let found = held_as_bound a.placed held bounds.held k.bounds_are l h place e x c in
           subst (IsKept v) found.2 (bound_kept v found.0 ((ranges_kept bounds.held v).0 k.meets.within found.0 found.1))
 
-  -- a held literal has a form and is kept
-  literal_kept : (l : Lit) → Contains held l → HasForm (literal_at t l) × Keeps p (literal_at t l)
-  literal_kept l h = by (place_in a.placed l.term) refl (All-contains (λ (l : Lit). IsKnownIn t a.placed l.term) held l k.known h)
+  -- a held literal that says something has a place
+  pub placed : (l : Lit) → Contains held l → (c : Constraint) → constraint_of (literal_at t l) ≡ Some c → IsAt t a b l c
+  placed l h c f = by (place_in a.placed l.term) refl (All-contains (λ (l : Lit). IsKnownIn t a.placed l.term) held l k.known h)
     where
-      by : (o : Option Place) → place_in a.placed l.term ≡ o → IsWatched o (constraint_of (positive_literal (term_at t l.term))) → HasForm (literal_at t l) × Keeps p (literal_at t l)
-      by None e w =
-          let nothing = says_nothing (term_at t l.term) l.positive w in
-          (λ c f. absurd (nothing_some c (sym nothing ∙ f)), λ c f form g. absurd (nothing_some c (sym nothing ∙ f)))
+      by : (o : Option Place) → place_in a.placed l.term ≡ o → IsWatched o (constraint_of (positive_literal (term_at t l.term))) → IsAt t a b l c
+      by None e w = absurd (nothing_some c (sym (says_nothing (term_at t l.term) l.positive w) ∙ f))
       by (Some place) e w =
-          let is = (k.right.are_placed l.term place e).is in (
-            λ c f. (is.form, form_same (term_at t l.term) l.positive is.constraint c is.says f ∙ is.has),
-            kept (setting_of t (ground_of a.owners b)) place (term_at t l.term) is p v own solved l (limits_kept l h place e),
-          )
+          let is = (k.right.are_placed l.term place e).is in
+          record { place = place; there = e; is = is; has = form_same (term_at t l.term) l.positive is.constraint c is.says f ∙ is.has }
+
+  -- and is kept by each point whose values are those of the variables
+  pub literal_kept : (p : Point) → AreOwned t a.owners p v → (l : Lit) → Contains held l → Keeps p (literal_at t l)
+  literal_kept p own l h c f =
+      let x = placed l h c f in
+      kept (setting_of t (ground_of a.owners b)) x.place (term_at t l.term) x.is p v own solved l (limits_kept l h x.place x.there) c f
 
   pub feasible : HaveForms (map (literal_at t) held) × IsFeasible (map (literal_at t) held)
-  feasible = (
-    All-map HasForm (literal_at t) held (all_from (λ (l : Lit). HasForm (literal_at t l)) held (λ l h. (literal_kept l h).0)),
-    (p, All-map (Keeps p) (literal_at t) held (all_from (λ (l : Lit). Keeps p (literal_at t l)) held (λ l h. (literal_kept l h).1))),
-  )
+  feasible =
+      let p = point_of t a.owners v in (
+        All-map HasForm (literal_at t) held (all_from (λ (l : Lit). HasForm (literal_at t l)) held (λ l h c f. let x = placed l h c f in (x.is.form, x.has))),
+        (p, All-map (Keeps p) (literal_at t) held (all_from (λ (l : Lit). Keeps p (literal_at t l)) held (literal_kept p (owned t a.owners v k.unique k.right.owners_in k.right.once)))),
+      )

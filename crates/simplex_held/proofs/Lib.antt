@@ -5,3 +5,4 @@ pub mod Forms
 pub mod Owners
 pub mod Feasible
 pub mod Boards
+pub mod Checked

@@ -1,15 +1,21 @@
 //! Laws of held literals and the bounds that they state: functions with empty bodies, whose clauses are proved of the
 //! definitions.
 
-ghost use Rattle.std.specs.Prelude.{◌≡◌, ℕ, List, map, All, Contains};
+ghost use Rattle.std.specs.Prelude.{◌≡◌, ℕ, List, map, All, Contains, Ok};
 ghost use Rattle.spec_simplex.specs.Constraints.{HaveForms};
 ghost use Rattle.spec_simplex.specs.Points.{IsFeasible, IsInfeasible};
+ghost use Rattle.spec_tableaux.specs.Ranges.{Meets};
 ghost use Rattle.term_core.specs.declared.ids.Lit.{Lit};
 ghost use Rattle.term_core.specs.Tables.{TableView, literal_at};
+ghost use Rattle.sat_budget.specs.Budgets.{BudgetView};
 ghost use Rattle.proof_log.specs.Theories.{TheoryView, IsOver, terms_watched};
 ghost use Rattle.simplex_bounds.specs.declared.bounds.Bound.{Bound};
+ghost use Rattle.simplex_bounds.specs.Deltas.{deltas};
 ghost use Rattle.simplex_bounds.specs.Held.{BoundsView};
-ghost use Rattle.simplex_check.specs.Boards.{BoardView};
+ghost use Rattle.simplex_check.specs.Boards.{BoardView, point_in};
+ghost use Rattle.simplex_check.specs.Strains.{Ranges};
+ghost use Rattle.simplex_check.specs.Ends.{Ends};
+ghost use Rattle.simplex_check.specs.declared.check.Outcome.TheVariants.{Fine};
 ghost use Rattle.simplex_atoms.specs.declared.place.Place.{Place};
 ghost use Rattle.simplex_atoms.specs.Atoms.{AtomsView, AreRight};
 ghost use Rattle.simplex_explain.specs.declared.weighted.Weighted.{Weighted};
@@ -25,6 +31,12 @@ pub fn held_bounds_are_stated()
         → AreBoundsOf placed held bounds → AreStated placed bounds }
     ensures held { (placed : List (ℕ × Place)) (held : List Lit) (bounds : List Bound)
         → AreBoundsOf placed held bounds → (b : Bound) → Contains bounds b → Contains held b.literal }
+{}
+
+/// States that the values of a board solve its rows and keep the bounds once a check finds nothing wrong.
+pub fn checked_values_keep_bounds()
+    ensures { (ranges : Ranges) (b c : BoardView) (old new : BudgetView) → Ends ranges b c old new (Ok Fine)
+        → Meets deltas c.tableau.rows ranges (point_in c.values) }
 {}
 
 /// States that where values keep the bounds that held literals state, each literal that says something of linear

@@ -213,7 +213,7 @@ stuck_contradicts held listed t b solved same settled says =
     (stuck_is_stopped deltas space ordered (ranges_in held) t b solved settled says) (tidy_row deltas b t.rows solved.tidy)
     (named_holds t.point b t.rows out.0 settled.solves) (λ q h. named_holds q b t.rows out.0 (pairs_solve t.rows listed same q h))
 
-one_above : is_positive numbers numbers.one ≡ true
+pub one_above : is_positive numbers numbers.one ≡ true
 unfolding numbers fractions opposite
 one_above = refl
 

@@ -95,7 +95,7 @@ over_parts b c true h k = by (is_above_zero b.fraction) (is_zero b.fraction) (is
     by false false q h = h
 over_parts b c false h k = ap (λ (x : Number). is_above_zero b.fraction || (is_zero b.fraction && is_above_zero x.fraction)) (sym (k refl)) ∙ h
 
-zero_solves : (rs : List (Row Number)) → Solves (as_space numbers) (λ _. numbers.zero) rs
+pub zero_solves : (rs : List (Row Number)) → Solves (as_space numbers) (λ _. numbers.zero) rs
 zero_solves [] = tt
 zero_solves (r ∷ rs) = (record { is = sym (none r.entries) }, zero_solves rs)
   where

@@ -11,8 +11,9 @@ use Rattle.proof_log.specs.Theories.{IsOver, IsTermIn, terms_watched, literals_h
 use Rattle.tableau.specs.Views.{IsTableau}
 use Rattle.simplex_check.specs.Ends.{Ends}
 use Rattle.simplex_explain.specs.Steps.{derived}
-use Rattle.simplex.specs.Checks.{IsStrainOf, NeedsMore}
+use Rattle.simplex.specs.Checks.{KeepsBounds, IsStrainOf, NeedsMore}
 use Rattle.simplex_bounds.specs.Held.{ranges_in}
+use Rattle.simplex_held.proofs.Checked.{checked_meets}
 use Rattle.simplex.specs.Views.{SimplexView, IsOf}
 use Rattle.simplex.proofs.Judging.{spent, stopped, board_fits, table_grows, fine, found, no_pivots, nothing_came, answers, clash_differs, stop_differs}
 use Rattle.simplex.proofs.simplex.Simplex.check.Goals as goal
@@ -48,11 +49,11 @@ returns-in-Fine-clause-checks c =
     let v : SimplexView = record { theory = s.literals; atoms = s.atoms; board = c.check.new.self; bounds = s.bounds; starts = s.starts.items } in
     let with : IsOf v t = board_fits c.args.table.now (record { theory = s.literals; atoms = s.atoms; board = s.board; bounds = s.bounds; starts = s.starts.items }) c.check.new.self c.check.ensures.variables c.check.ensures.listed
     (subst (λ (v : SimplexView). IsOf v c.args.table.now) (sym c.self.view_is) c.requires.with) in
-    let ends = subst (λ o. Ends (ranges_in s.bounds.held) s.board c.check.new.self c.args.budget.now c.check.new.budget (Ok o)) c.in-Fine.is c.in-Ok.ensures.ends in (
-      subst (λ (w : SimplexView). HaveForms (literals_held t w.theory) × IsFeasible (literals_held t w.theory)) c.self.view_is
-          (fine t v s.board c.args.budget.now c.check.new.budget c.ids_are_unique.ensures (subst IsTableau c.tableau.ensures c.rows_are_in_solved_form.ensures) with c.self.invariant.0.bounds_are c.are_of_watched_terms.ensures.over ends),
-      nothing_came (terms_watched t c.args.self.now.theory) t c.args.log.now c.requires.log,
-    )
+    let ends = subst (λ o. Ends (ranges_in s.bounds.held) s.board c.check.new.self c.args.budget.now c.check.new.budget (Ok o)) c.in-Fine.is c.in-Ok.ensures.ends in
+    let meets : KeepsBounds v = checked_meets (ranges_in s.bounds.held) s.board c.check.new.self c.args.budget.now c.check.new.budget ends in
+    let both = subst (λ (w : SimplexView). HaveForms (literals_held t w.theory) × IsFeasible (literals_held t w.theory)) c.self.view_is
+    (fine t v c.ids_are_unique.ensures (subst IsTableau c.tableau.ensures c.rows_are_in_solved_form.ensures) with c.self.invariant.0.bounds_are c.are_of_watched_terms.ensures.over meets) in
+    ((both.0, both.1, meets), nothing_came (terms_watched t c.args.self.now.theory) t c.args.log.now c.requires.log)
 
 pub clash-requires : goal.clash-requires
 clash-requires c =

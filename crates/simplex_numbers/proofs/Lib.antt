@@ -1,0 +1,11 @@
+-- L
+pub mod Orders
+pub mod Rows
+pub mod Numbers
+pub mod Keeping
+pub mod Everywhere
+pub mod Tilts
+pub mod Flat
+pub mod Holding
+pub mod Sides
+pub mod Compared

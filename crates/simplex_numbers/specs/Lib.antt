@@ -1,0 +1,3 @@
+-- Numbers in the place of the infinitesimal.
+pub mod Values
+pub mod Strains

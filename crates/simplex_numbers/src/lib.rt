@@ -1,0 +1,17 @@
+//! Numbers in the place of the infinitesimal, at which values keep the bounds that are held.
+//!
+//! Values of simplex are pairs of a base and a tilt, which is how many times an infinitesimal is added. A model has
+//! numbers: there the infinitesimal is a number above 0, small enough for all bounds. By the numbers that the values are
+//! then, held literals hold, strict ones too.
+//! Source: Dutertre and de Moura, A Fast Linear-Arithmetic Solver for DPLL(T), CAV 2006.
+#![tactic(auto)]
+
+pub mod laws;
+mod narrowing;
+mod small;
+#[cfg(test)]
+mod tests;
+mod values;
+
+pub use small::small_number;
+pub use values::value_at;
