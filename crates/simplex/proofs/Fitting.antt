@@ -25,6 +25,7 @@ right_with t a b x y e r = record {
   owners_in = r.owners_in;
   once = r.once;
   grounded = r.grounded;
+  sums = r.sums;
   are_placed = λ id place at. record {
     is_in = (r.are_placed id place at).is_in;
     is = (r.are_placed id place at).is;

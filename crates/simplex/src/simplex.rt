@@ -67,7 +67,7 @@ impl Simplex {
     pub fn new(alloc: Global) -> Simplex
         ensures { result ≡ record {
           theory = record { held = []; watched = []; marks = [] };
-          atoms = record { owners = []; placed = [] };
+          atoms = record { owners = []; sums = []; placed = [] };
           board = empty_board;
           bounds = record { variables = 0; held = []; room = 0 };
           starts = [];

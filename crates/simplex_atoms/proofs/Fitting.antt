@@ -2,11 +2,12 @@
 use Rattle.std.proofs.Common.{◌≡◌, ℕ, ◌≤◌, Bool, true, false, List, [], ◌∷◌, ◌++◌, length, cond, Option, Some, None, nat_eq, refl, sym, ◌∙◌, ap, subst, arith}
 use Rattle.std.proofs.Math.ListN.{get_or-append}
 use Rattle.std.proofs.lemmas.List.{length-append}
+use Rattle.std.proofs.lemmas.List.Elements.{All-nil, All-weaker}
 use Rattle.std.proofs.lemmas.Bool.{eqb-true}
 use Rattle.spec_sorts.specs.Terms.{Term, no_term}
 use Rattle.spec_arithmetic.specs.Forms.{Form}
 use Rattle.spec_tableaux.specs.Spaces.{Space, as_space}
-use Rattle.spec_tableaux.specs.Rows.{Row, Solves}
+use Rattle.spec_tableaux.specs.Rows.{Entry, Row, Solves}
 use Rattle.spec_tableaux.specs.Numbers.{Number, numbers}
 use Rattle.term_core.specs.declared.ids.TermId.{TermId}
 use Rattle.term_core.specs.Tables.{TableView, term_at, IsIn, Extends}
@@ -15,14 +16,25 @@ use Rattle.simplex_check.specs.Boards.{BoardView, empty_board}
 use Rattle.simplex_atoms.specs.declared.place.Place.{Place}
 use Rattle.simplex_atoms.specs.Owners.{owner_at, AreOwned, AreOwnersIn}
 use Rattle.simplex_atoms.specs.Places.{Setting, IsFormOf, IsPlaced, place_in}
-use Rattle.simplex_atoms.specs.Atoms.{AtomsView, Ground, ground_of, setting_of, Grows, IsPlaceOf, ArePlaced, AreRight}
+use Rattle.simplex_atoms.specs.Sums.{sign_by, Sum}
+use Rattle.simplex_atoms.specs.Atoms.{AtomsView, Ground, ground_of, setting_of, Grows, IsMultiple, IsSum, AreSums, IsPlaceOf, ArePlaced, AreRight}
 use Rattle.simplex_atoms.proofs.Owning.{owner_kept, owner_below, some_same}
 
-solves_first : {A V : Type 0} (s : Space A V) (v : ℕ → V) (rs more : List (Row A)) → Solves s v (rs ++ more) → Solves s v rs
+pub solves_first : {A V : Type 0} (s : Space A V) (v : ℕ → V) (rs more : List (Row A)) → Solves s v (rs ++ more) → Solves s v rs
 solves_first s v [] more h = tt
 solves_first s v (r ∷ rs) more h = (h.0, solves_first s v rs more h.1)
 
 -- over more variables and rows
+
+multiple_on : (g h : Ground) (es : List (Entry Number)) (k : Number) (y : ℕ) → Grows g h → IsMultiple g es k y → IsMultiple h es k y
+multiple_on g h es k y grows m = record {
+  variable = omega (arith, m.variable, ap (λ (l : List (Option TermId)). length l) grows.owners, length-append g.owners grows.more_owners);
+  sum = λ v s.
+      m.sum v (solves_first (as_space numbers) v g.board.tableau.listed grows.more_rows (subst (λ (l : List (Row Number)). Solves (as_space numbers) v l) grows.listed s));
+}
+
+pub sums_on : (g h : Ground) (sums : List Sum) → Grows g h → AreSums g sums → AreSums h sums
+sums_on g h sums grows all = All-weaker (IsSum g) (IsSum h) (λ s m. multiple_on g h s.entries (sign_by s.opposite) s.variable grows m) sums all
 
 form_on : (t : TableView) (g h : Ground) (place : Place) (f : Form) → Grows g h → IsFormOf (setting_of t g) place f → IsFormOf (setting_of t h) place f
 form_on t g h place f grows is = record {
@@ -107,13 +119,14 @@ right_after old new x a b bounds r = record {
   owners_in = λ y id e. is_in_stays old new x id (r.owners_in y id e);
   once = r.once;
   grounded = r.grounded;
+  sums = r.sums;
   are_placed = λ id place e. place_after old new x (ground_of a.owners b) r.owners_in bounds.variables id place (r.are_placed id place e);
 }
 
 -- at first
 
 abbrev pub no_atoms : AtomsView
-no_atoms = record { owners = []; placed = [] }
+no_atoms = record { owners = []; sums = []; placed = [] }
 
 abbrev pub no_bounds : BoundsView
 no_bounds = record { variables = 0; held = []; room = 0 }
@@ -125,6 +138,7 @@ right_first t = record {
   owners_in = λ y id e. absurd (none_here y id e);
   once = λ x y id e h. absurd (none_here x id e);
   grounded = omega arith;
+  sums = All-nil (IsSum (ground_of [] empty_board));
   are_placed = λ id place e. absurd (no_place place e);
 }
   where

@@ -10,3 +10,7 @@ pub mod Keeping
 pub mod Weighing
 pub mod Fitting
 pub mod Watched
+pub mod Summing
+pub mod Turning
+pub mod Adding
+pub mod Multiples

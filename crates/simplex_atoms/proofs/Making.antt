@@ -1,13 +1,13 @@
 -- How the place of a form is made.
-use Rattle.std.proofs.Common.{◌≡◌, ℕ, ◌<◌, false, List, [], ◌∷◌, ◌++◌, length, map, Option, None, Result, Ok, Err, refl, sym, ◌∙◌, ap, subst, arith}
+use Rattle.std.proofs.Common.{◌≡◌, ℕ, ◌<◌, List, [], ◌∷◌, ◌++◌, length, map, Option, None, Result, Ok, Err, refl, sym, ◌∙◌, ap, subst, arith}
 use Rattle.std.specs.Prelude.{IfOk, IfErr, IsErrAnd}
 use Rattle.std.proofs.lemmas.List.{length-append}
 use Rattle.spec_numbers.specs.Fractions.{Fraction, opposite}
-use Rattle.spec_numbers.specs.Bounds.{divided}
+use Rattle.spec_numbers.specs.Bounds.{Overflow, divided}
 use Rattle.spec_arithmetic.specs.Forms.{variables_value}
 use Rattle.spec_simplex.specs.Entries.{AreEntries}
 use Rattle.spec_tableaux.specs.Spaces.{Space, as_space}
-use Rattle.spec_tableaux.specs.Rows.{Row, Holds, Solves, sum_of}
+use Rattle.spec_tableaux.specs.Rows.{Entry as RowEntry, Row, Holds, Solves, sum_of}
 use Rattle.spec_tableaux.specs.SolvedForms.{IsOver}
 use Rattle.spec_tableaux.specs.Numbers.{Number, numbers, fractions}
 use Rattle.spec_tableaux.proofs.Numbers.{numbers_are_ordered_field}
@@ -34,7 +34,7 @@ use Rattle.simplex_atoms.specs.declared.stop.AtomStop.TheVariants as stops
 use Rattle.simplex_atoms.specs.Owners.{owner_term}
 use Rattle.simplex_atoms.specs.Stops.{of_row}
 use Rattle.simplex_atoms.specs.Places.{IsFormOf}
-use Rattle.simplex_atoms.specs.Atoms.{Ground, ground_of, setting_of, Grows}
+use Rattle.simplex_atoms.specs.Atoms.{Ground, ground_of, setting_of, Grows, IsMultiple}
 use Rattle.simplex_atoms.specs.Watching.{AreNumbered, OnWide, StrainsForm, bound, row}
 use Rattle.simplex_atoms.specs.Made as made
 use Rattle.simplex_atoms.specs.Made.{IsMade, Covers, StrainsEntries}
@@ -51,48 +51,38 @@ pub wide_as : (x y d : Fraction) (r : Result Place Wide) (w : Wide) → x ≡ y 
 wide_as x y d (Ok p) w e h is = absurd is
 wide_as x y d (Err v) w e h is = subst (λ (u : Wide). divided y d ≡ Err (overflow u)) (sym is) (ap (λ z. divided z d) (sym e) ∙ h)
 
-pub row_strains : (b c : BoardView) (constant : Ratio) (es : List Entry) (s : RowStop) (r : Result Place AtomStop) → c ≡ b
+pub row_strains : (b c : BoardView) (constant : Ratio) (es : List Entry) (s : RowStop) (r : Result ℕ AtomStop) → c ≡ b
     → views.OnWide (StrainsNew (state_of b) (entries_of es)) s → IsErrAnd r (λ e. e ≡ of_row s) → IfErr r (OnWide (StrainsEntries c constant es))
-row_strains b c constant es s (Ok p) e h is = absurd is
+row_strains b c constant es s (Ok y) e h is = absurd is
 row_strains b c constant es s (Err a) e h is = subst (OnWide (StrainsEntries c constant es)) (sym is) (by s h)
   where
     by : (s : RowStop) → views.OnWide (StrainsNew (state_of b) (entries_of es)) s → OnWide (StrainsEntries c constant es) (of_row s)
     by (rows.Wide w) h = made.row (subst (λ (x : BoardView). StrainsNew (state_of x) (entries_of es) (overflow w)) (sym e) h)
     by rows.Memory h = tt
 
+pub stop_wide : (P : Overflow → Type 0) (s : AtomStop) (r : Result Place AtomStop) → OnWide P s → IsErrAnd r (λ e. e ≡ s) → IfErr r (OnWide P)
+stop_wide P s (Ok p) h is = absurd is
+stop_wide P s (Err e) h is = subst (OnWide P) (sym is) h
+
 pub variable_strains : (b : BoardView) (constant : Ratio) (es : List Entry) (e : Entry) (w : Wide) (r : Result Place AtomStop) → es ≡ e ∷ []
     → divided (opposite (fraction constant)) (fraction e.coefficient) ≡ Err (overflow w) → IsErrAnd r (λ s. s ≡ stops.Wide w) → IfErr r (OnWide (StrainsEntries b constant es))
 variable_strains b constant es e w (Ok p) is h k = absurd k
 variable_strains b constant es e w (Err a) is h k = subst (OnWide (StrainsEntries b constant es)) (sym k) (made.bound e is h)
 
--- a place on a row
-
-pub one_made : (k : Number) → k ≡ numbers.one → numbers.is_zero k ≡ false
-one_made k e = ap numbers.is_zero e ∙ numbers_are_ordered_field.one_is_not_zero
-
-inverse_one : numbers.inverse numbers.one ≡ numbers.one
-inverse_one =
-    let l = numbers_are_ordered_field in
-    sym (l.product_one (numbers.inverse numbers.one)) ∙ l.product_commutative numbers.one (numbers.inverse numbers.one) ∙ l.product_inverse numbers.one l.one_is_not_zero
-
-pub one_bound : (x k b : Number) → k ≡ numbers.one → b ≡ numbers.opposite x → b ≡ numbers.times (numbers.opposite x) (numbers.inverse k)
-one_bound x k b e h =
-    let l = numbers_are_ordered_field in
-    h ∙ sym (l.product_one (numbers.opposite x)) ∙ l.product_commutative numbers.one (numbers.opposite x)
-    ∙ ap (numbers.times (numbers.opposite x)) (sym (ap numbers.inverse e ∙ inverse_one))
+-- a row
 
 solves_last : {A V : Type 0} (s : Space A V) (v : ℕ → V) (rs : List (Row A)) (r : Row A) → Solves s v (rs ++ r ∷ []) → Holds s v r
 solves_last s v [] r h = h.0
 solves_last s v (q ∷ rs) r h = solves_last s v rs r h.1
 
-pub row_covers : (os us : List (Option TermId)) (b c : BoardView) (es : List Entry) (p : Place) → length os ≡ b.tableau.variables → us ≡ os ++ None ∷ []
-    → c ≡ board_with_sum b (entries_of es) → p.variable ≡ b.tableau.variables → number_of p.factor ≡ numbers.one → Covers (ground_of us c) es p
-row_covers os us b c es p count e f y k = record {
-  variable = omega (arith, y, count, ap (λ (l : List (Option TermId)). length l) e, length-append os (None ∷ []));
+pub row_is_sum : (os us : List (Option TermId)) (b c : BoardView) (es : List (RowEntry Number)) (y : ℕ) → length os ≡ b.tableau.variables → us ≡ os ++ None ∷ [] → c ≡ board_with_sum b es
+    → y ≡ b.tableau.variables → IsMultiple (ground_of us c) es numbers.one y
+row_is_sum os us b c es y count e f is = record {
+  variable = omega (arith, is, count, ap (λ (l : List (Option TermId)). length l) e, length-append os (None ∷ []));
   sum = λ v h.
       let S : BoardView → Type 0 = λ x. Solves (as_space numbers) v x.tableau.listed in
-      let last = solves_last (as_space numbers) v b.tableau.listed (record { basic = b.tableau.variables; entries = entries_of es }) (subst S f h) in
-      sym last.is ∙ ap v (sym y) ∙ sym (numbers_are_ordered_field.product_one (v p.variable)) ∙ ap (λ n. numbers.times n (v p.variable)) (sym k);
+      let last = solves_last (as_space numbers) v b.tableau.listed (record { basic = b.tableau.variables; entries = es }) (subst S f h) in
+      sym last.is ∙ ap v (sym is) ∙ sym (numbers_are_ordered_field.product_one (v y));
 }
 
 -- a place on a variable

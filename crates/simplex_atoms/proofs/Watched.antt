@@ -15,24 +15,26 @@ use Rattle.simplex_atoms.specs.declared.stop.AtomStop.{AtomStop}
 use Rattle.simplex_atoms.specs.declared.stop.AtomStop.TheVariants as stops
 use Rattle.simplex_atoms.specs.Owners.{AreOnce, AreOwnersIn}
 use Rattle.simplex_atoms.specs.Places.{relation_meant, IsFormOf, place_in}
-use Rattle.simplex_atoms.specs.Atoms.{AtomsView, ground_of, setting_of, AreCounted, IsGrounded, Grows, IsPlaceOf, AreRight}
+use Rattle.simplex_atoms.specs.Atoms.{AtomsView, ground_of, setting_of, AreCounted, IsGrounded, Grows, AreSums, IsPlaceOf, AreRight}
+use Rattle.simplex_atoms.specs.Sums.{Sum}
 use Rattle.simplex_atoms.specs.Watching.{constraint_meant, Forms, OnWide, StrainsForm, StrainsAtom, in_form, in_place, IsWatched}
 use Rattle.simplex_atoms.proofs.Fitting.{placed_on}
 
 -- atoms with these parts
-abbrev pub atoms_of : List (Option TermId) → List (ℕ × Place) → AtomsView
-atoms_of os placed = record { owners = os; placed = placed }
+abbrev pub atoms_of : List (Option TermId) → List Sum → List (ℕ × Place) → AtomsView
+atoms_of os sums placed = record { owners = os; sums = sums; placed = placed }
 
 -- more variables, and places as before
-pub right_on : (t : TableView) (os us : List (Option TermId)) (old new : List (ℕ × Place)) (b c : BoardView) (bounds more : BoundsView) → AreRight t (atoms_of os old) b bounds → new ≡ old
-    → AreCounted (ground_of us c) → (IsGrounded (ground_of os b) → IsGrounded (ground_of us c)) → Grows (ground_of os b) (ground_of us c) → AreOwnersIn t us → AreOnce us → bounds.variables ≤ more.variables → more.variables ≤ c.tableau.variables
-    → AreRight t (atoms_of us new) c more
-right_on t os us old new b c bounds more r same counted grounded grows there once le within = record {
+pub right_on : (t : TableView) (os us : List (Option TermId)) (ss rs : List Sum) (old new : List (ℕ × Place)) (b c : BoardView) (bounds more : BoundsView) → AreRight t (atoms_of os ss old) b bounds
+    → new ≡ old → AreSums (ground_of us c) rs → AreCounted (ground_of us c) → (IsGrounded (ground_of os b) → IsGrounded (ground_of us c)) → Grows (ground_of os b) (ground_of us c) → AreOwnersIn t us → AreOnce us → bounds.variables ≤ more.variables → more.variables ≤ c.tableau.variables
+    → AreRight t (atoms_of us rs new) c more
+right_on t os us ss rs old new b c bounds more r same sums counted grounded grows there once le within = record {
   counted = counted;
   within = within;
   owners_in = there;
   once = once;
   grounded = grounded r.grounded;
+  sums = sums;
   are_placed = λ id place e.
       placed_on t (ground_of os b) (ground_of us c) bounds.variables more.variables old grows le r.are_placed id place
       (subst (λ (l : List (ℕ × Place)). place_in l id ≡ Some place) same e);

@@ -1,8 +1,8 @@
 -- What atoms are placed on, beside a board and bounds, and how all of these grow.
-use Rattle.std.specs.Prelude.{◌≡◌, ℕ, ◌<◌, ◌≤◌, List, ◌++◌, length, Option, Some}
-use Rattle.spec_tableaux.specs.Spaces.{Pair}
-use Rattle.spec_tableaux.specs.Rows.{Row}
-use Rattle.spec_tableaux.specs.Numbers.{Number}
+use Rattle.std.specs.Prelude.{◌≡◌, ℕ, ◌<◌, ◌≤◌, List, ◌++◌, length, All, Option, Some}
+use Rattle.spec_tableaux.specs.Spaces.{Pair, as_space}
+use Rattle.spec_tableaux.specs.Rows.{Entry, Row, Solves, sum_of}
+use Rattle.spec_tableaux.specs.Numbers.{Number, numbers}
 use Rattle.term_core.specs.declared.ids.TermId.{TermId}
 use Rattle.term_core.specs.Tables.{TableView, term_at, IsIn}
 use Rattle.simplex_bounds.specs.Held.{BoundsView}
@@ -11,11 +11,14 @@ use Rattle.simplex_atoms.specs.declared.place.Place.{Place}
 use Rattle.simplex_atoms.specs.Owners.{AreOnce, AreOwnersIn}
 use Rattle.simplex_atoms.specs.Grounded.{AreGrounded}
 use Rattle.simplex_atoms.specs.Places.{Setting, IsPlaced, place_in}
+use Rattle.simplex_atoms.specs.Sums.{sign_by, Sum}
 
--- For each variable the term that it stands for, and the places of atoms.
+-- For each variable the term that it stands for, the sums that have rows, and the places of atoms.
 pub record AtomsView : Type 0 where
   -- for each variable the term that it stands for; those of rows stand for none
   pub owners : List (Option TermId)
+  -- the sums for which variables of rows stand, in any order
+  pub sums : List Sum
   -- the places, by the numbers of the atoms, in any order
   pub placed : List (ℕ × Place)
 
@@ -44,6 +47,21 @@ pub record Grows (old new : Ground) : Type 0 where
   -- the values of the variables that came
   pub more_values : List (Pair Number)
   pub values : new.board.values ≡ old.board.values ++ more_values
+
+-- The sum of entries is the factor times a variable, wherever the rows hold.
+pub record IsMultiple (g : Ground) (es : List (Entry Number)) (factor : Number) (y : ℕ) : Type 0 where
+  -- the variable is there
+  pub variable : y < length g.owners
+  pub sum : (v : ℕ → Number) → Solves (as_space numbers) v g.board.tableau.listed
+      → sum_of (as_space numbers) v es ≡ numbers.times factor (v y)
+
+-- a sum is its variable, or minus it, wherever the rows hold
+abbrev pub IsSum : Ground → Sum → Type 0
+IsSum g s = IsMultiple g s.entries (sign_by s.opposite) s.variable
+
+-- each of the sums is
+abbrev pub AreSums : Ground → List Sum → Type 0
+AreSums g sums = All (IsSum g) sums
 
 -- Bounds can be held of more variables, and those that are held and the room for more are as before.
 pub record KeepBounds (old new : BoundsView) : Type 0 where
@@ -81,5 +99,7 @@ pub record AreRight (t : TableView) (a : AtomsView) (b : BoardView) (bounds : Bo
   pub once : AreOnce a.owners
   -- rows as they were added have a solution for all values of terms
   pub grounded : IsGrounded (ground_of a.owners b)
+  -- sums that are kept are those of their variables
+  pub sums : AreSums (ground_of a.owners b) a.sums
   -- each place is that of its atom
   pub are_placed : ArePlaced (setting_of t (ground_of a.owners b)) bounds.variables a.placed

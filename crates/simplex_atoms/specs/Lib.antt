@@ -4,6 +4,7 @@ pub mod Stops
 pub mod Places
 pub mod Limits
 pub mod Grounded
+pub mod Sums
 pub mod Atoms
 pub mod Watching
 pub mod Made

@@ -1,10 +1,8 @@
 -- Steps by which the place of a form is made.
-use Rattle.std.specs.Prelude.{◌≡◌, ℕ, ◌<◌, false, List, [], ◌∷◌, length, Option, Some, None, Err}
+use Rattle.std.specs.Prelude.{◌≡◌, false, List, [], ◌∷◌, Option, Some, None, Err}
 use Rattle.spec_numbers.specs.Fractions.{opposite}
 use Rattle.spec_numbers.specs.Bounds.{Overflow, divided}
-use Rattle.spec_tableaux.specs.Spaces.{as_space}
-use Rattle.spec_tableaux.specs.Rows.{Solves, sum_of}
-use Rattle.spec_tableaux.specs.Numbers.{Number, numbers}
+use Rattle.spec_tableaux.specs.Numbers.{numbers}
 use Rattle.ratio128.specs.declared.ratio.Ratio.{Ratio}
 use Rattle.ratio128.specs.Meant.{fraction}
 use Rattle.tableau.specs.declared.entries.Entry.{Entry}
@@ -14,7 +12,7 @@ use Rattle.simplex_check.specs.Boards.{BoardView, state_of}
 use Rattle.simplex_check.specs.Strains.{StrainsNew}
 use Rattle.simplex_atoms.specs.declared.place.Kind.{Kind}
 use Rattle.simplex_atoms.specs.declared.place.Place.{Place}
-use Rattle.simplex_atoms.specs.Atoms.{Ground}
+use Rattle.simplex_atoms.specs.Atoms.{Ground, IsMultiple}
 
 -- The place has this kind and constant, and its bound is that of its factor.
 pub record IsMade (kind : Kind) (constant : Ratio) (place : Place) : Type 0 where
@@ -24,12 +22,9 @@ pub record IsMade (kind : Kind) (constant : Ratio) (place : Place) : Type 0 wher
   pub bound : number_of place.bound
       ≡ numbers.times (numbers.opposite (number_of place.constant)) (numbers.inverse (number_of place.factor))
 
--- The sum of entries is the factor times the variable, wherever the rows hold.
-pub record Covers (g : Ground) (es : List Entry) (place : Place) : Type 0 where
-  -- the variable is there
-  pub variable : place.variable < length g.owners
-  pub sum : (v : ℕ → Number) → Solves (as_space numbers) v g.board.tableau.listed
-      → sum_of (as_space numbers) v (entries_of es) ≡ numbers.times (number_of place.factor) (v place.variable)
+-- the sum of entries is the place's factor times its variable, wherever the rows hold
+abbrev pub Covers : Ground → List Entry → Place → Type 0
+Covers g es place = IsMultiple g (entries_of es) (number_of place.factor) place.variable
 
 -- the one entry, whose coefficient is not 0, where the entries are such a one
 abbrev pub IsSingle : List Entry → Option Entry → Type 0

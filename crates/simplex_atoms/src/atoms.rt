@@ -14,6 +14,7 @@ use crate::place::Place;
 use crate::placing::place_of;
 use crate::reading::{difference_of, sides_of};
 use crate::stop::AtomStop;
+use crate::sums::Sums;
 use simplex_bounds::Bounds;
 use simplex_check::Board;
 use std::alloc::Global;
@@ -22,15 +23,17 @@ use std::marker::Model;
 use term_core::{TermId, TermTable};
 use world_io::NoMemory;
 
-/// Holds which terms the variables of a board stand for, and the places of the atoms that are watched.
+/// Holds which terms and sums the variables of a board stand for, and the places of the atoms that are watched.
 ///
-/// A term's variable and an atom's place are looked up by a hash of its number. Contracts see for each variable the
-/// term that it stands for, and the places by the numbers of the atoms.
+/// A term's variable and an atom's place are looked up by a hash of its number, and a sum's variable by a hash of its
+/// entries. Contracts see for each variable the term that it stands for, the sums, and the places by the numbers of
+/// the atoms.
 /// Source: Dutertre and de Moura, A Fast Linear-Arithmetic Solver for DPLL(T), CAV 2006.
 #[derive(Drop)]
 pub struct Atoms {
     alloc: Global,
     owners: Owners,
+    sums: Sums,
     places: HashMap<u64, Place>,
 }
 
@@ -39,7 +42,7 @@ impl Model for Atoms {
 
     ghost Value = { AtomsView };
 
-    ghost view = { λ a. record { owners = a.owners.list; placed = a.places.entries } };
+    ghost view = { λ a. record { owners = a.owners.list; sums = a.sums; placed = a.places.entries } };
 }
 
 /// Lets bounds be held of n variables.
@@ -60,11 +63,12 @@ fn reach(bounds: &mut Bounds, n: u64) -> Result<(), NoMemory>
 impl Atoms {
     /// Makes atoms of which none is watched, and no variable. It takes no memory.
     pub fn new(alloc: Global) -> Atoms
-        ensures { result ≡ record { owners = []; placed = [] } }
+        ensures { result ≡ record { owners = []; sums = []; placed = [] } }
     {
         Atoms {
             alloc,
             owners: Owners::new(alloc),
+            sums: Sums::new(alloc),
             places: HashMap::new(alloc),
         }
     }
@@ -95,8 +99,9 @@ impl Atoms {
     }
 
     /// Watches a term: gives it a place, if it is an atom of linear arithmetic without one. The variables of its
-    /// form, and its form if it has not one variable, get variables of the board where they have none, of which
-    /// bounds can be held then. Room for the atom's bounds is left to the caller.
+    /// form get variables of the board where they have none, of which bounds can be held then. So does their sum,
+    /// unless it has one variable, where neither it nor its opposite has one. Room for the atom's bounds is left to
+    /// the caller.
     ///
     /// `Wide` comes where an operation leaves the bound on fractions: the first one of the form, the quotient of its
     /// constant by the coefficient of its one variable, or one of the new row. `Memory` comes where there is no
@@ -128,7 +133,14 @@ impl Atoms {
             return Ok(());
         };
         let form = difference_of(self.alloc, table, sides)?;
-        let made = place_of(self.alloc, &mut self.owners, board, sides.kind, &form);
+        let made = place_of(
+            self.alloc,
+            &mut self.owners,
+            &mut self.sums,
+            board,
+            sides.kind,
+            &form,
+        );
         self.owners.are_once();
         let place = made?;
         reach(bounds, self.owners.len())?;

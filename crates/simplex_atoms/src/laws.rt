@@ -65,7 +65,7 @@ pub fn bounds_have_weights()
 
 /// States that no atoms fit each table, a board without variables and bounds of no variables.
 pub fn no_atoms_fit()
-    ensures { (t : TableView) → AreRight t (record { owners = []; placed = [] }) empty_board
+    ensures { (t : TableView) → AreRight t (record { owners = []; sums = []; placed = [] }) empty_board
         (record { variables = 0; held = []; room = 0 }) }
 {}
 

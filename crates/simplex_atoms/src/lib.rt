@@ -1,11 +1,13 @@
 //! Atoms of linear arithmetic on the variables of a tableau: which variable an atom bounds, and by which value.
 //!
 //! The form of a watched atom is a multiple of one variable, plus a constant. Terms that are no sums become
-//! variables, and other sums become rows. A literal of the atom then bounds the variable.
+//! variables, and other sums become rows, equal or opposite ones the same row. A literal of the atom then bounds the
+//! variable.
 //! Source: Dutertre and de Moura, A Fast Linear-Arithmetic Solver for DPLL(T), CAV 2006.
 #![tactic(auto)]
 
 mod atoms;
+mod keys;
 pub mod laws;
 mod limits;
 mod numbering;
@@ -14,6 +16,7 @@ mod place;
 mod placing;
 mod reading;
 mod stop;
+mod sums;
 #[cfg(test)]
 mod tests;
 

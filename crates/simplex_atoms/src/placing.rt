@@ -11,8 +11,9 @@ ghost use Rattle.linear_form.specs.Meant.{form_meant, AreVariablesOf};
 ghost use Rattle.tableau.specs.Numbers.{number_of};
 ghost use Rattle.tableau.specs.Entries.{entries_of};
 ghost use Rattle.simplex_atoms.specs.Owners.{AreOwnersIn};
+ghost use Rattle.simplex_atoms.specs.Sums.{sign_by};
 ghost use Rattle.simplex_atoms.specs.Places.{IsFormOf};
-ghost use Rattle.simplex_atoms.specs.Atoms.{ground_of, setting_of, AreCounted, IsGrounded, Grows};
+ghost use Rattle.simplex_atoms.specs.Atoms.{ground_of, setting_of, AreCounted, IsGrounded, Grows, IsMultiple, AreSums};
 ghost use Rattle.simplex_atoms.specs.Watching.{OnWide, StrainsForm};
 ghost use Rattle.simplex_atoms.specs.Made.{IsMade, Covers, IsSingle, StrainsEntries};
 
@@ -20,6 +21,7 @@ use crate::numbering::entries_of;
 use crate::owners::Owners;
 use crate::place::{Kind, Place};
 use crate::stop::AtomStop;
+use crate::sums::{Multiple, Sums};
 use linear_form::Form;
 use ratio128::{Ratio, Wide};
 use simplex_check::Board;
@@ -58,17 +60,72 @@ fn on_variable(kind: Kind, constant: Ratio, entry: Entry) -> Result<Place, Wide>
     })
 }
 
-/// Makes the place on a new variable, which is the sum of the entries.
+/// Gives 1, or -1.
+fn sign(opposite: bool) -> Ratio
+    ensures { number_of result ≡ sign_by opposite }
+{
+    if opposite { negative(one()) } else { one() }
+}
+
+/// Gives the value of a variable at which it, or minus it, and the constant come to 0.
+fn bound_by(constant: Ratio, opposite: bool) -> Ratio
+    ensures { number_of result
+        ≡ numbers.times (numbers.opposite (number_of constant)) (numbers.inverse (sign_by opposite)) }
+{
+    if opposite {
+        constant
+    } else {
+        negative(constant)
+    }
+}
+
+/// Makes the place on a variable of which the form is a multiple by 1 or -1, but for the constant.
+fn on_multiple(kind: Kind, constant: Ratio, multiple: Multiple) -> Place
+    ensures made { IsMade kind constant result }
+    ensures variable { result.variable ≡ multiple.variable }
+    ensures factor { number_of result.factor ≡ sign_by multiple.opposite }
+{
+    Place {
+        kind,
+        variable: multiple.variable,
+        factor: sign(multiple.opposite),
+        constant,
+        bound: bound_by(constant, multiple.opposite),
+    }
+}
+
+/// Adds a variable that is the sum of the entries, and gives its number.
+fn add_row(owners: &mut Owners, board: &mut Board, entries: &[Entry]) -> Result<u64, AtomStop>
+    requires counted { AreCounted (ground_of owners.old.list board.old) }
+    requires over { IsOver (λ y. y < board.old.tableau.variables) (entries_of entries.now) }
+    ensures counted { AreCounted (ground_of owners.new.list board.new) }
+    ensures grows { Grows (ground_of owners.old.list board.old) (ground_of owners.new.list board.new) }
+    ensures grounded { IsGrounded (ground_of owners.old.list board.old)
+        → IsGrounded (ground_of owners.new.list board.new) }
+    ensures there { (t : TableView) → AreOwnersIn t owners.old.list → AreOwnersIn t owners.new.list }
+    ensures is { IfOk result (IsMultiple (ground_of owners.new.list board.new) (entries_of entries.now) numbers.one) }
+    ensures wide { (constant : Ratio) → IfErr result (OnWide (StrainsEntries board.new constant entries.now)) }
+{
+    owners.reserve()?;
+    let variable = board.add_row(entries)?;
+    owners.add_none();
+    Ok(variable)
+}
+
+/// Makes the place on the variable that is the sum of the entries or minus it: the one that there is, else a new one.
 fn on_row(
     owners: &mut Owners,
+    sums: &mut Sums,
     board: &mut Board,
     kind: Kind,
     constant: Ratio,
     entries: &[Entry],
 ) -> Result<Place, AtomStop>
     requires counted { AreCounted (ground_of owners.old.list board.old) }
+    requires sums { AreSums (ground_of owners.old.list board.old) sums.old }
     requires over { IsOver (λ y. y < board.old.tableau.variables) (entries_of entries.now) }
     ensures counted { AreCounted (ground_of owners.new.list board.new) }
+    ensures sums { AreSums (ground_of owners.new.list board.new) sums.new }
     ensures grows { Grows (ground_of owners.old.list board.old) (ground_of owners.new.list board.new) }
     ensures grounded { IsGrounded (ground_of owners.old.list board.old)
         → IsGrounded (ground_of owners.new.list board.new) }
@@ -77,30 +134,38 @@ fn on_row(
     ensures covers { IfOk result (Covers (ground_of owners.new.list board.new) entries.now) }
     ensures wide { IfErr result (OnWide (StrainsEntries board.new constant entries.now)) }
 {
-    owners.reserve()?;
-    let variable = board.add_row(entries)?;
-    owners.add_none();
-    Ok(Place {
-        kind,
+    let key = sums.key(entries)?;
+    if let Some(known) = sums.find(&key) {
+        let multiple = Multiple {
+            variable: known.variable,
+            opposite: known.opposite != key.opposite,
+        };
+        return Ok(on_multiple(kind, constant, multiple));
+    }
+    let variable = add_row(owners, board, entries)?;
+    sums.add(key, variable)?;
+    let multiple = Multiple {
         variable,
-        factor: one(),
-        constant,
-        bound: negative(constant),
-    })
+        opposite: false,
+    };
+    Ok(on_multiple(kind, constant, multiple))
 }
 
 /// Makes the place of the form that has this constant, and the sum of the entries: on the variable of the one entry,
-/// else on a new variable.
+/// else on that of a row.
 fn place_by(
     owners: &mut Owners,
+    sums: &mut Sums,
     board: &mut Board,
     kind: Kind,
     constant: Ratio,
     entries: &[Entry],
 ) -> Result<Place, AtomStop>
     requires counted { AreCounted (ground_of owners.old.list board.old) }
+    requires sums { AreSums (ground_of owners.old.list board.old) sums.old }
     requires over { IsOver (λ y. y < board.old.tableau.variables) (entries_of entries.now) }
     ensures counted { AreCounted (ground_of owners.new.list board.new) }
+    ensures sums { AreSums (ground_of owners.new.list board.new) sums.new }
     ensures grows { Grows (ground_of owners.old.list board.old) (ground_of owners.new.list board.new) }
     ensures grounded { IsGrounded (ground_of owners.old.list board.old)
         → IsGrounded (ground_of owners.new.list board.new) }
@@ -114,24 +179,27 @@ fn place_by(
             let place = on_variable(kind, constant, entry)?;
             Ok(place)
         }
-        None => on_row(owners, board, kind, constant, entries),
+        None => on_row(owners, sums, board, kind, constant, entries),
     }
 }
 
-/// Makes the place of a form. Its variables and, unless it has one variable, their sum get variables where they have
-/// none.
+/// Makes the place of a form. Its variables get variables where they have none. Unless it has one, so does their sum,
+/// where neither it nor its opposite has one.
 ///
 /// `Wide` comes where an operation leaves the bound on fractions, and `Memory` where there is no memory. There may
 /// then be more variables and rows.
 pub(crate) fn place_of(
     alloc: Global,
     owners: &mut Owners,
+    sums: &mut Sums,
     board: &mut Board,
     kind: Kind,
     form: &Form,
 ) -> Result<Place, AtomStop>
-    requires { AreCounted (ground_of owners.old.list board.old) }
+    requires counted { AreCounted (ground_of owners.old.list board.old) }
+    requires sums { AreSums (ground_of owners.old.list board.old) sums.old }
     ensures counted { AreCounted (ground_of owners.new.list board.new) }
+    ensures sums { AreSums (ground_of owners.new.list board.new) sums.new }
     ensures grows { Grows (ground_of owners.old.list board.old) (ground_of owners.new.list board.new) }
     ensures grounded { IsGrounded (ground_of owners.old.list board.old)
         → IsGrounded (ground_of owners.new.list board.new) }
@@ -145,5 +213,5 @@ pub(crate) fn place_of(
 {
     let variables = form.variables(alloc)?;
     let entries = entries_of(alloc, owners, board, &variables)?;
-    place_by(owners, board, kind, form.constant(), &entries)
+    place_by(owners, sums, board, kind, form.constant(), &entries)
 }

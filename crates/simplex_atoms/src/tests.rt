@@ -37,10 +37,13 @@ not\t8
 <\t20 0
 /\t0 19
 <=\t22 19
-<=\t5 9";
+<=\t5 9
+-\t0 1
+<=\t25 5
+-\t1 0
+<=\t27 4";
 
-/// For each two terms that are watched, the second of them, what its atom says, its variable, factor, constant and
-/// bound.
+/// For terms that are watched, one after the other: what the last one says, its variable, factor, constant and bound.
 const PLACES: &str = "8 8\t< 0 -3/2 1 2/3
 10 10\t<= 3 1 -3 3
 12 12\t<= 0 1 -3 3
@@ -48,7 +51,7 @@ const PLACES: &str = "8 8\t< 0 -3/2 1 2/3
 14 14\t= 0 1 -3 3
 10 14\t= 0 1 -3 3
 10 13\t= 4 1 0 0
-10 24\t<= 4 1 3 -3
+10 24\t<= 3 -1 3 3
 14 8\t< 0 -3/2 1 2/3
 15 15\tnone
 16 16\tnone
@@ -57,6 +60,17 @@ const PLACES: &str = "8 8\t< 0 -3/2 1 2/3
 21 21\twide
 23 23\twide
 10 21\twide";
+
+/// The same of x - y <= 3, y - x <= 2 and x = y, in some orders: their sums, of two variables, are one or opposite.
+const SHARED: &str = "26 26\t<= 2 1 -3 3
+26 28\t<= 2 -1 -2 -2
+26 13\t= 2 1 0 0
+26 28 13\t= 2 1 0 0
+28 28\t<= 2 1 -2 2
+28 26\t<= 2 -1 -3 -3
+28 13\t= 2 -1 0 0
+28 26 13\t= 2 -1 0 0
+13 26 28\t<= 2 -1 -2 -2";
 
 /// Gives the head of a number's literal, or of a parameter.
 fn other_head(word: &str) -> Option<Head> {
@@ -130,14 +144,15 @@ fn table_of(alloc: Global, rows: &str) -> Result<TermTable, NoMemory> {
     Ok(table)
 }
 
-/// Watches two terms of the table, one after the other, and gives the place of the second.
+/// Watches three terms of the table, one after the other, and gives the place of the last.
 fn place_after(
     alloc: Global,
     table: &TermTable,
     first: TermId,
     second: TermId,
+    last: TermId,
 ) -> Result<Option<Place>, AtomStop> {
-    if first.0 >= table.len() || second.0 >= table.len() {
+    if first.0 >= table.len() || second.0 >= table.len() || last.0 >= table.len() {
         return Ok(None);
     }
     let mut atoms = Atoms::new(alloc);
@@ -145,7 +160,8 @@ fn place_after(
     let mut bounds = Bounds::new(alloc);
     atoms.watch(table, first, &mut board, &mut bounds)?;
     atoms.watch(table, second, &mut board, &mut bounds)?;
-    Ok(atoms.place(second))
+    atoms.watch(table, last, &mut board, &mut bounds)?;
+    Ok(atoms.place(last))
 }
 
 /// Tells whether a number is written so, with its denominator where that is not 1.
@@ -187,10 +203,12 @@ fn is_found(found: Result<Option<Place>, AtomStop>, wanted: &str) -> bool {
 fn is_right(alloc: Global, table: &TermTable, row: &str) -> Result<bool, NoMemory> {
     let (words, wanted) = row.split_once('\t').unwrap_or(("", ""));
     let ids = numbers_of(alloc, words)?;
-    let [first, second] = ids.as_slice() else {
-        return Ok(false);
+    let found = match ids.as_slice() {
+        [first, last] => place_after(alloc, table, *first, *first, *last),
+        [first, second, last] => place_after(alloc, table, *first, *second, *last),
+        _ => Ok(None),
     };
-    Ok(is_found(place_after(alloc, table, *first, *second), wanted))
+    Ok(is_found(found, wanted))
 }
 
 /// Gives the first row that is not right, if there is one.
@@ -207,16 +225,23 @@ fn first_other<'a>(
     Ok(None)
 }
 
-/// Gives the first row of the places that is not right, if there is one.
-fn first_other_place(alloc: Global) -> Result<Option<&'static str>, NoMemory> {
+/// Gives the first row of places that is not right, if there is one.
+fn first_other_place(alloc: Global, rows: &'static str) -> Result<Option<&'static str>, NoMemory> {
     let table = table_of(alloc, TERMS)?;
-    first_other(alloc, &table, PLACES)
+    first_other(alloc, &table, rows)
 }
 
 /// Atoms have these places.
 #[test]
 fn atoms_have_places(rt: HostRuntime) -> Result<(), Fail> {
-    assert!(rt; first_other_place(rt.alloc())? == None);
+    assert!(rt; first_other_place(rt.alloc(), PLACES)? == None);
+    Ok(())
+}
+
+/// Atoms whose sums are one or opposite have one row.
+#[test]
+fn equal_and_opposite_sums_have_one_row(rt: HostRuntime) -> Result<(), Fail> {
+    assert!(rt; first_other_place(rt.alloc(), SHARED)? == None);
     Ok(())
 }
 

@@ -1,12 +1,14 @@
 -- Atoms fit a board by how many variables it has and the rows that were added.
 use Rattle.std.proofs.Common.{◌≡◌, ℕ, ◌≤◌, List, sym, ◌∙◌, subst}
-use Rattle.spec_tableaux.specs.Rows.{Row}
-use Rattle.spec_tableaux.specs.Numbers.{Number}
+use Rattle.std.proofs.lemmas.List.Elements.{All-weaker}
+use Rattle.spec_tableaux.specs.Spaces.{as_space}
+use Rattle.spec_tableaux.specs.Rows.{Row, Solves}
+use Rattle.spec_tableaux.specs.Numbers.{Number, numbers}
 use Rattle.term_core.specs.Tables.{TableView}
 use Rattle.simplex_bounds.specs.Held.{BoundsView}
 use Rattle.simplex_check.specs.Boards.{BoardView}
 use Rattle.simplex_atoms.specs.Grounded.{AreGrounded}
-use Rattle.simplex_atoms.specs.Atoms.{AtomsView, AreRight, ArePlaced}
+use Rattle.simplex_atoms.specs.Atoms.{AtomsView, ground_of, IsSum, AreRight, ArePlaced}
 
 pub fit : (t : TableView) (a : AtomsView) (b c : BoardView) (bounds : BoundsView) → AreRight t a b bounds → c.tableau.variables ≡ b.tableau.variables
     → c.tableau.listed ≡ b.tableau.listed → AreRight t a c bounds
@@ -16,5 +18,9 @@ fit t a b c bounds right v l = record {
   owners_in = right.owners_in;
   once = right.once;
   grounded = subst (λ (n : ℕ). AreGrounded a.owners 0 c.tableau.listed n) (sym v) (subst (λ (rs : List (Row Number)). AreGrounded a.owners 0 rs b.tableau.variables) (sym l) right.grounded);
+  sums = All-weaker (IsSum (ground_of a.owners b)) (IsSum (ground_of a.owners c)) (λ x m. record {
+    variable = m.variable;
+    sum = λ u h. m.sum u (subst (λ (rs : List (Row Number)). Solves (as_space numbers) u rs) l h);
+  }) a.sums right.sums;
   are_placed = subst (λ (rs : List (Row Number)). ArePlaced (record { table = t; owners = a.owners; listed = rs }) bounds.variables a.placed) (sym l) right.are_placed;
 }

@@ -1,46 +1,45 @@
--- A row comes with its variable, or nothing does.
-use Rattle.std.proofs.Common.{[], ◌∷◌, ◌++◌, List, Option, None, refl, ◌∙◌, ap}
-use Rattle.term_core.specs.declared.ids.TermId.{TermId}
-use Rattle.tableau.specs.Numbers.{number_of}
-use Rattle.tableau.specs.Entries.{entries_of}
+-- The place is on the variable that is known, or on the new one.
+use Rattle.std.proofs.Common.{refl, sym, subst}
+use Rattle.simplex_atoms.specs.Atoms.{ground_of, AreSums}
+use Rattle.simplex_atoms.specs.Made.{StrainsEntries}
+use Rattle.simplex_atoms.proofs.Fitting.{sums_on}
 use Rattle.simplex_atoms.proofs.Growth.{grows_same}
-use Rattle.simplex_atoms.proofs.Grounding.{grounded_same, grounded_row}
-use Rattle.simplex_atoms.proofs.Making.{row_strains, one_made, one_bound, row_covers}
+use Rattle.simplex_atoms.proofs.Making.{stop_wide}
+use Rattle.simplex_atoms.proofs.Multiples.{known_covers, new_covers, sums_more}
 use Rattle.simplex_atoms.proofs.placing.on_row.Goals as goal
 
-pub returns-in_err-reserve-clause-grows : goal.returns-in_err-reserve-clause-grows
-returns-in_err-reserve-clause-grows c = grows_same c.args.owners.now.list c.reserve.new.self.list c.args.board.now _ c.reserve.ensures.list refl
+pub returns-in_err-key-clause-grows : goal.returns-in_err-key-clause-grows
+returns-in_err-key-clause-grows c = grows_same c.args.owners.now.list _ c.args.board.now _ refl refl
 
-pub returns-in_err-variable-clause-grows : goal.returns-in_err-variable-clause-grows
-returns-in_err-variable-clause-grows c =
-    grows_same c.args.owners.now.list c.reserve.new.self.list c.args.board.now c.add_row.new.self c.reserve.ensures.list c.in_err-variable.ensures.err
+pub returns-in-Some-clause-grows : goal.returns-in-Some-clause-grows
+returns-in-Some-clause-grows c = grows_same c.args.owners.now.list _ c.args.board.now _ refl refl
+
+pub returns-in-Some-clause-covers : goal.returns-in-Some-clause-covers
+returns-in-Some-clause-covers c =
+    known_covers (ground_of c.args.owners.now.list c.args.board.now) c.args.sums.now c.args.entries.now c.in_ok-key.key c.in-Some.known c.on_multiple.result c.requires.sums
+    c.in_ok-key.ensures c.in-Some.ensures c.on_multiple.ensures.variable c.on_multiple.ensures.factor
+
+pub returns-in_err-variable-clause-sums : goal.returns-in_err-variable-clause-sums
+returns-in_err-variable-clause-sums c =
+    sums_on (ground_of c.args.owners.now.list c.args.board.now) (ground_of c.add_row.new.owners.list c.add_row.new.board) c.args.sums.now c.add_row.ensures.grows c.requires.sums
 
 pub returns-in_err-variable-clause-wide : goal.returns-in_err-variable-clause-wide
 returns-in_err-variable-clause-wide c =
-    row_strains c.args.board.now c.add_row.new.self c.args.constant c.args.entries.now c.in_err-variable.field-0.0 c.from_residual-in_err-variable.result
-    c.in_err-variable.ensures.err c.in_err-variable.ensures.wide c.from_residual-in_err-variable.ensures.1
+    stop_wide (StrainsEntries c.add_row.new.board c.args.constant c.args.entries.now) c.in_err-variable.field-0.0 c.from_residual-in_err-variable.result
+    (c.in_err-variable.ensures.wide c.args.constant) c.from_residual-in_err-variable.ensures.1
 
-pub returns-clause-made : goal.returns-clause-made
-returns-clause-made c = record {
-  is_kind = refl;
-  is_constant = refl;
-  factor = one_made (number_of c.one.result) c.one.ensures;
-  bound = one_bound (number_of c.args.constant) (number_of c.one.result) (number_of c.negative.result) c.one.ensures c.negative.ensures;
-}
+pub returns-in_err-add-clause-sums : goal.returns-in_err-add-clause-sums
+returns-in_err-add-clause-sums c =
+    let g = ground_of c.add_row.new.owners.list c.add_row.new.board in
+    subst (AreSums g) (sym c.in_err-add.ensures.err) (sums_on (ground_of c.args.owners.now.list c.args.board.now) g c.args.sums.now c.add_row.ensures.grows c.requires.sums)
+
+pub returns-clause-sums : goal.returns-clause-sums
+returns-clause-sums c =
+    let g = ground_of c.add_row.new.owners.list c.add_row.new.board in
+    sums_more g c.args.entries.now c.in_ok-key.key c.in_ok-variable.variable c.args.sums.now c.add.new.self
+    (sums_on (ground_of c.args.owners.now.list c.args.board.now) g c.args.sums.now c.add_row.ensures.grows c.requires.sums) c.in_ok-key.ensures c.in_ok-variable.ensures.is c.in_ok-add.ensures.ok
 
 pub returns-clause-covers : goal.returns-clause-covers
 returns-clause-covers c =
-    row_covers c.args.owners.now.list c.add_none.new.self.list c.args.board.now c.add_row.new.self c.args.entries.now _ c.requires.counted
-    (c.add_none.ensures ∙ ap (λ (l : List (Option TermId)). l ++ None ∷ []) c.reserve.ensures.list) c.in_ok-variable.ensures.ok.1 c.in_ok-variable.ensures.ok.0 c.one.ensures
-
-pub returns-in_err-reserve-clause-grounded : goal.returns-in_err-reserve-clause-grounded
-returns-in_err-reserve-clause-grounded c = grounded_same c.args.owners.now.list c.reserve.new.self.list c.args.board.now _ c.reserve.ensures.list refl
-
-pub returns-in_err-variable-clause-grounded : goal.returns-in_err-variable-clause-grounded
-returns-in_err-variable-clause-grounded c =
-    grounded_same c.args.owners.now.list c.reserve.new.self.list c.args.board.now c.add_row.new.self c.reserve.ensures.list c.in_err-variable.ensures.err
-
-pub returns-clause-grounded : goal.returns-clause-grounded
-returns-clause-grounded c =
-    grounded_row c.args.owners.now.list c.add_none.new.self.list c.args.board.now c.add_row.new.self (entries_of c.args.entries.now) c.requires.counted c.requires.over
-    (c.add_none.ensures ∙ ap (λ (l : List (Option TermId)). l ++ None ∷ []) c.reserve.ensures.list) c.in_ok-variable.ensures.ok.1
+    new_covers (ground_of c.add_row.new.owners.list c.add_row.new.board) c.args.entries.now c.in_ok-variable.variable c.on_multiple-2.result c.in_ok-variable.ensures.is
+    c.on_multiple-2.ensures.variable c.on_multiple-2.ensures.factor

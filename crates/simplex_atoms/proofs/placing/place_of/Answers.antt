@@ -3,6 +3,7 @@ use Rattle.std.proofs.Common.{refl, sym, subst, List}
 use Rattle.tableau.specs.declared.entries.Entry.{Entry}
 use Rattle.simplex_atoms.specs.Atoms.{ground_of}
 use Rattle.simplex_atoms.specs.Watching.{AreNumbered}
+use Rattle.simplex_atoms.proofs.Fitting.{sums_on}
 use Rattle.simplex_atoms.proofs.Growth.{grows_same}
 use Rattle.simplex_atoms.proofs.Numbered.{are_in, numbered_over, variables_as}
 use Rattle.simplex_atoms.proofs.Making.{result_formed, result_strains}
@@ -15,6 +16,14 @@ pub returns-in_err-entries-clause-there : goal.returns-in_err-entries-clause-the
 returns-in_err-entries-clause-there c t all h =
     c.entries_of.ensures.there t
     (are_in t c.deref.result.now c.args.form.now (variables_as c.deref.result.now c.in_ok-variables.variables.items c.args.form.now c.deref.ensures.value c.in_ok-variables.ensures) all) h
+
+pub returns-in_err-entries-clause-sums : goal.returns-in_err-entries-clause-sums
+returns-in_err-entries-clause-sums c =
+    sums_on (ground_of c.args.owners.now.list c.args.board.now) (ground_of c.entries_of.new.owners.list c.entries_of.new.board) c.args.sums.now c.entries_of.ensures.grows c.requires.sums
+
+pub place_by-requires-clause-sums : goal.place_by-requires-clause-sums
+place_by-requires-clause-sums c =
+    sums_on (ground_of c.args.owners.now.list c.args.board.now) (ground_of c.entries_of.new.owners.list c.entries_of.new.board) c.args.sums.now c.entries_of.ensures.grows c.requires.sums
 
 pub place_by-requires-clause-over : goal.place_by-requires-clause-over
 place_by-requires-clause-over c =

@@ -30,10 +30,12 @@ returns-in_err-place-clause-right c =
     let t = c.args.table.now in
     let os = c.self.inside.owners.list in
     let us = c.place_of-made.new.owners.list in
+    let ss = c.self.inside.sums in
+    let rs = c.place_of-made.new.sums in
     let b = c.args.board.now in
     let Right : AtomsView → Type 0 = λ a. AreRight t a b c.args.bounds.now in
-    let right : Right (atoms_of os c.self.inside.places.entries) = subst Right (sym c.self.view_is) c.requires.right in
-    right_on t os us c.self.inside.places.entries c.self.inside.places.entries b c.place_of-made.new.board c.args.bounds.now c.args.bounds.now right refl
+    let right : Right (atoms_of os ss c.self.inside.places.entries) = subst Right (sym c.self.view_is) c.requires.right in
+    right_on t os us ss rs c.self.inside.places.entries c.self.inside.places.entries b c.place_of-made.new.board c.args.bounds.now c.args.bounds.now right refl c.place_of-made.ensures.sums
     c.place_of-made.ensures.counted c.place_of-made.ensures.grounded c.place_of-made.ensures.grows (c.place_of-made.ensures.there t c.in_ok-form.ensures.there right.owners_in) c.are_once.ensures (omega arith)
     (reach_stays os us b c.place_of-made.new.board c.args.bounds.now.variables right.counted c.place_of-made.ensures.counted c.place_of-made.ensures.grows right.within)
 
@@ -47,10 +49,12 @@ returns-in_err-reach-clause-right c =
     let t = c.args.table.now in
     let os = c.self.inside.owners.list in
     let us = c.place_of-made.new.owners.list in
+    let ss = c.self.inside.sums in
+    let rs = c.place_of-made.new.sums in
     let b = c.args.board.now in
     let Right : AtomsView → Type 0 = λ a. AreRight t a b c.args.bounds.now in
-    let right : Right (atoms_of os c.self.inside.places.entries) = subst Right (sym c.self.view_is) c.requires.right in
-    right_on t os us c.self.inside.places.entries c.self.inside.places.entries b c.place_of-made.new.board c.args.bounds.now c.reach.new.bounds right refl
+    let right : Right (atoms_of os ss c.self.inside.places.entries) = subst Right (sym c.self.view_is) c.requires.right in
+    right_on t os us ss rs c.self.inside.places.entries c.self.inside.places.entries b c.place_of-made.new.board c.args.bounds.now c.reach.new.bounds right refl c.place_of-made.ensures.sums
     c.place_of-made.ensures.counted c.place_of-made.ensures.grounded c.place_of-made.ensures.grows (c.place_of-made.ensures.there t c.in_ok-form.ensures.there right.owners_in) c.are_once.ensures c.reach.ensures.kept.variables
     (omega (arith, c.reach.ensures.within, c.len.ensures, c.place_of-made.ensures.counted))
 
@@ -59,10 +63,12 @@ returns-in_err-insert-clause-right c =
     let t = c.args.table.now in
     let os = c.self.inside.owners.list in
     let us = c.place_of-made.new.owners.list in
+    let ss = c.self.inside.sums in
+    let rs = c.place_of-made.new.sums in
     let b = c.args.board.now in
     let Right : AtomsView → Type 0 = λ a. AreRight t a b c.args.bounds.now in
-    let right : Right (atoms_of os c.self.inside.places.entries) = subst Right (sym c.self.view_is) c.requires.right in
-    right_on t os us c.self.inside.places.entries c.insert.new.self.entries b c.place_of-made.new.board c.args.bounds.now c.reach.new.bounds right c.in_err-insert.ensures.err
+    let right : Right (atoms_of os ss c.self.inside.places.entries) = subst Right (sym c.self.view_is) c.requires.right in
+    right_on t os us ss rs c.self.inside.places.entries c.insert.new.self.entries b c.place_of-made.new.board c.args.bounds.now c.reach.new.bounds right c.in_err-insert.ensures.err c.place_of-made.ensures.sums
     c.place_of-made.ensures.counted c.place_of-made.ensures.grounded c.place_of-made.ensures.grows (c.place_of-made.ensures.there t c.in_ok-form.ensures.there right.owners_in) c.are_once.ensures c.reach.ensures.kept.variables
     (omega (arith, c.reach.ensures.within, c.len.ensures, c.place_of-made.ensures.counted))
 
@@ -71,13 +77,15 @@ returns-clause-right c =
     let t = c.args.table.now in
     let os = c.self.inside.owners.list in
     let us = c.place_of-made.new.owners.list in
+    let ss = c.self.inside.sums in
+    let rs = c.place_of-made.new.sums in
     let b = c.args.board.now in
     let d = c.place_of-made.new.board in
     let place = c.in_ok-place.place in
     let Right : AtomsView → Type 0 = λ a. AreRight t a b c.args.bounds.now in
-    let right : Right (atoms_of os c.self.inside.places.entries) = subst Right (sym c.self.view_is) c.requires.right in
-    let on : AreRight t (atoms_of us c.self.inside.places.entries) d c.reach.new.bounds =
-    right_on t os us c.self.inside.places.entries c.self.inside.places.entries b d c.args.bounds.now c.reach.new.bounds right refl
+    let right : Right (atoms_of os ss c.self.inside.places.entries) = subst Right (sym c.self.view_is) c.requires.right in
+    let on : AreRight t (atoms_of us rs c.self.inside.places.entries) d c.reach.new.bounds =
+    right_on t os us ss rs c.self.inside.places.entries c.self.inside.places.entries b d c.args.bounds.now c.reach.new.bounds right refl c.place_of-made.ensures.sums
     c.place_of-made.ensures.counted c.place_of-made.ensures.grounded c.place_of-made.ensures.grows (c.place_of-made.ensures.there t c.in_ok-form.ensures.there right.owners_in) c.are_once.ensures c.reach.ensures.kept.variables
     (omega (arith, c.reach.ensures.within, c.len.ensures, c.place_of-made.ensures.counted)) in
     let now = placed_now t us d c.len.result c.reach.new.bounds.variables c.args.id c.in-Some.sides c.in_ok-form.form place c.requires.there c.in-Some.ensures.means c.in_ok-form.ensures.exact
@@ -88,6 +96,7 @@ returns-clause-right c =
       owners_in = on.owners_in;
       once = on.once;
       grounded = on.grounded;
+      sums = on.sums;
       are_placed =
           placed_more (setting_of t (ground_of us d)) c.reach.new.bounds.variables c.self.inside.places.entries c.insert.new.self.entries c.args.id place on.are_placed now
           (λ (q : ℕ). c.in_ok-insert.ensures.updates.0 q);
