@@ -1,27 +1,58 @@
 //! An elimination of variables from inequalities, one after the other, until only constants are left.
 
-use std::alloc::Global;
+use std::alloc::{AllocError, AllocFailed, Global};
+use world_io::NoMemory;
 
 /// The coefficients of four variables.
-pub(crate) type Form = [i128; 4];
+pub type Form = [i128; 4];
 
 /// States that a sum of multiples of four unknowns is at most a number, or below it.
 #[derive(Clone, Copy)]
-pub(crate) struct Inequality {
-    pub(crate) form: Form,
-    pub(crate) most: i128,
-    pub(crate) strict: bool,
+pub struct Inequality {
+    /// The coefficients of the sum.
+    pub form: Form,
+    /// The number.
+    pub most: i128,
+    /// Whether the sum is below it.
+    pub strict: bool,
+}
+
+/// Says why an elimination came to no end.
+#[derive(Clone, Copy, Debug, PartialEq, Eq)]
+pub enum EliminationStop {
+    /// A number leaves 128 bits.
+    Wide,
+    /// Memory ran out.
+    Memory,
+}
+
+impl From<NoMemory> for EliminationStop {
+    fn from(_error: NoMemory) -> EliminationStop {
+        EliminationStop::Memory
+    }
+}
+
+impl From<AllocError> for EliminationStop {
+    fn from(_error: AllocError) -> EliminationStop {
+        EliminationStop::Memory
+    }
+}
+
+impl<T: Drop> From<AllocFailed<T>> for EliminationStop {
+    fn from(_error: AllocFailed<T>) -> EliminationStop {
+        EliminationStop::Memory
+    }
 }
 
 /// Gives a sum of two products, if it is within 128 bits.
-pub(crate) fn mixed(a: i128, x: i128, b: i128, y: i128) -> Option<i128> {
+fn mixed(a: i128, x: i128, b: i128, y: i128) -> Option<i128> {
     let left = a.checked_mul(x)?;
     let right = b.checked_mul(y)?;
     left.checked_add(right)
 }
 
-/// Gives the sum of a times one form and b times another.
-pub(crate) fn mixed_forms(a: i128, one: Form, b: i128, other: Form) -> Option<Form> {
+/// Gives the sum of a times one form and b times another, if its coefficients are within 128 bits.
+pub fn mixed_forms(a: i128, one: Form, b: i128, other: Form) -> Option<Form> {
     let [p, q, r, s] = one;
     let [t, u, v, w] = other;
     Some([
@@ -61,27 +92,31 @@ fn joined(upper: &Inequality, lower: &Inequality) -> Option<Inequality> {
 }
 
 /// Puts a bound of the first unknown last with each one of the other side.
-fn join_all(out: &mut Vec<Inequality>, upper: &Inequality, lines: &[Inequality]) -> Option<()> {
+fn join_all(
+    out: &mut Vec<Inequality>,
+    upper: &Inequality,
+    lines: &[Inequality],
+) -> Result<(), EliminationStop> {
     for lower in lines {
         if first_of(lower) < 0 {
-            out.push(joined(upper, lower)?).ok()?;
+            out.push(joined(upper, lower).ok_or(EliminationStop::Wide)?)?;
         }
     }
-    Some(())
+    Ok(())
 }
 
 /// Gives what inequalities say of all unknowns but the first.
-fn eliminated(alloc: Global, lines: &[Inequality]) -> Option<Vec<Inequality>> {
+fn eliminated(alloc: Global, lines: &[Inequality]) -> Result<Vec<Inequality>, EliminationStop> {
     let mut out = Vec::new(alloc);
     for line in lines {
         let first = first_of(line);
         if first == 0 {
-            out.push(moved(*line)).ok()?;
+            out.push(moved(*line))?;
         } else if first > 0 {
             join_all(&mut out, line, lines)?;
         }
     }
-    Some(out)
+    Ok(out)
 }
 
 /// Tells whether the constants that are left keep the inequalities.
@@ -94,11 +129,13 @@ fn are_kept(lines: &[Inequality]) -> bool {
     true
 }
 
-/// Tells whether some values of the four unknowns keep all inequalities; `None` where a number leaves 128 bits.
-pub(crate) fn has_point(alloc: Global, lines: &[Inequality]) -> Option<bool> {
+/// Tells whether some values of the four unknowns keep all inequalities.
+///
+/// `Wide` comes where a number leaves 128 bits, and `Memory` where memory runs out.
+pub fn has_point(alloc: Global, lines: &[Inequality]) -> Result<bool, EliminationStop> {
     let three = eliminated(alloc, lines)?;
     let two = eliminated(alloc, &three)?;
     let one = eliminated(alloc, &two)?;
     let none = eliminated(alloc, &one)?;
-    Some(are_kept(&none))
+    Ok(are_kept(&none))
 }

@@ -207,7 +207,7 @@ impl Known {
     /// Tells whether some values keep all bounds that are held.
     pub(crate) fn is_feasible(&self, alloc: Global) -> Option<bool> {
         let lines = inequalities_of(alloc, &self.forms, &self.limits)?;
-        has_point(alloc, &lines)
+        has_point(alloc, &lines).ok()
     }
 
     /// Tells whether the values keep all bounds that are held.

@@ -5,7 +5,6 @@
 mod chance_tests;
 #[cfg(test)]
 mod checked;
-#[cfg(test)]
-mod elimination;
+pub mod elimination;
 #[cfg(test)]
 mod known;
