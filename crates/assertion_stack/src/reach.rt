@@ -1,9 +1,8 @@
-//! Whether the search reaches the terms of a table.
+//! Whether the search reaches the terms of a table: all but functions with parameters that take or give numbers.
 
 ghost use Rattle.std.specs.Prelude.{◌≡◌, ◌<◌, [], length, slice_index_or, take, false, OnErr, OnOk};
-ghost use Rattle.spec_commands.specs.Stack.{head_in_reach, is_in_reach};
-ghost use Rattle.term_core.specs.Symbols.{IsSymbol, symbol_at};
-ghost use Rattle.spec_sorts.specs.Terms.{Number, same_sort};
+ghost use Rattle.spec_commands.specs.Stack.{have_no_number, keeps_apart, head_in_reach, is_in_reach};
+ghost use Rattle.term_core.specs.Symbols.{sorts_meant, IsSymbol, symbol_at};
 ghost use Rattle.term_core.specs.Tables.{head_meant, node_term, HasHead, IsIn, NamesBelow};
 ghost use Rattle.assertion_stack.specs.Marks.{AreMarks, Lengthens};
 
@@ -117,30 +116,38 @@ fn is_in_reach(table: &TermTable, node: &Node, marks: &[bool]) -> bool
     true
 }
 
-/// Tells whether the search reaches a head: those of theory Core, and symbols that do not give a number.
+/// Tells whether the search reaches a head: all but a function with parameters that takes or gives numbers, and a
+/// parameter in the body of a definition.
 fn is_head_in_reach(table: &TermTable, head: Head) -> bool
     requires { HasHead table.now head }
     ensures { result ≡ head_in_reach (head_meant table.now head) }
 {
     match head {
-        Head::True
-        | Head::False
-        | Head::Not
-        | Head::And
-        | Head::Or
-        | Head::Xor
-        | Head::Implies
-        | Head::Equal
-        | Head::Ite => true,
-        Head::Apply(symbol) => !gives_a_number(table, symbol),
-        _ => false,
+        Head::Apply(symbol) => keeps_apart(table, symbol),
+        Head::Parameter(_, _) => false,
+        _ => true,
     }
 }
 
-/// Tells whether a symbol gives a number: its sort is Real.
-fn gives_a_number(table: &TermTable, symbol: SymbolId) -> bool
+/// Tells whether a symbol has no parameters, or neither takes nor gives numbers.
+fn keeps_apart(table: &TermTable, symbol: SymbolId) -> bool
     requires { IsSymbol table.now.symbols symbol }
-    ensures { result ≡ same_sort Number (symbol_at table.now.symbols symbol).result }
+    ensures { result ≡ keeps_apart (symbol_at table.now.symbols symbol).parameters
+        (symbol_at table.now.symbols symbol).result }
 {
-    table.symbols().result(symbol) == Sort::Real
+    let parameters = table.symbols().parameters(symbol);
+    parameters.is_empty()
+        || (table.symbols().result(symbol) != Sort::Real && have_no_number(table, parameters))
+}
+
+/// Tells whether none of the sorts is that of numbers.
+fn have_no_number(table: &TermTable, sorts: &[Sort]) -> bool
+    ensures { result ≡ have_no_number (sorts_meant table.now.sorts sorts.now) }
+{
+    'sorts: for sort in sorts.iter() {
+        if *sort == Sort::Real {
+            return false;
+        }
+    }
+    true
 }

@@ -102,7 +102,8 @@ impl Stack {
         self.assertions.texts()
     }
 
-    /// Tells whether the search reaches all current assertions. It takes no memory, and the same time for all stacks.
+    /// Tells whether the search reaches all current assertions: none has a function with parameters that takes or gives
+    /// numbers. It takes no memory, and the same time for all stacks.
     pub fn are_in_reach(&self) -> bool
         ensures mark { result ≡ self.now.assertions.in_reach }
         ensures reach { (limit : ℕ) (t : TableView) (s : ScriptStack) → IsStack limit (standing t self.now) s

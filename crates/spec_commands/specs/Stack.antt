@@ -6,7 +6,7 @@ use Rattle.spec_text.specs.Bytes.{Name, among}
 use Rattle.spec_text.specs.Shapes.{is_symbol, is_reserved}
 use Rattle.spec_text.specs.Answers.{Answer, ◌>>=◌, refused, require}
 use Rattle.spec_text.specs.Trees.{Tree, atom, list, offset_of}
-use Rattle.spec_sorts.specs.Terms.{Truth, Number, Declared, Head, True, False, Not, And, Or, Xor, Implies, Equal, Ite, Apply, Term, Terms, app, nil, cons, same_sort}
+use Rattle.spec_sorts.specs.Terms.{Sort, Truth, Number, Declared, Head, Apply, Parameter, Term, Terms, app, nil, cons, same_sort}
 use Rattle.spec_sorts.specs.Signatures.{Definition, Declaration, of_sort, of_function, declared, Signature, definition}
 use Rattle.spec_reading.specs.Names.{script, new_name, is_function, is_sort}
 use Rattle.spec_reading.specs.Sorts.{sort_in, sorts_in}
@@ -168,19 +168,21 @@ option_set at s (Some k) (Some b) = Ok (did (record s { options = with_option k 
 option_set at s (Some k) None = refused at BadShape
 option_set at s None value = Ok (record { effect = unsupported; stack = s })
 
--- a head that the search reaches: theory Core, and symbols that do not give a number
+-- none of the sorts is that of numbers
+abbrev pub have_no_number : List Sort → Bool
+have_no_number [] = true
+have_no_number (s ∷ ss) = not (same_sort Number s) && have_no_number ss
+
+-- a symbol of these parameters and that result has none, or neither takes nor gives numbers
+abbrev pub keeps_apart : List Sort → Sort → Bool
+keeps_apart [] s = true
+keeps_apart (p ∷ ps) s = have_no_number (s ∷ p ∷ ps)
+
+-- a head that the search reaches: all but functions with parameters that take or give numbers
 abbrev pub head_in_reach : Head → Bool
-head_in_reach True = true
-head_in_reach False = true
-head_in_reach Not = true
-head_in_reach And = true
-head_in_reach Or = true
-head_in_reach Xor = true
-head_in_reach Implies = true
-head_in_reach Equal = true
-head_in_reach Ite = true
-head_in_reach (Apply f) = if same_sort Number f.result then false else true
-head_in_reach h = false
+head_in_reach (Apply f) = keeps_apart f.parameters f.result
+head_in_reach (Parameter k s) = false
+head_in_reach h = true
 
 -- the search reaches each head of a term
 unfoldable mutual

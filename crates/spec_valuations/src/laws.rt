@@ -2,14 +2,14 @@
 
 ghost use Rattle.std.specs.Prelude.{◌≡◌, ◌≢◌, ◌<◌, ℕ, Bool, true, List, [], length, get_or, All, Contains};
 ghost use Rattle.spec_numbers.specs.Fractions.{Fraction};
-ghost use Rattle.spec_sorts.specs.Terms.{Number, Symbol, Term, sort_of};
+ghost use Rattle.spec_sorts.specs.Terms.{Number, Symbol, Apply, Term, Terms, app, list_of, sort_of};
+ghost use Rattle.spec_sorts.specs.WellSorted.{IsFormulaOver};
 ghost use Rattle.spec_sorts.specs.Values.{Interpretation, Interprets, truth};
 ghost use Rattle.spec_sorts.specs.TermValues.{value_at};
 ghost use Rattle.spec_sorts.specs.Literals.{Literal};
 ghost use Rattle.spec_arithmetic.specs.Numbers.{IsLinear};
 ghost use Rattle.spec_rules.specs.Truths.{Truths, term_true_by};
-ghost use Rattle.spec_derivations.specs.Problems.{Problem, terms_of_problem};
-ghost use Rattle.spec_derivations.specs.Base.{search_terms};
+ghost use Rattle.spec_derivations.specs.Problems.{Problem, terms_of_problem, subterms_in};
 ghost use Rattle.spec_derivations.specs.Orders.{whole_terms};
 ghost use Rattle.spec_derivations.specs.Models.{AreInReach};
 ghost use Rattle.spec_valuations.specs.Tables.{Valuation, IsModelBy, AreListed, IsValuation};
@@ -92,10 +92,18 @@ pub fn searches_that_rest_on_numbers_have_models()
         → All (λ t. value_at i [] t ≡ truth true) (terms_of_problem p) }
 {}
 
-/// States that where the search reaches the terms of a check, none of those that it speaks of is a number.
-pub fn terms_in_reach_have_no_numbers()
-    ensures { (p : Problem) → AreInReach (terms_of_problem p)
-        → (t : Term) → Contains (search_terms p) t → sort_of t ≢ Number }
+/// States that where the search reaches the terms of a check, no function with parameters gives a number or takes one, in all
+/// terms that it speaks of.
+pub fn functions_in_reach_keep_numbers_apart()
+    ensures { (symbols : List Symbol) (p : Problem) → All (IsFormulaOver symbols) (terms_of_problem p)
+        → AreInReach (terms_of_problem p) → (s : Symbol) (ts : Terms) → Contains (whole_terms p) (app (Apply s) ts)
+        → list_of ts ≢ [] → (s.result ≢ Number) × ((u : Term) → Contains (list_of ts) u → sort_of u ≢ Number) }
+{}
+
+/// States that where no subterm of a check's terms is a number, no term that a search speaks of is one.
+pub fn searches_add_no_numbers()
+    ensures { (p : Problem) → ((t : Term) → Contains (subterms_in p) t → sort_of t ≢ Number)
+        → (t : Term) → Contains (whole_terms p) t → sort_of t ≢ Number }
 {}
 
 /// States that where the terms of a check are linear, so are all that a search over linear arithmetic speaks of.
