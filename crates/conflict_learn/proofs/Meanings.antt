@@ -13,7 +13,7 @@ use Rattle.term_core.specs.Tables.{TableView, IsIn, term_at, literal_at, clause_
 use Rattle.clause_literals.specs.Literals.{lit_complement}
 use Rattle.proof_log.specs.declared.premises.StepId.{StepId}
 use Rattle.proof_log.specs.Logs.{Logged, named, no_logged, logged_at, IsLogOf, IsFormulaIn, AreFormulasIn}
-use Rattle.clausify.proofs.Parts.{formula_inside}
+use Rattle.term_clauses.proofs.Parts.{formula_inside}
 use Rattle.proof_log.specs.Clashes.{literals_in}
 use Rattle.conflict_learn.specs.Analyses.{IsBare}
 

@@ -21,8 +21,8 @@ use Rattle.term_core.proofs.TermsExtend.{Extends-self, term_at-kept, literal_at-
 use Rattle.proof_log.specs.declared.premises.StepId.{StepId}
 use Rattle.proof_log.specs.Logs.{IsFormulaIn, Logged, named, logged_at, AreOf, clauses_in, numbers_of, derivation_in}
 use Rattle.proof_log.proofs.Logged.{numbers_there, premises_there}
-use Rattle.clausify.specs.Stating.{Widens}
-use Rattle.clausify.proofs.Parts.{formula_kept, signed_in}
+use Rattle.term_clauses.specs.Stating.{Widens}
+use Rattle.term_clauses.proofs.Parts.{formula_kept, signed_in}
 use Rattle.proof_log.specs.Clashes.{literals_in}
 use Rattle.conflict_learn.specs.Analyses.{IsBare, States, StateAll}
 

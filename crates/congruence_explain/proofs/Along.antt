@@ -17,7 +17,7 @@ use Rattle.spec_derivations.specs.Lemmas.{is_equality}
 use Rattle.term_core.specs.declared.ids.TermId.{TermId}
 use Rattle.term_core.specs.Tables.{TableView, term_at, IsIn}
 use Rattle.term_core.proofs.TermsExtend.{term_at-kept}
-use Rattle.clausify.specs.Stating.{Widens}
+use Rattle.term_clauses.specs.Stating.{Widens}
 use Rattle.explain_forest.specs.declared.types.Edge.{Edge}
 use Rattle.explain_forest.specs.declared.types.Step.{Step}
 use Rattle.explain_forest.specs.Forest.{ForestState, Linked, path, numbered, older, Leads, IsAlong}

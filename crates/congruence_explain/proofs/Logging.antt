@@ -18,8 +18,8 @@ use Rattle.proof_log.specs.declared.premises.StepId.{StepId}
 use Rattle.proof_log.specs.Logs.{Logged, stepped, named, logged_at, no_logged, numbers_of, derivation_in, inference_of, IsFormulaIn, AreFormulasIn, IsLogOf}
 use Rattle.proof_log.specs.Adding.{IsAdded}
 use Rattle.proof_log.proofs.Tables.{grown_right, grown_same, grown_lemmas}
-use Rattle.clausify.specs.Stating.{Widens}
-use Rattle.clausify.proofs.Parts.{formula_kept}
+use Rattle.term_clauses.specs.Stating.{Widens}
+use Rattle.term_clauses.proofs.Parts.{formula_kept}
 use Rattle.congruence_explain.specs.declared.claims.Said.{Said}
 use Rattle.congruence_explain.specs.Claims.{term_said, literal_said, IsClaimIn, IsClaimOf}
 use Rattle.congruence_explain.specs.Steps.{Start, derived, spoken, Explains, literals_logged, HasPut}

@@ -18,8 +18,8 @@ use Rattle.term_core.proofs.TermsExtend.{term_at-kept, IsIn-kept}
 use Rattle.term_core.proofs.TermsLiteral.{literal_of-negated}
 use Rattle.proof_log.specs.Logs.{IsFormulaIn}
 use Rattle.proof_log.specs.Theories.{IsTermIn}
-use Rattle.clausify.specs.Stating.{Widens}
-use Rattle.clausify.proofs.Parts.{symbols_same, formula_kept, sorted_kept, signed_in}
+use Rattle.term_clauses.specs.Stating.{Widens}
+use Rattle.term_clauses.proofs.Parts.{symbols_same, formula_kept, sorted_kept, signed_in}
 use Rattle.congruence_explain.specs.declared.claims.Claim.{Claim}
 use Rattle.congruence_explain.specs.declared.claims.Claim.TheVariants.{Equality, Atom}
 use Rattle.congruence_explain.specs.declared.claims.Said.{Said}

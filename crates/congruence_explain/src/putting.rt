@@ -7,7 +7,7 @@ ghost use Rattle.spec_rules.specs.Schemes.{signed};
 ghost use Rattle.spec_derivations.specs.Derivations.{by_rule, FollowsFrom};
 ghost use Rattle.term_core.specs.Tables.{term_at, clause_at};
 ghost use Rattle.proof_log.specs.Logs.{IsFormulaIn, AreFormulasIn, numbers_of, derivation_in};
-ghost use Rattle.clausify.specs.Stating.{Widens};
+ghost use Rattle.term_clauses.specs.Stating.{Widens};
 ghost use Rattle.congruence_explain.specs.Claims.{IsClaimIn, IsClaimOf, IsPut, term_claimed, term_said, literal_said};
 ghost use Rattle.congruence_explain.specs.Steps.{Start, derived, spoken, Explains, HasPut};
 

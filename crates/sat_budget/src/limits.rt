@@ -11,7 +11,7 @@ use world_io::NoMemory;
 /// Limits what a check may spend, and how much a script may ask to be held.
 ///
 /// Each check may spend `conflicts` and `pivots` anew; one that would pass either ends with the answer `unknown`. `terms` is not spent:
-/// a command that would pass it is refused with the fault `Full`, and no check ends by it. No theory takes `pivots` yet.
+/// a command that would pass it is refused with the fault `Full`, and no check ends by it.
 /// Source: SMT-LIB 2.6, section 4.1.7, for the option of a limit on what is spent.
 #[derive(Clone, Copy, Debug, PartialEq, Eq)]
 pub struct Limits {
@@ -22,15 +22,6 @@ pub struct Limits {
     /// How many different subterms the terms of one command may have, all together; and how many names of a script may be live at once.
     /// Each from 0.
     pub terms: u64,
-}
-
-/// Says why a check was answered `unknown`.
-///
-/// Source: SMT-LIB 2.6, section 4.1.8, `:reason-unknown`.
-#[derive(Clone, Copy, Debug, PartialEq, Eq)]
-pub enum Reason {
-    /// So many conflicts were learned from, which is their limit.
-    Conflicts(u64),
 }
 
 /// Has what is needed to work an overflow out again.
@@ -49,6 +40,19 @@ pub struct Strain {
     pub wide: Wide,
     /// The basic variables and the values where it was asked for.
     pub basis: Basis,
+}
+
+/// Says why a check was answered `unknown`.
+///
+/// Source: SMT-LIB 2.6, section 4.1.8, `:reason-unknown`.
+#[derive(Debug, PartialEq, Eq, Drop)]
+pub enum Reason {
+    /// An operation on fractions leaves 128 bits.
+    Overflow(Strain),
+    /// So many conflicts were learned from, which is their limit.
+    Conflicts(u64),
+    /// So many pivots were made, which is their limit.
+    Pivots(u64),
 }
 
 /// Says why a theory's call came to no end.

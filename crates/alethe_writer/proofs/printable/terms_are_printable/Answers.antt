@@ -16,6 +16,6 @@ returns c = λ g log n own within right lt readable.
     let t = c.args.table.now in
     let d = derivation_in t log in
     all_printable t c.ids_are_unique.ensures c.arguments_come_first.ensures g d n (λ u p.
-    c.well_sorted_terms_are_printable.ensures.term g u own
+    c.well_sorted_terms_are_printable.ensures g u own
     (sorted_over t.symbols (symbols_in g) within [] u (printed_sorted t.symbols d n (λ m v on b. clauses_sorted t log right m v (subst (λ k. m < k) (length-map log (inference_of t)) (rests_there d right.right n m (subst (λ k. n < k) (sym (length-map log (inference_of t))) lt) on)) b) u p))
     (readable u p))

@@ -1,6 +1,6 @@
 -- That the negation is placed, and that the table is as it was.
 use Rattle.term_core.proofs.TermsExtend.{Extends-self}
-use Rattle.clausify.proofs.Arguments.{not_fits}
+use Rattle.term_clauses.proofs.Arguments.{not_fits}
 use Rattle.conflict_learn.proofs.stated.negation.Goals as goal
 
 pub returns-in_err-node-clause-grown : goal.returns-in_err-node-clause-grown

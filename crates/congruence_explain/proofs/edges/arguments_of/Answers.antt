@@ -1,7 +1,7 @@
 -- That they are those of the term.
 use Rattle.std.proofs.Common.{sym, ◌∙◌, ap}
 use Rattle.term_core.specs.Tables.{term_at, clause_at, shape_of}
-use Rattle.clausify.proofs.Arguments.{arguments_are}
+use Rattle.term_clauses.proofs.Arguments.{arguments_are}
 use Rattle.congruence_explain.proofs.edges.arguments_of.Goals as goal
 
 pub returns-clause-means : goal.returns-clause-means

@@ -4,7 +4,7 @@ use Rattle.std.specs.Prelude.{All}
 use Rattle.spec_text.specs.Trees.{none}
 use Rattle.spec_rules.specs.Rules.{IsRight}
 use Rattle.explain_forest.specs.Forest.{path}
-use Rattle.clausify.proofs.Arguments.{Widens-self}
+use Rattle.term_clauses.proofs.Arguments.{Widens-self}
 use Rattle.congruence_explain.specs.declared.claims.Said.{Said}
 use Rattle.congruence_explain.specs.Claims.{IsOneEquality, IsClaimIn, IsClaimOf, term_said, literal_said, denied_step}
 use Rattle.congruence_explain.specs.Steps.{derived, spoken, setting, steps_since, marked, edges_on}

@@ -1,5 +1,5 @@
 -- That the equality is put.
-use Rattle.clausify.proofs.Arguments.{Widens-self}
+use Rattle.term_clauses.proofs.Arguments.{Widens-self}
 use Rattle.congruence_explain.proofs.Terms.{equality_put}
 use Rattle.congruence_explain.proofs.putting.formula_of.Goals as goal
 

@@ -12,7 +12,7 @@ use Rattle.congruence_explain.proofs.Logging.{claims_wide, wider_right, derives_
 use Rattle.congruence_explain.proofs.putting.put.Goals as goal
 
 pub terms_of-requires : goal.terms_of-requires
-terms_of-requires g c = claims_wide g.start c.args.table.now c.args.table.now c.args.log.now c.requires.0 (Rattle.clausify.proofs.Arguments.Widens-self c.args.table.now) c.args.clause.now c.requires.1.0
+terms_of-requires g c = claims_wide g.start c.args.table.now c.args.table.now c.args.log.now c.requires.0 (Rattle.term_clauses.proofs.Arguments.Widens-self c.args.table.now) c.args.clause.now c.requires.1.0
 
 pub returns-in_err-terms-clause-derives : goal.returns-in_err-terms-clause-derives
 returns-in_err-terms-clause-derives g c = derives_wider g.start c.args.table.now c.terms_of.new.table c.args.log.now c.requires.0 c.terms_of.ensures.wider

@@ -1,5 +1,5 @@
 -- That the negation is put.
-use Rattle.clausify.proofs.Arguments.{Widens-self}
+use Rattle.term_clauses.proofs.Arguments.{Widens-self}
 use Rattle.congruence_explain.proofs.Terms.{negation_put}
 use Rattle.congruence_explain.proofs.putting.signed_of.Goals as goal
 

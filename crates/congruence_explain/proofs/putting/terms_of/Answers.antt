@@ -3,7 +3,7 @@ use Rattle.std.proofs.Common.{◌∷◌, [], sym, ap, subst}
 use Rattle.std.proofs.lemmas.List.Elements.{All-nil}
 use Rattle.term_core.specs.Tables.{clause_at}
 use Rattle.proof_log.specs.Logs.{IsFormulaIn, AreFormulasIn}
-use Rattle.clausify.proofs.Arguments.{Widens-self, Widens-trans}
+use Rattle.term_clauses.proofs.Arguments.{Widens-self, Widens-trans}
 use Rattle.congruence_explain.proofs.Terms.{claim_kept}
 use Rattle.congruence_explain.proofs.Logging.{terms_more}
 use Rattle.congruence_explain.proofs.putting.terms_of.Goals as goal

@@ -2,7 +2,7 @@
 use Rattle.std.proofs.Common.{◌≡◌, map, take}
 use Rattle.term_core.specs.Tables.{clause_at}
 use Rattle.proof_log.specs.Logs.{AreFormulasIn}
-use Rattle.clausify.specs.Stating.{Widens}
+use Rattle.term_clauses.specs.Stating.{Widens}
 use Rattle.congruence_explain.specs.Claims.{term_said}
 use Rattle.congruence_explain.proofs.putting.terms_of.Given as goal
 
