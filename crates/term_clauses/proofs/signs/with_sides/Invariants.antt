@@ -1,0 +1,14 @@
+-- The clause has the arguments up to here.
+use Rattle.std.proofs.Common.{◌≡◌, ◌∷◌, map, take}
+use Rattle.spec_sorts.specs.Subsets.{arguments_of}
+use Rattle.spec_rules.specs.Schemes.{side_of}
+use Rattle.term_core.specs.Tables.{AreIn, term_at, clause_at}
+use Rattle.term_clauses.specs.Stating.{Widens}
+use Rattle.term_clauses.proofs.signs.with_sides.Given as goal
+
+abbrev pub invariant-sides : goal.invariant-sides
+invariant-sides l = record {
+  wider : Widens l.fn.table l.table;
+  there : AreIn l.table l.clause.items;
+  same : clause_at l.table l.clause.items ≡ term_at l.fn.table l.fn.front ∷ map (side_of (arguments_of (term_at l.fn.table l.id))) (take l.x-index l.sides);
+}

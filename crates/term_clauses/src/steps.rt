@@ -1,0 +1,49 @@
+//! Steps without premises.
+
+ghost use Rattle.std.specs.Prelude.{[], ◌∷◌, OnOk};
+ghost use Rattle.spec_text.specs.Trees.{none};
+ghost use Rattle.spec_rules.specs.Rules.{IsRight};
+ghost use Rattle.term_core.specs.Tables.{clause_at};
+ghost use Rattle.proof_log.specs.Logs.{AreFormulasIn, IsLogOf};
+ghost use Rattle.term_clauses.specs.Growth.{Grows};
+ghost use Rattle.term_clauses.specs.Stating.{listed, Tells};
+
+use proof_log::{Clause, LogFault, Numbers, ProofLog, Rule, Step, StepId, StepIds};
+use spec_rules::laws::wide_steps_are_not_right;
+use std::alloc::Global;
+use term_core::{TermId, TermTable};
+use world_io::NoMemory;
+
+/// Logs a step that is right without premises, and puts its number after the others.
+pub fn state(
+    alloc: Global,
+    table: &TermTable,
+    log: &mut ProofLog,
+    steps: &mut Vec<StepId>,
+    rule: Rule,
+    clause: Vec<TermId>,
+) -> Result<(), NoMemory>
+    requires log { IsLogOf table.now log.old }
+    requires clause { AreFormulasIn table.now clause.items }
+    requires right { IsRight rule [] none (clause_at table.now clause.items) }
+    ensures grows { Grows [] table.now table.now log.old log.new }
+    ensures tells { OnOk result (Tells (listed table.now log.old steps.old.items)
+        (listed table.now log.new steps.new.items) (clause_at table.now clause.items ∷ [])) }
+{
+    wide_steps_are_not_right();
+    let step = Step {
+        rule,
+        premises: StepIds::from(Vec::new(alloc)),
+        arguments: Numbers::from(Vec::new(alloc)),
+        clause: Clause::from(clause),
+    };
+    match log.add(table, step) {
+        Ok(number) => {
+            steps.push(number)?;
+            Ok(())
+        }
+        Err(LogFault::RuleFails) => unreachable!(),
+        Err(LogFault::Wide) => unreachable!(),
+        Err(LogFault::Memory) => Err(NoMemory),
+    }
+}
