@@ -1,15 +1,8 @@
 -- The lemmas of this crate.
-pub mod Parts
-pub mod Choosing
-pub mod Arguments
-pub mod Making
-pub mod Within
-pub mod Growing
-pub mod SchemeClauses
-pub mod Formulas
 pub mod Counts
+pub mod Taken
+pub mod Equalities
+pub mod Overflowing
+pub mod Following
+pub mod OrderFacts
 pub mod Bases
-pub mod Marked
-pub mod Marking
-pub mod Listing
-pub mod Speaking

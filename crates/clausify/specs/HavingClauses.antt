@@ -1,50 +1,21 @@
--- The clauses of a search for terms in a log, and what making them leaves. Source: Tseitin 1968.
-use Rattle.std.specs.Prelude.{◌≡◌, ◌+◌, ◌<◌, List, ◌++◌, length, map, All, Contains}
-use Rattle.std.specs.List.{range_with_len}
+-- The clauses of a search for terms in a log, over linear arithmetic too. Source: Tseitin 1968.
+use Rattle.std.specs.Prelude.{◌≡◌, ◌<◌, List, length, map, All}
 use Rattle.spec_sorts.specs.Terms.{Term}
 use Rattle.spec_proofs.specs.Resolution.{IsWithin}
-use Rattle.spec_derivations.specs.Base.{search_clauses}
 use Rattle.spec_derivations.specs.Examples.{asserting}
-use Rattle.term_core.specs.declared.ids.TermId.{TermId}
-use Rattle.term_core.specs.Tables.{TableView, declared_in, Extends}
+use Rattle.spec_derivations.specs.Orders.{whole_clauses}
+use Rattle.term_core.specs.Tables.{TableView}
 use Rattle.proof_log.specs.declared.premises.StepId.{StepId}
-use Rattle.proof_log.specs.Logs.{Logged, assumed, stepped, stated, IsLogOf}
+use Rattle.proof_log.specs.Logs.{Logged, stated}
 
--- The numbers are those of the clauses that a search of terms begins with and of no others, and are as many. Where clauses repeat,
--- which of them have how many numbers is left open.
+-- The numbers are those of the clauses that a search of terms begins with and of no others, and are as many: those of any search, and
+-- those of the orders of equalities of numbers. Where clauses repeat, which of them have how many numbers is left open.
 pub record HasClauses (t : TableView) (log : List Logged) (terms : List Term) (steps : List StepId) : Type 0 where
   -- each is a number of the log
   pub there : All (λ s. s.0 < length log) steps
   -- each clause of the search has a number
-  pub base : IsWithin (search_clauses (asserting terms)) (map (stated t log) steps)
+  pub base : IsWithin (whole_clauses (asserting terms)) (map (stated t log) steps)
   -- each number has a clause of the search
-  pub only : IsWithin (map (stated t log) steps) (search_clauses (asserting terms))
+  pub only : IsWithin (map (stated t log) steps) (whole_clauses (asserting terms))
   -- there are as many numbers as clauses of the search, equal ones counted each
-  pub count : length steps ≡ length (search_clauses (asserting terms))
-
--- what it assumes, if it does, is one of these
-abbrev pub AssumesOneOf : List TermId → Logged → Type 0
-AssumesOneOf roots (assumed id) = Contains roots id
-AssumesOneOf roots (stepped r ps qs c) = Unit {0}
-
--- The table has more terms and the log more clauses, of which those that are assumed are among the roots.
-pub record Grows (roots : List TermId) (t u : TableView) (old new : List Logged) : Type 0 where
-  -- the terms that were there have their numbers
-  pub table : Extends t u
-  -- the sorts and symbols are the same
-  pub declared : declared_in u ≡ declared_in t
-  -- the clauses that came
-  pub more : List Logged
-  -- they come after those that were there
-  pub log : new ≡ old ++ more
-  -- the log is right over the table as it is now
-  pub right : IsLogOf u new
-  -- what came and is assumed is a root
-  pub assumes : All (AssumesOneOf roots) more
-
--- The numbers are those of all that came into the log, in order and each once.
-pub record AreAllMade (old new : List Logged) (steps : List StepId) : Type 0 where
-  -- what came is as much as the numbers
-  pub count : length new ≡ length old + length steps
-  -- the numbers follow one another, after those that were there
-  pub order : map (λ s. s.0) steps ≡ range_with_len (length old) (length steps)
+  pub count : length steps ≡ length (whole_clauses (asserting terms))

@@ -1,6 +1,5 @@
--- The clauses of terms in a log, and the terms that a search of them speaks of; the steps that state clauses, marks of numbers, and choices.
+-- The clauses of terms in a log, the terms that a search of them speaks of, and the orders of equalities.
+pub mod Orders
+pub mod Overflows
 pub mod HavingClauses
 pub mod SearchTerms
-pub mod Stating
-pub mod Marks
-pub mod Choices

@@ -1,45 +1,22 @@
--- The numbers of the terms that a search speaks of.
-use Rattle.std.specs.Prelude.{◌≡◌, ℕ, ◌<◌, List, ◌++◌, length, get_or, All}
+-- The numbers of the terms that a search speaks of, over linear arithmetic too.
+use Rattle.std.specs.Prelude.{List, All}
 use Rattle.spec_sorts.specs.Terms.{Term}
 use Rattle.spec_sorts.specs.Subsets.{AreAmong}
-use Rattle.spec_derivations.specs.Base.{spoken_terms, search_terms}
 use Rattle.spec_derivations.specs.Examples.{asserting}
+use Rattle.spec_derivations.specs.Orders.{whole_terms}
 use Rattle.term_core.specs.declared.ids.TermId.{TermId}
 use Rattle.term_core.specs.Tables.{TableView, clause_at}
-use Rattle.proof_log.specs.Logs.{AreFormulasIn}
 use Rattle.proof_log.specs.Theories.{IsTermIn}
+use Rattle.term_clauses.specs.SpokenTerms.{AreRising}
 
--- what no place of a list of numbers means
-abbrev pub no_id : TermId
-no_id = record { 0 = 0 }
-
--- a later number is greater
-abbrev pub AreRising : List TermId → Type 0
-AreRising ids = (i j : ℕ) → i < j → j < length ids → (get_or ids i no_id).0 < (get_or ids j no_id).0
-
--- The numbers are those of the terms that a search of these asserted terms speaks of, in ascending order.
+-- The numbers are those of the terms that a search of these asserted terms speaks of, in ascending order: those of any search, and
+-- the orders of its equalities of numbers.
 pub record AreSearchTerms (t : TableView) (terms : List Term) (ids : List TermId) : Type 0 where
   -- each is the number of a term over the table's symbols
   pub there : All (IsTermIn t) ids
   -- each term of the search has a number
-  pub each : AreAmong (search_terms (asserting terms)) (clause_at t ids)
+  pub each : AreAmong (whole_terms (asserting terms)) (clause_at t ids)
   -- each number has a term of the search
-  pub only : AreAmong (clause_at t ids) (search_terms (asserting terms))
+  pub only : AreAmong (clause_at t ids) (whole_terms (asserting terms))
   -- a later number is greater
   pub rising : AreRising ids
-
--- The numbers are those of formulas: the terms of which a search of these asserted terms speaks with their subterms.
-pub record AreSpoken (t : TableView) (terms : List Term) (ids : List TermId) : Type 0 where
-  -- each is the number of a formula
-  pub formulas : AreFormulasIn t ids
-  -- each such term has a number
-  pub each : AreAmong (spoken_terms (asserting terms)) (clause_at t ids)
-  -- each number has such a term
-  pub only : AreAmong (clause_at t ids) (spoken_terms (asserting terms))
-
--- All numbers are those of formulas: after the numbers that there were stand those of these terms.
-pub record HasMore (t u : TableView) (ids all : List TermId) (more : List Term) : Type 0 where
-  -- each is the number of a formula
-  pub formulas : AreFormulasIn u all
-  -- the terms that there were, and these
-  pub same : clause_at u all ≡ clause_at t ids ++ more

@@ -1,17 +1,18 @@
 //! Clauses of formulas: what a search begins with. Each term that it speaks of gets the clauses that rules without
-//! premises state of it, as steps of a log, and each formula itself is assumed.
+//! premises state of it, as steps of a log, and each formula itself is assumed. Each equality of numbers gets those of
+//! its orders too.
 #![tactic(auto)]
 
-mod choices;
-mod head_rules;
-mod marks;
+mod judged;
+mod ordered;
+mod orders;
 mod roots;
-mod signs;
-mod spoken;
+mod sides;
 mod stated;
-mod statements;
-mod steps;
+mod stop;
 
 pub use proof_log::StepIds;
+pub use ratio128::Wide;
 pub use roots::{clauses_of, clauses_of_all};
 pub use stated::Stated;
+pub use stop::ClauseStop;

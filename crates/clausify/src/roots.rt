@@ -1,46 +1,53 @@
 //! The clauses that a search for terms begins with, and the terms that it speaks of.
 
-ghost use Rattle.std.specs.Prelude.{◌≡◌, ◌≤◌, [], ◌∷◌, length, map, flat_map, All, IfOk, OnOk, OnErr};
+ghost use Rattle.std.specs.Prelude.{◌≡◌, ◌≤◌, [], ◌∷◌, length, map, flat_map, All, IfOk, IfErr, OnOk, OnErr};
 ghost use Rattle.spec_sorts.specs.WellSorted.{IsWellSorted};
 ghost use Rattle.spec_derivations.specs.Base.{defining_clauses};
+ghost use Rattle.spec_derivations.specs.Orders.{whole_clauses_of};
 ghost use Rattle.term_core.specs.Tables.{term_at, clause_at};
 ghost use Rattle.proof_log.specs.Logs.{IsFormulaIn, AreFormulasIn, IsLogOf};
 ghost use Rattle.proof_log.specs.Theories.{IsTermIn};
-ghost use Rattle.clausify.specs.HavingClauses.{HasClauses, Grows, AreAllMade};
+ghost use Rattle.term_clauses.specs.Growth.{Grows, AreAllMade};
+ghost use Rattle.term_clauses.specs.Stating.{listed, Tells};
+ghost use Rattle.term_clauses.specs.Marks.{marked};
+ghost use Rattle.clausify.specs.HavingClauses.{HasClauses};
 ghost use Rattle.clausify.specs.SearchTerms.{AreSearchTerms};
-ghost use Rattle.clausify.specs.Stating.{listed, Tells};
-ghost use Rattle.clausify.specs.Marks.{marked};
+ghost use Rattle.clausify.specs.Overflows.{IsOverflowAmong, IsOrderOverflow, OnWide};
 
-use crate::choices::state_choice;
-use crate::marks::{marked_ids, marks_of};
-use crate::spoken::spoken_of;
+use crate::ordered::ordered_of;
+use crate::orders::state_orders;
 use crate::stated::Stated;
-use crate::statements::state_term;
+use crate::stop::ClauseStop;
 use proof_log::{ProofLog, StepId, StepIds};
 use spec_sorts::subterms::subterms_are_least;
 use std::alloc::Global;
 use std::slice;
+use term_clauses::choices::state_choice;
+use term_clauses::marks::{marked_ids, marks_of};
+use term_clauses::statements::state_term;
 use term_core::{TermId, TermTable};
 use world_io::NoMemory;
 
 /// Makes the clauses that a search for a term begins with, and lists the terms that they speak of: `clauses_of_all` for
 /// one term.
 ///
-/// The term must be a formula, and the log one over the table. The equalities of the search, and negations that clauses
-/// need, come into the table.
+/// The term must be a formula, and the log one over the table. The equalities of the search, its orders, and negations
+/// that clauses need, come into the table.
 ///
 /// Where it is called for one term after the other, a term that their searches share gets its clauses again for each,
 /// and each call takes time and memory in proportion to the table, however few subterms its term has. So several terms
 /// want `clauses_of_all`.
 ///
-/// `NoMemory` comes where a clause or a term of it finds no memory; then table and log are as they were.
-/// Source: Tseitin 1968; Alethe specification, the rules without premises; the rules of choices are own.
+/// `Wide` comes where the forms of an equality's sides, or their sum, leave the bound on numbers, and `Memory` where a
+/// clause or a term of it finds no memory; then table and log are as they were.
+/// Source: Tseitin 1968; Alethe specification, the rules without premises; the rules of choices, and which orders a
+/// search speaks of, are own.
 pub fn clauses_of(
     alloc: Global,
     table: &mut TermTable,
     log: &mut ProofLog,
     root: TermId,
-) -> Result<Stated, NoMemory>
+) -> Result<Stated, ClauseStop>
     requires root { IsFormulaIn table.old root }
     requires log { IsLogOf table.old log.old }
     ensures clauses { IfOk result (λ x. HasClauses table.new log.new (clause_at table.old (root ∷ [])) x.steps) }
@@ -48,6 +55,7 @@ pub fn clauses_of(
     ensures made { IfOk result (λ x. AreAllMade log.old log.new x.steps) }
     ensures grown { OnOk result (Grows (root ∷ []) table.old table.new log.old log.new) }
     ensures same { OnErr result ((table.new ≡ table.old) × (log.new ≡ log.old)) }
+    ensures wide { IfErr result (OnWide (IsOrderOverflow (clause_at table.old (root ∷ [])))) }
 {
     clauses_of_all(alloc, table, log, slice::from_ref(&root))
 }
@@ -55,31 +63,36 @@ pub fn clauses_of(
 /// Makes the clauses that a search for terms begins with, which say together that each of these is true, and lists the
 /// terms that they speak of.
 ///
-/// Each of the terms is assumed. The search speaks of them, of `(= (not true) false)` and `(= (not false) true)`, and of
-/// `(= (ite c s t) s)` and `(= (ite c s t) t)` for each choice `(ite c s t)` between terms of another sort than Bool
-/// among their subterms. It speaks of all subterms of these terms too.
+/// Each of the terms is assumed. The search speaks of them, of `(= (not true) false)` and `(= (not false) true)`, and
+/// of `(= (ite c s t) s)` and `(= (ite c s t) t)` for each choice `(ite c s t)` between terms of another sort than Bool
+/// among their subterms. For each equality `(= s t)` of numbers among the subterms of all these, it speaks of
+/// `(or (= s t) (not (<= s t)) (not (<= t s)))`. It speaks of all subterms of these terms too.
 ///
-/// Each term that it speaks of gets the clauses that rules without premises state of it, a shared one once. A term whose
-/// arguments are of sort Bool has those of its head. Such a choice has `(cl (not c) (= (ite c s t) s))` and
-/// `(cl c (= (ite c s t) t))`. Other terms have none: what they mean is for a theory.
+/// Each term that it speaks of gets the clauses that rules without premises state of it, a shared one once. A term
+/// whose arguments are of sort Bool has those of its head. Such a choice has `(cl (not c) (= (ite c s t) s))` and
+/// `(cl c (= (ite c s t) t))`. Such an equality has the clause of that disjunction alone, by the rule `la_disequality`,
+/// and `(cl (not (= s t)) (<= s t))` and `(cl (not (= s t)) (<= t s))`, by `la_generic`. Other terms have none: what
+/// they mean is for a theory.
 ///
 /// It gives the numbers of the clauses, and so of all that came into the log, in order, and the numbers of the terms.
 ///
-/// The terms must be formulas, and the log one over the table. The equalities, and negations that clauses need, come
-/// into the table.
+/// The terms must be formulas, and the log one over the table. The equalities, the orders, and negations that clauses
+/// need, come into the table.
 ///
-/// Time and memory go in proportion to the number of the table's terms and to the lengths of the clauses. But the rules
-/// `and_pos` and `or_neg` look for the argument that a clause has, so a term of n arguments costs in the order of n^2
-/// comparisons of numbers.
+/// Time and memory go in proportion to the number of the table's terms, to the lengths of the clauses, and to the forms
+/// of equalities' sides. But the rules `and_pos` and `or_neg` look for the argument that a clause has, so a term of n
+/// arguments costs in the order of n^2 comparisons of numbers.
 ///
-/// `NoMemory` comes where a clause or a term of it finds no memory; then table and log are as they were.
-/// Source: Tseitin 1968; Alethe specification, the rules without premises; the rules of choices are own.
+/// `Wide` comes where the forms of an equality's sides, or their sum, leave the bound on numbers, and `Memory` where a
+/// clause or a term of it finds no memory; then table and log are as they were.
+/// Source: Tseitin 1968; Alethe specification, the rules without premises; the rules of choices, and which orders a
+/// search speaks of, are own.
 pub fn clauses_of_all(
     alloc: Global,
     table: &mut TermTable,
     log: &mut ProofLog,
     roots: &[TermId],
-) -> Result<Stated, NoMemory>
+) -> Result<Stated, ClauseStop>
     requires roots { AreFormulasIn table.old roots.now }
     requires log { IsLogOf table.old log.old }
     ensures clauses { IfOk result (λ x. HasClauses table.new log.new (clause_at table.old roots.now) x.steps) }
@@ -87,37 +100,39 @@ pub fn clauses_of_all(
     ensures made { IfOk result (λ x. AreAllMade log.old log.new x.steps) }
     ensures grown { OnOk result (Grows roots.now table.old table.new log.old log.new) }
     ensures same { OnErr result ((table.new ≡ table.old) × (log.new ≡ log.old)) }
+    ensures wide { IfErr result (OnWide (IsOrderOverflow (clause_at table.old roots.now))) }
 {
     let terms = table.len();
     let clauses = log.len();
     match stated_of(alloc, table, log, roots) {
         Ok(stated) => Ok(stated),
-        Err(NoMemory) => {
+        Err(stop) => {
             log.cut(clauses);
             table.cut(terms);
-            Err(NoMemory)
+            Err(stop)
         }
     }
 }
 
-/// Makes the clauses of a search for terms, and lists its terms. Where memory runs out, what was made stays.
+/// Makes the clauses of a search for terms, and lists its terms. On a fault what was made stays.
 fn stated_of(
     alloc: Global,
     table: &mut TermTable,
     log: &mut ProofLog,
     roots: &[TermId],
-) -> Result<Stated, NoMemory>
+) -> Result<Stated, ClauseStop>
     requires roots { AreFormulasIn table.old roots.now }
     requires log { IsLogOf table.old log.old }
     ensures clauses { IfOk result (λ x. HasClauses table.new log.new (clause_at table.old roots.now) x.steps) }
     ensures terms { IfOk result (λ x. AreSearchTerms table.new (clause_at table.old roots.now) x.terms.items) }
     ensures made { IfOk result (λ x. AreAllMade log.old log.new x.steps) }
     ensures grows { Grows roots.now table.old table.new log.old log.new }
+    ensures wide { IfErr result (OnWide (IsOrderOverflow (clause_at table.old roots.now))) }
 {
     subterms_are_least();
     proof_log::laws::logs_stand_in_grown_tables();
-    let spoken = spoken_of(alloc, table, roots)?;
-    let marks = marks_of(alloc, table, &spoken)?;
+    let ordered = ordered_of(alloc, table, roots)?;
+    let marks = marks_of(alloc, table, &ordered)?;
     let mut steps = Vec::new(alloc);
     assume_each(table, log, roots, &mut steps)?;
     state_marked(alloc, table, log, &marks, &mut steps)?;
@@ -154,24 +169,44 @@ fn state_marked(
     log: &mut ProofLog,
     marks: &[bool],
     steps: &mut Vec<StepId>,
-) -> Result<(), NoMemory>
+) -> Result<(), ClauseStop>
     requires short { length marks.now ≤ length table.old.terms }
     requires sorted { All (IsWellSorted table.old.symbols []) (marked marks.now table.old.terms) }
     requires log { IsLogOf table.old log.old }
     ensures grows { Grows [] table.old table.new log.old log.new }
     ensures tells { OnOk result (Tells (listed table.old log.old steps.old.items)
-        (listed table.new log.new steps.new.items) (flat_map defining_clauses (marked marks.now table.old.terms))) }
+        (listed table.new log.new steps.new.items) (flat_map whole_clauses_of (marked marks.now table.old.terms))) }
+    ensures wide { IfErr result (OnWide (IsOverflowAmong (marked marks.now table.old.terms))) }
 {
     'marks: for number in 0..marks.len() {
         if !marks[number] {
             continue;
         }
-        define(alloc, table, log, steps, TermId(number as u64))?;
+        state_whole(alloc, table, log, steps, TermId(number as u64))?;
     }
     Ok(())
 }
 
-/// States all clauses that say what a term means, and puts their numbers after the others.
+/// States all clauses that say what a term means, its orders among them, and puts their numbers after the others.
+fn state_whole(
+    alloc: Global,
+    table: &mut TermTable,
+    log: &mut ProofLog,
+    steps: &mut Vec<StepId>,
+    id: TermId,
+) -> Result<(), ClauseStop>
+    requires there { IsTermIn table.old id }
+    requires log { IsLogOf table.old log.old }
+    ensures grows { Grows [] table.old table.new log.old log.new }
+    ensures tells { OnOk result (Tells (listed table.old log.old steps.old.items)
+        (listed table.new log.new steps.new.items) (whole_clauses_of (term_at table.old id))) }
+    ensures wide { IfErr result (OnWide (IsOverflowAmong (term_at table.old id ∷ []))) }
+{
+    define(alloc, table, log, steps, id)?;
+    state_orders(alloc, table, log, steps, id)
+}
+
+/// States the clauses that say what a term means in any search, and puts their numbers after the others.
 fn define(
     alloc: Global,
     table: &mut TermTable,

@@ -1,11 +1,11 @@
 //! The clauses that a search begins with, and the terms of which it speaks: those of each head, of shared subterms, of
-//! several terms, and of choices between terms of another sort than Bool.
+//! several terms, of choices between terms of another sort than Bool, and of equalities of numbers.
 
 ghost use Rattle.proof_log.specs.Logs.{IsLogOf};
 ghost use Rattle.log_tests.specs.Tables.{AreFree};
 
 use crate::tables::{are_formulas_in, table_of, terms_of};
-use clausify::{StepIds, clauses_of_all};
+use clausify::{ClauseStop, StepIds, clauses_of_all};
 use proof_log::laws::empty_logs_are_right;
 use proof_log::{ProofLog, TermId};
 use std::alloc::Global;
@@ -15,7 +15,7 @@ use world_io::NoMemory;
 
 /// The letters of the terms of the table, in their order. A negation is printed as a hyphen before what it negates, and
 /// what is not among them as a question mark.
-const LETTERS: &[u8] = b"tf1p2qabc-&|x>=ieosnuvjyzgk";
+const LETTERS: &[u8] = b"tf1p2qabc-&|x>=ieosnuvjyzgkGlLmMrdDhHwABCEFIKNOP";
 
 /// Each term by its letter, its head and its arguments. The first six are those of which each search speaks.
 const TERMS: &str = "t true
@@ -44,7 +44,28 @@ j ite auv
 y = ju
 z = jv
 g ite buv
-k = gv";
+k = gv
+G = gu
+l <= ju
+L not l
+m <= uj
+M not m
+r or yLM
+d <= jv
+D not d
+h <= vj
+H not h
+w or zDH
+A <= gv
+B not A
+C <= vg
+E not C
+F or kBE
+I <= gu
+K not I
+N <= ug
+O not N
+P or GKO";
 
 /// The clauses of the first six terms, each ending with a semicolon.
 const FIRST_CLAUSES: &str = "t;-f;-p-t-f;-p--tf;p--t-f;p-tf;-q-f-t;-q--ft;q--f-t;q-ft;";
@@ -72,9 +93,9 @@ s s: -|ab;|-a;|-b;-s|;-s|;s-|-|; ab|s
 ab a:b:  ab
 |& |:&: -&a;-&b;&-a-b;-|ab;|-a;|-b; ab&|
 s| s:|: -|ab;|-a;|-b;-s|;-s|;s-|-|; ab|s
-y y: -ay;az; auvjyz
-k k: -b?;bk; buvgk?
-yk y:k: -ay;az;-b?;bk; abuvjyzgk?";
+y y: -ay;az;r;-yl;-ym;w;-zd;-zh;-ry-l-m;r-y;r--l;r--m;-wz-d-h;w-z;w--d;w--h; auvjyzl-lm-mrd-dh-hw
+k k: -bG;bk;F;-kA;-kC;P;-GI;-GN;-Fk-A-C;F-k;F--A;F--C;-PG-I-N;P-G;P--I;P--N; buvgkGA-AC-CFI-IN-NP
+yk y:k: -ay;az;r;-yl;-ym;w;-zd;-zh;-bG;bk;F;-kA;-kC;P;-GI;-GN;-ry-l-m;r-y;r--l;r--m;-wz-d-h;w-z;w--d;w--h;-Fk-A-C;F-k;F--A;F--C;-PG-I-N;P-G;P--I;P--N; abuvjyzgkGl-lm-mrd-dh-hwA-AC-CFI-IN-NP";
 
 /// Gives what a negation negates.
 fn negated(table: &TermTable, id: TermId) -> Option<TermId> {
@@ -134,7 +155,7 @@ fn print_terms(text: &mut Vec<u8>, table: &TermTable, ids: &[TermId]) -> Result<
 }
 
 /// Prints the clauses of terms, and after a space the terms of which a search of them speaks; nothing where they are no
-/// formulas of the table.
+/// formulas of the table, and an exclamation mark where an operation leaves the bound on numbers.
 fn print(
     alloc: Global,
     table: &mut TermTable,
@@ -148,7 +169,11 @@ fn print(
     if !are_formulas_in(table, roots) {
         return Ok(());
     }
-    let stated = clauses_of_all(alloc, table, log, roots)?;
+    let stated = match clauses_of_all(alloc, table, log, roots) {
+        Ok(stated) => stated,
+        Err(ClauseStop::Wide(_)) => return Ok(text.push(b'!')?),
+        Err(ClauseStop::Memory) => return Err(NoMemory),
+    };
     print_clauses(text, table, log, &stated.steps)?;
     text.push(b' ')?;
     print_terms(text, table, &stated.terms)

@@ -73,6 +73,7 @@ fn head_of(word: &str) -> Option<Head> {
         b'i' => Some(Head::Ite),
         b'=' if letters.len() == 2 => Some(Head::Implies),
         b'=' => Some(Head::Equal),
+        b'<' => Some(Head::AtMost),
         _ => None,
     }
 }

@@ -5,11 +5,11 @@ use Rattle.std.proofs.lemmas.List.Elements.{Contains-get_or}
 use Rattle.term_core.specs.declared.ids.TermId.{TermId}
 use Rattle.term_core.specs.Tables.{term_at, clause_at}
 use Rattle.proof_log.specs.Logs.{assumed}
-use Rattle.clausify.specs.HavingClauses.{Grows}
-use Rattle.clausify.specs.Stating.{listed, Tells}
-use Rattle.clausify.proofs.Growing.{Grows-self, Grows-trans, Grows-push, Tells-push, Tells-none, Tells-trans, Tells-same}
+use Rattle.term_clauses.specs.Growth.{Grows}
+use Rattle.term_clauses.specs.Stating.{listed, Tells}
+use Rattle.term_clauses.proofs.Growing.{Grows-self, Grows-trans, Grows-push, Tells-push, Tells-none, Tells-trans, Tells-same}
 use Rattle.clausify.proofs.Bases.{alone, alone_more}
-use Rattle.clausify.proofs.Arguments.{no_number}
+use Rattle.term_clauses.proofs.Arguments.{no_number}
 use Rattle.clausify.proofs.roots.assume_each.Goals as goal
 use Rattle.clausify.proofs.roots.assume_each.Goals.{In_ok-assume}
 

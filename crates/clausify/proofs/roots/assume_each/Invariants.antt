@@ -1,8 +1,8 @@
 -- The terms up to here are assumed.
 use Rattle.std.proofs.Common.{[], ◌∷◌, map, take}
 use Rattle.term_core.specs.Tables.{clause_at}
-use Rattle.clausify.specs.HavingClauses.{Grows}
-use Rattle.clausify.specs.Stating.{listed, Tells}
+use Rattle.term_clauses.specs.Growth.{Grows}
+use Rattle.term_clauses.specs.Stating.{listed, Tells}
 use Rattle.clausify.proofs.roots.assume_each.Given as goal
 
 abbrev pub invariant-roots : goal.invariant-roots

@@ -4,8 +4,8 @@ use Rattle.std.proofs.lemmas.Result.{on_ok_weaker}
 use Rattle.spec_derivations.specs.Base.{clauses_of, choice_clauses}
 use Rattle.term_core.specs.Tables.{term_at}
 use Rattle.term_core.proofs.TermsExtend.{term_at-kept}
-use Rattle.clausify.proofs.Choosing.{term_kept}
-use Rattle.clausify.proofs.Growing.{Grows-trans, Tells-trans, Tells-same}
+use Rattle.term_clauses.proofs.Choosing.{term_kept}
+use Rattle.term_clauses.proofs.Growing.{Grows-trans, Tells-trans, Tells-same}
 use Rattle.clausify.proofs.roots.define.Goals as goal
 
 pub state_choice-requires-clause-there : goal.state_choice-requires-clause-there

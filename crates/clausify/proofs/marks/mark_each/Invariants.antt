@@ -1,7 +1,0 @@
--- The numbers up to here are marked.
-use Rattle.std.proofs.Common.{take}
-use Rattle.clausify.specs.Marks.{Marks}
-use Rattle.clausify.proofs.marks.mark_each.Given as goal
-
-abbrev pub invariant-ids : goal.invariant-ids
-invariant-ids l = record { so_far : Marks l.fn.marks (take l.id-index l.ids) l.marks }
