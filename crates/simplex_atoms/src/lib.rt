@@ -23,4 +23,5 @@ mod tests;
 pub use atoms::Atoms;
 pub use limits::bounds_by;
 pub use place::{Kind, Place};
+pub use reading::{Sides, difference_of, sides_of};
 pub use stop::AtomStop;

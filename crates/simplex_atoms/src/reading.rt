@@ -15,7 +15,7 @@ use term_core::{Head, Sort, TermId, TermTable};
 
 /// Says what an atom does: how the difference of its two sides stands to 0.
 #[derive(Clone, Copy, Debug, PartialEq, Eq)]
-pub(crate) struct Sides {
+pub struct Sides {
     /// How it stands to 0.
     pub kind: Kind,
     /// The atom.
@@ -48,7 +48,7 @@ fn kind_of(head: Head) -> Option<Kind>
 }
 
 /// Says what an atom does; nothing where it is no order and no equality of numbers. It takes no memory.
-pub(crate) fn sides_of(table: &TermTable, id: TermId) -> Option<Sides>
+pub fn sides_of(table: &TermTable, id: TermId) -> Option<Sides>
     requires { IsIn table.now id }
     ensures means { sides_meant table.now result ≡ constraint_of (positive_literal (term_at table.now id)) }
     ensures there { HasSidesIn table.now result }
@@ -71,12 +71,10 @@ pub(crate) fn sides_of(table: &TermTable, id: TermId) -> Option<Sides>
     })
 }
 
-/// Makes the form of the difference of an atom's sides.
-pub(crate) fn difference_of(
-    alloc: Global,
-    table: &TermTable,
-    sides: Sides,
-) -> Result<Form, AtomStop>
+/// Makes the form of the difference of an atom's sides: the left one's, minus the right one's.
+///
+/// `Wide` comes where an operation on the way leaves 128 bits, with the first such; `Memory` where there is no memory.
+pub fn difference_of(alloc: Global, table: &TermTable, sides: Sides) -> Result<Form, AtomStop>
     requires left { IsIn table.now sides.left }
     requires right { IsIn table.now sides.right }
     ensures exact { Forms table.now (form_of (constraint_meant table.now sides)) result }

@@ -22,7 +22,7 @@ use Rattle.proof_log.specs.declared.premises.StepId.{StepId}
 use Rattle.proof_log.specs.Logs.{Logged, named, logged_at, no_logged, inference_of}
 use Rattle.proof_log.specs.Clashes.{HasLit, IsClash, literals_in}
 use Rattle.proof_log.specs.Theories.{Derives, IsAtomIn}
-use Rattle.clausify.specs.Stating.{Widens}
+use Rattle.term_clauses.specs.Stating.{Widens}
 use Rattle.simplex_explain.specs.declared.weighted.Weighted.{Weighted}
 use Rattle.simplex_explain.specs.Reasons.{AreReasons, AreHeld, weights_of, weights_meant, literals_meant, denials_meant}
 use Rattle.simplex_explain.specs.Steps.{derived, refuting, refutation, IsStated}

@@ -13,8 +13,8 @@ use Rattle.term_core.specs.declared.nodes.Head.TheVariants as heads
 use Rattle.term_core.specs.Tables.{TableView, term_at, IsIn, clause_at, literal_at, node_term, shape_term}
 use Rattle.term_core.proofs.TermsExtend.{literal_at-kept, clause_at-kept}
 use Rattle.proof_log.specs.Logs.{IsFormulaIn, AreFormulasIn}
-use Rattle.clausify.specs.Stating.{Widens}
-use Rattle.clausify.proofs.Parts.{formula_kept, signed_in}
+use Rattle.term_clauses.specs.Stating.{Widens}
+use Rattle.term_clauses.proofs.Parts.{formula_kept, signed_in}
 use Rattle.simplex_explain.specs.declared.weighted.Weighted.{Weighted}
 use Rattle.simplex_explain.specs.Reasons.{IsPut, literals_meant, denials_meant}
 

@@ -4,7 +4,7 @@ ghost use Rattle.std.specs.Prelude.{◌≡◌, All, IfOk};
 ghost use Rattle.term_core.specs.Tables.{clause_at, literal_at};
 ghost use Rattle.spec_simplex.specs.Weights.{denial};
 ghost use Rattle.proof_log.specs.Logs.{IsFormulaIn, AreFormulasIn};
-ghost use Rattle.clausify.specs.Stating.{Widens};
+ghost use Rattle.term_clauses.specs.Stating.{Widens};
 ghost use Rattle.simplex_explain.specs.Reasons.{IsPut, denials_meant};
 
 use crate::weighted::Weighted;

@@ -11,7 +11,7 @@ ghost use Rattle.proof_log.specs.Logs.{IsFormulaIn, AreFormulasIn, IsLogOf, logg
 ghost use Rattle.proof_log.specs.Adding.{IsAdded};
 ghost use Rattle.proof_log.specs.Clashes.{IsClash};
 ghost use Rattle.proof_log.specs.Theories.{Derives};
-ghost use Rattle.clausify.specs.Stating.{Widens};
+ghost use Rattle.term_clauses.specs.Stating.{Widens};
 ghost use Rattle.simplex_explain.specs.Reasons.{AreReasons, AreHeld, weights_of};
 ghost use Rattle.simplex_explain.specs.Steps.{derived, judged, refuting, refutation, IsStated};
 

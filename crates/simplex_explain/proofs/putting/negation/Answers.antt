@@ -1,7 +1,7 @@
 -- The negation is put, or the atom stands there.
 use Rattle.std.proofs.Common.{◌≡◌, true}
 use Rattle.std.proofs.lemmas.Bool.{not-false}
-use Rattle.clausify.proofs.Arguments.{Widens-self}
+use Rattle.term_clauses.proofs.Arguments.{Widens-self}
 use Rattle.simplex_explain.proofs.Terms.{negation_put}
 use Rattle.simplex_explain.proofs.putting.negation.Goals as goal
 

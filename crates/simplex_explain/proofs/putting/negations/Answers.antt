@@ -3,8 +3,8 @@ use Rattle.std.proofs.Common.{sym, ap, subst}
 use Rattle.std.proofs.lemmas.List.Elements.{All-nil}
 use Rattle.term_core.specs.Tables.{clause_at}
 use Rattle.proof_log.specs.Logs.{IsFormulaIn, AreFormulasIn}
-use Rattle.clausify.proofs.Arguments.{Widens-self, Widens-trans}
-use Rattle.clausify.proofs.Parts.{formula_kept}
+use Rattle.term_clauses.proofs.Arguments.{Widens-self, Widens-trans}
+use Rattle.term_clauses.proofs.Parts.{formula_kept}
 use Rattle.simplex_explain.proofs.Terms.{reason_formula, terms_more}
 use Rattle.simplex_explain.proofs.putting.negations.Goals as goal
 

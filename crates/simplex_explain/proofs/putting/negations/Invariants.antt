@@ -2,7 +2,7 @@
 use Rattle.std.proofs.Common.{◌≡◌, take}
 use Rattle.term_core.specs.Tables.{clause_at}
 use Rattle.proof_log.specs.Logs.{AreFormulasIn}
-use Rattle.clausify.specs.Stating.{Widens}
+use Rattle.term_clauses.specs.Stating.{Widens}
 use Rattle.simplex_explain.specs.Reasons.{denials_meant}
 use Rattle.simplex_explain.proofs.putting.negations.Given as goal
 
