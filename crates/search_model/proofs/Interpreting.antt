@@ -7,6 +7,7 @@ use Rattle.std.proofs.lemmas.Bool.{false≢true}
 use Rattle.std.proofs.lemmas.List.{length-map, get_or-map, get_or_default}
 use Rattle.std.proofs.lemmas.Slice.Eq.{bytes_eq-Decides}
 use Rattle.spec_text.specs.Bytes.{Name}
+use Rattle.spec_numbers.specs.Fractions.{Fraction}
 use Rattle.spec_sorts.specs.Terms.{Symbol}
 use Rattle.spec_sorts.specs.Values.{Interpretation}
 use Rattle.term_walks.specs.declared.values.Interp.{Interp}
@@ -57,8 +58,8 @@ interpretation t interp apart = (
 )
 
 -- an interpretation with these tables is one by the values of the listed terms
-pub models_by : (t : TableView) (held : List Lit) (terms : List TermId) (classes : List ℕ) (interp : Interp) → IsModelOf t held terms classes interp
-    → (i : Interpretation) → Stands t interp i → IsModelBy i (values_of t held terms classes) t.symbols (clause_at t terms)
-models_by t held terms classes interp model i stands s c =
-    subst (λ (x : Symbol). i.table x.name ≡ table_of (values_of t held terms classes) x (clause_at t terms)) (sym (get_or_default t.symbols c.0 s no_symbol c.1) ∙ c.2)
+pub models_by : (t : TableView) (held : List Lit) (terms : List TermId) (classes : List ℕ) (numbers : List Fraction) (interp : Interp) → IsModelOf t held terms classes numbers interp
+    → (i : Interpretation) → Stands t interp i → IsModelBy i (values_of t held terms classes numbers) t.symbols (clause_at t terms)
+models_by t held terms classes numbers interp model i stands s c =
+    subst (λ (x : Symbol). i.table x.name ≡ table_of (values_of t held terms classes numbers) x (clause_at t terms)) (sym (get_or_default t.symbols c.0 s no_symbol c.1) ∙ c.2)
     (stands (record { 0 = c.0 }) c.1 ∙ model.each c.0 c.1)

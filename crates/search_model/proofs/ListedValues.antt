@@ -6,7 +6,8 @@ use Rattle.std.proofs.lemmas.Bool.{false≢true}
 use Rattle.std.proofs.lemmas.Bool.Decides.{Decides-eqb}
 use Rattle.std.proofs.lemmas.List.{length-set, get_or-set_same, get_or-set_other}
 use Rattle.std.proofs.lemmas.List.Elements.{All-head, All-tail, All-get_or, All-push, All-weaker}
-use Rattle.spec_sorts.specs.Terms.{same_term}
+use Rattle.spec_numbers.specs.Fractions.{Fraction, zero_fraction}
+use Rattle.spec_sorts.specs.Terms.{Term, same_term}
 use Rattle.spec_sorts.proofs.SameTerms.{terms_decide}
 use Rattle.spec_valuations.specs.Tables.{Valuation}
 use Rattle.spec_valuations.specs.Classes.{class_in}
@@ -14,33 +15,48 @@ use Rattle.term_core.specs.declared.ids.TermId.{TermId}
 use Rattle.term_core.specs.Tables.{TableView, term_at, IsIn, AreIn, clause_at, AreDifferent}
 use Rattle.term_walks.specs.declared.values.Value.{Value as CodeValue}
 use Rattle.term_walks.specs.Valuations.{value_meant, IsNamed}
-use Rattle.search_model.specs.Models.{no_id, AreRising}
+use Rattle.search_model.specs.Models.{no_id, number_in, AreRising}
 use Rattle.search_model.specs.Made.{no_value, value_at_id, IsValueOf}
+
+-- what is found for a term where the terms that it may be stand beside what they have
+module _ {A : Type 0} (no : A) (found_in : List Term → List A → Term → A)
+    (step : (u : Term) (us : List Term) (x : A) (xs : List A) (w : Term) → found_in (u ∷ us) (x ∷ xs) w ≡ cond (same_term u w) x (found_in us xs w)) where
+  -- of a listed term it is what stands at its place
+  at_place : (t : TableView) (ids : List TermId) (xs : List A) (k : ℕ) → AreDifferent t.terms → AreIn t ids → AreRising ids → length xs ≡ length ids → k < length ids
+      → found_in (clause_at t ids) xs (term_at t (get_or ids k no_id)) ≡ get_or xs k no
+  at_place t [] xs k different there rising long lt = absurd (omega (arith, lt))
+  at_place t (id ∷ ids) [] k different there rising long lt = absurd (omega (arith, long))
+  at_place t (id ∷ ids) (x ∷ xs) zero different there rising long lt =
+      step (term_at t id) (clause_at t ids) x xs (term_at t id)
+      ∙ ap (λ b. cond b x (found_in (clause_at t ids) xs (term_at t id))) ((terms_decide (term_at t id) (term_at t id)).1 refl)
+  at_place t (id ∷ ids) (x ∷ xs) (suc k) different there rising long lt =
+      step (term_at t id) (clause_at t ids) x xs (term_at t other)
+      ∙ go (same_term (term_at t id) (term_at t other)) refl
+      (at_place t ids xs k different (All-tail (IsIn t) id ids there) (λ i j before j_in. rising (suc i) (suc j) (omega (arith, before)) (omega (arith, j_in))) (omega (arith, long)) in_ids)
+    where
+      other : TermId
+      other = get_or ids k no_id
+
+      in_ids : k < length ids
+      in_ids = omega (arith, lt)
+
+      go : (b : Bool) → same_term (term_at t id) (term_at t other) ≡ b → found_in (clause_at t ids) xs (term_at t other) ≡ get_or xs k no
+          → cond b x (found_in (clause_at t ids) xs (term_at t other)) ≡ get_or xs k no
+      go true e rest =
+          let same : id.0 ≡ other.0 = different id.0 other.0 (All-head (IsIn t) id ids there) (All-get_or (IsIn t) ids k no_id in_ids (All-tail (IsIn t) id ids there))
+          ((terms_decide (term_at t id) (term_at t other)).0 e) in
+          absurd (omega (arith, rising 0 (suc k) (omega arith) lt, same))
+      go false e rest = rest
 
 -- the class of a listed term is the one at its place
 pub class_at : (t : TableView) (ids : List TermId) (classes : List ℕ) (k : ℕ) → AreDifferent t.terms → AreIn t ids → AreRising ids → length classes ≡ length ids → k < length ids
     → class_in (clause_at t ids) classes (term_at t (get_or ids k no_id)) ≡ get_or classes k 0
-class_at t [] classes k different there rising long lt = absurd (omega (arith, lt))
-class_at t (id ∷ ids) [] k different there rising long lt = absurd (omega (arith, long))
-class_at t (id ∷ ids) (c ∷ cs) zero different there rising long lt =
-    ap (λ b. cond b c (class_in (clause_at t ids) cs (term_at t id))) ((terms_decide (term_at t id) (term_at t id)).1 refl)
-class_at t (id ∷ ids) (c ∷ cs) (suc k) different there rising long lt =
-    go (same_term (term_at t id) (term_at t other)) refl
-    (class_at t ids cs k different (All-tail (IsIn t) id ids there) (λ i j before j_in. rising (suc i) (suc j) (omega (arith, before)) (omega (arith, j_in))) (omega (arith, long)) in_ids)
-  where
-    other : TermId
-    other = get_or ids k no_id
+class_at = at_place 0 class_in (λ u us x xs w. refl)
 
-    in_ids : k < length ids
-    in_ids = omega (arith, lt)
-
-    go : (b : Bool) → same_term (term_at t id) (term_at t other) ≡ b → class_in (clause_at t ids) cs (term_at t other) ≡ get_or cs k 0
-        → class_in (clause_at t (id ∷ ids)) (c ∷ cs) (term_at t other) ≡ get_or cs k 0
-    go true e rest =
-        let same : id.0 ≡ other.0 = different id.0 other.0 (All-head (IsIn t) id ids there) (All-get_or (IsIn t) ids k no_id in_ids (All-tail (IsIn t) id ids there))
-        ((terms_decide (term_at t id) (term_at t other)).0 e) in
-        absurd (omega (arith, rising 0 (suc k) (omega arith) lt, same))
-    go false e rest = ap (λ b. cond b c (class_in (clause_at t ids) cs (term_at t other))) e ∙ rest
+-- so is its number
+pub number_at : (t : TableView) (ids : List TermId) (numbers : List Fraction) (k : ℕ) → AreDifferent t.terms → AreIn t ids → AreRising ids → length numbers ≡ length ids → k < length ids
+    → number_in (clause_at t ids) numbers (term_at t (get_or ids k no_id)) ≡ get_or numbers k zero_fraction
+number_at = at_place zero_fraction number_in (λ u us x xs w. refl)
 
 module _ (t : TableView) (v : Valuation) (vs : List CodeValue) (id : TermId) (x : CodeValue) where
   -- the value of a term comes in

@@ -1,7 +1,7 @@
--- Which interpretation a search answers with: by the truths of its literals, and by the classes of its terms.
-use Rattle.std.specs.Prelude.{◌≡◌, ◌<◌, ℕ, Bool, true, ◌&&◌, List, [], length, get_or, All, slice_index_or}
+-- Which interpretation a search answers with: by the truths of its literals, and by the classes and numbers of its terms.
+use Rattle.std.specs.Prelude.{◌≡◌, ◌<◌, ℕ, Bool, true, ◌&&◌, List, [], ◌∷◌, length, get_or, All, slice_index_or, if◌then◌else◌}
 use Rattle.std.specs.List.{list_any}
-use Rattle.spec_numbers.specs.Fractions.{zero_fraction}
+use Rattle.spec_numbers.specs.Fractions.{Fraction, zero_fraction}
 use Rattle.spec_sorts.specs.Terms.{Symbol, Term, same_term}
 use Rattle.spec_sorts.specs.Values.{truth, Interpretation, Interprets}
 use Rattle.spec_sorts.specs.TermValues.{value_at}
@@ -23,9 +23,14 @@ affirms t l u = l.positive && same_term (term_at t l.term) u
 abbrev pub truths_of : TableView → List Lit → Truths
 truths_of t held u = list_any (λ l. affirms t l u) held
 
--- the value of a listed term: its truth, 0, or the element of the number of its class
-abbrev pub values_of : TableView → List Lit → List TermId → List ℕ → Valuation
-values_of t held terms classes = value_by (term_true_by (truths_of t held)) (λ u. zero_fraction) (class_in (clause_at t terms) classes)
+-- the number of a term among listed ones, by the numbers at their places; of any other 0
+abbrev pub number_in : List Term → List Fraction → Term → Fraction
+number_in (t ∷ ts) (q ∷ qs) u = if same_term t u then q else number_in ts qs u
+number_in _ _ u = zero_fraction
+
+-- the value of a listed term: its truth, its number, or the element of the number of its class
+abbrev pub values_of : TableView → List Lit → List TermId → List ℕ → List Fraction → Valuation
+values_of t held terms classes numbers = value_by (term_true_by (truths_of t held)) (number_in (clause_at t terms) numbers) (class_in (clause_at t terms) classes)
 
 -- the symbol of that number
 abbrev pub symbol_in : TableView → ℕ → Symbol
@@ -40,13 +45,13 @@ abbrev pub AreRising : List TermId → Type 0
 AreRising ids = (i j : ℕ) → i < j → j < length ids → (get_or ids i no_id).0 < (get_or ids j no_id).0
 
 -- Each symbol has a row for each listed term with it in front, and for all other arguments false, 0 or the first element. A constant that is listed has its value alone.
-pub record IsModelOf (t : TableView) (held : List Lit) (terms : List TermId) (classes : List ℕ) (interp : Interp) : Type 0 where
+pub record IsModelOf (t : TableView) (held : List Lit) (terms : List TermId) (classes : List ℕ) (numbers : List Fraction) (interp : Interp) : Type 0 where
   -- there is a table for each symbol, and no other
   pub tables : length interp.tables.items ≡ length t.symbols
   -- elements are of sorts of the table
   pub named : All (IsTableNamed t.sorts) interp.tables.items
   -- it is the table by the values of the listed terms
-  pub each : (k : ℕ) → k < length t.symbols → slice_index_or (tables_meant t.sorts interp) k no_table ≡ table_of (values_of t held terms classes) (symbol_in t k) (clause_at t terms)
+  pub each : (k : ℕ) → k < length t.symbols → slice_index_or (tables_meant t.sorts interp) k no_table ≡ table_of (values_of t held terms classes numbers) (symbol_in t k) (clause_at t terms)
 
 -- Tables for the symbols, under which terms are true.
 pub record IsModel (t : TableView) (terms : List Term) (interp : Interp) : Type 0 where

@@ -2,7 +2,9 @@
 
 ghost use Rattle.std.specs.Prelude.{◌≡◌, ◌<◌, ◌++◌, ◌∷◌, [], List, length, All, Contains, OnOk, IfOk};
 ghost use Rattle.spec_text.specs.Bytes.{Name};
+ghost use Rattle.spec_numbers.specs.Fractions.{zero_fraction};
 ghost use Rattle.spec_sorts.specs.Terms.{Term};
+ghost use Rattle.spec_sorts.specs.Values.{number};
 ghost use Rattle.spec_valuations.specs.Tables.{Valuation, default_value};
 ghost use Rattle.term_core.specs.declared.ids.TermId.{TermId as Number};
 ghost use Rattle.term_core.specs.Symbols.{HasSortIn, sort_meant};
@@ -10,7 +12,8 @@ ghost use Rattle.term_core.specs.Tables.{term_at, IsIn};
 ghost use Rattle.term_walks.specs.Valuations.{value_meant, row_meant, IsNamed, IsRowNamed, IsTableNamed};
 ghost use Rattle.search_model.specs.Made.{HasValues, meant, row_put, default_put, AreBlank, AreTables, IsApplied};
 
-use crate::values::{values_at, zero};
+use crate::values::values_at;
+use ratio128::Ratio;
 use std::alloc::Global;
 use term_core::{Head, Sort, SymbolId, TermId, TermTable};
 use term_walks::{Row, Table, Value};
@@ -24,6 +27,14 @@ fn applied(head: Head) -> Option<SymbolId>
         Head::Apply(symbol) => Some(symbol),
         _ => None,
     }
+}
+
+/// Gives the number 0.
+fn zero() -> Value
+    ensures means { (sorts : List Name) → value_meant sorts result ≡ number zero_fraction }
+    ensures named { (sorts : List Name) → IsNamed sorts result }
+{
+    Value::Number(Ratio::of(0, 1))
 }
 
 /// Gives a value of a sort: false, 0, or the first element.

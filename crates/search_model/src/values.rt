@@ -1,13 +1,11 @@
 //! The values of listed terms, by their numbers.
 
-ghost use Rattle.std.specs.Prelude.{◌≡◌, ◌<◌, List, length, map, All, IfOk};
-ghost use Rattle.spec_text.specs.Bytes.{Name};
-ghost use Rattle.spec_numbers.specs.Fractions.{zero_fraction};
+ghost use Rattle.std.specs.Prelude.{◌≡◌, ◌<◌, length, map, All, IfOk};
 ghost use Rattle.spec_sorts.specs.Terms.{sort_of};
-ghost use Rattle.spec_sorts.specs.Values.{number};
 ghost use Rattle.spec_sorts.specs.Subsets.{IsClosed};
 ghost use Rattle.spec_rules.specs.Truths.{term_true_by};
 ghost use Rattle.spec_valuations.specs.Classes.{value_in};
+ghost use Rattle.ratio128.specs.Meant.{fraction};
 ghost use Rattle.term_core.specs.Tables.{term_at, IsIn, AreIn, clause_at};
 ghost use Rattle.clause_literals.specs.Literals.{AreOf};
 ghost use Rattle.term_walks.specs.Valuations.{value_meant, IsNamed};
@@ -20,14 +18,6 @@ use std::alloc::Global;
 use term_core::{Sort, TermId, TermTable};
 use term_walks::Value;
 use world_io::NoMemory;
-
-/// Gives the number 0.
-pub(crate) fn zero() -> Value
-    ensures means { (sorts : List Name) → value_meant sorts result ≡ number zero_fraction }
-    ensures named { (sorts : List Name) → IsNamed sorts result }
-{
-    Value::Number(Ratio::of(0, 1))
-}
 
 /// Tells whether a term is true by the literals that hold. What is no negation and has no value is false.
 fn truth_of(table: &TermTable, id: TermId, trail: &SatTrail) -> bool
@@ -43,18 +33,18 @@ fn truth_of(table: &TermTable, id: TermId, trail: &SatTrail) -> bool
     trail.value(literal).unwrap_or(!literal.positive)
 }
 
-/// Gives the value of a term: its truth, 0, or the element of the number of its class.
-fn value_of(table: &TermTable, id: TermId, class: u64, trail: &SatTrail) -> Value
+/// Gives the value of a term: its truth, its number, or the element of the number of its class.
+fn value_of(table: &TermTable, id: TermId, class: u64, number: Ratio, trail: &SatTrail) -> Value
     requires there { IsIn table.now id }
     requires known { id.0 < trail.now.vars }
     requires literals { AreOf table.now trail.now.literals }
     ensures means { value_meant table.now.sorts result ≡ value_in (sort_of (term_at table.now id))
-        (term_true_by (truths_of table.now trail.now.literals) (term_at table.now id)) zero_fraction class }
+        (term_true_by (truths_of table.now trail.now.literals) (term_at table.now id)) (fraction number) class }
     ensures named { IsNamed table.now.sorts result }
 {
     match table.sort(id) {
         Sort::Bool => Value::Bool(truth_of(table, id, trail)),
-        Sort::Real => zero(),
+        Sort::Real => Value::Number(number),
         Sort::Declared(sort) => Value::Element(sort, class),
     }
 }
@@ -79,22 +69,25 @@ pub(crate) fn listed_values(
     table: &TermTable,
     terms: &[TermId],
     classes: &[u64],
+    numbers: &[Ratio],
     trail: &SatTrail,
 ) -> Result<Vec<Value>, NoMemory>
     requires terms { AreIn table.now terms.now }
     requires rising { AreRising terms.now }
     requires closed { IsClosed (clause_at table.now terms.now) }
     requires classes { length classes.now ≡ length terms.now }
+    requires numbers { length numbers.now ≡ length terms.now }
     requires known { All (λ id. id.0 < trail.now.vars) terms.now }
     requires literals { AreOf table.now trail.now.literals }
     ensures { IfOk result (λ values. HasValues table.now
-        (values_of table.now trail.now.literals terms.now classes.now) terms.now values.items) }
+        (values_of table.now trail.now.literals terms.now classes.now (map fraction numbers.now)) terms.now
+        values.items) }
 {
     table.ids_are_unique();
     let mut values = vec![in alloc; Value::Bool(false); above(table, terms)]?;
     'terms: for at in 0..terms.len() {
         let id = terms[at];
-        values[id.0 as usize] = value_of(table, id, classes[at], trail);
+        values[id.0 as usize] = value_of(table, id, classes[at], numbers[at], trail);
     }
     Ok(values)
 }
