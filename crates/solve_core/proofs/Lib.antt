@@ -10,6 +10,7 @@ pub mod SearchReady
 pub mod SearchNew
 pub mod SearchLogs
 pub mod SearchAtoms
+pub mod SearchForms
 pub mod SearchGrown
 pub mod SearchTheories
 pub mod SearchConflicts
@@ -20,4 +21,7 @@ pub mod SearchSpends
 pub mod SearchLooks
 pub mod SearchTruths
 pub mod SearchChosen
+pub mod SearchNumbers
+pub mod SearchStops
 pub mod SearchModelled
+pub mod SearchStrained

@@ -1,16 +1,17 @@
--- That a learned clause is over atoms of the terms: the truth values and the facts about them have their values since level 0.
-use Rattle.std.proofs.Common.{◌≡◌, ◌≢◌, ◌⊎◌, true, false, List, [], ◌∷◌, map, Contains, inl, inr, refl, sym, ap, ◌∙◌, subst, arith}
+-- That a learned clause is over atoms of the terms: the truth values, the facts about them and the order facts have their values since level 0.
+use Rattle.std.proofs.Common.{◌≡◌, ◌≢◌, ◌⊎◌, Bool, true, false, cond, List, [], ◌∷◌, map, Contains, inl, inr, refl, sym, ap, ◌∙◌, subst, arith}
 use Rattle.std.specs.Prelude.{flat_map}
 use Rattle.std.proofs.lemmas.List.Elements.{Contains-append_left, Contains-append_right}
-use Rattle.spec_text.proofs.Members.{to_image, from_image, in_flat, only, first, cases}
-use Rattle.spec_sorts.specs.Terms.{True, False, Equal, Truth, Term, of, pair, negated, sort_of}
+use Rattle.spec_text.proofs.Members.{to_image, from_image, in_flat, from_flat, only, none, first, cases}
+use Rattle.spec_sorts.specs.Terms.{True, False, Equal, AtMost, Truth, Number, Term, app, nil, cons, of, pair, negated, same_sort, sort_of}
 use Rattle.spec_sorts.specs.Subsets.{arguments_of}
-use Rattle.spec_sorts.proofs.LeastSubterms.{least_of}
 use Rattle.spec_sorts.specs.Literals.{Clause, Literal, complement, literal_of, literals_of}
 use Rattle.spec_derivations.specs.Problems.{Problem}
-use Rattle.spec_derivations.specs.Base.{clauses_of, truth_facts, defining_clauses, choice_clauses, spoken_terms, search_terms, search_clauses}
+use Rattle.spec_derivations.specs.Base.{clauses_of, truth_facts, defining_clauses, choice_clauses}
+use Rattle.spec_derivations.specs.Orders.{order_fact, order_facts, order_clauses, whole_terms, whole_clauses_of, whole_clauses}
 use Rattle.spec_derivations.specs.Spent.{IsAtomOf}
-use Rattle.spec_derivations.proofs.SearchTerms.{facts_spoken, spoken_atoms}
+use Rattle.spec_derivations.proofs.SearchTerms.{facts_spoken}
+use Rattle.spec_derivations.proofs.OrderedTerms.{whole_closed, searched_whole, whole_atoms}
 use Rattle.term_core.specs.declared.ids.Lit.{Lit}
 use Rattle.term_core.specs.Tables.{TableView, IsIn, AreDifferent, term_at, literal_at, positive_literal}
 use Rattle.clause_literals.specs.Literals.{lit_complement, IsConsistent}
@@ -18,14 +19,22 @@ use Rattle.clause_literals.specs.Statuses.{IsSettled}
 use Rattle.clause_literals.proofs.TableLiterals.{literals_apart}
 use Rattle.clause_store.specs.Propagating.{IsQuiet}
 
--- a clause that a term gives is one of those that a search begins with
-in_search : (p : Problem) (u : Term) (c : Clause) → Contains (search_terms p) u → Contains (clauses_of u) c → Contains (search_clauses p) c
-in_search p u c i j = Contains-append_right (map (λ (x : Term). x ∷ []) p.asserted) (flat_map defining_clauses (search_terms p)) c
-    (in_flat defining_clauses (search_terms p) u c i (Contains-append_left (clauses_of u) (choice_clauses u) c j))
+-- a clause of what a term means is one of those that a search begins with
+among_whole : (p : Problem) (u : Term) (c : Clause) → Contains (whole_terms p) u → Contains (whole_clauses_of u) c → Contains (whole_clauses p) c
+among_whole p u c i j = Contains-append_right (map (λ (x : Term). x ∷ []) p.asserted) (flat_map whole_clauses_of (whole_terms p)) c
+    (in_flat whole_clauses_of (whole_terms p) u c i j)
+
+-- so is one that a term gives
+in_search : (p : Problem) (u : Term) (c : Clause) → Contains (whole_terms p) u → Contains (clauses_of u) c → Contains (whole_clauses p) c
+in_search p u c i j = among_whole p u c i (Contains-append_left (defining_clauses u) (order_clauses u) c (Contains-append_left (clauses_of u) (choice_clauses u) c j))
+
+-- and one of the orders of an equality
+in_orders : (p : Problem) (u : Term) (c : Clause) → Contains (whole_terms p) u → Contains (order_clauses u) c → Contains (whole_clauses p) c
+in_orders p u c i j = among_whole p u c i (Contains-append_right (defining_clauses u) (order_clauses u) c j)
 
 -- with a term its arguments are spoken of
-pub closed_terms : (p : Problem) (t u : Term) → Contains (search_terms p) t → Contains (arguments_of t) u → Contains (search_terms p) u
-closed_terms p t u i j = (least_of (spoken_terms p)).closed t i u j
+pub closed_terms : (p : Problem) (t u : Term) → Contains (whole_terms p) t → Contains (arguments_of t) u → Contains (whole_terms p) u
+closed_terms p t u i j = whole_closed p t u i j
 
 -- (= (not true) false), and (= (not false) true)
 abbrev not_true_fact : Term
@@ -72,16 +81,30 @@ not_false_literals : literals_of (not_false_fact ∷ negated (negated (of False 
 unfolding literal_of
 not_false_literals = refl
 
+-- an order fact is a clause alone, of one literal
+fact_alone : (w u : Term) → Contains (order_facts w) u → Contains (order_clauses w) (u ∷ []) × (literals_of (u ∷ []) ≡ yes u ∷ [])
+unfolding literal_of
+fact_alone (app Equal (cons s (cons t nil))) u i = go (same_sort Number (sort_of s)) i
+  where
+    others : List Clause
+    others = (negated (pair Equal s t) ∷ pair AtMost s t ∷ []) ∷ (negated (pair Equal s t) ∷ pair AtMost t s ∷ []) ∷ []
+
+    go : (b : Bool) → Contains (cond b (order_fact s t ∷ []) []) u → Contains (cond b ((order_fact s t ∷ []) ∷ others) []) (u ∷ []) × (literals_of (u ∷ []) ≡ yes u ∷ [])
+    go true h = subst (λ (x : Term). Contains ((order_fact s t ∷ []) ∷ others) (x ∷ []) × (literals_of (x ∷ []) ≡ yes x ∷ [])) (only (order_fact s t) u h)
+        (first (order_fact s t ∷ []) others, refl)
+    go false h = absurd (none u h)
+fact_alone _ u i = absurd (none u i)
+
 -- clauses that are quiet, and have those that a search begins with
 module _ (t : TableView) (differ : AreDifferent t.terms) (problem : Problem) (clauses : List (List Lit)) (clauses_in : (d : List Lit) (l : Lit) → Contains clauses d → Contains d l → IsIn t l.term)
-    (base : (c : Clause) → Contains (search_clauses problem) c → (d : List Lit) × Contains clauses d × (map (literal_at t) d ≡ literals_of c))
+    (base : (c : Clause) → Contains (whole_clauses problem) c → (d : List Lit) × Contains clauses d × (map (literal_at t) d ≡ literals_of c))
     (front : List Lit) (consistent : IsConsistent front) (quiet : IsQuiet clauses front) where
   -- a literal that means this one holds
   abbrev Holds : Literal → Type 0
   Holds z = (l : Lit) × Contains front l × IsIn t l.term × (literal_at t l ≡ z)
 
   -- where all literals of a clause but one are false, that one holds
-  module _ (c : Clause) (c_in : Contains (search_clauses problem) c) (z : Literal) (z_in : Contains (literals_of c) z) (others : (y : Literal) → Contains (literals_of c) y → (y ≡ z) ⊎ Holds (complement y)) where
+  module _ (c : Clause) (c_in : Contains (whole_clauses problem) c) (z : Literal) (z_in : Contains (literals_of c) z) (others : (y : Literal) → Contains (literals_of c) y → (y ≡ z) ⊎ Holds (complement y)) where
     abbrev d : List Lit
     d = (base c c_in).0
 
@@ -110,13 +133,13 @@ module _ (t : TableView) (differ : AreDifferent t.terms) (problem : Problem) (cl
     forced : Holds z
     forced = (one.0, go (quiet d there), clauses_in d one.0 there one.1, one.2)
 
-  fact_in : (u : Term) → Contains truth_facts u → Contains (search_terms problem) u
-  fact_in u i = facts_spoken problem u i
+  fact_in : (u : Term) → Contains truth_facts u → Contains (whole_terms problem) u
+  fact_in u i = searched_whole problem u (facts_spoken problem u i)
 
-  true_in : Contains (search_terms problem) (of True [])
+  true_in : Contains (whole_terms problem) (of True [])
   true_in = closed_terms problem not_false_fact (of True []) (fact_in not_false_fact (1, omega arith, refl)) (1, omega arith, refl)
 
-  false_in : Contains (search_terms problem) (of False [])
+  false_in : Contains (whole_terms problem) (of False [])
   false_in = closed_terms problem not_true_fact (of False []) (fact_in not_true_fact (0, omega arith, refl)) (1, omega arith, refl)
 
   true_holds : Holds (yes (of True []))
@@ -160,6 +183,15 @@ module _ (t : TableView) (differ : AreDifferent t.terms) (problem : Problem) (cl
     | inr j ↦ subst (λ (x : Term). Holds (yes x)) (only not_false_fact u j) not_false_holds
   ]
 
+  -- so do order facts
+  pub orders_hold : (u : Term) → Contains (flat_map order_facts (whole_terms problem)) u → Holds (yes u)
+  orders_hold u i =
+      let w = from_flat order_facts (whole_terms problem) u i in
+      let a = fact_alone w.0 u w.2 in
+      forced (u ∷ []) (in_orders problem w.0 (u ∷ []) w.1 a.0) (yes u)
+      (subst (λ (ls : List Literal). Contains ls (yes u)) (sym a.1) (first (yes u) []))
+      (λ y j. inl (sym (only (yes u) y (subst (λ (ls : List Literal). Contains ls y) a.1 j))))
+
   -- a term is an atom that has no value yet
   module _ (m : Lit) (m_in : IsIn t m.term) (positive : m.positive ≡ true) (not_held : Contains front m → ⊥) (not_false : Contains front (lit_complement m) → ⊥) where
     own : literal_at t m ≡ yes (term_at t m.term)
@@ -172,6 +204,6 @@ module _ (t : TableView) (differ : AreDifferent t.terms) (problem : Problem) (cl
     is_no_false : term_at t m.term ≢ of False []
     is_no_false e = not_false (subst (Contains front) (literals_apart t differ false_holds.0 (lit_complement m) false_holds.2 m_in (false_holds.3 ∙ ap no (sym e) ∙ ap complement (sym own))) false_holds.1)
 
-    pub is_atom : Contains (search_terms problem) (term_at t m.term) → sort_of (term_at t m.term) ≡ Truth → literal_of (term_at t m.term) ≡ positive_literal (term_at t m.term) → IsAtomOf problem (term_at t m.term)
-    is_atom spoken sort bare = spoken_atoms problem (term_at t m.term) spoken sort bare (does_not (of True []) true_holds) is_no_false
-        (λ i. does_not (term_at t m.term) (facts_hold (term_at t m.term) i) refl)
+    pub is_atom : Contains (whole_terms problem) (term_at t m.term) → sort_of (term_at t m.term) ≡ Truth → literal_of (term_at t m.term) ≡ positive_literal (term_at t m.term) → IsAtomOf problem (term_at t m.term)
+    is_atom spoken sort bare = whole_atoms problem (term_at t m.term) spoken sort bare (does_not (of True []) true_holds) is_no_false
+        (λ i. does_not (term_at t m.term) (facts_hold (term_at t m.term) i) refl) (λ i. does_not (term_at t m.term) (orders_hold (term_at t m.term) i) refl)

@@ -10,11 +10,11 @@ use Rattle.spec_sorts.specs.Literals.{Clause, Literal, literals_of}
 use Rattle.spec_proofs.specs.Resolution.{IsWithin}
 use Rattle.spec_derivations.specs.Problems.{Problem, terms_of_problem}
 use Rattle.spec_derivations.specs.Examples.{asserting}
-use Rattle.spec_derivations.specs.Models.{AreInReach}
+use Rattle.solve_core.specs.Reach.{AreAnswered}
 use Rattle.spec_derivations.specs.Derivations.{AssumesAmong, conclusion, conclusion_at, inference_at, no_inference}
-use Rattle.spec_derivations.specs.Base.{search_terms, search_clauses}
+use Rattle.spec_derivations.specs.Orders.{whole_terms, whole_clauses}
 use Rattle.spec_derivations.specs.Spent.{IsLearnedFrom, IsOverAtoms}
-use Rattle.spec_derivations.proofs.SearchTerms.{search_over}
+use Rattle.spec_derivations.proofs.OrderedTerms.{whole_over}
 use Rattle.term_core.specs.declared.ids.TermId.{TermId}
 use Rattle.term_core.specs.declared.ids.Lit.{Lit}
 use Rattle.term_core.specs.Tables.{TableView, IsIn, AreDifferent, term_at, literal_at, clause_at}
@@ -25,8 +25,9 @@ use Rattle.proof_log.specs.Logs.{Logged, assumed, stepped, named, no_logged, log
 use Rattle.proof_log.specs.Theories.{IsTermIn}
 use Rattle.proof_log.proofs.Logged.{conclusion_there}
 use Rattle.proof_log.specs.Logs.{stated, AreFormulasIn}
-use Rattle.clausify.proofs.Parts.{formula_kept}
-use Rattle.clausify.specs.HavingClauses.{HasClauses, AssumesOneOf, Grows, AreAllMade}
+use Rattle.term_clauses.proofs.Parts.{formula_kept}
+use Rattle.clausify.specs.HavingClauses.{HasClauses}
+use Rattle.term_clauses.specs.Growth.{AssumesOneOf, Grows, AreAllMade}
 use Rattle.clausify.specs.SearchTerms.{AreSearchTerms}
 use Rattle.conflict_learn.proofs.Meanings.{bare_in}
 use Rattle.rule_bool.proofs.Behind.{same_numbers}
@@ -61,7 +62,7 @@ among_roots : (t : TableView) (roots : List TermId) (l : Logged) → AssumesOneO
 among_roots t roots (assumed id) i = to_image (term_at t) roots id i
 among_roots t roots (stepped r ps qs c) h = tt
 
-module _ (t u : TableView) (differ : AreDifferent u.terms) (roots : List TermId) (roots_in : AreFormulasIn t roots) (reached : AreInReach (clause_at t roots)) (log old : List Logged) (none : old ≡ []) (steps : List StepId) (g : Grows roots t u old log) (h : HasClauses u log (clause_at t roots) steps) (m : AreAllMade old log steps)
+module _ (t u : TableView) (differ : AreDifferent u.terms) (roots : List TermId) (roots_in : AreFormulasIn t roots) (reached : AreAnswered (clause_at t roots)) (log old : List Logged) (none : old ≡ []) (steps : List StepId) (g : Grows roots t u old log) (h : HasClauses u log (clause_at t roots) steps) (m : AreAllMade old log steps)
     (store : StoreView) (s : IsStoreOf u log steps store) (terms atoms : List TermId) (listed : AreSearchTerms u (clause_at t roots) terms) (chosen : AreAtomsAmong u terms atoms) where
   abbrev problem : Problem
   problem = asserting (clause_at t roots)
@@ -72,7 +73,7 @@ module _ (t u : TableView) (differ : AreDifferent u.terms) (roots : List TermId)
   log_is : log ≡ g.more
   log_is = g.log ∙ ap (λ (xs : List Logged). xs ++ g.more) none
 
-  as_many : length log ≡ length (search_clauses problem)
+  as_many : length log ≡ length (whole_clauses problem)
   as_many = omega (arith, m.count, ap length none, h.count)
 
   -- each number of the log is one of the steps
@@ -84,14 +85,14 @@ module _ (t u : TableView) (differ : AreDifferent u.terms) (roots : List TermId)
       (get_or steps k no_step, Contains-get_or steps k no_step short, sym (get_or-map (λ (x : StepId). x.0) steps k no_step 0 short) ∙ order)
 
   -- each inference states a base clause
-  states : All (λ x. Contains (search_clauses problem) (conclusion x)) (derivation_in u log)
+  states : All (λ x. Contains (whole_clauses problem) (conclusion x)) (derivation_in u log)
   states k d lt =
       let x = numbered k (rw length-map at lt) in
       let same : stated u log x.0 ≡ conclusion (get_or (derivation_in u log) k d) = ap (conclusion_at (derivation_in u log)) x.2 ∙ ap conclusion (get_or_default (derivation_in u log) k no_inference d lt) in
-      subst (Contains (search_clauses problem)) same (h.only (stated u log x.0) (to_image (stated u log) steps x.0 x.1))
+      subst (Contains (whole_clauses problem)) same (h.only (stated u log x.0) (to_image (stated u log) steps x.0 x.1))
 
   -- and each base clause is stated
-  each : IsWithin (search_clauses problem) (map conclusion (derivation_in u log))
+  each : IsWithin (whole_clauses problem) (map conclusion (derivation_in u log))
   each c i =
       let x = from_image (stated u log) steps c (h.base c i) in
       let lt : x.0.0 < length (derivation_in u log) = rw length-map (All-contains (λ (y : StepId). y.0 < length log) steps x.0 h.there x.1) in
@@ -113,7 +114,7 @@ module _ (t u : TableView) (differ : AreDifferent u.terms) (roots : List TermId)
   image_is : (k : ℕ) → k < length store.clauses → map (literal_at u) (get_or store.clauses k []) ≡ literals_of (stated u log (get_or store.steps k no_step))
   image_is k lt = (s.derives.same k lt).same ∙ ap literals_of (sym (conclusion_there u log (get_or store.steps k no_step) (s.derives.there k lt)))
 
-  is_base : (k : ℕ) → k < length store.clauses → Contains (search_clauses problem) (stated u log (get_or store.steps k no_step))
+  is_base : (k : ℕ) → k < length store.clauses → Contains (whole_clauses problem) (stated u log (get_or store.steps k no_step))
   is_base k lt = h.only (stated u log (get_or store.steps k no_step)) (to_image (stated u log) steps (get_or store.steps k no_step) (in_steps k lt))
 
   -- each clause is of a number
@@ -125,7 +126,7 @@ module _ (t u : TableView) (differ : AreDifferent u.terms) (roots : List TermId)
       (k, d.1.1, sym (image_is k d.1.1) ∙ ap (map (literal_at u)) same ∙ d.2)
 
   -- each base clause is in the store
-  base : (c : Clause) → Contains (search_clauses problem) c → Contains (images u store.clauses) (literals_of c)
+  base : (c : Clause) → Contains (whole_clauses problem) c → Contains (images u store.clauses) (literals_of c)
   base c i =
       let x = from_image (stated u log) steps c (h.base c i) in
       let j = subst (λ (xs : List StepId). Contains xs x.0) (sym s.by) x.1 in
@@ -146,7 +147,7 @@ module _ (t u : TableView) (differ : AreDifferent u.terms) (roots : List TermId)
       let z = literal_at u l in
       let formulas = g.right.formulas step.0 no_logged (s.derives.there k i.1) in
       let bare = bare_in u (named (logged_at log step)) formulas l there (subst (λ (ls : List Literal). Contains ls z) (s.derives.same k i.1).same image) in
-      let spoken : Contains (search_terms problem) z.atom = search_over problem (stated u log step) z (is_base k i.1) (subst (λ (ls : List Literal). Contains ls z) (image_is k i.1) image) in
+      let spoken : Contains (whole_terms problem) z.atom = whole_over problem (stated u log step) z (is_base k i.1) (subst (λ (ls : List Literal). Contains ls z) (image_is k i.1) image) in
       let number = from_image (term_at u) terms (term_at u l.term) (listed.each (term_at u l.term) spoken) in
       let own : number.0 ≡ l.term = same_numbers u differ number.0 l.term (All-contains (IsTermIn u) terms number.0 listed.there number.1).0 there number.2 in
       chosen.each l.term (subst (λ (id : TermId). Contains terms id) own number.1) ((there, bare.formula), bare.bare)
@@ -155,11 +156,11 @@ module _ (t u : TableView) (differ : AreDifferent u.terms) (roots : List TermId)
   pub closed : IsClosed (clause_at u terms)
   closed v i w j = listed.each w (closed_terms problem v w (listed.only v i) j)
 
-  only : IsWithin (images u store.clauses) (map literals_of (search_clauses problem) ++ [])
+  only : IsWithin (images u store.clauses) (map literals_of (whole_clauses problem) ++ [])
   only c i =
       let k = place c i in
-      Contains-append_left (map literals_of (search_clauses problem)) [] c
-      (subst (Contains (map literals_of (search_clauses problem))) k.2 (to_image literals_of (search_clauses problem) (stated u log (get_or store.steps k.0 no_step)) (is_base k.0 k.1)))
+      Contains-append_left (map literals_of (whole_clauses problem)) [] c
+      (subst (Contains (map literals_of (whole_clauses problem))) k.2 (to_image literals_of (whole_clauses problem) (stated u log (get_or store.steps k.0 no_step)) (is_base k.0 k.1)))
 
   begun : HasDerived problem (derivation_in u log) (images u store.clauses) []
   begun = record {
@@ -178,7 +179,7 @@ module _ (t u : TableView) (differ : AreDifferent u.terms) (roots : List TermId)
   search_begins x log_same store_same terms_same learned = record {
     roots = roots;
     roots_in = λ k d lt. formula_kept t u (record { terms = g.table; declared = g.declared }) (get_or roots k d) (roots_in k d lt);
-    reached = subst AreInReach (sym meant) reached;
+    reached = subst AreAnswered (sym meant) reached;
     meant = ap asserting meant;
     listed = subst (AreSearchTerms u (clause_at u roots)) (sym terms_same) (subst (λ (ts : List Term). AreSearchTerms u ts terms) (sym meant) listed);
     derived = subst (λ (xs : List Logged). HasDerived problem (derivation_in u xs) (images u x.store.clauses) (images u x.budget.learned)) (sym log_same)

@@ -5,7 +5,7 @@ use Rattle.std.proofs.lemmas.List.Elements.{All-nil, All-push, Contains-push, Co
 use Rattle.spec_text.proofs.Members.{none}
 use Rattle.term_core.specs.declared.ids.TermId.{TermId}
 use Rattle.term_core.specs.Tables.{TableView}
-use Rattle.clausify.specs.SearchTerms.{no_id}
+use Rattle.term_clauses.specs.SpokenTerms.{no_id}
 use Rattle.proof_log.specs.Theories.{IsAtomIn}
 use Rattle.solve_core.specs.Search.{AreAtomsAmong}
 

@@ -7,10 +7,12 @@ use Rattle.spec_text.proofs.Members.{from_image}
 use Rattle.spec_sorts.specs.Literals.{Clause, Literal, literals_of}
 use Rattle.spec_derivations.specs.Problems.{Problem}
 use Rattle.spec_derivations.specs.Derivations.{Derivation}
-use Rattle.spec_derivations.specs.Base.{base_clauses, search_terms, search_clauses}
+use Rattle.spec_derivations.specs.Base.{base_clauses}
+use Rattle.spec_derivations.specs.Orders.{whole_terms, whole_clauses}
 use Rattle.spec_derivations.specs.Learned.{IsNew}
 use Rattle.spec_derivations.specs.Spent.{IsAtomOf}
 use Rattle.spec_derivations.proofs.SearchTerms.{base_in_search}
+use Rattle.spec_derivations.proofs.OrderedTerms.{searched_clauses}
 use Rattle.term_core.specs.declared.ids.TermId.{TermId}
 use Rattle.term_core.specs.declared.ids.Lit.{Lit}
 use Rattle.term_core.specs.Tables.{TableView, IsIn, AreDifferent, term_at, literal_at}
@@ -35,12 +37,12 @@ module _ (t : TableView) (differ : AreDifferent t.terms) (x : Search) (r : IsRea
   from_store : (c : List Literal) → Contains (images t x.store.clauses) c → (e : List Lit) × Contains x.store.clauses e × (map (literal_at t) e ≡ c)
   from_store c i = from_image (map (literal_at t)) x.store.clauses c i
 
-  from_search : (c : Clause) → Contains (search_clauses problem) c → (e : List Lit) × Contains x.store.clauses e × (map (literal_at t) e ≡ literals_of c)
+  from_search : (c : Clause) → Contains (whole_clauses problem) c → (e : List Lit) × Contains x.store.clauses e × (map (literal_at t) e ≡ literals_of c)
   from_search c i = from_store (literals_of c) (h.base c i)
 
   from_clauses : (c : List Literal) → Contains (map literals_of (base_clauses problem) ++ learned) c → (e : List Lit) × Contains x.store.clauses e × (map (literal_at t) e ≡ c)
   from_clauses c i = elim (Contains-append_cases (map literals_of (base_clauses problem)) learned c i) [
-    | inl b ↦ let u = from_image literals_of (base_clauses problem) c b in let e = from_search u.0 (base_in_search problem u.0 u.1) in (e.0, e.1, e.2 ∙ u.2)
+    | inl b ↦ let u = from_image literals_of (base_clauses problem) c b in let e = from_search u.0 (searched_clauses problem u.0 (base_in_search problem u.0 u.1)) in (e.0, e.1, e.2 ∙ u.2)
     | inr l ↦ from_store c (h.kept c l)
   ]
 
@@ -66,7 +68,7 @@ module _ (t : TableView) (differ : AreDifferent t.terms) (x : Search) (r : IsRea
     topped = let le = leveled.topped f.place f.within in omega (arith, le, f.level)
 
     -- the term is an atom
-    pub atom_of : ((id : TermId) → Contains x.atoms.items id → Contains (search_terms problem) (term_at t id)) → 0 < n → IsAtomOf problem (term_at t m.term)
+    pub atom_of : ((id : TermId) → Contains x.atoms.items id → Contains (whole_terms problem) (term_at t id)) → 0 < n → IsAtomOf problem (term_at t m.term)
     atom_of spoken above =
         let p = decision_of x.trail once leveled n above topped in
         let open_one : Contains (take p.0 x.trail.literals) (lit_complement m) → ⊥ = open_before x.trail once leveled p.0 p.1 p.2 m n f (omega (arith, p.3)) in

@@ -8,21 +8,22 @@ use Rattle.spec_sorts.specs.WellSorted.{IsWellSorted, IsFormulaOver}
 use Rattle.spec_sorts.specs.Literals.{Literal, literal_of}
 use Rattle.spec_derivations.specs.Problems.{Problem}
 use Rattle.spec_derivations.specs.Examples.{asserting}
-use Rattle.spec_derivations.specs.Models.{AreInReach}
-use Rattle.spec_derivations.specs.Base.{search_terms}
+use Rattle.solve_core.specs.Reach.{AreAnswered}
+use Rattle.spec_derivations.specs.Orders.{whole_terms}
 use Rattle.spec_derivations.specs.Derivations.{Inference, «assumption», by_rule, Derivation, IsDerivation}
 use Rattle.spec_derivations.specs.Lemmas.{IsMadeOf, given, is_true, is_false, is_equality, is_negation, IsLemma}
 use Rattle.term_core.specs.declared.ids.TermId.{TermId}
 use Rattle.term_core.specs.Tables.{TableView, declared_in, Extends, term_at, IsIn, AreIn, clause_at, positive_literal}
 use Rattle.term_core.specs.Symbols.{SymbolsView}
 use Rattle.term_core.proofs.TermsExtend.{IsIn-kept, term_at-kept, clause_at-kept}
-use Rattle.clausify.proofs.Parts.{formula_kept}
+use Rattle.term_clauses.proofs.Parts.{formula_kept}
 use Rattle.clausify.specs.SearchTerms.{AreSearchTerms}
+use Rattle.sat_budget.specs.declared.limits.Limits.{Limits}
 use Rattle.proof_log.specs.Logs.{Logged, inference_of, derivation_in, IsLogOf}
 use Rattle.proof_log.specs.Theories.{IsTermIn, IsAtomIn}
 use Rattle.solve_core.specs.declared.search.Search.{Search}
 use Rattle.solve_core.specs.Search.{images, AreAllOf, AreAtomsOf, IsReady}
-use Rattle.solve_core.specs.Rounds.{HasDerived, IsSearch, Continues}
+use Rattle.solve_core.specs.Rounds.{HasDerived, IsSearch, Begins, Continues}
 use Rattle.solve_core.proofs.SearchLists.{of_kept, images_kept}
 use Rattle.solve_core.proofs.SearchLogs.{derived_lemmas}
 use Rattle.solve_core.proofs.SearchReady.{clauses_in}
@@ -86,8 +87,8 @@ module _ (t u : TableView) (g : Extends t u) (declared : declared_in u ≡ decla
       let same : clause_at t ids ≡ clause_at u ids = sym (clause_at-kept t u g ids (numbers_in ids h.there)) in
       record {
         there = λ k d lt. term_kept (get_or ids k d) (h.there k d lt);
-        each = subst (AreAmong (search_terms (asserting asked))) same h.each;
-        only = subst (λ (ts : List Term). AreAmong ts (search_terms (asserting asked))) same h.only;
+        each = subst (AreAmong (whole_terms (asserting asked))) same h.each;
+        only = subst (λ (ts : List Term). AreAmong ts (whole_terms (asserting asked))) same h.only;
         rising = h.rising;
       }
 
@@ -116,12 +117,12 @@ module _ (t u : TableView) (g : Extends t u) (declared : declared_in u ≡ decla
     is = ap (derivation_in u) last ∙ map-append (inference_of u) x.log more ∙ ap (λ (d : Derivation). d ++ map (inference_of u) more) same
 
     module _ (lemmas : All (λ (l : Logged). IsLemma (clause_at t x.terms.items) (length x.log) (inference_of u l)) more) (problem : Problem) (s : IsSearch t problem x) where
-      spoken : AreAmong (clause_at t x.terms.items) (search_terms problem)
-      spoken = subst (λ (p : Problem). AreAmong (clause_at t x.terms.items) (search_terms p)) s.meant s.listed.only
+      spoken : AreAmong (clause_at t x.terms.items) (whole_terms problem)
+      spoken = subst (λ (p : Problem). AreAmong (clause_at t x.terms.items) (whole_terms p)) s.meant s.listed.only
 
-      lemmas_of : All (IsLemma (search_terms problem) (length (derivation_in t x.log))) (map (inference_of u) more)
-      lemmas_of = subst (λ (n : ℕ). All (IsLemma (search_terms problem) n) (map (inference_of u) more)) (sym (length-map x.log (inference_of t)))
-          (All-map (IsLemma (search_terms problem) (length x.log)) (inference_of u) more (λ k d lt. lemma_more (clause_at t x.terms.items) (search_terms problem) spoken (length x.log) (inference_of u (get_or more k d)) (lemmas k d lt)))
+      lemmas_of : All (IsLemma (whole_terms problem) (length (derivation_in t x.log))) (map (inference_of u) more)
+      lemmas_of = subst (λ (n : ℕ). All (IsLemma (whole_terms problem) n) (map (inference_of u) more)) (sym (length-map x.log (inference_of t)))
+          (All-map (IsLemma (whole_terms problem) (length x.log)) (inference_of u) more (λ k d lt. lemma_more (clause_at t x.terms.items) (whole_terms problem) spoken (length x.log) (inference_of u (get_or more k d)) (lemmas k d lt)))
 
       derived : HasDerived problem (derivation_in t x.log ++ map (inference_of u) more) (images t x.store.clauses) (images t x.budget.learned)
       derived = derived_lemmas problem (derivation_in t x.log) (images t x.store.clauses) (images t x.budget.learned) s.derived (map (inference_of u) more) (subst IsDerivation is right.right) lemmas_of
@@ -132,7 +133,7 @@ module _ (t u : TableView) (g : Extends t u) (declared : declared_in u ≡ decla
           record {
             roots = s.roots;
             roots_in = λ k e lt. formula_kept t u (record { terms = g; declared = declared }) (get_or s.roots k e) (s.roots_in k e lt);
-            reached = subst AreInReach (sym meant) s.reached;
+            reached = subst AreAnswered (sym meant) s.reached;
             meant = ap asserting meant ∙ s.meant;
             listed = subst (λ (ts : List Term). AreSearchTerms u ts x.terms.items) (sym meant) (listed_kept (clause_at t s.roots) x.terms.items s.listed);
             derived = subst (λ (e : Derivation). HasDerived problem e (images u x.store.clauses) (images u x.budget.learned)) (sym is)
@@ -141,7 +142,7 @@ module _ (t u : TableView) (g : Extends t u) (declared : declared_in u ≡ decla
           }
 
     pub continues_grown : All (λ (l : Logged). IsLemma (clause_at t x.terms.items) (length x.log) (inference_of u l)) more → Continues t u x (record x { log = log; fed = n })
-    continues_grown lemmas = record { table = g; declared = declared; limit = refl; vars = refl; terms = refl; search = search_grown lemmas }
+    continues_grown lemmas = record { table = g; declared = declared; limits = (refl, refl); vars = refl; terms = refl; search = search_grown lemmas }
 
   -- with terms alone
   module _ (x : Search) (right : IsLogOf u x.log) (same : derivation_in u x.log ≡ derivation_in t x.log) (r : IsReady t x) where
@@ -150,3 +151,13 @@ module _ (t u : TableView) (g : Extends t u) (declared : declared_in u ≡ decla
 
     pub continues_wider : Continues t u x x
     continues_wider = continues_grown x x.fed x.log [] (sym (append-nil x.log)) right same r (λ k e lt. absurd (omega (arith, lt)))
+
+    pub begins_wider : (problem : Problem) (limits : Limits) → Begins t problem limits x → Begins u problem limits x
+    begins_wider problem limits b = record {
+      ready = ready_wider;
+      empty = b.empty;
+      level = b.level;
+      fed = b.fed;
+      search = continues_wider.search problem b.search;
+      limits_are = b.limits_are;
+    }

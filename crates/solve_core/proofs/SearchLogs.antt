@@ -10,7 +10,8 @@ use Rattle.spec_derivations.specs.Problems.{Problem, terms_of_problem}
 use Rattle.spec_derivations.specs.Derivations.{Inference, «assumption», by_rule, Derivation, no_inference, conclusion, conclusion_at, IsDerivation, AssumesAmong, IsDerivedFrom}
 use Rattle.spec_proofs.specs.Resolution.{IsWithin}
 use Rattle.spec_proofs.specs.declared.Rule.TheVariants.{Resolution}
-use Rattle.spec_derivations.specs.Base.{base_clauses, search_terms, search_clauses}
+use Rattle.spec_derivations.specs.Base.{base_clauses}
+use Rattle.spec_derivations.specs.Orders.{whole_terms, whole_clauses}
 use Rattle.spec_derivations.specs.Lemmas.{IsLemma}
 use Rattle.spec_derivations.specs.Learned.{IsNew}
 use Rattle.spec_derivations.specs.Spent.{IsLearnedFrom, IsOverAtoms}
@@ -45,7 +46,7 @@ steps_more problem d clauses ps c h = record {
 }
 
 -- lemmas come
-pub steps_lemmas : (problem : Problem) (d more : Derivation) (clauses : List (List Literal)) → All (IsLemma (search_terms problem) (length d)) more → HasSteps problem d clauses → HasSteps problem (d ++ more) clauses
+pub steps_lemmas : (problem : Problem) (d more : Derivation) (clauses : List (List Literal)) → All (IsLemma (whole_terms problem) (length d)) more → HasSteps problem d clauses → HasSteps problem (d ++ more) clauses
 steps_lemmas problem d more clauses lemmas h = record {
   base = h.base;
   more = h.more ++ more;
@@ -54,11 +55,11 @@ steps_lemmas problem d more clauses lemmas h = record {
   stated = h.stated;
   each = h.each;
   steps = some_lemmas h.more more clauses h.steps
-      (subst (λ (n : ℕ). All (IsLemma (search_terms problem) n) more) (ap length h.all ∙ length-append h.base h.more) lemmas);
+      (subst (λ (n : ℕ). All (IsLemma (whole_terms problem) n) more) (ap length h.all ∙ length-append h.base h.more) lemmas);
 }
 
 -- at the start there are the first clauses alone
-pub steps_start : (problem : Problem) (d : Derivation) → length d ≡ length (search_clauses problem) → All (λ x. Contains (search_clauses problem) (conclusion x)) d → IsWithin (search_clauses problem) (map conclusion d) → HasSteps problem d []
+pub steps_start : (problem : Problem) (d : Derivation) → length d ≡ length (whole_clauses problem) → All (λ x. Contains (whole_clauses problem) (conclusion x)) d → IsWithin (whole_clauses problem) (map conclusion d) → HasSteps problem d []
 steps_start problem d count stated each = record { base = d; more = []; all = sym (append-nil d); count = count; stated = stated; each = each; steps = nothing }
 
 -- what holds of all images holds of the images of all
@@ -81,14 +82,14 @@ module _ (problem : Problem) (d : Derivation) (cs ls : List (List Literal)) (h :
 
   -- one that was new, over atoms
   module _ (new : IsNew (map literals_of (base_clauses problem) ++ ls) (literals_of clause)) (atoms : IsOverAtoms problem (literals_of clause)) where
-    within : IsWithin (cs ++ literals_of clause ∷ []) (map literals_of (search_clauses problem) ++ (ls ++ literals_of clause ∷ []))
+    within : IsWithin (cs ++ literals_of clause ∷ []) (map literals_of (whole_clauses problem) ++ (ls ++ literals_of clause ∷ []))
     within c i = elim (Contains-push_cases cs (literals_of clause) c i) [
-      | inl was ↦ elim (Contains-append_cases (map literals_of (search_clauses problem)) ls c (h.only c was)) [
-        | inl b ↦ Contains-append_left (map literals_of (search_clauses problem)) (ls ++ literals_of clause ∷ []) c b
-        | inr l ↦ Contains-append_right (map literals_of (search_clauses problem)) (ls ++ literals_of clause ∷ []) c (Contains-append_left ls (literals_of clause ∷ []) c l)
+      | inl was ↦ elim (Contains-append_cases (map literals_of (whole_clauses problem)) ls c (h.only c was)) [
+        | inl b ↦ Contains-append_left (map literals_of (whole_clauses problem)) (ls ++ literals_of clause ∷ []) c b
+        | inr l ↦ Contains-append_right (map literals_of (whole_clauses problem)) (ls ++ literals_of clause ∷ []) c (Contains-append_left ls (literals_of clause ∷ []) c l)
       ]
-      | inr is ↦ subst (Contains (map literals_of (search_clauses problem) ++ (ls ++ literals_of clause ∷ []))) is
-          (Contains-append_right (map literals_of (search_clauses problem)) (ls ++ literals_of clause ∷ []) (literals_of clause) (Contains-push ls (literals_of clause)))
+      | inr is ↦ subst (Contains (map literals_of (whole_clauses problem) ++ (ls ++ literals_of clause ∷ []))) is
+          (Contains-append_right (map literals_of (whole_clauses problem)) (ls ++ literals_of clause ∷ []) (literals_of clause) (Contains-push ls (literals_of clause)))
     ]
 
     pub derived_more : HasDerived problem (d ++ by_rule Resolution ps no_texts clause ∷ []) (cs ++ literals_of clause ∷ []) (ls ++ literals_of clause ∷ [])
@@ -107,8 +108,8 @@ module _ (problem : Problem) (d : Derivation) (cs ls : List (List Literal)) (h :
     }
 
 -- lemmas come
-module _ (problem : Problem) (d : Derivation) (cs ls : List (List Literal)) (h : HasDerived problem d cs ls) (more : Derivation) (right : IsDerivation (d ++ more)) (lemmas : All (IsLemma (search_terms problem) (length d)) more) where
-  no_assumption : (x : Inference) → IsLemma (search_terms problem) (length d) x → AssumesAmong (terms_of_problem problem) x
+module _ (problem : Problem) (d : Derivation) (cs ls : List (List Literal)) (h : HasDerived problem d cs ls) (more : Derivation) (right : IsDerivation (d ++ more)) (lemmas : All (IsLemma (whole_terms problem) (length d)) more) where
+  no_assumption : (x : Inference) → IsLemma (whole_terms problem) (length d) x → AssumesAmong (terms_of_problem problem) x
   no_assumption («assumption» t) i = absurd i
   no_assumption (by_rule r ps given c) i = tt
 

@@ -21,7 +21,8 @@ use Rattle.clause_store.specs.Stores.{StoreView, HasSeen, HasSameClauses}
 use Rattle.clause_store.specs.Propagating.{Adds, AreImplied, IsQuiet}
 use Rattle.solve_core.specs.declared.search.Search.{Search}
 use Rattle.solve_core.specs.Search.{IsReady}
-use Rattle.solve_core.specs.Asking.{KeepsUp, IsAsked, state, HasLooked, Looks}
+use Rattle.solve_core.specs.Rounds.{Continues}
+use Rattle.solve_core.specs.Asking.{KeepsUp, IsAsked, state, HasLooked, HasStopped, Looks}
 use Rattle.solve_core.proofs.SearchLists.{lits_kept}
 use Rattle.solve_core.proofs.SearchReady.{ready_propagated, atom_in, all_of_atoms}
 use Rattle.solve_core.proofs.SearchRounds.{propagated, continues_same, continues_on}
@@ -67,6 +68,16 @@ module _ (t : TableView) (x : Search) (r : IsReady t x) (v : TheoryView) (asked 
     terms = subst (All (IsTermIn t)) (sym asked.terms) r.atoms_are.there;
     closed = subst (λ (ids : List TermId). IsClosed (clause_at t ids)) (sym asked.terms) r.atoms_are.closed;
     atoms = λ k d lt. atom_in t after ready_after (get_or w.literals k d).term (all_of_atoms t after ready_after (get_or w.literals k d) (Contains-get_or w.literals k d lt));
+  }
+
+  -- where its check stops, table and log are as they were
+  pub stopped_checked : (b : BudgetView) → Spends x.budget b → (n : ℕ) → HasStopped (state t x) (state t (record after { log = x.log; fed = n; budget = b })) (fed v w.literals)
+  stopped_checked b spends n = record {
+    right = r.right;
+    continues = continues_on t t t x after (record after { log = x.log; fed = n; budget = b }) looked_after.continues
+        (continues_on t t t after (record after { fed = n }) (record after { log = x.log; fed = n; budget = b }) (continues_same t after (record after { fed = n }) refl refl refl refl refl)
+        (continues_spent t (record after { fed = n }) b spends));
+    terms = asked.terms;
   }
 
   -- and checks it
@@ -120,3 +131,7 @@ module _ (t : TableView) (x : Search) (r : IsReady t x) (v : TheoryView) (asked 
           (subst (λ (ts : List Term). agrees ts (literals_held t (fed v w.literals))) (sym (terms_same h.1.table)) h.0),
     )
     looks (Clash step) h = over_now (Clash step) (looked_checked u log b spends h.1 (kept h.1.table), h.2)
+
+-- what stopped in the rounds of a search stopped in the search
+pub stopped_on : (t u w : TableView) (x y z : Search) (v : TheoryView) → Continues t u x y → HasStopped (state u y) (state w z) v → HasStopped (state t x) (state w z) v
+stopped_on t u w x y z v on h = record { right = h.right; continues = continues_on t u w x y z on h.continues; terms = h.terms }

@@ -5,19 +5,23 @@ use Rattle.std.specs.List.{list_any}
 use Rattle.std.proofs.lemmas.List.{append-nil, length-map, get_or-map}
 use Rattle.std.proofs.lemmas.List.Elements.{All-map, All-contains, Contains-get_or, All-nil}
 use Rattle.spec_text.proofs.Members.{to_image, from_image}
-use Rattle.spec_sorts.specs.Terms.{Truth, Number, Term, sort_of}
+use Rattle.spec_numbers.specs.Fractions.{Fraction, IsReduced}
+use Rattle.spec_sorts.specs.Terms.{Truth, Number, Symbol, Apply, Term, Terms, app, list_of, sort_of}
 use Rattle.spec_sorts.specs.Values.{Interpretation, Interprets, truth}
 use Rattle.spec_sorts.specs.TermValues.{value_at}
 use Rattle.spec_sorts.specs.WellSorted.{IsFormulaOver}
 use Rattle.spec_sorts.specs.Subsets.{AreAmong}
 use Rattle.spec_sorts.specs.Literals.{Clause, Literal, literal_of, literals_of}
 use Rattle.spec_rules.specs.Truths.{Truths, term_true_by}
+use Rattle.spec_arithmetic.specs.Numbers.{IsLinear}
+use Rattle.spec_simplex.specs.Numbers.{HoldsAt}
 use Rattle.spec_congruence.specs.Congruence.{signed, IsCongruent, IsFine}
 use Rattle.spec_derivations.specs.Problems.{Problem, terms_of_problem}
-use Rattle.spec_derivations.specs.Base.{search_terms, search_clauses}
+use Rattle.spec_derivations.specs.Orders.{whole_terms, whole_clauses}
+use Rattle.solve_core.specs.Reach.{AreAnswered}
 use Rattle.spec_derivations.specs.Models.{AreInReach}
 use Rattle.spec_valuations.specs.Classes.{class_in}
-use Rattle.spec_valuations.specs.Resting.{Rests}
+use Rattle.spec_valuations.specs.Resting.{TheoryValues, values_of, RestsOnNumbers}
 use Rattle.term_core.specs.declared.ids.TermId.{TermId}
 use Rattle.term_core.specs.Tables.{TableView, AreDifferent, term_at, literal_at, clause_at, positive_literal}
 use Rattle.clause_literals.specs.Literals.{IsConsistent, AreOf, Means}
@@ -28,7 +32,7 @@ use Rattle.congruence.specs.Views.{AreEqualBy}
 use Rattle.term_walks.specs.declared.values.Interp.{Interp}
 use Rattle.term_walks.specs.Valuations.{Stands}
 use Rattle.spec_valuations.specs.Tables.{IsModelBy}
-use Rattle.search_model.specs.Models.{truths_of, values_of, IsModelOf, IsModel}
+use Rattle.search_model.specs.Models.{truths_of, IsModelOf, IsModel}
 use Rattle.solve_core.specs.declared.search.Search.{Search}
 use Rattle.solve_core.specs.Rounds.{IsSearch}
 use Rattle.solve_core.specs.Asking.{HasRested}
@@ -70,7 +74,7 @@ module _ (t : TableView) (differ : AreDifferent t.terms) (x : Search) (v : Theor
       subst (Contains held) (λ k. record { atom = term k; positive = sym sign k }) (to_image (literal_at t) x.trail.literals a.0 a.1)
 
   -- each clause that a search begins with is met
-  met : (c : Clause) → Contains (search_clauses problem) c → list_any (term_true_by truths) c ≡ true
+  met : (c : Clause) → Contains (whole_clauses problem) c → list_any (term_true_by truths) c ≡ true
   met c i =
       let d = from_image (map (literal_at t)) x.store.clauses (literals_of c) (s.derived.base c i) in
       let means : Means t d.0 c = record { same = d.2; there = λ k e lt. clauses_in t x h.ready d.0 (get_or d.0 k e) d.1 (Contains-get_or d.0 k e lt) } in
@@ -81,15 +85,25 @@ module _ (t : TableView) (differ : AreDifferent t.terms) (x : Search) (v : Theor
   formulas = subst (λ (p : Problem). All (IsFormulaOver t.symbols) (terms_of_problem p)) s.meant
       (subst (All (IsFormulaOver t.symbols)) (sym (append-nil (clause_at t s.roots))) (All-map (IsFormulaOver t.symbols) (term_at t) s.roots (λ k d lt. (s.roots_in k d lt).1)))
 
-  pub reached : AreInReach (terms_of_problem problem)
-  reached = subst (λ (p : Problem). AreInReach (terms_of_problem p)) s.meant (subst AreInReach (sym (append-nil (clause_at t s.roots))) s.reached)
+  pub reached : AreAnswered (terms_of_problem problem)
+  reached = subst (λ (p : Problem). AreAnswered (terms_of_problem p)) s.meant (subst AreAnswered (sym (append-nil (clause_at t s.roots))) s.reached)
 
   pub nothing_assumed : All (λ u. term_true_by truths u ≡ true) problem.assumed
   nothing_assumed = subst (λ (p : Problem). All (λ u. term_true_by truths u ≡ true) p.assumed) s.meant (All-nil (λ u. term_true_by truths u ≡ true))
 
-  -- classes by places
+  -- no other terms are listed
+  only : AreAmong terms (whole_terms problem)
+  only = subst (λ (p : Problem). AreAmong terms (whole_terms p)) s.meant s.listed.only
+
+  -- a function with parameters that is listed keeps apart from numbers
+  abbrev pub KeepApart : (Term → Type 0) → Type 0
+  KeepApart Listed = (f : Symbol) (ts : Terms) → Listed (app (Apply f) ts) → list_of ts ≢ [] → (f.result ≢ Number) × ((u : Term) → Contains (list_of ts) u → sort_of u ≢ Number)
+
+  -- classes by places, and numbers by which the literals hold
   module _ (place : (ts : List Term) (ns : List ℕ) (u : Term) → Contains ts u → (k : ℕ) × (k < length ts) × (get_or ts k u ≡ u) × (class_in ts ns u ≡ get_or ns k 0))
-      (no_numbers : (p : Problem) → AreInReach (terms_of_problem p) → (u : Term) → Contains (search_terms p) u → sort_of u ≢ Number) where
+      (apart_in_reach : (symbols : List Symbol) (p : Problem) → All (IsFormulaOver symbols) (terms_of_problem p) → AreInReach (terms_of_problem p) → KeepApart (Contains (whole_terms p)))
+      (linear_in : (p : Problem) → All IsLinear (terms_of_problem p) → (u : Term) → Contains (whole_terms p) u → IsLinear u)
+      (number : Term → Fraction) (reduced : (u : Term) → IsReduced (number u)) (kept : All (HoldsAt number) held) where
     related : (a b : Term) → Contains terms a → Contains terms b → (class_in terms classes a ≡ class_in terms classes b) ↔ IsCongruent terms held a b
     related a b i j =
         let k = place terms classes a i in
@@ -107,26 +121,33 @@ module _ (t : TableView) (differ : AreDifferent t.terms) (x : Search) (v : Theor
               (subst (λ (ls : List Literal). IsCongruent (terms_watched t v) ls a b) (sym held_are) (subst (λ (ts : List Term). IsCongruent ts held a b) (sym terms_are) q)))) ∙ sym m.3,
         )
 
-    pub rests : Rests t.symbols problem terms held truths (class_in terms classes)
+    -- what the search and its theories give each term
+    abbrev pub given : TheoryValues
+    given = record { truths = truths; class = class_in terms classes; number = number }
+
+    pub apart : KeepApart (Contains terms)
+    apart f ts i = apart_in_reach t.symbols problem formulas reached.reached f ts (only (app (Apply f) ts) i)
+
+    pub rests : RestsOnNumbers t.symbols problem terms held given
     rests = record {
       formulas = formulas;
-      listed = subst (λ (p : Problem). AreAmong (search_terms p) terms) s.meant s.listed.each;
+      listed = subst (λ (p : Problem). AreAmong (whole_terms p) terms) s.meant s.listed.each;
       only = only;
-      no_numbers = λ u i. no_numbers problem reached u (only u i);
+      apart = apart;
+      linear = λ u i. linear_in problem reached.linear u (only u i);
       met = met;
       truths = atom_held;
       fine = subst (λ (ts : List Term). IsFine ts held) (ap (clause_at t) h.terms) (subst (IsFine (terms_watched t v)) (ap (map (literal_at t)) h.held) fine);
       classes = related;
+      reduced = reduced;
+      kept = kept;
     }
-      where
-        only : AreAmong terms (search_terms problem)
-        only = subst (λ (p : Problem). AreAmong terms (search_terms p)) s.meant s.listed.only
 
-    -- so tables by truths and classes are a model's
-    pub has_model : (interp : Interp) → IsModelOf t x.trail.literals ids classes interp → (i : Interpretation) × Stands t interp i
-        → ((i : Interpretation) → Stands t interp i → IsModelBy i (values_of t x.trail.literals ids classes) t.symbols terms)
-        → ((i : Interpretation) → IsModelBy i (values_of t x.trail.literals ids classes) t.symbols terms → Interprets i t.symbols)
-        → ((i : Interpretation) → IsModelBy i (values_of t x.trail.literals ids classes) t.symbols terms → All (λ u. value_at i [] u ≡ truth true) (terms_of_problem problem))
+    -- so tables by truths, classes and numbers are a model's
+    pub has_model : (interp : Interp) → IsModelOf t x.trail.literals ids classes (map number terms) interp → (i : Interpretation) × Stands t interp i
+        → ((i : Interpretation) → Stands t interp i → IsModelBy i (values_of given) t.symbols terms)
+        → ((i : Interpretation) → IsModelBy i (values_of given) t.symbols terms → Interprets i t.symbols)
+        → ((i : Interpretation) → IsModelBy i (values_of given) t.symbols terms → All (λ u. value_at i [] u ≡ truth true) (terms_of_problem problem))
         → IsModel t (terms_of_problem problem) interp
     has_model interp m interpretation by interprets all = record {
       tables = m.tables;

@@ -10,8 +10,9 @@ use Rattle.spec_proofs.specs.declared.Rule.TheVariants.{Resolution}
 use Rattle.spec_derivations.specs.Problems.{Problem, terms_of_problem}
 use Rattle.spec_derivations.specs.Examples.{asserting}
 use Rattle.spec_derivations.specs.Derivations.{Inference, Derivation, by_rule, conclusion_at, IsDerivation, AssumesAmong, IsDerivedFrom}
-use Rattle.spec_derivations.specs.Base.{base_clauses, search_terms}
-use Rattle.spec_derivations.specs.Models.{AreInReach}
+use Rattle.spec_derivations.specs.Base.{base_clauses}
+use Rattle.spec_derivations.specs.Orders.{whole_terms}
+use Rattle.solve_core.specs.Reach.{AreAnswered}
 use Rattle.spec_derivations.specs.Learned.{IsNew}
 use Rattle.spec_derivations.specs.Spent.{IsConflict, IsAtomOf, IsOverAtoms, IsLearnedFrom, AreLearned}
 use Rattle.term_core.specs.declared.ids.TermId.{TermId}
@@ -21,7 +22,7 @@ use Rattle.term_core.proofs.TermsExtend.{clause_at-kept}
 use Rattle.clause_literals.specs.Literals.{IsConsistent, AreOf}
 use Rattle.proof_log.specs.declared.premises.StepId.{StepId}
 use Rattle.proof_log.specs.Logs.{Logged, stepped, numbers_of, inference_of, derivation_in, IsLogOf}
-use Rattle.clausify.proofs.Parts.{formula_kept}
+use Rattle.term_clauses.proofs.Parts.{formula_kept}
 use Rattle.clausify.specs.SearchTerms.{AreSearchTerms}
 use Rattle.sat_budget.specs.declared.limits.Reason.TheVariants.{Conflicts}
 use Rattle.sat_trail.specs.Trails.{AreApart, IsLeveled}
@@ -32,7 +33,7 @@ use Rattle.solve_core.specs.declared.search.Search.{Search}
 use Rattle.solve_core.specs.declared.cdcl.Answer.{Answer}
 use Rattle.solve_core.specs.declared.cdcl.Answer.TheVariants.{Unsat, Unknown}
 use Rattle.solve_core.specs.Search.{images, IsReady, conflict_of}
-use Rattle.solve_core.specs.Rounds.{HasDerived, HasSteps, IsSearch, HasEvidence, IsLearning, added_by, IsNoted, Shows}
+use Rattle.solve_core.specs.Rounds.{HasDerived, HasSteps, IsSearch, HasEvidence, HasLogged, IsLearning, IsNoted, Shows}
 use Rattle.solve_core.proofs.SearchLists.{lits_kept, images_kept}
 use Rattle.solve_core.proofs.SearchReady.{Ids, atom_in, clauses_in, false_at, atom_of, clause_is}
 use Rattle.solve_core.proofs.SearchLogs.{all_back, steps_more, among_more, last_derived, last_concludes, derived_kept, derived_more}
@@ -40,18 +41,18 @@ use Rattle.solve_core.proofs.SearchConflicts.{atom_of as atom_there, one_is_new}
 use Rattle.solve_core.proofs.SearchGrown.{listed_kept, continues_wider}
 
 -- what was learned may be learned, where the log stays as it is
-pub learning_shows : (t : TableView) (problem : Problem) (x : Search) (a : Answer) → added_by a (images t x.budget.learned) ≡ images t x.budget.learned → IsLogOf t x.log → IsSearch t problem x → IsLearning t problem x.log a x.budget.learned
-learning_shows t problem x a none right s = record {
+pub learning_shows : (t : TableView) (problem : Problem) (x : Search) (a : Answer) → (HasSteps problem (derivation_in t x.log) (images t x.budget.learned) → HasLogged problem (derivation_in t x.log) a (images t x.budget.learned)) → IsLogOf t x.log → IsSearch t problem x → IsLearning t problem x.log a x.budget.learned
+learning_shows t problem x a steps right s = record {
   assumes = all_back (inference_of t) (AssumesAmong (terms_of_problem problem)) x.log s.derived.assumes;
   learns = record { right = right.right; derived = s.derived.derived; atoms = s.derived.atoms; new = s.derived.new };
-  logged = subst (HasSteps problem (derivation_in t x.log)) (sym none) s.derived.steps_made;
+  logged = steps s.derived.steps_made;
 }
 
 -- where the budget is spent at a further conflict, the answer shows it
 pub unknown_shows : (t : TableView) (problem : Problem) (x : Search) (n : ℕ) → IsLogOf t x.log → IsSearch t problem x → length x.budget.learned ≡ x.budget.limit → n ≡ x.budget.limit → IsConflict problem (derivation_in t x.log) (images t x.budget.learned)
     → HasEvidence t problem x.log x.budget (Unknown (Conflicts n)) × IsLearning t problem x.log (Unknown (Conflicts n)) x.budget.learned
 unknown_shows t problem x n right s full carries conflict =
-    let learning = learning_shows t problem x (Unknown (Conflicts n)) refl right s in
+    let learning = learning_shows t problem x (Unknown (Conflicts n)) (λ h. h) right s in
     ((record { full = rw length-map full; carries = carries; learns = learning.learns }, conflict), learning)
 
 -- a clause of no literals has no terms
@@ -120,8 +121,8 @@ module _ (t u : TableView) (g : Extends t u) (differ : AreDifferent t.terms) (de
     h = s.derived
 
     -- what the atoms are, is a term that the search speaks of
-    spoken : (id : TermId) → Contains x.atoms.items id → Contains (search_terms problem) (term_at t id)
-    spoken id i = subst (λ (p : Problem). Contains (search_terms p) (term_at t id)) s.meant
+    spoken : (id : TermId) → Contains x.atoms.items id → Contains (whole_terms problem) (term_at t id)
+    spoken id i = subst (λ (p : Problem). Contains (whole_terms p) (term_at t id)) s.meant
         (s.listed.only (term_at t id) (to_image (term_at t) x.terms.items id (r.atoms_are.chosen.among id i)))
 
     atoms : All (λ (z : Literal). IsAtomOf problem z.atom) (map (literal_at t) d.clause)
@@ -187,7 +188,7 @@ module _ (t u : TableView) (g : Extends t u) (differ : AreDifferent t.terms) (di
       record {
         roots = s.roots;
         roots_in = λ k e lt. formula_kept t u (record { terms = g; declared = declared }) (get_or s.roots k e) (s.roots_in k e lt);
-        reached = subst AreInReach (sym meant) s.reached;
+        reached = subst AreAnswered (sym meant) s.reached;
         meant = ap asserting meant ∙ s.meant;
         listed = subst (λ (ids : Ids). AreSearchTerms u (clause_at u s.roots) ids.items) (sym terms)
             (subst (λ (ts : List Term). AreSearchTerms u ts x.terms.items) (sym meant) (listed_kept t u g declared (clause_at t s.roots) x.terms.items s.listed));

@@ -6,6 +6,8 @@ use Rattle.term_core.specs.declared.ids.Lit.{Lit}
 use Rattle.term_core.specs.Tables.{TableView}
 use Rattle.term_core.proofs.TermsExtend.{Extends-self}
 use Rattle.sat_budget.specs.declared.limits.Stop.{Stop}
+use Rattle.sat_budget.specs.declared.limits.Stop.TheVariants.{Strained, Pivots, Memory}
+use Rattle.solve_core.specs.Asking.{OnStop}
 use Rattle.sat_budget.specs.Budgets.{BudgetView, Spends}
 use Rattle.proof_log.specs.Logs.{derivation_in}
 use Rattle.solve_core.specs.declared.search.Search.{Search}
@@ -39,7 +41,7 @@ module _ (t : TableView) (x : Search) (b : BudgetView) (spends : Spends x.budget
   continues_spent = record {
     table = Extends-self t;
     declared = refl;
-    limit = ap (λ (y : BudgetView). y.limit) spends.1;
+    limits = (ap (λ (y : BudgetView). y.limit) spends.1, ap (λ (y : BudgetView). y.pivots) spends.1);
     vars = refl;
     terms = refl;
     search = λ problem s. record {
@@ -57,3 +59,15 @@ module _ (t : TableView) (x : Search) (b : BudgetView) (spends : Spends x.budget
 pub handed_on : {A : Type 0} (P : Stop → Type 0) (r : Result A Stop) (e : Stop) → IsErrAnd r (λ s. s ≡ e) → P e → IfErr r P
 handed_on P (Ok x) e is h = absurd is
 handed_on P (Err s) e is h = subst P (sym is) h
+
+-- what is so is so where a theory stopped
+pub on_stop : (P : Type 0) → P → (stop : Stop) → OnStop P stop
+on_stop P h (Strained s) = h
+on_stop P h (Pivots n) = h
+on_stop P h Memory = tt
+
+-- what follows of it follows there
+pub on_stop_weaker : (P Q : Type 0) → (P → Q) → (stop : Stop) → OnStop P stop → OnStop Q stop
+on_stop_weaker P Q f (Strained s) h = f h
+on_stop_weaker P Q f (Pivots n) h = f h
+on_stop_weaker P Q f Memory h = tt

@@ -13,7 +13,7 @@ use Rattle.clause_store.specs.Stores.{StoreView}
 use Rattle.clause_store.specs.Propagating.{Adds}
 use Rattle.conflict_learn.proofs.Following.{no_reason}
 use Rattle.conflict_learn.proofs.Places.{early_place}
-use Rattle.clausify.specs.SearchTerms.{no_id}
+use Rattle.term_clauses.specs.SpokenTerms.{no_id}
 use Rattle.solve_core.specs.Asking.{AreRising, KeepsUp}
 
 -- at the beginning

@@ -14,7 +14,7 @@ use Rattle.sat_trail.specs.Trails.{TrailView, no_lit, HasValue, IsCutTo}
 use Rattle.clause_store.specs.Propagating.{IsQuiet}
 use Rattle.conflict_learn.proofs.Places.{early_place}
 use Rattle.variable_order.specs.Orders.{IsIn, IsEmpty, IsTaken}
-use Rattle.clausify.specs.SearchTerms.{no_id}
+use Rattle.term_clauses.specs.SpokenTerms.{no_id}
 use Rattle.solve_core.specs.Waiting.{IsAssigned, AreAssigned, AreWaiting, one_if, count}
 use Rattle.solve_core.specs.Search.{AreSatisfied, AreCovered}
 use Rattle.solve_core.proofs.SearchLists.{in_front}

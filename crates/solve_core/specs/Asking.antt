@@ -1,20 +1,35 @@
 -- How a theory keeps up with a search, and what a search shows that rests. Source: Nieuwenhuis, Oliveras and Tinelli, Solving SAT and SAT modulo theories, JACM 2006.
-use Rattle.std.specs.Prelude.{◌≡◌, ◌+◌, ◌<◌, ◌≤◌, ℕ, suc, length, take, get_or, All, Option, Some, None}
+use Rattle.std.specs.Prelude.{◌≡◌, ◌+◌, ◌<◌, ◌≤◌, ℕ, suc, true, List, length, map, take, get_or, All, Option, Some, None, Result, Ok, Err}
+use Rattle.spec_numbers.specs.Fractions.{Fraction, IsReduced}
+use Rattle.spec_sorts.specs.Terms.{Term}
+use Rattle.spec_sorts.specs.Literals.{Literal}
+use Rattle.spec_congruence.specs.Congruence.{IsFine}
+use Rattle.spec_simplex.specs.Constraints.{HaveForms}
+use Rattle.spec_simplex.specs.Points.{IsFeasible}
+use Rattle.spec_simplex.specs.Numbers.{HoldsAt}
 use Rattle.term_core.specs.Tables.{TableView}
-use Rattle.sat_budget.specs.Budgets.{Spends}
+use Rattle.world_io.specs.declared.bytes.NoMemory.{NoMemory}
+use Rattle.sat_budget.specs.declared.limits.Stop.{Stop}
+use Rattle.sat_budget.specs.declared.limits.Stop.TheVariants as stops
+use Rattle.sat_budget.specs.declared.limits.Reason.TheVariants as reasons
+use Rattle.sat_budget.specs.Budgets.{Spends, StopsBy}
 use Rattle.proof_log.specs.declared.theory.Verdict.{Verdict}
 use Rattle.proof_log.specs.declared.theory.Verdict.TheVariants.{Fine, Clash}
+use Rattle.proof_log.specs.Logs.{IsLogOf}
 use Rattle.proof_log.specs.Clashes.{IsClash}
 use Rattle.proof_log.specs.Theories.{Mark, no_mark, TheoryView}
 use Rattle.sat_trail.specs.Trails.{TrailView}
 use Rattle.clause_store.specs.Propagating.{IsQuiet}
+use Rattle.simplex.specs.Checks.{KeepsBounds}
+use Rattle.combined.specs.Views.{CombinedView}
 use Rattle.solve_core.specs.declared.search.Search.{Search}
 use Rattle.solve_core.specs.declared.cdcl.End.{End}
 use Rattle.solve_core.specs.declared.cdcl.End.TheVariants.{Rests, Refuted, Stopped}
+use Rattle.solve_core.specs.declared.cdcl.Answer.{Answer}
 use Rattle.solve_core.specs.declared.cdcl.Answer.TheVariants.{Unsat, Unknown}
 use Rattle.solve_core.specs.Waiting.{AreAssigned}
 use Rattle.solve_core.specs.Search.{AreSatisfied, IsReady}
-use Rattle.solve_core.specs.Rounds.{Continues, HasLearned, Shows}
+use Rattle.solve_core.specs.Rounds.{Continues, HasLearned, KeepsLimits, Shows}
 
 -- A theory holds the oldest literals of a trail, and has a mark for each level, set before the level's decision.
 pub record KeepsUp (v : TheoryView) (trail : TrailView) : Type 0 where
@@ -58,6 +73,20 @@ pub record HasRested (t : TableView) (x : Search) (v : TheoryView) (agreed : Typ
   -- nothing is wrong with them
   pub agrees : agreed
 
+-- Numbers of terms by which literals hold.
+pub record HoldByNumbers (ts : List Term) (held : List Literal) (xs : List Fraction) : Type 0 where
+  -- the number of each term, in lowest terms
+  pub number : Term → Fraction
+  pub reduced : (u : Term) → IsReduced (number u)
+  -- by these the literals hold
+  pub hold : All (HoldsAt number) held
+  -- and these are the numbers of those terms, in their order
+  pub are : xs ≡ map number ts
+
+-- both theories agree to literals over terms, and the values keep the bounds
+abbrev pub AgreeBoth : List Term → List Literal → CombinedView → Type 0
+AgreeBoth ts ls v = (IsFine ts ls × (v.congruence.now.settled ≡ true)) × (HaveForms ls × IsFeasible ls × KeepsBounds v.simplex)
+
 -- A search over a table.
 pub record State : Type 0 where
   -- the table
@@ -93,6 +122,39 @@ Settles old new v (Some Rests) = ⊥
 Settles old new v (Some (Refuted step)) = Shows old.table new.table old.search new.search (Unsat step)
 Settles old new v (Some (Stopped reason)) = Shows old.table new.table old.search new.search (Unknown reason)
 Settles old new v None = HasLearned old.table new.table old.search new.search × IsAsked v new.search × (length old.search.budget.learned < old.search.budget.limit)
+
+-- A search stopped in a theory's check: it is for the same terms, and what it has derived stands.
+pub record HasStopped (old new : State) (v : TheoryView) : Type 0 where
+  -- each step of the log is right
+  pub right : IsLogOf new.table new.search.log
+  -- the search is for the same terms
+  pub continues : Continues old.table new.table old.search new.search
+  -- which the theory watches
+  pub terms : v.watched ≡ new.search.terms.items
+
+-- P is so where a theory stopped for another reason than memory
+abbrev pub OnStop : Type 0 → Stop → Type 0
+OnStop P stop = StopsBy (λ s. P) (λ n. P) stop
+
+-- An answer is shown, over a log that is right, and the limits are kept.
+pub record IsAnswered (old new : State) (a : Answer) : Type 0 where
+  -- each step of the log is right
+  pub right : IsLogOf new.table new.search.log
+  -- the limits of the budget are the same
+  pub limits : KeepsLimits old.search.budget new.search.budget
+  -- it shows what it should of the terms
+  pub shows : Shows old.table new.table old.search new.search a
+
+-- so is the reason of a stop
+abbrev pub IsStoppedBy : (old new : State) → Stop → Type 0
+IsStoppedBy old new stop = StopsBy (λ s. IsAnswered old new (Unknown (reasons.Overflow s))) (λ n. IsAnswered old new (Unknown (reasons.Pivots n))) stop
+
+-- what is answered to a stop: its reason, or that memory ran out
+abbrev pub Answers : Stop → Result Answer NoMemory → Type 0
+Answers (stops.Strained s) (Ok a) = a ≡ Unknown (reasons.Overflow s)
+Answers (stops.Pivots n) (Ok a) = a ≡ Unknown (reasons.Pivots n)
+Answers stops.Memory (Err e) = Unit {0}
+Answers stop answer = ⊥
 
 -- how a search ends: it rests, and is one for the same terms; or it shows of them what an answer does
 abbrev pub Ends : (old new : State) → (rested : Type 0) → End → Type 0

@@ -1,23 +1,41 @@
 -- What a decision shows.
-use Rattle.std.specs.Prelude.{◌≡◌, ℕ, List}
+use Rattle.std.specs.Prelude.{◌≡◌, List, []}
 use Rattle.spec_derivations.specs.Problems.{Problem}
 use Rattle.term_core.specs.Tables.{TableView}
 use Rattle.proof_log.specs.Logs.{Logged, IsLogOf}
+use Rattle.ratio128.specs.declared.wide.Wide.{Wide}
+use Rattle.sat_budget.specs.declared.limits.Limits.{Limits}
+use Rattle.sat_budget.specs.declared.limits.Strain.{Strain}
+use Rattle.sat_budget.specs.declared.limits.Reason.TheVariants.{Overflow}
 use Rattle.sat_budget.specs.Budgets.{BudgetView}
 use Rattle.solve_core.specs.declared.cdcl.Answer.{Answer}
+use Rattle.solve_core.specs.declared.cdcl.Answer.TheVariants.{Unknown}
 use Rattle.solve_core.specs.declared.outcome.Outcome.{Outcome}
-use Rattle.solve_core.specs.Rounds.{HasEvidence, IsLearning}
+use Rattle.solve_core.specs.Stops.{IsNoBasis}
+use Rattle.solve_core.specs.Rounds.{HasLimits, HasEvidence, IsLearning}
 
--- The answer has its evidence, in a log that is right and within a budget of that limit.
-pub record IsJustified (t : TableView) (p : Problem) (limit : ℕ) (d : Outcome) : Type 0 where
+-- The answer has its evidence, in a log that is right and within a budget of these limits.
+pub record IsJustified (t : TableView) (p : Problem) (limits : Limits) (d : Outcome) : Type 0 where
   -- each step of the log is right
   pub log_right : IsLogOf t d.log
-  -- the budget has the limit
-  pub limit_is : d.budget.limit ≡ limit
+  -- the budget has the limits
+  pub limits_are : HasLimits limits d.budget
   -- the answer shows what it should
   pub evidence : HasEvidence t p d.log d.budget d.answer
   -- and so do the log and what was learned
   pub learning : IsLearning t p d.log d.answer d.budget.learned
+
+-- An operation left the bound before a search began.
+pub record IsStrainedBy (limits : Limits) (w : Wide) (d : Outcome) : Type 0 where
+  -- the answer tells the operation, without a basis
+  pub strain : Strain
+  pub answer : d.answer ≡ Unknown (Overflow strain)
+  pub is : strain.wide ≡ w
+  pub basis : IsNoBasis strain.basis
+  -- nothing was logged
+  pub log : d.log ≡ []
+  -- and nothing spent
+  pub budget : d.budget ≡ record { limit = limits.conflicts; learned = []; pivots = limits.pivots; exchanges = [] }
 
 -- What a solver keeps of its last decision.
 pub record SolverView : Type 0 where
@@ -27,5 +45,5 @@ pub record SolverView : Type 0 where
   pub budget : BudgetView
 
 -- the answer has its evidence in what the solver keeps
-abbrev pub IsShownBy : TableView → Problem → ℕ → SolverView → Answer → Type 0
-IsShownBy t p limit s a = IsJustified t p limit (record { answer = a; log = s.log; budget = s.budget })
+abbrev pub IsShownBy : TableView → Problem → Limits → SolverView → Answer → Type 0
+IsShownBy t p limits s a = IsJustified t p limits (record { answer = a; log = s.log; budget = s.budget })

@@ -1,6 +1,9 @@
--- The definitions that contracts cite: what an answer shows, and what the parts of the search keep.
+-- The definitions that contracts cite: what is decided, what an answer shows, and what the parts of the search keep.
+pub mod Reach
 pub mod Waiting
 pub mod Search
+pub mod Stops
+pub mod Forms
 pub mod Rounds
 pub mod Decisions
 pub mod Asking

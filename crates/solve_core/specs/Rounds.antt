@@ -1,14 +1,15 @@
 -- What the rounds of a search keep, and what its answers show.
-use Rattle.std.specs.Prelude.{◌≡◌, ◌+◌, ℕ, List, [], ◌∷◌, ◌++◌, length, map, All, Contains}
+use Rattle.std.specs.Prelude.{◌≡◌, ◌⊎◌, ◌+◌, ℕ, List, [], ◌∷◌, ◌++◌, length, map, All, Contains}
 use Rattle.spec_sorts.specs.Literals.{Clause, Literal, literals_of}
 use Rattle.spec_proofs.specs.Resolution.{IsWithin}
 use Rattle.spec_proofs.specs.declared.Rule.TheVariants.{Resolution}
 use Rattle.spec_sorts.specs.Terms.{Term}
 use Rattle.spec_derivations.specs.Problems.{Problem, terms_of_problem}
 use Rattle.spec_derivations.specs.Examples.{asserting}
-use Rattle.spec_derivations.specs.Models.{AreInReach}
+use Rattle.solve_core.specs.Reach.{AreAnswered}
 use Rattle.spec_derivations.specs.Derivations.{Inference, «assumption», by_rule, Derivation, conclusion, AssumesAmong, IsDerivedFrom}
-use Rattle.spec_derivations.specs.Base.{base_clauses, search_terms, search_clauses}
+use Rattle.spec_derivations.specs.Base.{base_clauses}
+use Rattle.spec_derivations.specs.Orders.{whole_terms, whole_clauses}
 use Rattle.spec_derivations.specs.Lemmas.{IsLemma}
 use Rattle.spec_derivations.specs.Learned.{AreNew}
 use Rattle.spec_derivations.specs.Spent.{IsLearnedFrom, IsOverAtoms, AreLearned, IsConflictBudgetSpent, IsConflict}
@@ -19,7 +20,8 @@ use Rattle.proof_log.specs.declared.premises.StepId.{StepId}
 use Rattle.proof_log.specs.Logs.{Logged, inference_of, derivation_in, stated, AreFormulasIn}
 use Rattle.clausify.specs.SearchTerms.{AreSearchTerms}
 use Rattle.sat_budget.specs.Budgets.{BudgetView}
-use Rattle.sat_budget.specs.declared.limits.Reason.TheVariants.{Conflicts}
+use Rattle.sat_budget.specs.declared.limits.Limits.{Limits}
+use Rattle.sat_budget.specs.declared.limits.Reason.TheVariants.{Overflow, Conflicts, Pivots}
 use Rattle.conflict_learn.specs.Conflicts.{Conflict}
 use Rattle.conflict_learn.specs.Learned.{IsLogged, IsLearned}
 use Rattle.conflict_learn.specs.declared.learned.Learned.{Learned}
@@ -27,6 +29,7 @@ use Rattle.solve_core.specs.declared.search.Search.{Search}
 use Rattle.solve_core.specs.declared.cdcl.Answer.{Answer}
 use Rattle.solve_core.specs.declared.cdcl.Answer.TheVariants.{Sat, Unsat, Unknown}
 use Rattle.solve_core.specs.Search.{images, IsReady}
+use Rattle.solve_core.specs.Stops.{IsStrained, ArePivotsSpent}
 use Rattle.search_model.specs.Models.{IsModel}
 
 -- it follows from other clauses by resolution
@@ -53,22 +56,22 @@ pub record HasSteps (p : Problem) (d : Derivation) (clauses : List (List Literal
   -- these are all
   pub all : d ≡ base ++ more
   -- there are as many as clauses
-  pub count : length base ≡ length (search_clauses p)
+  pub count : length base ≡ length (whole_clauses p)
   -- each states one of them
-  pub stated : All (λ x. Contains (search_clauses p) (conclusion x)) base
+  pub stated : All (λ x. Contains (whole_clauses p) (conclusion x)) base
   -- each of them is stated
-  pub each : IsWithin (search_clauses p) (map conclusion base)
+  pub each : IsWithin (whole_clauses p) (map conclusion base)
   -- and those after them state these clauses
-  pub steps : AreSteps (search_terms p) (length base) more clauses
+  pub steps : AreSteps (whole_terms p) (length base) more clauses
 
 -- What a search has derived of a problem: the clauses by their literals, and those that it learned.
 pub record HasDerived (p : Problem) (d : Derivation) (clauses learned : List (List Literal)) : Type 0 where
   -- the derivation assumes the problem's terms alone
   pub assumes : All (AssumesAmong (terms_of_problem p)) d
   -- each clause that a search begins with is one of the clauses
-  pub base : (c : Clause) → Contains (search_clauses p) c → Contains clauses (literals_of c)
+  pub base : (c : Clause) → Contains (whole_clauses p) c → Contains clauses (literals_of c)
   -- each clause is such a one or was learned
-  pub only : IsWithin clauses (map literals_of (search_clauses p) ++ learned)
+  pub only : IsWithin clauses (map literals_of (whole_clauses p) ++ learned)
   -- what was learned is among the clauses
   pub kept : IsWithin learned clauses
   -- each learned clause is derived from the problem's terms
@@ -85,8 +88,8 @@ pub record IsSearch (t : TableView) (p : Problem) (x : Search) : Type 0 where
   -- its terms are formulas of the table, by their numbers
   pub roots : List TermId
   pub roots_in : AreFormulasIn t roots
-  -- the search reaches them
-  pub reached : AreInReach (clause_at t roots)
+  -- the search answers for them
+  pub reached : AreAnswered (clause_at t roots)
   -- they are asserted, and nothing else is asked
   pub meant : asserting (clause_at t roots) ≡ p
   -- its terms are those that a search of the problem speaks of
@@ -94,8 +97,16 @@ pub record IsSearch (t : TableView) (p : Problem) (x : Search) : Type 0 where
   -- so much is derived of it
   pub derived : HasDerived p (derivation_in t x.log) (images t x.store.clauses) (images t x.budget.learned)
 
--- A search that is asked a problem begins, under this limit on conflicts.
-pub record Begins (t : TableView) (p : Problem) (limit : ℕ) (x : Search) : Type 0 where
+-- the budget has the limits of a check on conflicts and on pivots
+abbrev pub HasLimits : Limits → BudgetView → Type 0
+HasLimits l b = (b.limit ≡ l.conflicts) × (b.pivots ≡ l.pivots)
+
+-- the limits of a budget are as they were
+abbrev pub KeepsLimits : BudgetView → BudgetView → Type 0
+KeepsLimits old new = (new.limit ≡ old.limit) × (new.pivots ≡ old.pivots)
+
+-- A search that is asked a problem begins, under these limits.
+pub record Begins (t : TableView) (p : Problem) (limits : Limits) (x : Search) : Type 0 where
   -- it fits together
   pub ready : IsReady t x
   -- it has no literals yet
@@ -104,8 +115,8 @@ pub record Begins (t : TableView) (p : Problem) (limit : ℕ) (x : Search) : Typ
   pub fed : x.fed ≡ 0
   -- it is asked the problem
   pub search : IsSearch t p x
-  -- the budget has the limit
-  pub limit_is : x.budget.limit ≡ limit
+  -- the budget has the limits
+  pub limits_are : HasLimits limits x.budget
 
 -- the clauses that a search adds to a log: those that it learned, and after them at unsat the answer's, which has no literals
 abbrev pub added_by : Answer → List (List Literal) → List (List Literal)
@@ -113,11 +124,20 @@ added_by (Unsat step) learned = learned ++ [] ∷ []
 added_by (Sat interp) learned = learned
 added_by (Unknown reason) learned = learned
 
--- what an answer shows of a problem: tables under which its terms are true; a clause without literals that is derived from them; or that the budget is spent at a further conflict
+-- what an answer shows of a problem: tables under which its terms are true; a clause without literals that is derived from them; that an
+-- operation leaves the bound on fractions; that the budget is spent at a further conflict, or where a further exchange is needed
 abbrev pub HasEvidence : TableView → Problem → List Logged → BudgetView → Answer → Type 0
 HasEvidence t p log budget (Sat interp) = IsModel t (terms_of_problem p) interp
 HasEvidence t p log budget (Unsat step) = (stated t log step ≡ []) × IsDerivedFrom (terms_of_problem p) (derivation_in t log) step.0
+HasEvidence t p log budget (Unknown (Overflow s)) = IsStrained t p s
+HasEvidence t p log budget (Unknown (Pivots n)) = ArePivotsSpent t p budget n
 HasEvidence t p log budget (Unknown (Conflicts n)) = IsConflictBudgetSpent p (derivation_in t log) budget.limit n (map (map (literal_at t)) budget.learned) × IsConflict p (derivation_in t log) (map (map (literal_at t)) budget.learned)
+
+-- what came into a log: the clauses that a search begins with, and after them those that it added; nothing where an operation left the
+-- bound before it began
+abbrev pub HasLogged : Problem → Derivation → Answer → List (List Literal) → Type 0
+HasLogged p d (Unknown (Overflow s)) learned = HasSteps p d learned ⊎ ((d ≡ []) × (learned ≡ []))
+HasLogged p d a learned = HasSteps p d (added_by a learned)
 
 -- What stands beside each answer: the log assumes the problem's terms alone, what was learned may be, and is what the search added to the log.
 pub record IsLearning (t : TableView) (p : Problem) (log : List Logged) (a : Answer) (learned : List (List Lit)) : Type 0 where
@@ -126,7 +146,7 @@ pub record IsLearning (t : TableView) (p : Problem) (log : List Logged) (a : Ans
   -- the clauses may be learned
   pub learns : AreLearned p (derivation_in t log) (map (map (literal_at t)) learned)
   -- they are what came into the log after the base clauses, but for the answer's own
-  pub logged : HasSteps p (derivation_in t log) (added_by a (map (map (literal_at t)) learned))
+  pub logged : HasLogged p (derivation_in t log) a (map (map (literal_at t)) learned)
 
 -- the clause is learned last
 abbrev pub IsNoted : List Lit → BudgetView → BudgetView → Type 0
@@ -146,8 +166,8 @@ pub record Continues (t u : TableView) (old new : Search) : Type 0 where
   pub table : Extends t u
   -- the sorts and symbols are the same
   pub declared : declared_in u ≡ declared_in t
-  -- the limit is the same
-  pub limit : new.budget.limit ≡ old.budget.limit
+  -- the limits are the same
+  pub limits : KeepsLimits old.budget new.budget
   -- there are as many variables
   pub vars : new.trail.vars ≡ old.trail.vars
   -- it speaks of the same terms

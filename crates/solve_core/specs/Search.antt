@@ -6,7 +6,7 @@ use Rattle.term_core.specs.declared.ids.TermId.{TermId}
 use Rattle.term_core.specs.declared.ids.Lit.{Lit}
 use Rattle.term_core.specs.Tables.{TableView, clause_at, literal_at}
 use Rattle.clause_literals.specs.Statuses.{IsSatisfied}
-use Rattle.clausify.specs.SearchTerms.{AreRising}
+use Rattle.term_clauses.specs.SpokenTerms.{AreRising}
 use Rattle.clause_literals.specs.Literals.{AreOf, Means}
 use Rattle.proof_log.specs.declared.premises.StepId.{StepId}
 use Rattle.proof_log.specs.Logs.{Logged, named, logged_at, IsLogOf}

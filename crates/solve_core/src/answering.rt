@@ -1,61 +1,87 @@
-//! The search with the theory of equality and functions, and the model where it rests.
+//! The search with its theories, from the beginning to an answer.
 
-ghost use Rattle.std.specs.Prelude.{◌≡◌, ℕ, true, IfOk};
-ghost use Rattle.spec_congruence.specs.Congruence.{IsFine};
+ghost use Rattle.std.specs.Prelude.{◌≡◌, ◌≢◌, [], All, Contains, IfOk, IfErr, MatchBool};
+ghost use Rattle.spec_sorts.specs.Terms.{Number, Term, sort_of};
 ghost use Rattle.spec_derivations.specs.Problems.{Problem};
-ghost use Rattle.term_core.specs.Tables.{declared_in, Extends};
-ghost use Rattle.proof_log.specs.Logs.{IsLogOf};
-ghost use Rattle.proof_log.specs.Theories.{terms_watched, literals_held};
+ghost use Rattle.term_core.specs.Tables.{declared_in, Extends, IsIn, clause_at, term_at};
+ghost use Rattle.sat_budget.specs.declared.limits.Limits.{Limits};
+ghost use Rattle.sat_budget.specs.declared.limits.Reason.TheVariants.{Overflow};
+ghost use Rattle.sat_budget.specs.Budgets.{StopsBy};
+ghost use Rattle.proof_log.specs.Theories.{IsTermIn, terms_watched, literals_held};
 ghost use Rattle.congruence_relation.specs.Relation.{AreOf};
 ghost use Rattle.congruence.specs.Views.{theory_of};
-ghost use Rattle.solve_core.specs.declared.cdcl.Answer.TheVariants.{Sat};
+ghost use Rattle.simplex.specs.Checks.{Suits};
+ghost use Rattle.solve_core.specs.declared.cdcl.Answer.TheVariants.{Unknown};
+ghost use Rattle.solve_core.specs.Stops.{HasNumber};
 ghost use Rattle.solve_core.specs.Rounds.{Begins, Shows};
-ghost use Rattle.solve_core.specs.Asking.{HasRested};
+ghost use Rattle.solve_core.specs.Asking.{AgreeBoth, HasRested, IsAnswered, IsStoppedBy, state, Answers};
 
 use crate::cdcl::{Answer, End};
+use crate::modelling::zeros;
 use crate::search::Search;
 use crate::watching::{truth_values, watch_all};
+use combined::Combined;
 use congruence::Congruence;
 use proof_log::laws::logs_stand_in_grown_tables;
-use search_model::laws::made_models_stand;
-use search_model::model_of;
-use spec_valuations::laws::{
-    listed_terms_have_their_places_class, resting_searches_have_models,
-    terms_in_reach_have_no_numbers,
-};
-use term_core::TermTable;
-use term_walks::Interp;
+use sat_budget::{Reason, Stop};
+use term_core::{Sort, TermId, TermTable};
 use world_io::NoMemory;
 
-impl Search {
-    /// Makes a model of the terms where the search rests, by the truths of its literals and the classes of the theory.
-    ///
-    /// `NoMemory` comes where its tables find no memory.
-    fn model(&self, table: &TermTable, theory: &Congruence) -> Result<Interp, NoMemory>
-        requires rested { HasRested table.now self.now (theory_of theory.now) (IsFine (terms_watched table.now (theory_of theory.now))
-            (literals_held table.now (theory_of theory.now)) × (theory.now.now.settled ≡ true)) }
-        requires with { AreOf table.now theory.now.now.facts }
-        ensures { IfOk result (λ interp. Shows table.now table.now self.now self.now (Sat interp)) }
-    {
-        listed_terms_have_their_places_class();
-        terms_in_reach_have_no_numbers();
-        resting_searches_have_models();
-        made_models_stand();
-        table.ids_are_unique();
-        table.symbols().are_declared();
-        self.trail.is_sound();
-        let classes = theory.classes(self.alloc, &self.terms)?;
-        model_of(self.alloc, table, &self.terms, &classes, &self.trail)
+/// Answers a stop of a theory: `Unknown` with the reason, or that memory ran out.
+fn answer_to(stop: Stop) -> Result<Answer, NoMemory>
+    ensures { Answers stop result }
+{
+    match stop {
+        Stop::Strained(strain) => Ok(Answer::Unknown(Reason::Overflow(strain))),
+        Stop::Pivots(count) => Ok(Answer::Unknown(Reason::Pivots(count))),
+        Stop::Memory => Err(NoMemory),
     }
+}
 
-    /// Searches with the theory of equality and functions, from the beginning to an answer.
+/// Tells whether a term has the sort Real.
+fn is_number(table: &TermTable, id: TermId) -> bool
+    requires { IsIn table.now id }
+    ensures { MatchBool result (sort_of (term_at table.now id) ≡ Number) (sort_of (term_at table.now id) ≢ Number) }
+{
+    table.sort(id) == Sort::Real
+}
+
+/// Tells whether one of these terms is a number.
+fn have_numbers(table: &TermTable, terms: &[TermId]) -> bool
+    requires { All (IsTermIn table.now) terms.now }
+    ensures { MatchBool result (HasNumber (clause_at table.now terms.now))
+        ((u : Term) → Contains (clause_at table.now terms.now) u → sort_of u ≢ Number) }
+{
+    'terms: for id in terms.iter() {
+        if is_number(table, *id) {
+            return true;
+        }
+    }
+    false
+}
+
+impl Search {
+    /// Searches with the theory of equality and functions, and with that of linear arithmetic beside it where some term is a number, from
+    /// the beginning to an answer.
     pub(crate) fn answer(&mut self, table: &mut TermTable) -> Result<Answer, NoMemory>
-        requires begins { (p : Problem) × (limit : ℕ) × Begins table.old p limit self.old }
+        requires begins { (p : Problem) × (limits : Limits) × Begins table.old p limits self.old }
         ensures grown { Extends table.old table.new }
         ensures declared { declared_in table.new ≡ declared_in table.old }
-        ensures right { IfOk result (λ _. IsLogOf table.new self.new.log) }
-        ensures limit { IfOk result (λ _. self.new.budget.limit ≡ self.old.budget.limit) }
-        ensures shows { IfOk result (Shows table.old table.new self.old self.new) }
+        ensures answered { IfOk result (IsAnswered (state table.old self.old) (state table.new self.new)) }
+    {
+        if have_numbers(table, &self.terms) {
+            return self.answer_numbers(table);
+        }
+        self.answer_classes(table)
+    }
+
+    /// Searches with the theory of equality and functions alone, where no term is a number.
+    fn answer_classes(&mut self, table: &mut TermTable) -> Result<Answer, NoMemory>
+        requires begins { (p : Problem) × (limits : Limits) × Begins table.old p limits self.old }
+        requires plain { (u : Term) → Contains (clause_at table.old self.old.terms.items) u → sort_of u ≢ Number }
+        ensures grown { Extends table.old table.new }
+        ensures declared { declared_in table.new ≡ declared_in table.old }
+        ensures answered { IfOk result (IsAnswered (state table.old self.old) (state table.new self.new)) }
     {
         logs_stand_in_grown_tables();
         let truths = truth_values(self.alloc, table)?;
@@ -70,11 +96,77 @@ impl Search {
         };
         match end {
             End::Rests => {
-                let model = self.model(table, &theory)?;
+                let numbers = zeros(self.alloc, self.terms.len())?;
+                let model = self.model(table, &theory, &numbers)?;
                 Ok(Answer::Sat(model))
             }
             End::Refuted(step) => Ok(Answer::Unsat(step)),
             End::Stopped(reason) => Ok(Answer::Unknown(reason)),
         }
+    }
+
+    /// Searches with both theories, where some term is a number.
+    fn answer_numbers(&mut self, table: &mut TermTable) -> Result<Answer, NoMemory>
+        requires begins { (p : Problem) × (limits : Limits) × Begins table.old p limits self.old }
+        requires numbers { HasNumber (clause_at table.old self.old.terms.items) }
+        ensures grown { Extends table.old table.new }
+        ensures declared { declared_in table.new ≡ declared_in table.old }
+        ensures answered { IfOk result (IsAnswered (state table.old self.old) (state table.new self.new)) }
+    {
+        logs_stand_in_grown_tables();
+        let truths = truth_values(self.alloc, table)?;
+        let mut theory = Combined::new(self.alloc, table, truths)?;
+        match self.search_with(table, &mut theory) {
+            Ok(answer) => Ok(answer),
+            Err(stop) => answer_to(stop),
+        }
+    }
+
+    /// Searches with both theories, which hold and watch nothing yet.
+    ///
+    /// `Memory` comes where memory ran out, here or in a theory. The other stops are those of linear arithmetic.
+    fn search_with(&mut self, table: &mut TermTable, theory: &mut Combined) -> Result<Answer, Stop>
+        requires begins { (p : Problem) × (limits : Limits) × Begins table.old p limits self.old }
+        requires numbers { HasNumber (clause_at table.old self.old.terms.items) }
+        requires empty { theory_of theory.old.congruence ≡ record { held = []; watched = []; marks = [] } }
+        requires congruence { AreOf table.old theory.old.congruence.now.facts }
+        requires simplex { Suits theory.old.simplex table.old }
+        ensures grown { Extends table.old table.new }
+        ensures declared { declared_in table.new ≡ declared_in table.old }
+        ensures answered { IfOk result (IsAnswered (state table.old self.old) (state table.new self.new)) }
+        ensures stopped { IfErr result (IsStoppedBy (state table.old self.old) (state table.new self.new)) }
+    {
+        if let Err(stop) = watch_all(theory, table, &self.terms) {
+            theory.parts_hold_the_same();
+            return Err(stop);
+        }
+        let ended = self.run(table, theory);
+        theory.parts_hold_the_same();
+        match ended {
+            Ok(End::Rests) => self.answer_rested(table, theory),
+            Ok(End::Refuted(step)) => Ok(Answer::Unsat(step)),
+            Ok(End::Stopped(reason)) => Ok(Answer::Unknown(reason)),
+            Err(stop) => Err(stop),
+        }
+    }
+
+    /// Makes the model of a search that rests with both theories.
+    ///
+    /// `Memory` comes where memory runs out, `Strained` where an operation leaves 128 bits that computes a number, and `Pivots` never.
+    fn answer_rested(&self, table: &TermTable, theory: &Combined) -> Result<Answer, Stop>
+        requires rested { HasRested table.now self.now (theory_of theory.now.congruence)
+            (AgreeBoth (terms_watched table.now (theory_of theory.now.congruence))
+            (literals_held table.now (theory_of theory.now.congruence)) theory.now) }
+        requires number { HasNumber (clause_at table.now self.now.terms.items) }
+        requires congruence { AreOf table.now theory.now.congruence.now.facts }
+        requires simplex { Suits theory.now.simplex table.now }
+        ensures answered { IfOk result (Shows table.now table.now self.now self.now) }
+        ensures strained { IfErr result (StopsBy (λ s. Shows table.now table.now self.now self.now
+            (Unknown (Overflow s))) (λ _. ⊥)) }
+    {
+        theory.parts_hold_the_same();
+        let numbers = theory.simplex().numbers(table, &self.terms)?;
+        let model = self.model(table, theory.congruence(), &numbers)?;
+        Ok(Answer::Sat(model))
     }
 }

@@ -1,10 +1,11 @@
 //! What a search begins with.
 
-ghost use Rattle.std.specs.Prelude.{◌≡◌, IfOk};
+ghost use Rattle.std.specs.Prelude.{◌≡◌, IfOk, IfErr};
 ghost use Rattle.spec_derivations.specs.Examples.{asserting};
-ghost use Rattle.spec_derivations.specs.Models.{AreInReach};
+ghost use Rattle.solve_core.specs.Reach.{AreAnswered};
 ghost use Rattle.term_core.specs.Tables.{declared_in, Extends, clause_at};
 ghost use Rattle.proof_log.specs.Logs.{IsLogOf, AreOf, AreFormulasIn};
+ghost use Rattle.clausify.specs.Overflows.{OnWide, IsOrderOverflow};
 ghost use Rattle.solve_core.specs.Search.{IsStoreOf, IsBegun};
 ghost use Rattle.solve_core.specs.Rounds.{Begins};
 
@@ -13,13 +14,13 @@ use crate::decider::Decider;
 use crate::search::Search;
 use clause_store::ClauseStore;
 use clause_store::laws::{reasons_stay_right, what_is_marked_was_seen};
-use clausify::{Stated, clauses_of_all};
+use clausify::{ClauseStop, Stated, clauses_of_all};
 use proof_log::laws::empty_logs_are_right;
 use proof_log::{ProofLog, StepId};
 use restarts::Restarts;
 use sat_budget::{Budget, Limits};
 use sat_trail::SatTrail;
-use spec_derivations::search_laws::{search_clauses_are_over_search_terms, search_terms_are_known};
+use spec_derivations::search_laws::{whole_clauses_are_over_whole_terms, whole_terms_are_known};
 use std::alloc::Global;
 use term_core::{TermId, TermTable};
 use world_io::NoMemory;
@@ -55,21 +56,23 @@ fn trail_of(alloc: Global, table: &TermTable) -> Result<SatTrail, NoMemory>
 
 /// Begins a search: the clauses of all terms, in a new log and store, with a trail of no literals and a new budget.
 ///
-/// Where memory runs out, the terms that it has put stay.
+/// `Wide` comes where an operation leaves 128 bits that judges a clause of an equality's orders. Where memory runs out, the terms that
+/// it has put stay.
 pub(crate) fn begin(
     alloc: Global,
     table: &mut TermTable,
     roots: &[TermId],
     limits: &Limits,
-) -> Result<Search, NoMemory>
+) -> Result<Search, ClauseStop>
     requires roots { AreFormulasIn table.old roots.now }
-    requires reach { AreInReach (clause_at table.old roots.now) }
+    requires answered { AreAnswered (clause_at table.old roots.now) }
     ensures grown { Extends table.old table.new }
     ensures declared { declared_in table.new ≡ declared_in table.old }
-    ensures begins { IfOk result (Begins table.new (asserting (clause_at table.old roots.now)) limits.now.conflicts) }
+    ensures begins { IfOk result (Begins table.new (asserting (clause_at table.old roots.now)) limits.now) }
+    ensures wide { IfErr result (OnWide (IsOrderOverflow (clause_at table.old roots.now))) }
 {
-    search_clauses_are_over_search_terms();
-    search_terms_are_known();
+    whole_clauses_are_over_whole_terms();
+    whole_terms_are_known();
     empty_logs_are_right();
     what_is_marked_was_seen();
     reasons_stay_right();

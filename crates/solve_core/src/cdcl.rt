@@ -7,7 +7,8 @@ ghost use Rattle.sat_budget.specs.Budgets.{StopsBy, AreSpent};
 ghost use Rattle.proof_log.specs.Logs.{IsLogOf};
 ghost use Rattle.proof_log.specs.Theories.{terms_watched, literals_held};
 ghost use Rattle.solve_core.specs.Search.{IsReady};
-ghost use Rattle.solve_core.specs.Asking.{IsAsked, HasRested, state, Ends};
+ghost use Rattle.solve_core.specs.Rounds.{KeepsLimits};
+ghost use Rattle.solve_core.specs.Asking.{IsAsked, HasRested, HasStopped, OnStop, state, Ends};
 
 use crate::search::Search;
 use clause_store::laws::{reasons_stay_right, what_is_marked_was_seen};
@@ -28,7 +29,7 @@ pub enum Answer {
 }
 
 /// How a search ends.
-#[derive(Clone, Copy)]
+#[derive(Drop)]
 pub(crate) enum End {
     /// Each atom has a value, of each clause a literal holds, and the theory finds nothing wrong.
     Rests,
@@ -56,13 +57,15 @@ impl Search {
         ensures grown { Extends table.old table.new }
         ensures declared { declared_in table.new ≡ declared_in table.old }
         ensures right { IfOk result (λ _. IsLogOf table.new self.new.log) }
-        ensures limit { IfOk result (λ _. self.new.budget.limit ≡ self.old.budget.limit) }
+        ensures limits { IfOk result (λ _. KeepsLimits self.old.budget self.new.budget) }
         ensures with { IfOk result (λ _. T.goes_with theory.new table.new) }
         ensures ends { IfOk result (Ends (state table.old self.old) (state table.new self.new)
             (HasRested table.new self.new (T.view theory.new) (T.agrees theory.new
             (terms_watched table.new (T.view theory.new)) (literals_held table.new (T.view theory.new))))) }
         ensures stops { IfErr result (StopsBy (T.strains theory.new (terms_watched table.new (T.view theory.new)))
             (AreSpent (T.needs_more theory.new (terms_watched table.new (T.view theory.new))) self.new.budget)) }
+        ensures stopped { IfErr result (OnStop (T.goes_with theory.new table.new
+            × HasStopped (state table.old self.old) (state table.new self.new) (T.view theory.new))) }
     {
         what_is_marked_was_seen();
         reasons_stay_right();

@@ -6,7 +6,7 @@ ghost use Rattle.proof_log.specs.Logs.{IsLogOf};
 ghost use Rattle.proof_log.specs.Clashes.{IsClash};
 ghost use Rattle.conflict_learn.specs.Conflicts.{IsOfZero, IsAboveZero};
 ghost use Rattle.solve_core.specs.Search.{IsReady, conflict_of};
-ghost use Rattle.solve_core.specs.Rounds.{IsNoted, IsStep, IsRefuted, HasLearned, Shows};
+ghost use Rattle.solve_core.specs.Rounds.{KeepsLimits, IsNoted, IsStep, IsRefuted, HasLearned, Shows};
 ghost use Rattle.solve_core.specs.Asking.{IsAsked, state, Settles};
 ghost use Rattle.solve_core.specs.declared.cdcl.Answer.TheVariants.{Unsat, Unknown};
 ghost use Rattle.sat_budget.specs.declared.limits.Reason.TheVariants.{Conflicts};
@@ -50,7 +50,7 @@ impl Search {
         ensures declared { declared_in table.new ≡ declared_in table.old }
         ensures with { IfOk result (λ _. T.goes_with theory.new table.new) }
         ensures right { IfOk result (λ _. IsLogOf table.new self.new.log) }
-        ensures limit { IfOk result (λ _. self.new.budget.limit ≡ self.old.budget.limit) }
+        ensures limits { IfOk result (λ _. KeepsLimits self.old.budget self.new.budget) }
         ensures settles { IfOk result (Settles (state table.old self.old) (state table.new self.new) (T.view theory.new)) }
     {
         table.ids_are_unique();

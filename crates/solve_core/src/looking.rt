@@ -5,7 +5,7 @@ ghost use Rattle.term_core.specs.Tables.{declared_in, Extends};
 ghost use Rattle.sat_budget.specs.Budgets.{StopsBy, AreSpent};
 ghost use Rattle.proof_log.specs.Theories.{terms_watched, literals_held};
 ghost use Rattle.solve_core.specs.Search.{IsReady};
-ghost use Rattle.solve_core.specs.Asking.{IsAsked, state, Looks};
+ghost use Rattle.solve_core.specs.Asking.{IsAsked, HasStopped, OnStop, state, Looks};
 
 use crate::feeding::feed;
 use crate::search::Search;
@@ -37,6 +37,8 @@ impl Search {
             (T.agrees theory.new (terms_watched table.new (T.view theory.new)) (literals_held table.new (T.view theory.new)))) }
         ensures stops { IfErr result (StopsBy (T.strains theory.new (terms_watched table.new (T.view theory.new)))
             (AreSpent (T.needs_more theory.new (terms_watched table.new (T.view theory.new))) self.new.budget)) }
+        ensures stopped { IfErr result (OnStop (T.goes_with theory.new table.new
+            × HasStopped (state table.old self.old) (state table.new self.new) (T.view theory.new))) }
     {
         what_is_marked_was_seen();
         reasons_stay_right();

@@ -2,16 +2,20 @@
 
 ghost use Rattle.std.specs.Prelude.{◌≡◌, IfOk, OnErr};
 ghost use Rattle.spec_derivations.specs.Examples.{asserting};
-ghost use Rattle.spec_derivations.specs.Models.{AreInReach};
+ghost use Rattle.solve_core.specs.Reach.{AreAnswered};
 ghost use Rattle.term_core.specs.Tables.{declared_in, Extends, clause_at};
 ghost use Rattle.proof_log.specs.Logs.{AreFormulasIn};
-ghost use Rattle.solve_core.specs.Decisions.{IsJustified};
+ghost use Rattle.solve_core.specs.Decisions.{IsJustified, IsStrainedBy};
 
 use crate::begin::begin;
 use crate::cdcl::Answer;
+use crate::forms::first_overflow;
 use crate::search::Search;
+use clausify::ClauseStop;
 use proof_log::ProofLog;
-use sat_budget::{Budget, Limits};
+use proof_log::laws::empty_logs_are_right;
+use ratio128::Wide;
+use sat_budget::{Basis, Budget, Limits, Reason, Strain};
 use std::alloc::Global;
 use term_core::{TermId, TermTable};
 use world_io::NoMemory;
@@ -28,9 +32,9 @@ pub struct Outcome {
 }
 
 /// Decides whether some interpretation makes all of the terms true, or says why it was not found out. They must be formulas that the
-/// search reaches.
+/// search answers for: no function with parameters takes or gives numbers, and products and quotients are linear.
 ///
-/// The table grows by the terms of the clauses that define them, and stays as it was where memory runs out, the one failure.
+/// The forms of their arithmetic atoms are taken first, in ascending order of the atoms' numbers. The table grows by the terms of the clauses that define them, and stays as it was where memory runs out, the one failure.
 pub fn decide(
     alloc: Global,
     table: &mut TermTable,
@@ -38,10 +42,10 @@ pub fn decide(
     limits: &Limits,
 ) -> Result<Outcome, NoMemory>
     requires roots { AreFormulasIn table.old roots.now }
-    requires reach { AreInReach (clause_at table.old roots.now) }
+    requires answered { AreAnswered (clause_at table.old roots.now) }
     ensures grown { Extends table.old table.new }
     ensures declared { declared_in table.new ≡ declared_in table.old }
-    ensures decided { IfOk result (IsJustified table.new (asserting (clause_at table.old roots.now)) limits.now.conflicts) }
+    ensures decided { IfOk result (IsJustified table.new (asserting (clause_at table.old roots.now)) limits.now) }
     ensures same { OnErr result (table.new ≡ table.old) }
 {
     let len = table.len();
@@ -54,6 +58,22 @@ pub fn decide(
     }
 }
 
+/// The outcome where an operation leaves 128 bits before a search begins: with no basis, no log, and nothing spent.
+fn strained(alloc: Global, wide: Wide, limits: &Limits) -> Result<Outcome, NoMemory>
+    ensures { IfOk result (IsStrainedBy limits.now wide) }
+{
+    let basis = Basis {
+        variables: Vec::new(alloc),
+        values: Vec::new(alloc),
+    };
+    let budget = Budget::new(alloc, limits)?;
+    Ok(Outcome {
+        answer: Answer::Unknown(Reason::Overflow(Strain { wide, basis })),
+        log: ProofLog::new(alloc),
+        budget,
+    })
+}
+
 /// Decides it; where memory runs out, the terms that it has put stay.
 fn decided(
     alloc: Global,
@@ -62,12 +82,20 @@ fn decided(
     limits: &Limits,
 ) -> Result<Outcome, NoMemory>
     requires roots { AreFormulasIn table.old roots.now }
-    requires reach { AreInReach (clause_at table.old roots.now) }
+    requires answered { AreAnswered (clause_at table.old roots.now) }
     ensures grown { Extends table.old table.new }
     ensures declared { declared_in table.new ≡ declared_in table.old }
-    ensures decided { IfOk result (IsJustified table.new (asserting (clause_at table.old roots.now)) limits.now.conflicts) }
+    ensures decided { IfOk result (IsJustified table.new (asserting (clause_at table.old roots.now)) limits.now) }
 {
-    let mut search = begin(alloc, table, roots, limits)?;
+    empty_logs_are_right();
+    if let Some(wide) = first_overflow(alloc, table, roots)? {
+        return strained(alloc, wide, limits);
+    }
+    let mut search = match begin(alloc, table, roots, limits) {
+        Ok(search) => search,
+        Err(ClauseStop::Wide(wide)) => return strained(alloc, wide, limits),
+        Err(ClauseStop::Memory) => return Err(NoMemory),
+    };
     let answer = search.answer(table)?;
     let Search { log, budget, .. } = search;
     Ok(Outcome {

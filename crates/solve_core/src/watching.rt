@@ -5,7 +5,7 @@ ghost use Rattle.spec_sorts.specs.Terms.{True, False, of};
 ghost use Rattle.term_core.specs.Tables.{declared_in, Extends, IsIn, clause_at, term_at};
 ghost use Rattle.sat_budget.specs.Budgets.{StopsBy};
 ghost use Rattle.proof_log.specs.Theories.{IsTermIn};
-ghost use Rattle.clausify.specs.SearchTerms.{no_id};
+ghost use Rattle.term_clauses.specs.SpokenTerms.{no_id};
 
 use congruence::Truths;
 use proof_log::Theory;
@@ -33,7 +33,7 @@ pub(crate) fn truth_values(alloc: Global, table: &mut TermTable) -> Result<Truth
 
 /// Lets a theory that watches nothing watch these terms.
 ///
-/// After a stop, which is out of memory or the theory's at one of them, it watches those before.
+/// After a stop, which is out of memory or the theory's at one of them, it watches those before this one.
 pub(crate) fn watch_all<T: Theory>(
     theory: &mut T,
     table: &TermTable,
@@ -50,6 +50,7 @@ pub(crate) fn watch_all<T: Theory>(
       marks = (T.view theory.old).marks;
     }) }
     ensures stops { IfErr result (λ stop. (k : ℕ) × (k < length terms.now)
+        × ((T.view theory.new).watched ≡ take k terms.now)
         × StopsBy (T.strains theory.new (clause_at table.now (take (k + 1) terms.now))) (λ _. ⊥) stop) }
 {
     'terms: for id in terms.iter() {

@@ -44,12 +44,12 @@ returns-clause-begins c =
         decided = decided_first atoms store.clauses trail begun.same;
         atoms_are = record {
           there = made.terms.there;
-          closed = closed t u c.ids_are_unique.ensures c.args.roots.now c.requires.roots c.requires.reach log c.new-log.result c.new-log.ensures steps made.grown made.clauses made.made store stored terms atoms made.terms chosen;
+          closed = closed t u c.ids_are_unique.ensures c.args.roots.now c.requires.roots c.requires.answered log c.new-log.result c.new-log.ensures steps made.grown made.clauses made.made store stored terms atoms made.terms chosen;
           rising = made.terms.rising;
           chosen = chosen;
         };
         variables = λ k d lt. let there = (made.terms.there k d lt).0 in omega (arith, there, begun.vars);
-        covered = covered t u c.ids_are_unique.ensures c.args.roots.now c.requires.roots c.requires.reach log c.new-log.result c.new-log.ensures steps made.grown made.clauses made.made store stored terms atoms made.terms chosen;
+        covered = covered t u c.ids_are_unique.ensures c.args.roots.now c.requires.roots c.requires.answered log c.new-log.result c.new-log.ensures steps made.grown made.clauses made.made store stored terms atoms made.terms chosen;
         waiting = subst (λ (ls : List Lit). AreWaiting atoms ls c.in_ok-decider.decider) (sym begun.same.literals) waits;
         sized = c.in_ok-decider.ensures.1 ∙ c.vars.ensures;
         learned = subst (AreAllOf u) (sym none) (All-nil (AreOf u));
@@ -57,6 +57,6 @@ returns-clause-begins c =
       empty = begun.same.literals;
       level = begun.same.level;
       fed = refl;
-      search = search_begins t u c.ids_are_unique.ensures c.args.roots.now c.requires.roots c.requires.reach log c.new-log.result c.new-log.ensures steps made.grown made.clauses made.made store stored terms atoms made.terms chosen x refl refl refl none;
-      limit_is = ap (λ b. b.limit) c.in_ok-budget.ensures;
+      search = search_begins t u c.ids_are_unique.ensures c.args.roots.now c.requires.roots c.requires.answered log c.new-log.result c.new-log.ensures steps made.grown made.clauses made.made store stored terms atoms made.terms chosen x refl refl refl none;
+      limits_are = (ap (λ b. b.limit) c.in_ok-budget.ensures, ap (λ b. b.pivots) c.in_ok-budget.ensures);
     }

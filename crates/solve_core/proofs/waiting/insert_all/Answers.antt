@@ -2,7 +2,7 @@
 use Rattle.std.proofs.Common.{◌<◌, ◌∙◌, ◌+◌, [], length, get_or, take, List, Bool, refl, subst, sym, ap, arith}
 use Rattle.std.proofs.lemmas.List.{length-set}
 use Rattle.term_core.specs.declared.ids.TermId.{TermId}
-use Rattle.clausify.specs.SearchTerms.{no_id}
+use Rattle.term_clauses.specs.SpokenTerms.{no_id}
 use Rattle.solve_core.specs.Waiting.{AreWaiting}
 use Rattle.solve_core.proofs.SearchWaiting.{waiting_none, waiting_more}
 use Rattle.solve_core.proofs.waiting.insert_all.Goals as goal

@@ -1,81 +1,17 @@
--- From the beginning to an answer.
-use Rattle.std.proofs.Common.{List, All, sym, subst}
+-- Which theories a search is asked with.
+use Rattle.std.proofs.Common.{◌≢◌, List, All, Contains, sym, subst}
+use Rattle.spec_sorts.specs.Terms.{Number, Term, sort_of}
 use Rattle.term_core.specs.declared.ids.TermId.{TermId}
-use Rattle.term_core.proofs.TermsExtend.{Extends-trans}
-use Rattle.clausify.specs.SearchTerms.{AreRising}
+use Rattle.term_core.specs.Tables.{clause_at}
 use Rattle.proof_log.specs.Theories.{IsTermIn}
-use Rattle.solve_core.specs.declared.cdcl.Answer.TheVariants.{Sat, Unsat, Unknown}
-use Rattle.solve_core.proofs.SearchGrown.{atoms_kept, ready_wider, continues_wider}
-use Rattle.solve_core.proofs.SearchRounds.{continues_on, shows_on}
+use Rattle.solve_core.specs.Stops.{HasNumber}
 use Rattle.solve_core.proofs.search.Search.answer.Goals as goal
 
-pub watch_all-requires-clause-terms : goal.watch_all-requires-clause-terms
-watch_all-requires-clause-terms c =
-    let t = c.args.table.now in
-    let u = c.truth_values.new.table in
-    let x = c.args.self.now in
-    let e = c.truth_values.ensures in
-    subst (λ (ids : List TermId). All (IsTermIn u) ids) (sym c.deref.ensures.value) (atoms_kept t u e.grown e.declared x.terms.items x.atoms.items c.requires.begins.2.ready.atoms_are).there
+pub have_numbers-requires : goal.have_numbers-requires
+have_numbers-requires c = subst (λ (ids : List TermId). All (IsTermIn c.args.table.now) ids) (sym c.deref.ensures.value) c.requires.begins.2.ready.atoms_are.there
 
-pub watch_all-requires-clause-rising : goal.watch_all-requires-clause-rising
-watch_all-requires-clause-rising c = subst AreRising (sym c.deref.ensures.value) c.requires.begins.2.ready.atoms_are.rising
+pub answer_numbers-requires-clause-numbers : goal.answer_numbers-requires-clause-numbers
+answer_numbers-requires-clause-numbers c = subst (λ (ids : List TermId). HasNumber (clause_at c.args.table.now ids)) c.deref.ensures.value (rw c.if-have_numbers.true at c.have_numbers.ensures)
 
-pub run-requires-clause-ready : goal.run-requires-clause-ready
-run-requires-clause-ready c =
-    let t = c.args.table.now in
-    let u = c.truth_values.new.table in
-    let x = c.args.self.now in
-    let e = c.truth_values.ensures in
-    let r = c.requires.begins.2.ready in
-    ready_wider t u e.grown e.declared x (c.logs_stand_in_grown_tables.ensures.right t u x.log r.right e.grown) (c.logs_stand_in_grown_tables.ensures.same t u x.log r.right e.grown) r
-
-pub returns-in_default-run-clause-grown : goal.returns-in_default-run-clause-grown
-returns-in_default-run-clause-grown c = Extends-trans c.args.table.now c.truth_values.new.table c.run.new.table c.truth_values.ensures.grown c.run.ensures.grown
-
-pub returns-in_err-model-in-Rests-clause-grown : goal.returns-in_err-model-in-Rests-clause-grown
-returns-in_err-model-in-Rests-clause-grown c = Extends-trans c.args.table.now c.truth_values.new.table c.run.new.table c.truth_values.ensures.grown c.run.ensures.grown
-
-pub returns-in-Rests-clause-grown : goal.returns-in-Rests-clause-grown
-returns-in-Rests-clause-grown c = Extends-trans c.args.table.now c.truth_values.new.table c.run.new.table c.truth_values.ensures.grown c.run.ensures.grown
-
-pub returns-in-Refuted-clause-grown : goal.returns-in-Refuted-clause-grown
-returns-in-Refuted-clause-grown c = Extends-trans c.args.table.now c.truth_values.new.table c.run.new.table c.truth_values.ensures.grown c.run.ensures.grown
-
-pub returns-clause-grown : goal.returns-clause-grown
-returns-clause-grown c = Extends-trans c.args.table.now c.truth_values.new.table c.run.new.table c.truth_values.ensures.grown c.run.ensures.grown
-
-pub returns-in-Rests-clause-shows : goal.returns-in-Rests-clause-shows
-returns-in-Rests-clause-shows c =
-    let t = c.args.table.now in
-    let u = c.truth_values.new.table in
-    let w = c.run.new.table in
-    let x = c.args.self.now in
-    let y = c.run.new.self in
-    let e = c.truth_values.ensures in
-    let r = c.requires.begins.2.ready in
-    let laws = c.logs_stand_in_grown_tables.ensures in
-    let wider = continues_wider t u e.grown e.declared x (laws.right t u x.log r.right e.grown) (laws.same t u x.log r.right e.grown) r in
-    let ends = rw c.in-Rests.is at (rw c.in-Ok-run.is at c.run.ensures.ends) in
-    shows_on t w w x y y (Sat c.in_ok-model-in-Rests.model) (continues_on t u w x x y wider ends.1) c.in_ok-model-in-Rests.ensures
-
-pub returns-in-Refuted-clause-shows : goal.returns-in-Refuted-clause-shows
-returns-in-Refuted-clause-shows c =
-    let t = c.args.table.now in
-    let u = c.truth_values.new.table in
-    let x = c.args.self.now in
-    let e = c.truth_values.ensures in
-    let r = c.requires.begins.2.ready in
-    let laws = c.logs_stand_in_grown_tables.ensures in
-    let wider = continues_wider t u e.grown e.declared x (laws.right t u x.log r.right e.grown) (laws.same t u x.log r.right e.grown) r in
-    shows_on t u c.run.new.table x x c.run.new.self (Unsat c.in-Refuted.step) wider (rw c.in-Refuted.is at (rw c.in-Ok-run.is at c.run.ensures.ends))
-
-pub returns-clause-shows : goal.returns-clause-shows
-returns-clause-shows c =
-    let t = c.args.table.now in
-    let u = c.truth_values.new.table in
-    let x = c.args.self.now in
-    let e = c.truth_values.ensures in
-    let r = c.requires.begins.2.ready in
-    let laws = c.logs_stand_in_grown_tables.ensures in
-    let wider = continues_wider t u e.grown e.declared x (laws.right t u x.log r.right e.grown) (laws.same t u x.log r.right e.grown) r in
-    shows_on t u c.run.new.table x x c.run.new.self (Unknown c.in-Stopped.reason) wider (rw c.in-Stopped.is at (rw c.in-Ok-run.is at c.run.ensures.ends))
+pub answer_classes-requires-clause-plain : goal.answer_classes-requires-clause-plain
+answer_classes-requires-clause-plain c = subst (λ (ids : List TermId). (u : Term) → Contains (clause_at c.args.table.now ids) u → sort_of u ≢ Number) c.deref.ensures.value (rw c.if-have_numbers.false at c.have_numbers.ensures)

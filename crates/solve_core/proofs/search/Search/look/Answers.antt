@@ -11,8 +11,10 @@ use Rattle.sat_budget.specs.Budgets.{StopsBy, AreSpent}
 use Rattle.proof_log.specs.Theories.{TheoryView, Derived, IsOver, terms_watched, literals_held, Checks}
 use Rattle.solve_core.proofs.SearchReasons.{clash_is}
 use Rattle.solve_core.proofs.SearchTheories.{fed}
-use Rattle.solve_core.proofs.SearchSpends.{handed_on}
-use Rattle.solve_core.proofs.SearchLooks.{looked_after, fed_within, front_held, watches_held, is_over, looks}
+use Rattle.solve_core.specs.Asking.{HasStopped, OnStop, state}
+use Rattle.solve_core.proofs.SearchRounds.{propagated}
+use Rattle.solve_core.proofs.SearchSpends.{handed_on, on_stop}
+use Rattle.solve_core.proofs.SearchLooks.{looked_after, fed_within, front_held, watches_held, is_over, stopped_checked, looks}
 use Rattle.solve_core.proofs.search.Search.look.Goals as goal
 
 pub returns-in_err-step-clause-grown : goal.returns-in_err-step-clause-grown
@@ -100,3 +102,26 @@ returns-in_err-verdict-clause-stops g c =
     handed_on (shown c.check.new.table (g.T.Theory.view c.check.new.self)) c.from_residual-in_err-verdict.result stop c.from_residual-in_err-verdict.ensures.1
     (subst (λ (v : TheoryView). shown c.check.new.table v stop) (sym c.check.ensures.same)
     (subst (λ (u : TableView). shown u (g.T.Theory.view c.feed.new.theory) stop) (sym (ap (λ (d : Derived). d.table) c.in_err-verdict.ensures.checks)) c.in_err-verdict.ensures.stops))
+
+pub returns-in_err-verdict-clause-stopped : goal.returns-in_err-verdict-clause-stopped
+returns-in_err-verdict-clause-stopped g c =
+    let t = c.args.table.now in
+    let x = c.args.self.now in
+    let v = g.T.Theory.view c.args.theory.now in
+    let p = c.propagate.ensures in
+    let s = c.propagate.new.self in
+    let w = c.propagate.new.trail in
+    let b = c.check.new.budget in
+    let n = c.len-self.result in
+    let u = c.check.new.table in
+    let log = c.check.new.log in
+    let v2 = g.T.Theory.view c.check.new.self in
+    let implied = c.reasons_stay_right.ensures.propagated x.store x.trail w c.requires.ready.implied p.adds in
+    let there : HasStopped (state t x) (state t (record (propagated x s w x.decider) { log = x.log; fed = n; budget = b })) (fed v w.literals) =
+    stopped_checked t x c.requires.ready v c.requires.asked c.is_sound.ensures.leveled.levels_paired s w p.same p.seen implied p.adds b c.check.ensures.budget n in
+    let moved : HasStopped (state t x) (state u (record (propagated x s w x.decider) { log = log; fed = n; budget = b })) v2 =
+    subst (HasStopped (state t x) (state u (record (propagated x s w x.decider) { log = log; fed = n; budget = b }))) (sym (c.check.ensures.same ∙ c.feed.ensures.holds))
+    (subst (λ (d : Derived). HasStopped (state t x) (state d.table (record (propagated x s w x.decider) { log = d.log; fed = n; budget = b })) (fed v w.literals)) (sym c.in_err-verdict.ensures.checks) there) in
+    let P : Type 0 = g.T.Theory.goes_with c.check.new.self u × HasStopped (state t x) (state u (record (propagated x s w x.decider) { log = log; fed = n; budget = b })) v2 in
+    let stop = c.in_err-verdict.field-0.0 in
+    handed_on (OnStop P) c.from_residual-in_err-verdict.result stop c.from_residual-in_err-verdict.ensures.1 (on_stop P (c.check.ensures.with, moved) stop)

@@ -1,25 +1,26 @@
 -- That the tables are those of a model.
-use Rattle.std.proofs.Common.{◌<◌, ℕ, List, get_or, map, All, refl, sym, subst}
+use Rattle.std.proofs.Common.{◌≡◌, ◌<◌, ℕ, List, length, get_or, map, All, sym, ap, ◌∙◌, subst}
+use Rattle.std.proofs.lemmas.List.{length-map}
 use Rattle.std.proofs.lemmas.Result.{IfOk-weaker}
 use Rattle.std.proofs.lemmas.List.Elements.{Contains-get_or}
-use Rattle.spec_numbers.specs.Fractions.{Fraction, zero_fraction}
-use Rattle.spec_sorts.specs.Terms.{Term}
+use Rattle.spec_numbers.specs.Fractions.{Fraction}
+use Rattle.spec_simplex.specs.Numbers.{HoldsAt}
+use Rattle.ratio128.specs.Meant.{fraction}
 use Rattle.spec_sorts.specs.Literals.{Literal}
 use Rattle.spec_sorts.specs.Subsets.{IsClosed}
-use Rattle.spec_valuations.specs.Classes.{class_in}
 use Rattle.term_core.specs.declared.ids.TermId.{TermId}
 use Rattle.term_core.specs.Symbols.{SymbolsView, AreDeclared}
-use Rattle.term_core.specs.Tables.{clause_at, literal_at}
-use Rattle.clausify.specs.SearchTerms.{AreRising}
+use Rattle.term_core.specs.Tables.{term_at, clause_at, literal_at}
+use Rattle.term_clauses.specs.SpokenTerms.{AreRising}
 use Rattle.proof_log.specs.Theories.{IsTermIn}
 use Rattle.congruence_closure.specs.Closure.{TellClasses}
 use Rattle.congruence.specs.Views.{theory_of, AreEqualBy}
-use Rattle.search_model.specs.Models.{truths_of, IsModelOf}
+use Rattle.search_model.specs.Models.{IsModelOf}
 use Rattle.solve_core.specs.declared.cdcl.Answer.TheVariants.{Sat}
 use Rattle.solve_core.specs.Rounds.{Shows}
 use Rattle.solve_core.proofs.SearchReady.{held_in}
 use Rattle.solve_core.proofs.SearchShows.{learning_shows}
-use Rattle.solve_core.proofs.SearchModelled.{rests, nothing_assumed, has_model}
+use Rattle.solve_core.proofs.SearchModelled.{given, apart, rests, nothing_assumed, has_model}
 use Rattle.solve_core.proofs.search.Search.model.Goals as goal
 
 pub model_of-requires-clause-rising : goal.model_of-requires-clause-rising
@@ -36,29 +37,48 @@ model_of-requires-clause-literals c = λ k d lt.
     let ls = c.args.self.now.trail.literals in
     held_in c.args.table.now c.args.self.now c.requires.rested.ready (get_or ls k d) (Contains-get_or ls k d lt)
 
+-- there is a number for each term
+pub model_of-requires-clause-numbers : goal.model_of-requires-clause-numbers
+model_of-requires-clause-numbers c =
+    let t = c.args.table.now in
+    let k = c.requires.numbers in
+    let ids = c.args.self.now.terms.items in
+    let are : length c.args.numbers.now ≡ length ids = sym (length-map c.args.numbers.now fraction) ∙ ap length k.are ∙ length-map (clause_at t ids) k.number ∙ length-map ids (term_at t) in
+    are ∙ sym (ap length c.deref-2.ensures.value)
+
 pub returns : goal.returns
 returns c =
     let t = c.args.table.now in
     let x = c.args.self.now in
     let h = c.requires.rested in
-    let v = theory_of c.args.theory.now in
+    let k = c.requires.numbers in
+    let v = theory_of c.args.congruence.now in
     let ids = x.terms.items in
     let ns = c.in_ok-classes.classes.items in
     let terms = clause_at t ids in
-    let held : List Literal = map (literal_at t) x.trail.literals in
-    let truths = truths_of t x.trail.literals in
+    let ls = x.trail.literals in
+    let held : List Literal = map (literal_at t) ls in
+    let kept : All (HoldsAt k.number) held = subst (All (HoldsAt k.number)) (ap (map (literal_at t)) h.held) k.hold in
     let declared = subst (λ (d : SymbolsView). AreDeclared d.sorts d.symbols) c.symbols.ensures c.are_declared.ensures in
+    let differ = c.ids_are_unique.ensures in
+    let consistent = c.is_sound.ensures.consistent in
     let tell : TellClasses (AreEqualBy t v) ids ns = subst (λ (is : List TermId). TellClasses (AreEqualBy t v) is ns) c.deref.ensures.value
-    (c.in_ok-classes.ensures.exact t c.ids_are_unique.ensures declared c.requires.with (λ k d lt. (subst (λ (is : List TermId). All (IsTermIn t) is) (sym c.deref.ensures.value) h.ready.atoms_are.there k d lt).0) h.agrees.1) in
-    IfOk-weaker c.model_of.result (IsModelOf t x.trail.literals c.deref-2.result.now c.deref-3.result.now) (λ interp. Shows t t x x (Sat interp)) (λ interp m problem s.
-    let good : IsModelOf t x.trail.literals ids ns interp = subst (λ (is : List TermId). IsModelOf t x.trail.literals is ns interp) c.deref-2.ensures.value (subst (λ (ks : List ℕ). IsModelOf t x.trail.literals c.deref-2.result.now ks interp) c.deref-3.ensures.value m) in
-    let resting = rests t c.ids_are_unique.ensures x v _ h c.is_sound.ensures.consistent h.agrees.0 ns tell problem s c.listed_terms_have_their_places_class.ensures c.terms_in_reach_have_no_numbers.ensures in
-    let assumed = nothing_assumed t c.ids_are_unique.ensures x v _ h c.is_sound.ensures.consistent h.agrees.0 ns tell problem s in
-    let point : Term → Fraction = λ u. zero_fraction in (
-      has_model t c.ids_are_unique.ensures x v _ h c.is_sound.ensures.consistent h.agrees.0 ns tell problem s c.listed_terms_have_their_places_class.ensures c.terms_in_reach_have_no_numbers.ensures interp good
-          (c.made_models_stand.ensures.stands t x.trail.literals ids ns interp declared.names_apart good)
-          (c.made_models_stand.ensures.models t x.trail.literals ids ns interp good)
-          (λ i by. c.resting_searches_have_models.ensures.interprets t.symbols problem terms held truths (class_in terms ns) point i resting by)
-          (λ i by. c.resting_searches_have_models.ensures.all t.symbols problem terms held truths (class_in terms ns) point i resting by assumed),
-      learning_shows t problem x (Sat interp) refl h.ready.right s,
+    (c.in_ok-classes.ensures.exact t differ declared c.requires.with (λ n d lt. (subst (λ (is : List TermId). All (IsTermIn t) is) (sym c.deref.ensures.value) h.ready.atoms_are.there n d lt).0) h.agrees.1) in
+    IfOk-weaker c.model_of.result (IsModelOf t ls c.deref-2.result.now c.deref-3.result.now (map fraction c.args.numbers.now)) (λ interp. Shows t t x x (Sat interp)) (λ interp m problem s.
+    let one : IsModelOf t ls ids c.deref-3.result.now (map fraction c.args.numbers.now) interp = subst (λ (is : List TermId). IsModelOf t ls is c.deref-3.result.now (map fraction c.args.numbers.now) interp) c.deref-2.ensures.value m in
+    let two : IsModelOf t ls ids ns (map fraction c.args.numbers.now) interp = subst (λ (ks : List ℕ). IsModelOf t ls ids ks (map fraction c.args.numbers.now) interp) c.deref-3.ensures.value one in
+    let good : IsModelOf t ls ids ns (map k.number terms) interp = subst (λ (qs : List Fraction). IsModelOf t ls ids ns qs interp) k.are two in
+    let place = c.listed_terms_have_their_places_class.ensures in
+    let far = c.functions_in_reach_keep_numbers_apart.ensures in
+    let linear = c.terms_of_linear_checks_are_linear.ensures in
+    let g = given t differ x v _ h consistent h.agrees.0 ns tell problem s place far linear k.number k.reduced kept in
+    let resting = rests t differ x v _ h consistent h.agrees.0 ns tell problem s place far linear k.number k.reduced kept in
+    let functions = apart t differ x v _ h consistent h.agrees.0 ns tell problem s place far linear k.number k.reduced kept in
+    let assumed = nothing_assumed t differ x v _ h consistent h.agrees.0 ns tell problem s in (
+      has_model t differ x v _ h consistent h.agrees.0 ns tell problem s place far linear k.number k.reduced kept interp good
+          (c.made_models_stand.ensures.stands t ls ids ns (map k.number terms) interp declared.names_apart good)
+          (c.made_models_are_those_of_numbers.ensures t ls ids ns k.number interp functions good)
+          (λ i by. c.searches_that_rest_on_numbers_have_models.ensures.interprets t.symbols problem terms held g i resting by)
+          (λ i by. c.searches_that_rest_on_numbers_have_models.ensures.all t.symbols problem terms held g i resting by assumed),
+      learning_shows t problem x (Sat interp) (λ steps. steps) h.ready.right s,
     )) c.model_of.ensures

@@ -2,9 +2,12 @@
 use Rattle.std.proofs.Common.{◌≡◌, ◌<◌, ◌-◌, ◌∙◌, ◌∷◌, [], length, ap, ◌+◌, refl, sym, subst, arith}
 use Rattle.std.specs.Prelude.{None}
 use Rattle.std.proofs.lemmas.List.{length-append}
-use Rattle.sat_budget.specs.Budgets.{BudgetView}
-use Rattle.proof_log.specs.Theories.{TheoryView}
-use Rattle.solve_core.specs.Asking.{KeepsUp}
+use Rattle.sat_budget.specs.declared.limits.Strain.{Strain}
+use Rattle.sat_budget.specs.Budgets.{BudgetView, StopsBy, AreSpent}
+use Rattle.proof_log.specs.Theories.{TheoryView, terms_watched}
+use Rattle.solve_core.specs.Asking.{KeepsUp, HasStopped, OnStop, state}
+use Rattle.solve_core.proofs.SearchSpends.{handed_on, on_stop_weaker}
+use Rattle.solve_core.proofs.SearchLooks.{stopped_on}
 use Rattle.solve_core.proofs.SearchReady.{ready_waiting, ready_decided}
 use Rattle.term_core.proofs.TermsExtend.{Extends-trans}
 use Rattle.solve_core.proofs.SearchRounds.{continues_same, continues_on, ends_on, less_learned, less_assigned}
@@ -119,4 +122,28 @@ rounds-smaller g c =
     let size : z.trail.vars ≡ x.trail.vars = l.continues.vars ∙ looks.0.continues.vars in
     let b = looks.0.budget.1 in
     less_learned x.budget.limit z.budget.limit x.trail.vars z.trail.vars (length x.budget.learned) (length z.budget.learned) (x.trail.vars - length x.trail.literals) (z.trail.vars - length z.trail.literals)
-    (l.continues.limit ∙ looks.0.continues.limit) size (subst (λ (y : BudgetView). length y.learned < y.limit) b settles.2) (l.learned ∙ ap (λ (y : BudgetView). length y.learned + 1) b) (omega (arith, size))
+    (l.continues.limits.0 ∙ looks.0.continues.limits.0) size (subst (λ (y : BudgetView). length y.learned < y.limit) b settles.2) (l.learned ∙ ap (λ (y : BudgetView). length y.learned + 1) b) (omega (arith, size))
+
+pub returns-in_err-look-clause-grown : goal.returns-in_err-look-clause-grown
+returns-in_err-look-clause-grown g c = Extends-trans c.args.table.now c.rounds.table c.look.new.table c.rounds.invariant.continues.table c.look.ensures.grown
+
+pub returns-in_err-look-clause-stops : goal.returns-in_err-look-clause-stops
+returns-in_err-look-clause-stops g c =
+    let watched = terms_watched c.look.new.table (g.T.Theory.view c.look.new.theory) in
+    let strains : Strain → Type 0 = g.T.Theory.strains c.look.new.theory watched in
+    let needs_more : Type 0 = g.T.Theory.needs_more c.look.new.theory watched in
+    handed_on (StopsBy strains (AreSpent needs_more c.look.new.self.budget)) c.from_residual.result c.in_err-look.field-0.0 c.from_residual.ensures.1 c.in_err-look.ensures.stops
+
+pub returns-in_err-look-clause-stopped : goal.returns-in_err-look-clause-stopped
+returns-in_err-look-clause-stopped g c =
+    let t = c.args.table.now in
+    let u = c.rounds.table in
+    let w = c.look.new.table in
+    let x = c.args.self.now in
+    let y = c.rounds.self in
+    let z = c.look.new.self in
+    let v = g.T.Theory.view c.look.new.theory in
+    let with : Type 0 = g.T.Theory.goes_with c.look.new.theory w in
+    let stop = c.in_err-look.field-0.0 in
+    handed_on (OnStop (with × HasStopped (state t x) (state w z) v)) c.from_residual.result stop c.from_residual.ensures.1
+    (on_stop_weaker (with × HasStopped (state u y) (state w z) v) (with × HasStopped (state t x) (state w z) v) (λ h. (h.0, stopped_on t u w x y z v c.rounds.invariant.continues h.1)) stop c.in_err-look.ensures.stopped)

@@ -1,0 +1,66 @@
+-- What comes of the forms of marked terms.
+use Rattle.std.proofs.Common.{◌≡◌, ℕ, ◌+◌, ◌<◌, ◌++◌, Bool, List, [], get_or, Contains, inl, inr, sym, ap, ◌∙◌, subst, arith}
+use Rattle.std.specs.Prelude.{Option, Some, None, Ok, Err}
+use Rattle.std.proofs.lemmas.Bool.{cases_eq}
+use Rattle.std.proofs.lemmas.List.{append-nil}
+use Rattle.spec_sorts.specs.Terms.{Term, no_term}
+use Rattle.spec_sorts.specs.Subterms.{subterms_of}
+use Rattle.spec_arithmetic.specs.Forms.{Form, Fault}
+use Rattle.spec_simplex.specs.Constraints.{Constraint, constraint_of, form_of, HasForm}
+use Rattle.spec_derivations.specs.Examples.{asserting}
+use Rattle.spec_derivations.specs.Problems.{subterms_in}
+use Rattle.ratio128.specs.declared.wide.Wide.{Wide}
+use Rattle.ratio128.specs.Meant.{overflow}
+use Rattle.term_core.specs.declared.ids.TermId.{TermId}
+use Rattle.term_core.specs.Tables.{TableView, clause_at, term_at, positive_literal}
+use Rattle.term_clauses.specs.Marks.{IsMarked, marked, AreMarksOf}
+use Rattle.term_clauses.proofs.Marked.{marked_below, in_marked, from_marked}
+use Rattle.solve_core.specs.Stops.{IsFormOverflow}
+use Rattle.solve_core.specs.Forms.{FailsBy}
+
+-- a term that says nothing of linear arithmetic has a form, as far as it needs one
+pub says_nothing : (u : Term) → (let o : Option Constraint = None in o) ≡ constraint_of (positive_literal u) → HasForm (positive_literal u)
+says_nothing u e c is = absurd (none (e ∙ is))
+  where
+    none : (let o : Option Constraint = None in o) ≡ Some c → ⊥
+    none f = cc
+
+-- one whose constraint has a form has one
+pub has_form : (u : Term) (own : Constraint) (f : Form) → Some own ≡ constraint_of (positive_literal u) → form_of own ≡ Ok f → HasForm (positive_literal u)
+has_form u own f e is c says =
+    let same : own ≡ c = inside (e ∙ says) in
+    (f, subst (λ (d : Constraint). form_of d ≡ Ok f) same is)
+  where
+    inside : {x y : Constraint} → Some x ≡ Some y → x ≡ y
+    inside g = cc
+
+-- what has a form up to a mark has one up to the next, if the term of that mark has one
+pub up_to : (t : TableView) (marks : List Bool) (n : ℕ) → ((k : ℕ) → k < n → IsMarked marks k → HasForm (positive_literal (get_or t.terms k no_term)))
+    → (IsMarked marks n → HasForm (positive_literal (get_or t.terms n no_term))) → (k : ℕ) → k < n + 1 → IsMarked marks k → HasForm (positive_literal (get_or t.terms k no_term))
+up_to t marks n before this k lt m = elim (cases_eq k n) [
+  | inl e ↦ subst (λ (j : ℕ). HasForm (positive_literal (get_or t.terms j no_term))) (sym e) (this (subst (IsMarked marks) e m))
+  | inr other ↦ before k (omega (arith, lt, other)) m
+]
+
+module _ (t : TableView) (roots : List TermId) (marks : List Bool) (are : AreMarksOf t roots marks) where
+  -- the subterms of the problem are those of the terms
+  whole : clause_at t roots ++ [] ≡ clause_at t roots
+  whole = append-nil (clause_at t roots)
+
+  -- each subterm has a form, where each marked term has
+  pub each_has_form : ((k : ℕ) → IsMarked marks k → HasForm (positive_literal (get_or t.terms k no_term))) → (u : Term) → Contains (subterms_in (asserting (clause_at t roots))) u → HasForm (positive_literal u)
+  each_has_form have u i =
+      let n = from_marked marks t.terms u (are.each u (subst (λ (ts : List Term). Contains (subterms_of ts) u) whole i)) in
+      subst (λ (w : Term). HasForm (positive_literal w)) n.2 (have n.0 n.1)
+
+  -- and where the form of a marked term fails, that of a subterm does
+  pub overflow_found : (k : ℕ) → IsMarked marks k → (w : Wide) → FailsBy (get_or t.terms k no_term) w → IsFormOverflow (asserting (clause_at t roots)) (overflow w)
+  overflow_found k m w h = record {
+    atom = get_or t.terms k no_term;
+    there = subst (λ (ts : List Term). Contains (subterms_of ts) (get_or t.terms k no_term)) (sym whole) (are.only (get_or t.terms k no_term) (in_marked marks t.terms are.short k m));
+    constraint = h.constraint;
+    says = h.says;
+    fault = h.fault;
+    fails = h.fails;
+    is = h.is;
+  }

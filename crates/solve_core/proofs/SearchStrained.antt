@@ -1,0 +1,53 @@
+-- That an operation which leaves the bound before a search begins justifies that nothing was found out.
+use Rattle.std.proofs.Common.{◌≡◌, ◌⊎◌, inl, inr, List, [], refl, sym, ap, subst}
+use Rattle.std.proofs.lemmas.List.Elements.{All-nil}
+use Rattle.spec_derivations.specs.Problems.{Problem, terms_of_problem}
+use Rattle.spec_derivations.specs.Derivations.{AssumesAmong}
+use Rattle.spec_derivations.specs.Spent.{IsLearnedFrom, IsOverAtoms}
+use Rattle.ratio128.specs.declared.wide.Wide.{Wide}
+use Rattle.ratio128.specs.Meant.{overflow}
+use Rattle.term_core.specs.declared.ids.Lit.{Lit}
+use Rattle.term_core.specs.Tables.{TableView}
+use Rattle.sat_budget.specs.declared.limits.Limits.{Limits}
+use Rattle.sat_budget.specs.declared.limits.Strain.{Strain}
+use Rattle.sat_budget.specs.declared.limits.Reason.TheVariants.{Overflow}
+use Rattle.sat_budget.specs.Budgets.{BudgetView}
+use Rattle.proof_log.specs.Logs.{Logged, inference_of, derivation_in, IsLogOf}
+use Rattle.clausify.specs.Overflows.{IsOrderOverflow}
+use Rattle.solve_core.specs.declared.cdcl.Answer.{Answer}
+use Rattle.solve_core.specs.declared.cdcl.Answer.TheVariants.{Unknown}
+use Rattle.solve_core.specs.declared.outcome.Outcome.{Outcome}
+use Rattle.solve_core.specs.Stops.{IsFormOverflow, IsStrained, forming, ordering}
+use Rattle.solve_core.specs.Rounds.{HasEvidence, IsLearning}
+use Rattle.solve_core.specs.Decisions.{IsJustified, IsStrainedBy}
+
+module _ (t : TableView) (p : Problem) (limits : Limits) (empty : IsLogOf t []) where
+  -- nothing was logged or learned
+  nothing_learned : (s : Strain) → IsLearning t p [] (Unknown (Overflow s)) []
+  nothing_learned s = record {
+    assumes = All-nil (λ (l : Logged). AssumesAmong (terms_of_problem p) (inference_of t l));
+    learns = record {
+      right = empty.right;
+      derived = All-nil (IsLearnedFrom p (derivation_in t []));
+      atoms = All-nil (IsOverAtoms p);
+      new = tt;
+    };
+    logged = inr (refl, refl);
+  }
+
+  pub strained_justified : (w : Wide) (d : Outcome) → IsStrainedBy limits w d → IsFormOverflow p (overflow w) ⊎ IsOrderOverflow p.asserted (overflow w) → IsJustified t p limits d
+  strained_justified w d h cause =
+      let is = ap overflow h.is in
+      let shown : IsStrained t p h.strain = elim cause [
+        | inl f ↦ forming (subst (IsFormOverflow p) (sym is) f) h.basis
+        | inr o ↦ ordering (subst (IsOrderOverflow p.asserted) (sym is) o) h.basis
+      ] in
+      let none = ap (λ (b : BudgetView). b.learned) h.budget in
+      record {
+        log_right = subst (IsLogOf t) (sym h.log) empty;
+        limits_are = (ap (λ (b : BudgetView). b.limit) h.budget, ap (λ (b : BudgetView). b.pivots) h.budget);
+        evidence = subst (HasEvidence t p d.log d.budget) (sym h.answer) shown;
+        learning = subst (λ (a : Answer). IsLearning t p d.log a d.budget.learned) (sym h.answer)
+            (subst (λ (log : List Logged). IsLearning t p log (Unknown (Overflow h.strain)) d.budget.learned) (sym h.log)
+            (subst (IsLearning t p [] (Unknown (Overflow h.strain))) (sym none) (nothing_learned h.strain)));
+      }

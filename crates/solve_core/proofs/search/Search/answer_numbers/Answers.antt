@@ -1,0 +1,46 @@
+-- From the beginning to an answer, where some term is a number.
+use Rattle.std.proofs.Common.{refl}
+use Rattle.solve_core.specs.Asking.{IsAnswered, state}
+use Rattle.solve_core.proofs.SearchGrown.{continues_wider, begins_wider}
+use Rattle.solve_core.proofs.SearchNumbers.{number_later}
+use Rattle.solve_core.proofs.SearchStops.{answers_show, answered_on, stopped_on}
+use Rattle.solve_core.proofs.search.Search.answer_numbers.Goals as goal
+
+pub search_with-requires-clause-begins : goal.search_with-requires-clause-begins
+search_with-requires-clause-begins c =
+    let t = c.args.table.now in
+    let u = c.truth_values.new.table in
+    let x = c.args.self.now in
+    let e = c.truth_values.ensures in
+    let b = c.requires.begins in
+    let r = b.2.ready in
+    let laws = c.logs_stand_in_grown_tables.ensures in
+    (b.0, b.1, begins_wider t u e.grown e.declared x (laws.right t u x.log r.right e.grown) (laws.same t u x.log r.right e.grown) r b.0 b.1 b.2)
+
+pub search_with-requires-clause-numbers : goal.search_with-requires-clause-numbers
+search_with-requires-clause-numbers c = number_later c.args.table.now c.truth_values.new.table c.truth_values.ensures.grown c.args.self.now c.args.self.now c.requires.begins.2.ready refl c.requires.numbers
+
+pub returns-in-Ok-clause-answered : goal.returns-in-Ok-clause-answered
+returns-in-Ok-clause-answered c =
+    let t = c.args.table.now in
+    let u = c.truth_values.new.table in
+    let x = c.args.self.now in
+    let e = c.truth_values.ensures in
+    let r = c.requires.begins.2.ready in
+    let laws = c.logs_stand_in_grown_tables.ensures in
+    let wider = continues_wider t u e.grown e.declared x (laws.right t u x.log r.right e.grown) (laws.same t u x.log r.right e.grown) r in
+    answered_on t u c.search_with.new.table x c.search_with.new.self wider c.in-Ok.answer (rw c.in-Ok.is at c.search_with.ensures.answered)
+
+pub returns-clause-answered : goal.returns-clause-answered
+returns-clause-answered c =
+    let t = c.args.table.now in
+    let u = c.truth_values.new.table in
+    let w = c.search_with.new.table in
+    let x = c.args.self.now in
+    let y = c.search_with.new.self in
+    let e = c.truth_values.ensures in
+    let r = c.requires.begins.2.ready in
+    let laws = c.logs_stand_in_grown_tables.ensures in
+    let wider = continues_wider t u e.grown e.declared x (laws.right t u x.log r.right e.grown) (laws.same t u x.log r.right e.grown) r in
+    let stop = c.in-Err.stop in
+    answers_show (IsAnswered (state t x) (state w y)) stop c.answer_to.result c.answer_to.ensures (stopped_on t u w x y wider stop (rw c.in-Err.is at c.search_with.ensures.stopped))
