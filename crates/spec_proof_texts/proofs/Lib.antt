@@ -4,9 +4,9 @@ mod Told
 mod Planned
 pub mod Names
 mod MovedArguments
-mod NoNumbers
 mod Written
 pub mod Lexed
+mod Numerals
 pub mod Lookups
 pub mod Room
 pub mod Known

@@ -1,14 +1,13 @@
 -- Well-sorted terms can be printed.
-use Rattle.std.proofs.Common.{◌≡◌, ℕ, true, ◌&&◌, List, [], ◌∷◌, refl, sym, ap, ◌∙◌}
+use Rattle.std.proofs.Common.{◌≡◌, ℕ, true, ◌&&◌, List, [], ◌∷◌, sym, ap, ◌∙◌}
 use Rattle.std.proofs.lemmas.Bool.{false≢true, and_parts}
 use Rattle.spec_sorts.specs.Terms.{Sort, Head, True, False, Not, And, Or, Xor, Implies, Equal, Ite, Minus, Plus, Times, Divide, Less, AtMost, Literal, Apply, Parameter, Term, Terms, app, nil, cons, sort_of, second_sort, head_takes, sorts_of, is_sorted, are_sorted}
 use Rattle.spec_sorts.specs.Signatures.{Signature, symbols_in}
 use Rattle.spec_sorts.specs.WellSorted.{AllHeads, AllHeadsIn, IsHeadOver, IsWellSorted}
 use Rattle.spec_sorts.proofs.General.{sorts_listed}
-use Rattle.spec_commands.specs.Stack.{head_in_reach}
 use Rattle.spec_models.specs.Meaning.{IsSortIn}
 use Rattle.spec_proof_texts.specs.Meaning.{IsKnownHead}
-use Rattle.spec_proof_texts.specs.Printable.{head_of, IsPrintable, HasText, IsReadable}
+use Rattle.spec_proof_texts.specs.Printable.{IsPrintable, HasText, IsReadable}
 use Rattle.spec_proof_texts.specs.ReadBack.{AreScriptNames}
 
 module _ (g : Signature) (own : AreScriptNames g) where
@@ -79,24 +78,3 @@ module _ (g : Signature) (own : AreScriptNames g) where
     };
     sort = sort_there (app h ts) w.sorted w.heads;
   }
-
--- what the search reaches has no number and no product
-pub in_reach : (t : Term) → head_in_reach (head_of t) ≡ true → IsReadable t
-in_reach (app True ts) e = record { text = tt; linear = refl }
-in_reach (app False ts) e = record { text = tt; linear = refl }
-in_reach (app Not ts) e = record { text = tt; linear = refl }
-in_reach (app And ts) e = record { text = tt; linear = refl }
-in_reach (app Or ts) e = record { text = tt; linear = refl }
-in_reach (app Xor ts) e = record { text = tt; linear = refl }
-in_reach (app Implies ts) e = record { text = tt; linear = refl }
-in_reach (app Equal ts) e = record { text = tt; linear = refl }
-in_reach (app Ite ts) e = record { text = tt; linear = refl }
-in_reach (app (Apply f) ts) e = record { text = tt; linear = refl }
-in_reach (app Minus ts) e = absurd (false≢true e)
-in_reach (app Plus ts) e = absurd (false≢true e)
-in_reach (app Times ts) e = absurd (false≢true e)
-in_reach (app Divide ts) e = absurd (false≢true e)
-in_reach (app Less ts) e = absurd (false≢true e)
-in_reach (app AtMost ts) e = absurd (false≢true e)
-in_reach (app (Literal q) ts) e = absurd (false≢true e)
-in_reach (app (Parameter k s) ts) e = absurd (false≢true e)

@@ -1,6 +1,9 @@
 -- What is read back of a printed proof, and the names of a script under which it is.
 use Rattle.std.specs.Prelude.{◌≡◌, ℕ, suc, ◌+◌, true, List, [], ◌∷◌, All, Contains, Some, None}
+use Rattle.spec_text.specs.declared.Kind.{Kind}
+use Rattle.spec_text.specs.declared.Kind.TheVariants.{Numeral, Decimal}
 use Rattle.spec_text.specs.Bytes.{Name}
+use Rattle.spec_text.specs.Trees.{Tree, Trees, atom, list, none, more}
 use Rattle.spec_sorts.specs.Terms.{Sort, Declared, Symbol, Head, Apply, Term}
 use Rattle.spec_sorts.specs.Theory.{is_of_theory}
 use Rattle.spec_sorts.specs.Signatures.{declared, Signature, known_as, sort_as, symbols_in}
@@ -73,6 +76,24 @@ numbers_in [] = 0
 numbers_in (defines d ∷ lines) = numbers_among d.arguments + numbers_in lines
 numbers_in (assumes n a ∷ lines) = numbers_among (a ∷ []) + numbers_in lines
 numbers_in (steps s ∷ lines) = numbers_among s.literals + numbers_in lines
+
+-- how many numbers a word is: a numeral and a decimal are one each, and any other word is none
+abbrev pub numerals_by : Kind → ℕ
+numerals_by Numeral = 1
+numerals_by Decimal = 1
+numerals_by k = 0
+
+-- how many numbers are in what is read: each numeral and each decimal counts, as often as it stands there
+abbrev mutual
+  -- in a tree
+  pub numerals_of : Tree → ℕ
+  numerals_of (atom at k n) = numerals_by k
+  numerals_of (list at ts end) = numerals_in ts
+
+  -- in trees, one after the other
+  pub numerals_in : Trees → ℕ
+  numerals_in none = 0
+  numerals_in (more t ts) = numerals_of t + numerals_in ts
 
 -- what is known before a proof under a signature, where terms are asserted
 abbrev pub known_before : Signature → List Term → Known

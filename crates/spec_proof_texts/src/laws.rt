@@ -12,7 +12,7 @@ ghost use Rattle.spec_numbers.specs.Fractions.{Fraction};
 ghost use Rattle.spec_sorts.specs.Numerals.{literal_value, is_wide};
 ghost use Rattle.spec_sorts.specs.WellSorted.{IsWellSorted};
 ghost use Rattle.spec_sorts.specs.Signatures.{Signature, symbols_in};
-ghost use Rattle.spec_commands.specs.Stack.{Stack, Taken, empty_stack, signature_of, terms_asserted, head_in_reach, step};
+ghost use Rattle.spec_commands.specs.Stack.{Stack, Taken, empty_stack, signature_of, terms_asserted, step};
 ghost use Rattle.spec_commands.specs.Checks.{Check, asked, term_limit, IsCurrent};
 ghost use Rattle.spec_checking.specs.Good.{AreGood, IsGood};
 ghost use Rattle.spec_checking.specs.Accepted.{IsAccepted};
@@ -22,9 +22,10 @@ ghost use Rattle.spec_models.specs.Values.{trees_of, fraction_tree};
 ghost use Rattle.spec_proof_texts.specs.Decimals.{is_decimal};
 ghost use Rattle.spec_proof_texts.specs.Lines.{Line, line_tree, proof_text};
 ghost use Rattle.spec_proof_texts.specs.Meaning.{AreGiven, AreRightLines};
-ghost use Rattle.spec_proof_texts.specs.Plans.{Plan, lines_of, IsPrinted, IsPlan};
-ghost use Rattle.spec_proof_texts.specs.Printable.{head_of, IsPrintable, ArePrintable, AreOver, IsReadable};
-ghost use Rattle.spec_proof_texts.specs.ReadBack.{IsWritableLine, AreScriptNames, definitions_in, numbers_in, known_before};
+ghost use Rattle.spec_proof_texts.specs.Plans.{Plan, lines_of, IsPlan};
+ghost use Rattle.spec_proof_texts.specs.Printable.{IsPrintable, ArePrintable, AreOver, IsReadable};
+ghost use Rattle.spec_proof_texts.specs.ReadBack.{IsWritableLine, AreScriptNames, known_before};
+ghost use Rattle.spec_proof_texts.specs.ReadBack.{definitions_in, numbers_in, numerals_in};
 
 /// States that the lines of an inference that is derived from terms and has the empty clause are a proof from these
 /// terms.
@@ -36,11 +37,10 @@ pub fn planned_lines_are_right()
 {}
 
 /// States which terms can be printed: well-sorted ones over the symbols of a script, whose heads can be read before their
-/// arguments. So it is with each head that the search reaches, for now.
+/// arguments.
 pub fn well_sorted_terms_are_printable()
-    ensures term { (g : Signature) (t : Term) → AreScriptNames g → IsWellSorted (symbols_in g) [] t → IsReadable t
+    ensures { (g : Signature) (t : Term) → AreScriptNames g → IsWellSorted (symbols_in g) [] t → IsReadable t
         → IsPrintable g t }
-    ensures reach { (t : Term) → head_in_reach (head_of t) ≡ true → IsReadable t }
 {}
 
 /// States that each numeral and each decimal of the lexicon that is not too wide to be read has a value that is printed as a
@@ -49,14 +49,6 @@ pub fn literals_are_decimals()
     ensures numeral { (ds : List ℕ) → IsNumeral ds → is_wide ds ≡ false → is_decimal (literal_value ds) ≡ true }
     ensures decimal { (ds : List ℕ) (f : ℕ) (fs : List ℕ) → IsNumeral ds → Consists is_digit (f ∷ fs)
         → is_wide (ds ++ 46 ∷ f ∷ fs) ≡ false → is_decimal (literal_value (ds ++ 46 ∷ f ∷ fs)) ≡ true }
-{}
-
-/// States that the lines of a plan print no number where each term that is printed has a head that the search reaches. So each
-/// proof has room for its terms, for now.
-pub fn lines_in_reach_have_no_numbers()
-    ensures { (terms : List Term) (d : Derivation) (n : ℕ) (plan : Plan) → IsPlan terms d n plan
-        → ((u : Term) → IsPrinted d n u → head_in_reach (head_of u) ≡ true)
-        → numbers_in (lines_of terms d plan) ≡ 0 }
 {}
 
 /// States that numbers can be arguments of steps: each as it is written as a value.
@@ -70,6 +62,16 @@ pub fn printed_proofs_are_read()
     ensures { (lines : List Line) → All IsWritableLine lines
         → (commands : Trees) × IsWholeText (proof_text lines) commands
         × SameTrees (trees_of (map line_tree lines)) commands }
+{}
+
+/// States that each number that is printed stands in the text, as a numeral or a decimal at the least. So the text has
+/// no fewer of these than numbers are printed in its lines.
+pub fn printed_numbers_are_numerals()
+    ensures writable { (lines : List Line) (commands : Trees) → All IsWritableLine lines
+        → IsWholeText (proof_text lines) commands → numbers_in lines ≤ numerals_in commands }
+    ensures right { (g : Signature) (asserted : List Term) (lines : List Line) (commands : Trees) → AreScriptNames g
+        → AreRightLines g asserted lines → IsWholeText (proof_text lines) commands
+        → numbers_in lines ≤ numerals_in commands }
 {}
 
 /// States that lines which are right under the names of a script are read back, the whole of their text, as good

@@ -20,6 +20,11 @@ abbrev pub first_of : List (Option Checked) → Checked
 first_of (Some c ∷ cs) = c
 first_of _ = record { check = record { stack = empty_stack; assumptions = [] }; found = proof [] }
 
+-- the checks after the first
+abbrev pub after_first : List (Option Checked) → List (Option Checked)
+after_first [] = []
+after_first (c ∷ cs) = cs
+
 -- a table without rows is one of a symbol that has its value's sort
 pub bare : {s : Symbol} {v : Value} → HasSort s.result v → IsTableOf s (always v)
 bare h = record { default = h; rows = λ k d l. absurd (omega (arith, l)); bare = λ e. refl }

@@ -1,5 +1,5 @@
 -- The proof of a contradiction, by what it has to be.
-use Rattle.std.proofs.Common.{◌≡◌, ◌<◌, ◌≤◌, ◌^◌, ℕ, zero, suc, Bool, true, false, List, [], ◌∷◌, Some, Contains, get_or, refl, sym, ap, subst, inl, inr, arith}
+use Rattle.std.proofs.Common.{◌≡◌, ◌<◌, ℕ, zero, suc, Bool, true, false, List, [], ◌∷◌, Some, Contains, get_or, refl, sym, ap, subst, inl, inr, arith}
 use Rattle.std.specs.Prelude.{◌⊎◌}
 use Rattle.std.specs.List.{slice_get}
 use Rattle.std.proofs.lemmas.List.Elements.{All-contains, All-cons, All-nil}
@@ -18,7 +18,6 @@ use Rattle.spec_derivations.specs.Derivations.{«assumption», by_rule, Derivati
 use Rattle.spec_proof_texts.specs.Lines.{proof_text}
 use Rattle.spec_proof_texts.specs.Plans.{Plan, lines_of, counted, counted_inferences, IsPrinted, in_clause, as_argument, AreRests, IsPlan}
 use Rattle.spec_proof_texts.specs.Printable.{IsPrintable, ArePrintable, IsOver, HasGiven, AreOver}
-use Rattle.spec_proof_texts.specs.ReadBack.{numbers_in}
 use Rattle.spec_proof_texts.specs.Examples.{refutation}
 use Rattle.spec_proof_texts.proofs.Refutation.{found}
 use Rattle.spec_sessions.specs.Refutations.{IsProofOf}
@@ -194,10 +193,6 @@ are_asserted = refl
 derived : IsDerivedFrom (terms_asserted (asked the_check)) derivation 2
 derived = subst (λ ts. IsDerivedFrom ts derivation 2) are_asserted (record { there = omega arith; assumptions = λ m r. among m (rests_low 2 m (omega arith) r) })
 
--- no number is printed
-no_numbers : numbers_in refutation ≤ 2 ^ 18
-no_numbers = omega arith
-
 pub shown : IsProofOf the_check (proof_text refutation)
 shown = record {
   terms = terms;
@@ -210,6 +205,5 @@ shown = record {
   printable = printable;
   plan = plan;
   planned = planned;
-  few = subst (λ ls. numbers_in ls ≤ 2 ^ 18) (sym lines_are) no_numbers;
   written = ap proof_text (sym lines_are);
 }

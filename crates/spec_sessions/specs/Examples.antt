@@ -1,21 +1,25 @@
 -- Small scripts with what is written for them, where so much was found at their checks.
-use Rattle.std.specs.Prelude.{ℕ, Bool, true, false, List, [], ◌∷◌, Ok, Err, codes, if◌then◌else◌}
+use Rattle.std.specs.Prelude.{◌≡◌, refl, ◌^◌, pos, ℕ, Bool, true, false, List, [], ◌∷◌, Ok, Err, codes, if◌then◌else◌}
 use Rattle.std.specs.Str.{bytes_eq}
 use Rattle.spec_text.specs.declared.Fault.TheVariants.{UnknownLogic}
 use Rattle.spec_text.specs.Bytes.{among}
 use Rattle.spec_text.specs.Answers.{Answer}
 use Rattle.spec_text.specs.Trees.{Trees, none, more}
-use Rattle.spec_numbers.specs.Fractions.{zero_fraction}
+use Rattle.spec_numbers.specs.Fractions.{zero_fraction, whole, gcd, times}
+use Rattle.spec_numbers.specs.Bounds.{Overflow, is_small, fits, multiplied}
+use Rattle.spec_numbers.specs.declared.Op.TheVariants.{Mul}
 use Rattle.spec_sorts.specs.Values.{Value, truth, number, element, Table, Interpretation}
 use Rattle.spec_commands.specs.Stack.{Stack, Effect, done, unsupported, check, say, leave, Taken, all_in_reach, step}
 use Rattle.spec_commands.specs.Checks.{Check, asked, term_limit}
 use Rattle.spec_commands.specs.Examples.{lines}
-use Rattle.spec_sessions.specs.Evidence.{Limits, Found, proof}
-use Rattle.spec_sessions.specs.Responses.{success, not_supported, answered, said, ended, rejected, unreached, Answered}
+use Rattle.spec_models.specs.Values.{numeral}
+use Rattle.spec_overflows.specs.Overflows.{IsOverflow}
+use Rattle.spec_sessions.specs.Evidence.{Limits, Found, proof, strained, out_of_pivots}
+use Rattle.spec_sessions.specs.Responses.{certify, success, not_supported, answered, said, ended, rejected, unreached, Answered, text_for}
 
 -- what is meant by default
 abbrev pub limits : Limits
-limits = record { conflicts = 1000000; terms = term_limit }
+limits = record { conflicts = 1000000; pivots = 10000000; terms = term_limit }
 
 -- what was found at the next check; the empty text where nothing is told of it
 abbrev pub next_found : List Found → Found
@@ -99,7 +103,8 @@ refusals_written = lines (
     codes "(error \"7:1: WrongMode\")" ∷
     codes "sat" ∷ [])
 
--- numbers that are too wide, products and quotients that are not linear, and a check that the search does not reach
+-- numbers that are too wide, products and quotients that are not linear, checks over numbers, and one that the search does
+-- not reach: it has a function with a parameter that gives a number
 abbrev pub numbers : List ℕ
 numbers = lines (
     codes "(set-option :print-success false)" ∷
@@ -109,6 +114,8 @@ numbers = lines (
     codes "(check-sat)" ∷
     codes "(assert (< (/ x (- (/ 1 2))) 1))" ∷
     codes "(assert (< (/ x (+ 1 1)) 1))" ∷
+    codes "(check-sat)" ∷
+    codes "(declare-fun f (Bool) Real)(assert (< (f true) 1))" ∷
     codes "(check-sat)" ∷ [])
 
 -- what is written for them
@@ -119,7 +126,8 @@ numbers_written = lines (
     codes "(error \"4:12: ZeroDivisor\")" ∷
     codes "sat" ∷
     codes "(error \"7:12: NotLinear\")" ∷
-    codes "(error \"8:2: UnknownLogic\")" ∷ [])
+    codes "sat" ∷
+    codes "(error \"10:2: UnknownLogic\")" ∷ [])
 
 -- strings, and the option that is turned off between them
 abbrev pub strings : List ℕ
@@ -180,7 +188,7 @@ large_written = lines (
 
 -- the limit of four
 abbrev pub four : Limits
-four = record { conflicts = 1000000; terms = 4 }
+four = record { conflicts = 1000000; pivots = 10000000; terms = 4 }
 
 -- what is written for a contradiction, with its proof
 abbrev pub contradiction_written : List ℕ
@@ -206,3 +214,20 @@ closed_too_often = codes "(check-sat)\n)"
 -- what cannot be, and a check
 abbrev pub false_asserted : List ℕ
 false_asserted = codes "(assert false)(check-sat)"
+
+-- the square of 2^64, which is out of the bound
+abbrev pub square : Overflow
+square = record { op = Mul; left = whole (pos (2 ^ 64)); right = whole (pos (2 ^ 64)) }
+
+pub square_leaves_the_bound : IsOverflow square
+unfolding gcd multiplied fits is_small times
+square_leaves_the_bound = refl
+
+-- what is written for a check that was given up for it, and for one whose pivots are spent
+pub square_written : (c : Check) → text_for certify [] true (answered (record { check = c; found = strained square })) ≡ codes "unknown\n(overflow mul 18446744073709551616 18446744073709551616)\n"
+unfolding numeral
+square_written c = refl
+
+pub pivots_written : (c : Check) → text_for certify [] true (answered (record { check = c; found = out_of_pivots limits.pivots })) ≡ codes "unknown\n(pivots 10000000)\n"
+unfolding numeral
+pivots_written c = refl

@@ -1,5 +1,5 @@
 -- What the answers of checks mean. Source: SMT-LIB 2.6, section 4.2.5; that the text of a proof, or of a model, means so much is own.
-use Rattle.std.specs.Prelude.{◌≡◌, ℕ, suc, false, List, [], ◌∷◌, ◌++◌, All, Option, Some, None}
+use Rattle.std.specs.Prelude.{◌≡◌, ◌≤◌, ◌^◌, ℕ, suc, false, List, [], ◌∷◌, ◌++◌, All, Option, Some, None}
 use Rattle.spec_text.specs.Readings.{is_long}
 use Rattle.spec_text.specs.Trees.{Trees, list, none, more, IsRead}
 use Rattle.spec_sorts.specs.Values.{Interpretation, Interprets}
@@ -7,14 +7,15 @@ use Rattle.spec_sorts.specs.Signatures.{Signature, symbols_in}
 use Rattle.spec_commands.specs.Stack.{signature_of}
 use Rattle.spec_commands.specs.Kept.{IsAsserted, IsKept}
 use Rattle.spec_commands.specs.Checks.{Check, term_limit, IsCurrent, MakesTrue, HasNoModel}
+use Rattle.spec_proofs.specs.Texts.{IsWholeText}
 use Rattle.spec_replies.specs.declared.Word.TheVariants.{Unsat}
 use Rattle.spec_replies.specs.Lines.{word_line}
 use Rattle.spec_models.specs.Models.{model_text}
 use Rattle.spec_models.specs.Meaning.{DefineAll}
 use Rattle.spec_checking.specs.Good.{IsGood}
 use Rattle.spec_checking.specs.Accepted.{IsAccepted}
-use Rattle.spec_proof_texts.specs.ReadBack.{AreScriptNames}
-use Rattle.spec_sessions.specs.Evidence.{Limits, Found, model, proof, spent, Checked, IsModelOf, Justifies}
+use Rattle.spec_proof_texts.specs.ReadBack.{AreScriptNames, numerals_in}
+use Rattle.spec_sessions.specs.Evidence.{Limits, Found, model, proof, spent, strained, out_of_pivots, Checked, IsModelOf, Justifies}
 
 -- What commands leave for a check under a limit on terms and names.
 pub record IsKeptCheck (limit : ℕ) (c : Check) : Type 0 where
@@ -40,11 +41,18 @@ pub record ModelMeans (IsModel : Interpretation → Type 0) (g : Signature) (i :
   -- so the text alone says enough: whatever tables of the right sorts have the values that it defines are a model, too
   pub each : (j : Interpretation) → Interprets j (symbols_in g) → DefineAll j g (symbols_in g) definitions → IsModel j
 
--- what was found means this of a check; that a budget is spent means nothing of what is asked
+-- what was found means this of a check; that it was given up, for whatever cause, means nothing of what is asked
 abbrev pub MeansAt : Check → Found → Type 0
 MeansAt c (model i) = ModelMeans (IsModelOf c) (signature_of c.stack) i
 MeansAt c (proof p) = (i : Interpretation) → IsModelOf c i → ⊥
 MeansAt c (spent n d learned) = Unit {0}
+MeansAt c (strained o) = Unit {0}
+MeansAt c (out_of_pivots n) = Unit {0}
+
+-- the text of a proof has no more than 2^18 numerals and decimals, so that there is room for all that it names; a text
+-- without numbers has none
+abbrev pub HasFewNumerals : List ℕ → Type 0
+HasFewNumerals p = (commands : Trees) × IsWholeText p commands × (numerals_in commands ≤ 2 ^ 18)
 
 -- What the text of a proof means of the k-th check of a text that is run under a limit on terms and names.
 pub record ProofMeans (limit : ℕ) (text : List ℕ) (k : ℕ) (p : List ℕ) : Type 0 where
@@ -52,16 +60,18 @@ pub record ProofMeans (limit : ℕ) (text : List ℕ) (k : ℕ) (p : List ℕ) :
   pub no_model : HasNoModel limit text k
   -- it is good of that check, whatever the limits of the checker are
   pub good : IsGood limit text k p
-  -- it is accepted of that check, if it is no longer than a text may be, and the limit is that of the checker
-  pub accepted : limit ≡ term_limit → is_long p ≡ false → IsAccepted text k p
+  -- it is accepted of that check, if it is no longer than a text may be and has few numbers, and the limit is that of the checker
+  pub accepted : limit ≡ term_limit → is_long p ≡ false → HasFewNumerals p → IsAccepted text k p
   -- so it is after the line of the answer
-  pub answered : limit ≡ term_limit → is_long (word_line Unsat ++ p) ≡ false → IsAccepted text k (word_line Unsat ++ p)
+  pub answered : limit ≡ term_limit → is_long (word_line Unsat ++ p) ≡ false → HasFewNumerals p → IsAccepted text k (word_line Unsat ++ p)
 
 -- what was found means this of the k-th check of a text
 abbrev pub Means : Limits → (text : List ℕ) → ℕ → Check → Found → Type 0
 Means limits text k c (model i) = ModelMeans (λ j. MakesTrue limits.terms j text k) (signature_of c.stack) i
 Means limits text k c (proof p) = ProofMeans limits.terms text k p
 Means limits text k c (spent n d learned) = Unit {0}
+Means limits text k c (strained o) = Unit {0}
+Means limits text k c (out_of_pivots n) = Unit {0}
 
 -- What the answer of the k-th check of a text, from 1, says, with all that this means.
 pub record Says (limits : Limits) (text : List ℕ) (k : ℕ) (c : Checked) : Type 0 where

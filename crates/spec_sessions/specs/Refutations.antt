@@ -1,12 +1,11 @@
 -- What shows that a check has no model: the printed proof of an empty clause. Source: Alethe specification, proofs as lists of commands.
-use Rattle.std.specs.Prelude.{◌≡◌, ◌^◌, ◌≤◌, ℕ, List, []}
+use Rattle.std.specs.Prelude.{◌≡◌, ℕ, List, []}
 use Rattle.spec_sorts.specs.Terms.{Term}
 use Rattle.spec_commands.specs.Stack.{signature_of, terms_asserted}
 use Rattle.spec_commands.specs.Checks.{Check, asked}
 use Rattle.spec_derivations.specs.Derivations.{Derivation, conclusion_at, IsDerivation, IsDerivedFrom}
 use Rattle.spec_proof_texts.specs.Lines.{Line, proof_text}
 use Rattle.spec_proof_texts.specs.Plans.{Plan, lines_of, IsPlan}
-use Rattle.spec_proof_texts.specs.ReadBack.{numbers_in}
 use Rattle.spec_proof_texts.specs.Printable.{ArePrintable, AreOver}
 
 -- The text is the proof of an empty clause that is derived from what the check asks about: each term with arguments that it needs is
@@ -29,8 +28,6 @@ pub record IsProofOf (c : Check) (text : List ℕ) : Type 0 where
   -- which of the terms and of the clauses are printed for it, and under which numbers
   pub plan : Plan
   pub planned : IsPlan terms derivation number plan
-  -- no more than 2^18 numbers are printed, so that there is room for all that it names
-  pub few : numbers_in (lines_of terms derivation plan) ≤ 2 ^ 18
   -- the text is that of their lines
   pub written : text ≡ proof_text (lines_of terms derivation plan)
 

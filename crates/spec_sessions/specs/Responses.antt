@@ -9,9 +9,9 @@ use Rattle.spec_sorts.specs.Signatures.{symbols_in}
 use Rattle.spec_commands.specs.Stack.{Stack, Effect, done, unsupported, check, say, leave, Taken, signature_of, all_in_reach, step}
 use Rattle.spec_commands.specs.Checks.{Check, asked}
 use Rattle.spec_replies.specs.declared.Word.TheVariants.{Success, Unsupported, Sat, Unsat, Unknown}
-use Rattle.spec_replies.specs.Lines.{conflicts, error_text, word_line, reason_line}
+use Rattle.spec_replies.specs.Lines.{conflicts, pivots, overflow, error_text, word_line, reason_line}
 use Rattle.spec_models.specs.Models.{model_text}
-use Rattle.spec_sessions.specs.Evidence.{Limits, Found, model, proof, spent, Checked, Justifies}
+use Rattle.spec_sessions.specs.Evidence.{Limits, Found, model, proof, spent, strained, out_of_pivots, Checked, Justifies}
 
 -- How much is written.
 pub data Mode : Type 0 where
@@ -80,6 +80,8 @@ abbrev pub answer_text : Found → List ℕ
 answer_text (model i) = word_line Sat
 answer_text (proof text) = word_line Unsat
 answer_text (spent n d learned) = word_line Unknown
+answer_text (strained o) = word_line Unknown
+answer_text (out_of_pivots n) = word_line Unknown
 
 -- what shows it, in print
 abbrev pub evidence_text : Checked → List ℕ
@@ -89,6 +91,8 @@ evidence_text c = by c.found
     by (model i) = model_text i (symbols_in (signature_of c.check.stack))
     by (proof text) = text
     by (spent n d learned) = reason_line (conflicts n)
+    by (strained o) = reason_line (overflow o)
+    by (out_of_pivots n) = reason_line (pivots n)
 
 -- what is written after the line of an answer
 abbrev pub shown_text : Mode → Checked → List ℕ

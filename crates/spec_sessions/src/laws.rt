@@ -21,7 +21,8 @@ pub fn transcripts_need_a_front_alone()
 /// States what the answer of a check means. Take a check of what commands left, with names that can be printed. A model
 /// makes true what is asked, and so does each interpretation with the values that its printed text defines. Where there
 /// is a proof, no interpretation does, however long it is. Of a check of a text it means the same; and a proof is good
-/// of that check. It is accepted if its text is not too long, and the limit on terms is that of the checker.
+/// of that check. It is accepted if its text is not too long and has no more than 2^18 numerals and decimals, where the
+/// limit on terms is that of the checker. That a check was given up means nothing of what it asks.
 pub fn what_is_shown_is_so()
     ensures at { (limits : Limits) (c : Check) (f : Found) → IsKeptCheck limits.terms c → Justifies limits c f
         → MeansAt c f }
@@ -39,6 +40,7 @@ pub fn what_is_shown_is_so()
     spec_proof_texts::laws::checks_have_script_names();
     spec_proof_texts::laws::planned_lines_are_right();
     spec_proof_texts::laws::right_lines_are_good();
+    spec_proof_texts::laws::printed_numbers_are_numerals();
     spec_proof_texts::laws::printed_proofs_are_good();
     spec_proof_texts::laws::printed_proofs_are_accepted();
 }

@@ -1,9 +1,10 @@
 -- What is written for refused commands.
-use Rattle.std.proofs.Common.{true, None, [], ◌∷◌, All, refl, arith}
+use Rattle.std.proofs.Common.{true, Option, None, List, [], ◌∷◌, All, refl, arith}
 use Rattle.std.specs.Fmt.{digits}
 use Rattle.std.proofs.lemmas.List.Elements.{All-from_recursion}
 use Rattle.spec_text.specs.Readings.{IsReadUpTo}
 use Rattle.spec_sorts.specs.Written.{trees_in}
+use Rattle.spec_numbers.specs.Fractions.{gcd, times, inverse, opposite, compare}
 use Rattle.spec_numbers.proofs.Field.{zero-reduced}
 use Rattle.spec_sorts.specs.Values.{truth, IsTableOf}
 use Rattle.spec_sorts.specs.Signatures.{symbols_in}
@@ -11,11 +12,11 @@ use Rattle.spec_sorts.specs.Meaning.{value_of}
 use Rattle.spec_commands.specs.Stack.{empty_stack, signature_of}
 use Rattle.spec_commands.specs.Checks.{asked, IsTrueUnder}
 use Rattle.spec_commands.specs.OnLiterals.{commands_on_literals}
-use Rattle.spec_sessions.specs.Evidence.{Checked, model, IsModelOf}
+use Rattle.spec_sessions.specs.Evidence.{Found, Checked, model, IsModelOf}
 use Rattle.spec_sessions.specs.Responses.{solve}
 use Rattle.spec_sessions.specs.Transcripts.{checks_in}
 use Rattle.spec_sessions.specs.Examples.{limits, four, answers_of, tables, refusals, numbers, large}
-use Rattle.spec_sessions.proofs.Computed.{IsJustified, bare, first_of, one_check, transcript_of}
+use Rattle.spec_sessions.proofs.Computed.{IsJustified, bare, first_of, after_first, one_check, transcript_of}
 use Rattle.spec_sessions.proofs.examples.refused_commands_are_passed_over.Goals as goal
 
 refusals_read : IsReadUpTo refusals (trees_in refusals) None
@@ -42,24 +43,42 @@ numbers_read : IsReadUpTo numbers (trees_in numbers) None
 unfolding commands_on_literals
 numbers_read = record { rest = []; trees = record { split = refl; within = omega arith }; stop = None; stops = refl; is = refl }
 
--- its first check, where one number is declared
-abbrev numbers_check : Checked
-numbers_check = first_of (checks_in (answers_of limits empty_stack (trees_in numbers) (model tables ∷ [])))
+-- what was found at the two of its checks that are decided
+abbrev numbers_found : List Found
+numbers_found = model tables ∷ model tables ∷ []
 
-numbers_model : IsModelOf numbers_check.check tables
+abbrev numbers_checks : List (Option Checked)
+numbers_checks = checks_in (answers_of limits empty_stack (trees_in numbers) numbers_found)
+
+-- at the first a number is declared
+abbrev numbers_first : Checked
+numbers_first = first_of numbers_checks
+
+first_model : IsModelOf numbers_first.check tables
 unfolding commands_on_literals answers_of
-numbers_model = record {
-  interprets = All-from_recursion (λ s. IsTableOf s (tables.table s.name)) (symbols_in (signature_of numbers_check.check.stack)) (bare zero-reduced, tt);
+first_model = record {
+  interprets = All-from_recursion (λ s. IsTableOf s (tables.table s.name)) (symbols_in (signature_of numbers_first.check.stack)) (bare zero-reduced, tt);
   each = λ k d l. absurd (omega (arith, l));
 }
 
-numbers_justified : All (IsJustified limits) (checks_in (answers_of limits empty_stack (trees_in numbers) (model tables ∷ [])))
+-- at the second it is compared
+abbrev numbers_second : Checked
+numbers_second = first_of (after_first numbers_checks)
+
+second_model : IsModelOf numbers_second.check tables
+unfolding commands_on_literals answers_of value_of gcd times inverse opposite compare
+second_model = record {
+  interprets = All-from_recursion (λ s. IsTableOf s (tables.table s.name)) (symbols_in (signature_of numbers_second.check.stack)) (bare zero-reduced, tt);
+  each = All-from_recursion (IsTrueUnder tables (signature_of numbers_second.check.stack)) (asked numbers_second.check) (refl {a = truth true}, tt);
+}
+
+numbers_justified : All (IsJustified limits) numbers_checks
 unfolding commands_on_literals answers_of
-numbers_justified = All-from_recursion (IsJustified limits) (checks_in (answers_of limits empty_stack (trees_in numbers) (model tables ∷ []))) (numbers_model, (tt, tt))
+numbers_justified = All-from_recursion (IsJustified limits) numbers_checks (first_model, (second_model, (tt, tt)))
 
 pub returns-clause-numbers : goal.returns-clause-numbers
 unfolding commands_on_literals answers_of digits
-returns-clause-numbers c = transcript_of limits solve numbers (trees_in numbers) (model tables ∷ []) numbers_read numbers_justified
+returns-clause-numbers c = transcript_of limits solve numbers (trees_in numbers) numbers_found numbers_read numbers_justified
 
 large_read : IsReadUpTo large (trees_in large) None
 unfolding commands_on_literals

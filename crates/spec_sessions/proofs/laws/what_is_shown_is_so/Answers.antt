@@ -1,5 +1,5 @@
 -- That what is shown is so.
-use Rattle.std.proofs.Common.{◌≡◌, ℕ, List, [], ◌∷◌, ◌++◌, All, None, get_or, refl, sym, ap, ◌∙◌, subst}
+use Rattle.std.proofs.Common.{◌≡◌, ◌≤◌, ◌^◌, ℕ, List, [], ◌∷◌, ◌++◌, All, None, get_or, refl, sym, ap, ◌∙◌, subst, arith}
 use Rattle.std.proofs.lemmas.List.{append_assoc, append-nil}
 use Rattle.std.proofs.lemmas.List.Elements.{All-nil, All-map, All-append, Contains-get_or}
 use Rattle.spec_sorts.specs.Values.{is_true, Interpretation}
@@ -17,15 +17,16 @@ use Rattle.spec_checking.specs.Good.{IsGood}
 use Rattle.spec_checking.proofs.Good.{no_fault}
 use Rattle.spec_checking.proofs.Sound.{sound, EntryTrue, TermTrue, IsTruly}
 use Rattle.spec_checking.specs.Accepted.{IsAccepted}
+use Rattle.spec_proofs.specs.Texts.{IsWholeText}
 use Rattle.spec_replies.specs.declared.Word.TheVariants.{Unsat}
 use Rattle.spec_replies.specs.Lines.{word_line}
 use Rattle.spec_models.specs.Meaning.{IsSymbolIn}
 use Rattle.spec_proof_texts.specs.Lines.{proof_text}
 use Rattle.spec_proof_texts.specs.Meaning.{AreRightLines}
-use Rattle.spec_proof_texts.specs.ReadBack.{AreScriptNames}
-use Rattle.spec_sessions.specs.Evidence.{Limits, Found, model, proof, spent, IsModelOf, Justifies}
+use Rattle.spec_proof_texts.specs.ReadBack.{AreScriptNames, numbers_in}
+use Rattle.spec_sessions.specs.Evidence.{Limits, Found, model, proof, spent, strained, out_of_pivots, IsModelOf, Justifies}
 use Rattle.spec_sessions.specs.Refutations.{IsProofOf, lines_in}
-use Rattle.spec_sessions.specs.Meaning.{IsKeptCheck, ModelMeans, MeansAt, ProofMeans, Means}
+use Rattle.spec_sessions.specs.Meaning.{IsKeptCheck, ModelMeans, MeansAt, HasFewNumerals, ProofMeans, Means}
 use Rattle.spec_sessions.proofs.laws.what_is_shown_is_so.Goals as goal
 
 -- the assertions of one level more
@@ -65,6 +66,12 @@ module _ (c : goal.After-printed_proofs_are_accepted) where
     right p h =
         c.planned_lines_are_right.ensures g h.terms (terms_asserted (asked x)) h.derivation h.number h.plan h.printable h.over h.right h.derived h.empty h.planned
 
+    -- where the text has few numbers, few are printed
+    few_printed : (p : List ℕ) (h : IsProofOf x p) → HasFewNumerals p → numbers_in (lines_in x p h) ≤ 2 ^ 18
+    few_printed p h (commands, whole, few) =
+        let stands = subst (λ (q : List ℕ). IsWholeText q commands) h.written whole in
+        omega (arith, few, c.printed_numbers_are_numerals.ensures.right g (terms_asserted (asked x)) (lines_in x p h) commands names (right p h) stands)
+
     proof_at : (p : List ℕ) → IsProofOf x p → (i : Interpretation) → IsModelOf x i → ⊥
     proof_at p h i m =
         let read = c.right_lines_are_good.ensures.commands g (terms_asserted (asked x)) (lines_in x p h) names (right p h) in
@@ -99,6 +106,8 @@ module _ (c : goal.After-printed_proofs_are_accepted) where
     means_at limits (model i) h = model_at i h
     means_at limits (proof p) h = proof_at p h
     means_at limits (spent n d learned) h = tt
+    means_at limits (strained o) h = tt
+    means_at limits (out_of_pivots n) h = tt
 
     module _ (limit : ℕ) (text : List ℕ) (k : ℕ) (current : IsCurrent limit text k x) where
       makes_true : (i : Interpretation) → IsModelOf x i → MakesTrue limit i text k
@@ -113,14 +122,14 @@ module _ (c : goal.After-printed_proofs_are_accepted) where
       of_proof p h = record {
         no_model = λ i m. proof_at p h i (is_model i m);
         good = subst (IsGood limit text k) (sym h.written) (c.printed_proofs_are_good.ensures.alone limit text k x (lines_in x p h) current (right p h));
-        accepted = λ e short.
+        accepted = λ e short few.
             let here = subst (λ n. IsCurrent n text k x) e current in
-            let accepted = c.printed_proofs_are_accepted.ensures.alone text k x (lines_in x p h) here (right p h) (sym (ap is_long h.written) ∙ short) h.few in
+            let accepted = c.printed_proofs_are_accepted.ensures.alone text k x (lines_in x p h) here (right p h) (sym (ap is_long h.written) ∙ short) (few_printed p h few) in
             subst (IsAccepted text k) (sym h.written) accepted;
-        answered = λ e short.
+        answered = λ e short few.
             let here = subst (λ n. IsCurrent n text k x) e current in
             let whole : word_line Unsat ++ p ≡ word_line Unsat ++ proof_text (lines_in x p h) = ap (λ q. word_line Unsat ++ q) h.written in
-            let accepted = c.printed_proofs_are_accepted.ensures.answered text k x (lines_in x p h) here (right p h) (sym (ap is_long whole) ∙ short) h.few in
+            let accepted = c.printed_proofs_are_accepted.ensures.answered text k x (lines_in x p h) here (right p h) (sym (ap is_long whole) ∙ short) (few_printed p h few) in
             subst (IsAccepted text k) (sym whole) accepted;
       }
 
@@ -138,6 +147,8 @@ module _ (c : goal.After-printed_proofs_are_accepted) where
       means_so limits e (model i) h = subst (λ n. ModelMeans (λ j. MakesTrue n j text k) g i) (sym e) (of_model i (model_at i h))
       means_so limits e (proof p) h = subst (λ n. ProofMeans n text k p) (sym e) (of_proof p h)
       means_so limits e (spent n d learned) h = tt
+      means_so limits e (strained o) h = tt
+      means_so limits e (out_of_pivots n) h = tt
 
 pub returns-clause-at : goal.returns-clause-at
 returns-clause-at c = λ limits x f kept shown.
