@@ -1,4 +1,5 @@
 -- Lemmas on what a check finds.
-pub mod Reached
+pub mod Causes
+pub mod Printed
 pub mod Asking
 pub mod Showing

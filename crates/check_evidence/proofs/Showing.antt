@@ -8,7 +8,7 @@ use Rattle.spec_sorts.specs.Signatures.{Signature, symbols_in}
 use Rattle.spec_sorts.specs.Meaning.{value_under}
 use Rattle.spec_commands.specs.Stack.{Assertion, Stack, signature_of, assertions_of, terms_asserted}
 use Rattle.spec_commands.specs.Checks.{IsTrueUnder}
-use Rattle.spec_sessions.specs.Evidence.{Limits, model, spent, Justifies}
+use Rattle.spec_sessions.specs.Evidence.{Limits, model, spent, strained, out_of_pivots, HasNumber, Justifies}
 use Rattle.term_core.specs.Tables.{TableView, literal_at}
 use Rattle.term_walks.specs.declared.values.Interp.{Interp}
 use Rattle.proof_log.specs.Logs.{derivation_in}
@@ -16,10 +16,12 @@ use Rattle.sat_budget.specs.declared.limits.Reason.{Reason}
 use Rattle.sat_budget.specs.declared.limits.Reason.TheVariants as reasons
 use Rattle.solve_core.specs.declared.cdcl.Answer.TheVariants.{Sat, Unknown}
 use Rattle.solve_core.specs.declared.outcome.Outcome.{Outcome}
-use Rattle.solve_core.specs.Rounds.{HasEvidence}
+use Rattle.ratio128.specs.Meant.{overflow}
+use Rattle.solve_core.specs.Rounds.{HasLimits, HasEvidence}
 use Rattle.spec_derivations.specs.Examples.{asserting}
 use Rattle.check_evidence.specs.declared.evidence.Evidence.TheVariants as found
-use Rattle.check_evidence.specs.Evidence.{check_on, IsShown}
+use Rattle.check_evidence.specs.Evidence.{limits_of, check_on, IsShown}
+use Rattle.check_evidence.proofs.Causes.{HasNumberIn, AddsNone, FormsFail, RulesFail, SimplexFails, NumbersFail, number_in, strained_number, strained_overflow}
 
 -- the text has its term's value under an interpretation
 abbrev pub HasValue : Signature → Interpretation → Assertion → Type 0
@@ -50,15 +52,23 @@ module _ (limits : Limits) (t : TableView) (s : Stack) (symbols : symbols_in (si
         (interp, is, stands),
       )
 
-  reason_shown : (n : ℕ) → o.answer ≡ Unknown (reasons.Conflicts n) → o.budget.limit ≡ limits.conflicts → HasEvidence t (asserting asked) o.log o.budget (Unknown (reasons.Conflicts n)) → IsShown limits t s (found.Spent (reasons.Conflicts n)) o
-  reason_shown n is limit h =
+  conflicts_shown : (n : ℕ) → o.answer ≡ Unknown (reasons.Conflicts n) → o.budget.limit ≡ limits.conflicts → HasEvidence t (asserting asked) o.log o.budget (Unknown (reasons.Conflicts n)) → IsShown limits t s (found.Reason (reasons.Conflicts n)) o
+  conflicts_shown n is limit h =
       let d = derivation_in t o.log in
       let learned = map (map (literal_at t)) o.budget.learned in (
         spent n d learned,
-        subst (λ m. Justifies (record { conflicts = m; terms = limits.terms }) (check_on s) (spent n d learned)) limit (record { spent = h.0; conflict = h.1 }),
+        subst (λ m. Justifies (record { conflicts = m; pivots = limits.pivots; terms = limits.terms }) (check_on s) (spent n d learned)) limit (record { spent = h.0; conflict = h.1 }),
         (d, refl),
         (is, refl, refl),
       )
 
-  pub any_reason_shown : (r : Reason) → o.answer ≡ Unknown r → o.budget.limit ≡ limits.conflicts → HasEvidence t (asserting asked) o.log o.budget (Unknown r) → IsShown limits t s (found.Spent r) o
-  any_reason_shown (reasons.Conflicts n) is limit h = reason_shown n is limit h
+  -- a number among the check's terms is one that it asks about
+  asks_number : HasNumberIn (asserting asked) → HasNumber (check_on s)
+  asks_number h = record { term = h.term; there = h.there; number = h.number }
+
+  pub reason_shown : AddsNone → FormsFail → RulesFail → SimplexFails → NumbersFail → (r : Reason) → o.answer ≡ Unknown r → HasLimits (limits_of limits) o.budget → HasEvidence t (asserting asked) o.log o.budget (Unknown r) → IsShown limits t s (found.Reason r) o
+  reason_shown adds forms rules simplex numbers (reasons.Conflicts n) is l h = conflicts_shown n is l.0 h
+  reason_shown adds forms rules simplex numbers (reasons.Overflow x) is l h =
+      (strained (overflow x.wide), (strained_overflow forms rules simplex numbers t (asserting asked) x h, asks_number (strained_number adds t asked x h)), refl, (x, is, refl))
+  reason_shown adds forms rules simplex numbers (reasons.Pivots n) is l h =
+      (out_of_pivots n, (h.spent.1 ∙ l.1, asks_number (number_in adds (asserting asked) h.is.numbers)), refl, is)

@@ -2,13 +2,14 @@
 use Rattle.std.specs.Prelude.{◌≡◌, ℕ, [], map, Result, Ok, Err}
 use Rattle.world_io.specs.declared.bytes.NoMemory.{NoMemory}
 use Rattle.spec_sorts.specs.Values.{Interpretation, Interprets}
-use Rattle.spec_commands.specs.Stack.{Stack, terms_asserted, assertions_of}
+use Rattle.spec_commands.specs.Stack.{Stack, signature_of, terms_asserted, assertions_of}
+use Rattle.spec_readable.specs.Readable.{AreReadable}
 use Rattle.spec_commands.specs.Checks.{Check}
 use Rattle.spec_derivations.specs.Derivations.{Derivation}
 use Rattle.spec_derivations.specs.Examples.{asserting}
 use Rattle.spec_proof_texts.specs.Lines.{proof_text}
 use Rattle.spec_proof_texts.specs.Plans.{Plan, IsPlan, lines_of}
-use Rattle.spec_sessions.specs.Evidence.{Limits, Found, model, proof, spent, Checked, Justifies}
+use Rattle.spec_sessions.specs.Evidence.{Limits, Found, model, proof, spent, strained, out_of_pivots, Checked, Justifies}
 use Rattle.spec_sessions.specs.Meaning.{IsKeptCheck}
 use Rattle.term_core.specs.Tables.{TableView, literal_at}
 use Rattle.term_walks.specs.declared.values.Interp.{Interp}
@@ -16,7 +17,9 @@ use Rattle.term_walks.specs.Valuations.{Stands, HasTables}
 use Rattle.proof_log.specs.declared.premises.StepId.{StepId}
 use Rattle.proof_log.specs.Logs.{derivation_in, IsLogOf}
 use Rattle.alethe_writer.specs.Printing.{Fits}
+use Rattle.ratio128.specs.Meant.{overflow}
 use Rattle.sat_budget.specs.Budgets.{BudgetView}
+use Rattle.sat_budget.specs.declared.limits.Strain.{Strain}
 use Rattle.sat_budget.specs.declared.limits.Limits.{Limits as CodeLimits}
 use Rattle.sat_budget.specs.declared.limits.Reason.TheVariants as reasons
 use Rattle.assertion_stack.specs.Stacks.{Standing, IsStack}
@@ -28,7 +31,11 @@ use Rattle.check_evidence.specs.declared.evidence.Evidence.TheVariants as found
 
 -- limits in the words of the definitions
 abbrev pub limits_meant : CodeLimits → Limits
-limits_meant l = record { conflicts = l.conflicts; terms = l.terms }
+limits_meant l = record { conflicts = l.conflicts; pivots = l.pivots; terms = l.terms }
+
+-- and in those of the code
+abbrev pub limits_of : Limits → CodeLimits
+limits_of l = record { conflicts = l.conflicts; pivots = l.pivots; terms = l.terms }
 
 -- a check of a stack, which assumes nothing
 abbrev pub check_on : Stack → Check
@@ -44,6 +51,8 @@ pub record IsHeld (terms : ℕ) (x : Standing) (s : Stack) : Type 0 where
   pub stack : IsStack terms x s
   -- commands left it, and its names can be printed
   pub kept : IsKeptCheck terms (check_on s)
+  -- its definitions stand for terms that can be read back
+  pub readable : AreReadable (signature_of s)
 
 -- it stands for some stack
 abbrev pub HoldsSome : ℕ → Standing → Type 0
@@ -55,14 +64,17 @@ IsEvidence t budget (found.Model interp) f =
     (i : Interpretation) × HasTables t interp × Stands t interp i × Interprets i t.symbols × (f ≡ model i)
 IsEvidence t budget (found.Proof log plan) f =
     IsLogOf t log × Fits t log plan × (f ≡ proof (proof_text (lines_of t.terms (derivation_in t log) plan)))
-IsEvidence t budget (found.Spent (reasons.Conflicts n)) f =
+IsEvidence t budget (found.Reason (reasons.Conflicts n)) f =
     (d : Derivation) × (f ≡ spent n d (map (map (literal_at t)) budget.learned))
+IsEvidence t budget (found.Reason (reasons.Overflow s)) f = f ≡ strained (overflow s.wide)
+IsEvidence t budget (found.Reason (reasons.Pivots n)) f = f ≡ out_of_pivots n
 
 -- it is evidence of something
 abbrev pub IsSomeEvidence : TableView → Evidence → Type 0
 IsSomeEvidence t e = (budget : BudgetView) × (f : Found) × IsEvidence t budget e f
 
--- what was found is that of an outcome: its model, the proof that is printed of its log, or the clauses that it learned
+-- what was found is that of an outcome: its model, the proof that is printed of its log, the clauses that it learned, the operation that
+-- leaves the bound, or the number of exchanges
 abbrev pub IsFoundBy : TableView → Outcome → Found → Type 0
 IsFoundBy t o (model i) = (interp : Interp) × (o.answer ≡ Sat interp) × Stands t interp i
 IsFoundBy t o (proof text) =
@@ -71,6 +83,8 @@ IsFoundBy t o (proof text) =
 IsFoundBy t o (spent n d learned) =
     (o.answer ≡ Unknown (reasons.Conflicts n)) × (d ≡ derivation_in t o.log)
     × (learned ≡ map (map (literal_at t)) o.budget.learned)
+IsFoundBy t o (strained x) = (s : Strain) × (o.answer ≡ Unknown (reasons.Overflow s)) × (x ≡ overflow s.wide)
+IsFoundBy t o (out_of_pivots n) = o.answer ≡ Unknown (reasons.Pivots n)
 
 -- it shows what it should of a stack, within limits, and is that of an outcome
 abbrev pub IsShown : Limits → TableView → Stack → Evidence → Outcome → Type 0
@@ -79,7 +93,7 @@ IsShown limits t s e o =
 
 -- the outcome is that of a decision on the assertions of a stack
 abbrev pub Decides : Limits → TableView → Stack → Outcome → Type 0
-Decides limits t s o = IsJustified t (asserting (terms_asserted (assertions_of s))) limits.conflicts o
+Decides limits t s o = IsJustified t (asserting (terms_asserted (assertions_of s))) (limits_of limits) o
 
 -- the budget is that of a decision on the assertions of a stack, which found this: it has the limit on conflicts, and
 -- its clauses are those that the decision learned and has in its log

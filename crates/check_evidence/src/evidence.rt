@@ -3,11 +3,14 @@
 ghost use Rattle.std.specs.Prelude.{◌≡◌, ℕ, true, List, IfOk, OnErr};
 ghost use Rattle.spec_sorts.specs.Terms.{Term};
 ghost use Rattle.spec_sorts.specs.Signatures.{symbols_in};
-ghost use Rattle.spec_commands.specs.Stack.{Stack as ScriptStack, signature_of, all_in_reach, assertions_of};
+ghost use Rattle.spec_commands.specs.Stack.{Stack as ScriptStack, signature_of};
+ghost use Rattle.spec_readable.specs.Readable.{AreReadable};
 ghost use Rattle.spec_derivations.specs.Examples.{asserting};
 ghost use Rattle.spec_sessions.specs.Evidence.{Limits as SpokenLimits};
 ghost use Rattle.spec_sessions.specs.Meaning.{IsKeptCheck};
+ghost use Rattle.sat_budget.specs.declared.limits.Limits.{Limits as CodeLimits};
 ghost use Rattle.assertion_stack.specs.Stacks.{standing};
+ghost use Rattle.solve_core.specs.Rounds.{HasLimits};
 ghost use Rattle.solve_core.specs.Decisions.{IsJustified};
 ghost use Rattle.check_evidence.specs.Evidence.{limits_meant, check_on, IsHeld, HoldsSome, Decides, IsShown, Checks};
 
@@ -19,9 +22,15 @@ use proof_log::ProofLog;
 use sat_budget::{Budget, Limits, Reason};
 use solve_core::{Answer, Outcome, decide};
 use spec_commands::{assertions_are_formulas, commands_keep_stacks};
-use spec_derivations::search_laws::search_clauses_are_over_search_terms;
-use spec_proof_texts::laws::{lines_in_reach_have_no_numbers, well_sorted_terms_are_printable};
+use spec_derivations::search_laws::whole_clauses_are_over_whole_terms;
+use spec_overflows::laws::{forms_fail_by_overflows, rules_fail_by_overflows};
+use spec_proof_texts::laws::well_sorted_terms_are_printable;
+use spec_readable::laws::{
+    assertions_are_readable, linear_terms_with_decimals_are_readable, search_makes_readable_terms,
+};
+use spec_valuations::laws::searches_add_no_numbers;
 use std::alloc::Global;
+use strain_overflows::laws::{numbers_strain_by_overflows, simplex_strains_by_overflows};
 use term_core::TermTable;
 use term_walks::Interp;
 use world_io::NoMemory;
@@ -35,14 +44,14 @@ pub enum Evidence {
     Model(Interp),
     /// A log with a clause that is empty, and what is printed for it.
     Proof(ProofLog, Plan),
-    /// What was spent without an answer.
-    Spent(Reason),
+    /// Why there is no answer.
+    Reason(Reason),
 }
 
 /// Checks what is asserted, all of which the search must reach, and keeps what was learned in the budget.
 ///
 /// The table grows by terms that the search and its lemmas speak of. The budget is then that of the decision, under the
-/// limit on conflicts. `NoMemory` comes where memory ran out; table and budget are then as they were.
+/// limits on conflicts and pivots. `NoMemory` comes where memory ran out; table and budget are then as they were.
 pub fn check(
     alloc: Global,
     table: &mut TermTable,
@@ -54,11 +63,12 @@ pub fn check(
     requires reach { stack.now.assertions.in_reach ≡ true }
     ensures checks { (s : ScriptStack) → IsHeld limits.now.terms (standing table.old stack.now) s
         → Checks (limits_meant limits.now) s result (standing table.new stack.now) budget.new }
-    ensures limit { IfOk result (λ _. budget.new.limit ≡ limits.now.conflicts) }
+    ensures limits { IfOk result (λ _. HasLimits limits.now budget.new) }
     ensures table { OnErr result (table.new ≡ table.old) }
     ensures budget { OnErr result (budget.new ≡ budget.old) }
 {
     assertions_are_formulas();
+    assertions_are_readable();
     stacks_stand_in_grown_tables();
     let len = table.len();
     let outcome = decide(alloc, table, stack.assertions.as_slice(), limits)?;
@@ -83,17 +93,24 @@ fn evidence_of(
     table: &TermTable,
     outcome: Outcome,
 ) -> Result<(Evidence, Budget), NoMemory>
-    requires { (terms : List Term) × (conflicts : ℕ) × IsJustified table.now (asserting terms) conflicts outcome }
+    requires { (terms : List Term) × (limits : CodeLimits) × IsJustified table.now (asserting terms) limits outcome }
     ensures shown { IfOk result (λ x. (limits : SpokenLimits) (s : ScriptStack)
-        → IsKeptCheck limits.terms (check_on s) → all_in_reach (assertions_of s) ≡ true
+        → IsKeptCheck limits.terms (check_on s) → AreReadable (signature_of s)
         → symbols_in (signature_of s) ≡ table.now.symbols → Decides limits table.now s outcome
         → IsShown limits table.now s x.0 outcome) }
     ensures budget { IfOk result (λ x. x.1 ≡ outcome.budget) }
 {
     commands_keep_stacks();
-    search_clauses_are_over_search_terms();
+    assertions_are_readable();
+    search_makes_readable_terms();
+    linear_terms_with_decimals_are_readable();
+    searches_add_no_numbers();
+    forms_fail_by_overflows();
+    rules_fail_by_overflows();
+    simplex_strains_by_overflows();
+    numbers_strain_by_overflows();
+    whole_clauses_are_over_whole_terms();
     well_sorted_terms_are_printable();
-    lines_in_reach_have_no_numbers();
     logs_are_over_their_terms();
     terms_are_printable(table);
     let Outcome {
@@ -107,6 +124,6 @@ fn evidence_of(
             let plan = prepare(alloc, &log, table, step)?;
             Ok((Evidence::Proof(log, plan), budget))
         }
-        Answer::Unknown(reason) => Ok((Evidence::Spent(reason), budget)),
+        Answer::Unknown(reason) => Ok((Evidence::Reason(reason), budget)),
     }
 }

@@ -14,7 +14,7 @@ ghost use Rattle.check_evidence.specs.Evidence.{checked_on, IsEvidence, IsSomeEv
 use crate::evidence::Evidence;
 use alethe_writer::send as send_proof;
 use model_text::send as send_model;
-use reply_text::{Word, spent, word};
+use reply_text::{Word, overflow, pivots_spent, spent, word};
 use sat_budget::Reason;
 use term_core::TermTable;
 use world_io::{Failed, Sink};
@@ -38,7 +38,7 @@ fn word_of(evidence: &Evidence) -> Word
     match evidence {
         Evidence::Model(_) => Word::Sat,
         Evidence::Proof(_, _) => Word::Unsat,
-        Evidence::Spent(_) => Word::Unknown,
+        Evidence::Reason(_) => Word::Unknown,
     }
 }
 
@@ -59,6 +59,8 @@ pub fn send_evidence<K: Sink>(
     match evidence {
         Evidence::Model(interp) => send_model(interp, table, out),
         Evidence::Proof(log, plan) => send_proof(plan, log, table, out),
-        Evidence::Spent(Reason::Conflicts(count)) => spent(*count, out),
+        Evidence::Reason(Reason::Overflow(strain)) => overflow(strain.wide, out),
+        Evidence::Reason(Reason::Conflicts(count)) => spent(*count, out),
+        Evidence::Reason(Reason::Pivots(count)) => pivots_spent(*count, out),
     }
 }

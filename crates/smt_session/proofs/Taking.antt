@@ -24,16 +24,18 @@ use Rattle.term_core.specs.Tables.{TableView}
 use Rattle.sat_budget.specs.Budgets.{BudgetView}
 use Rattle.assertion_stack.specs.declared.stack.Stack.{Stack as CodeStack}
 use Rattle.assertion_stack.specs.Stacks.{Standing, standing, IsStack, Steps}
+use Rattle.spec_readable.specs.Readable.{AreReadable}
 use Rattle.check_evidence.specs.Evidence.{check_on, IsHeld}
 use Rattle.smt_session.specs.declared.responses.Response.{Response as CodeResponse}
 use Rattle.smt_session.specs.declared.responses.Response.TheVariants as responses
 use Rattle.smt_session.specs.Sessions.{KeepsBudget, Rejects, IsTaken, Takes}
 
 -- nothing is stated at first
-pub first_held : (limit : ℕ) (t : TableView) (x : CodeStack) → t ≡ record { sorts = []; symbols = []; terms = [] } → ((u : TableView) → u.sorts ≡ [] → u.symbols ≡ [] → IsStack limit (standing u x) empty_stack) → IsKept limit empty_stack → AreScriptNames (signature_of empty_stack) → IsHeld limit (standing t x) empty_stack
-first_held limit t x e stands kept names = record {
+pub first_held : (limit : ℕ) (t : TableView) (x : CodeStack) → t ≡ record { sorts = []; symbols = []; terms = [] } → ((u : TableView) → u.sorts ≡ [] → u.symbols ≡ [] → IsStack limit (standing u x) empty_stack) → IsKept limit empty_stack → AreScriptNames (signature_of empty_stack) → AreReadable (signature_of empty_stack) → IsHeld limit (standing t x) empty_stack
+first_held limit t x e stands kept names readable = record {
   stack = stands t (ap (λ (u : TableView). u.sorts) e) (ap (λ (u : TableView). u.symbols) e);
   kept = record { stack = kept; assumptions = All-nil (IsAsserted limit (signature_of empty_stack)); names = names };
+  readable = readable;
 }
 
 -- the laws on commands: what they leave is kept, and its names can be printed

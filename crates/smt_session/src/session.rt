@@ -4,6 +4,7 @@ ghost use Rattle.std.specs.Prelude.{◌≡◌, ◌≤◌, [], IfOk, OnErr, IsErr
 ghost use Rattle.world_io.specs.Outside.{Rose};
 ghost use Rattle.spec_commands.specs.Stack.{Stack as ScriptStack, empty_stack};
 ghost use Rattle.assertion_stack.specs.Stacks.{standing};
+ghost use Rattle.solve_core.specs.Rounds.{HasLimits};
 ghost use Rattle.check_evidence.specs.Evidence.{limits_meant, IsHeld, HoldsSome};
 ghost use Rattle.smt_session.specs.Sessions.{IsSession, Takes, KeepsBudget, Rejects, Stepped};
 
@@ -16,6 +17,7 @@ use smt_lexer::Refused;
 use smt_sexpr::Sexpr;
 use spec_commands::commands_keep_stacks;
 use spec_proof_texts::laws::commands_leave_script_names;
+use spec_readable::laws::commands_leave_readable_definitions;
 use spec_sessions::laws::what_is_shown_is_so;
 use std::alloc::Global;
 use std::marker::Model;
@@ -71,6 +73,7 @@ impl Model for Session {
     ghost use Rattle.std.specs.Coded.{codes};
     ghost use Rattle.term_core.specs.Tables.{table_code};
     ghost use Rattle.assertion_stack.specs.Stacks.{standing};
+    ghost use Rattle.solve_core.specs.Rounds.{HasLimits};
     ghost use Rattle.check_evidence.specs.Evidence.{HoldsSome};
     ghost use Rattle.smt_session.specs.Sessions.{SessionView};
 
@@ -80,7 +83,7 @@ impl Model for Session {
 
     ghost view = { λ x. record { table = x.table; stack = x.stack; limits = x.limits; mode = x.mode; budget = x.budget } };
 
-    ghost invariant = { λ x. HoldsSome x.limits.terms (standing x.table x.stack) × (x.budget.limit ≡ x.limits.conflicts) };
+    ghost invariant = { λ x. HoldsSome x.limits.terms (standing x.table x.stack) × HasLimits x.limits x.budget };
 }
 
 impl Session {
@@ -90,10 +93,11 @@ impl Session {
     /// the terms of a command may have. `NoMemory` comes where memory ran out.
     pub fn new(alloc: Global, limits: &Limits, mode: Mode) -> Result<Session, NoMemory>
         ensures begun { IfOk result (λ x. IsSession x empty_stack × (x.limits ≡ limits.now) × (x.mode ≡ mode)) }
-        ensures budget { IfOk result (λ x. (x.budget.learned ≡ []) × (x.budget.limit ≡ limits.now.conflicts)) }
+        ensures budget { IfOk result (λ x. (x.budget.learned ≡ []) × (x.budget.exchanges ≡ []) × HasLimits limits.now x.budget) }
     {
         commands_keep_stacks();
         commands_leave_script_names();
+        commands_leave_readable_definitions();
         let budget = Budget::new(alloc, limits)?;
         Ok(Session {
             alloc,
@@ -105,12 +109,12 @@ impl Session {
         })
     }
 
-    /// Gives the budget of the last check that was answered, with its limit on conflicts and the clauses that it learned; before the
-    /// first one there are none. At `unsat` these clauses are in the log whose steps are printed, and at `unknown` they show it. At
+    /// Gives the budget of the last check that was answered, with its limits, the clauses that it learned and the exchanges that it
+    /// made; before the first one there are none. At `unsat` these clauses are in the log whose steps are printed, and at `unknown` they show it. At
     /// `sat` some search with that model has them: no clause says that it is the one that was run. It takes no memory.
     pub fn budget(&self) -> &Budget
         ensures budget { result.now ≡ self.now.budget }
-        ensures limit { result.now.limit ≡ self.now.limits.conflicts }
+        ensures limits { HasLimits self.now.limits result.now }
     {
         &self.budget
     }
@@ -127,7 +131,7 @@ impl Session {
     /// Source: SMT-LIB 2.6, sections 3.9 and 4.2.
     pub fn step<K: Sink>(&mut self, command: &Sexpr<'_>, out: &mut K) -> Result<After, Halt>
         ensures same { (self.new.limits ≡ self.old.limits) × (self.new.mode ≡ self.old.mode) }
-        ensures limit { self.new.budget.limit ≡ self.new.limits.conflicts }
+        ensures limits { HasLimits self.new.limits self.new.budget }
         ensures stepped { Stepped self.old self.new command.now result (K.state out.old) (K.state out.new) }
         ensures failed { IsErrOf result Halt.Sink → Rose (K.state out.old).faults (K.state out.new).faults }
         ensures count { (K.state out.old).faults ≤ (K.state out.new).faults }
@@ -163,10 +167,11 @@ fn take<'a>(
     ensures table { OnErr result (table.new ≡ table.old) }
     ensures stack { OnErr result (stack.new ≡ stack.old) }
     ensures budget { KeepsBudget result budget.old budget.new }
-    ensures limit { budget.old.limit ≡ limits.now.conflicts → budget.new.limit ≡ limits.now.conflicts }
+    ensures limits { HasLimits limits.now budget.old → HasLimits limits.now budget.new }
 {
     commands_keep_stacks();
     commands_leave_script_names();
+    commands_leave_readable_definitions();
     let started = stack.started;
     match stack.command(alloc, table, command) {
         Ok(Effect::Done) => Ok(Response::Success),

@@ -21,7 +21,7 @@ pub record Names : Type 0 where
 pub record Budgets : Type 0 where
   -- how many conflicts it may learn from
   pub conflicts : ℕ
-  -- how many pivots it may make; this has no effect yet
+  -- how many pivots it may make
   pub pivots : ℕ
 
 -- the two as one
@@ -100,7 +100,7 @@ budgets_in rows =
 
 -- the limits of a run in which each check may spend so much
 abbrev pub limits_by : Budgets → Limits
-limits_by budgets = record { conflicts = budgets.conflicts; terms = term_limit }
+limits_by budgets = record { conflicts = budgets.conflicts; pivots = budgets.pivots; terms = term_limit }
 
 -- the run that the values of a command's matches ask for; where no name is given, that of the empty name
 abbrev pub run_in : Mode → List Row → Option Asked

@@ -49,7 +49,7 @@ pub(crate) struct RunRequest<'a> {
     pub(crate) name: &'a str,
     /// How many conflicts each check may learn from, from 1 to 1,000,000,000.
     pub(crate) conflicts: u64,
-    /// How many pivots each check may make, from 1 to 1,000,000,000. It has no effect yet.
+    /// How many pivots each check may make, from 1 to 1,000,000,000.
     pub(crate) pivots: u64,
 }
 

@@ -1,14 +1,14 @@
 -- The stack stands for the same stack, over a table that grew, or was cut back.
 use Rattle.std.proofs.Common.{sym, ap, ◌∙◌, subst}
 use Rattle.spec_derivations.specs.Examples.{asserting}
-use Rattle.spec_derivations.specs.Models.{AreInReach}
 use Rattle.term_core.specs.Tables.{clause_at}
 use Rattle.proof_log.specs.Logs.{AreFormulasIn}
 use Rattle.assertion_stack.specs.Stacks.{standing}
 use Rattle.assertion_stack.proofs.Back.{table_back}
+use Rattle.solve_core.specs.Reach.{AreAnswered}
 use Rattle.solve_core.specs.Decisions.{IsJustified}
 use Rattle.check_evidence.specs.Evidence.{limits_meant, IsHeld}
-use Rattle.check_evidence.proofs.Asking.{formulas_asked, reached_asked}
+use Rattle.check_evidence.proofs.Asking.{formulas_asked, answered_asked}
 use Rattle.check_evidence.proofs.evidence.check.Goals as goal
 
 pub decide-requires-clause-roots : goal.decide-requires-clause-roots
@@ -20,11 +20,14 @@ decide-requires-clause-roots c =
     subst (AreFormulasIn t) (sym c.as_slice.ensures)
     (formulas_asked limit t c.args.stack.now s h.stack (c.assertions_are_formulas.ensures.formula limit s h.kept.stack))
 
-pub decide-requires-clause-reach : goal.decide-requires-clause-reach
-decide-requires-clause-reach c =
+pub decide-requires-clause-answered : goal.decide-requires-clause-answered
+decide-requires-clause-answered c =
     let t = c.args.table.now in
-    subst (λ ids. AreInReach (clause_at t ids)) (sym c.as_slice.ensures)
-    (reached_asked c.args.limits.now.terms t c.args.stack.now c.requires.held.0 c.requires.held.1.stack c.requires.reach)
+    let s = c.requires.held.0 in
+    let h = c.requires.held.1 in
+    let limit = c.args.limits.now.terms in
+    subst (λ ids. AreAnswered (clause_at t ids)) (sym c.as_slice.ensures)
+    (answered_asked limit t c.args.stack.now s h.stack (c.assertions_are_readable.ensures limit s h.kept.stack h.readable) c.requires.reach)
 
 pub returns-in-Ok-clause-checks : goal.returns-in-Ok-clause-checks
 returns-in-Ok-clause-checks c = λ s h.
@@ -32,15 +35,16 @@ returns-in-Ok-clause-checks c = λ s h.
     let l = c.args.limits.now in
     let d = c.in_ok-outcome.ensures in
     let terms = ap (clause_at t) c.as_slice.ensures ∙ h.stack.terms in
-    let decided = subst (λ us. IsJustified c.decide.new.table (asserting us) l.conflicts c.in_ok-outcome.outcome) terms d.decided in
+    let decided = subst (λ us. IsJustified c.decide.new.table (asserting us) l c.in_ok-outcome.outcome) terms d.decided in
     record {
       outcome = c.in_ok-outcome.outcome;
       decided = decided;
       budget_is = rw c.in-Ok.learned-is c.in-Ok.ensures.budget;
-      shown = rw c.in-Ok.evidence-is (c.in-Ok.ensures.shown (limits_meant l) s h.kept (sym h.stack.in_reach ∙ c.requires.reach) (sym h.stack.symbols ∙ sym (ap (λ v. v.symbols) d.declared)) decided);
+      shown = rw c.in-Ok.evidence-is (c.in-Ok.ensures.shown (limits_meant l) s h.kept h.readable (sym h.stack.symbols ∙ sym (ap (λ v. v.symbols) d.declared)) decided);
       held = record {
         stack = c.stacks_stand_in_grown_tables.ensures l.terms t c.decide.new.table c.args.stack.now s h.stack (record { extends = d.grown; declared = d.declared });
         kept = h.kept;
+        readable = h.readable;
       };
     }
 

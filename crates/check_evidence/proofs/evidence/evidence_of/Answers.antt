@@ -11,21 +11,23 @@ use Rattle.spec_sessions.specs.Evidence.{proof}
 use Rattle.spec_sessions.specs.Refutations.{IsProofOf}
 use Rattle.term_core.specs.Tables.{literal_at}
 use Rattle.proof_log.specs.Logs.{inference_of, derivation_in}
-use Rattle.solve_core.specs.Rounds.{added_by, HasSteps, HasEvidence}
+use Rattle.spec_readable.specs.Readable.{IsReadableWhole}
+use Rattle.solve_core.specs.Rounds.{HasLogged, HasEvidence}
 use Rattle.check_evidence.specs.Evidence.{check_on}
-use Rattle.check_evidence.proofs.Reached.{IsReached, asserted_reached, head_reached, printed_reached}
-use Rattle.check_evidence.proofs.Showing.{model_shown, any_reason_shown}
+use Rattle.check_evidence.proofs.Asking.{asserted_readable}
+use Rattle.check_evidence.proofs.Printed.{printed_readable}
+use Rattle.check_evidence.proofs.Showing.{model_shown, reason_shown}
 use Rattle.check_evidence.proofs.evidence.evidence_of.Goals as goal
 
 pub returns-in-Sat-clause-shown : goal.returns-in-Sat-clause-shown
-returns-in-Sat-clause-shown c = λ limits s kept reach symbols h.
+returns-in-Sat-clause-shown c = λ limits s kept readable symbols h.
     let t = c.args.table.now in
     let o = c.args.outcome in
     model_shown limits t s symbols o (λ i. c.commands_keep_stacks.ensures.value limits.terms s i kept.stack) c.in-Sat.interp c.in-Sat.is
     (subst (HasEvidence t (asserting (terms_asserted (assertions_of s))) o.log o.budget) c.in-Sat.is h.evidence)
 
 pub returns-in_ok-plan-in-Unsat-clause-shown : goal.returns-in_ok-plan-in-Unsat-clause-shown
-returns-in_ok-plan-in-Unsat-clause-shown c = λ limits s kept reach symbols h.
+returns-in_ok-plan-in-Unsat-clause-shown c = λ limits s kept readable symbols h.
     let t = c.args.table.now in
     let o = c.args.outcome in
     let d = derivation_in t o.log in
@@ -35,11 +37,11 @@ returns-in_ok-plan-in-Unsat-clause-shown c = λ limits s kept reach symbols h.
     let asked = terms_asserted (assertions_of s) in
     let learned = map (map (literal_at t)) o.budget.learned in
     let shown = subst (HasEvidence t (asserting asked) o.log o.budget) c.in-Unsat.is h.evidence in
-    let steps = subst (λ a. HasSteps (asserting asked) d (added_by a learned)) c.in-Unsat.is h.learning.logged in
-    let reached : (u : Term) → IsPrinted d n u → IsReached u =
-    printed_reached asked (asserted_reached (assertions_of s) reach) c.search_clauses_are_over_search_terms.ensures d learned h.learning.learns.atoms steps n in
+    let steps = subst (λ a. HasLogged (asserting asked) d a learned) c.in-Unsat.is h.learning.logged in
+    let terms = asserted_readable (assertions_of s) (c.assertions_are_readable.ensures limits.terms s kept.stack readable) in
+    let printed : (u : Term) → IsPrinted d n u → IsReadableWhole u =
+    printed_readable c.search_makes_readable_terms.ensures.lemmas c.search_makes_readable_terms.ensures.first_atoms asked terms c.whole_clauses_are_over_whole_terms.ensures d learned h.learning.learns.atoms steps n in
     let planned = c.in_ok-plan-in-Unsat.ensures.plan in
-    let no_numbers = c.lines_in_reach_have_no_numbers.ensures t.terms d n p planned (λ u q. head_reached u (reached u q)) in
     let is_proof : IsProofOf (check_on s) (proof_text (lines_of t.terms d p)) = record {
       terms = t.terms;
       derivation = d;
@@ -50,17 +52,17 @@ returns-in_ok-plan-in-Unsat-clause-shown c = λ limits s kept reach symbols h.
       empty = shown.0;
       printable = c.terms_are_printable.ensures (signature_of s) o.log n kept.names (λ f i. subst (λ fs. Contains fs f) (sym symbols) i) h.log_right
           (omega (arith, shown.1.there, length-map o.log (inference_of t)))
-          (λ u q. c.well_sorted_terms_are_printable.ensures.reach u (head_reached u (reached u q)));
+          (λ u q. let r = printed u q in c.linear_terms_with_decimals_are_readable.ensures u r.0 r.1);
       plan = p;
       planned = planned;
-      few = omega (arith, no_numbers);
       written = refl;
     } in
     (proof (proof_text (lines_of t.terms d p)), is_proof, (h.log_right, c.in_ok-plan-in-Unsat.ensures.fits, refl), (step, p, c.in-Unsat.is, planned, refl))
 
 pub returns-in-Unknown-clause-shown : goal.returns-in-Unknown-clause-shown
-returns-in-Unknown-clause-shown c = λ limits s kept reach symbols h.
+returns-in-Unknown-clause-shown c = λ limits s kept readable symbols h.
     let t = c.args.table.now in
     let o = c.args.outcome in
-    any_reason_shown limits t s symbols o c.in-Unknown.reason c.in-Unknown.is h.limit_is
+    reason_shown limits t s symbols o c.searches_add_no_numbers.ensures c.forms_fail_by_overflows.ensures.constraints c.rules_fail_by_overflows.ensures.numbers c.simplex_strains_by_overflows.ensures
+    c.numbers_strain_by_overflows.ensures c.in-Unknown.reason c.in-Unknown.is h.limits_are
     (subst (HasEvidence t (asserting (terms_asserted (assertions_of s))) o.log o.budget) c.in-Unknown.is h.evidence)

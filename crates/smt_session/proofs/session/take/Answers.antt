@@ -14,7 +14,7 @@ returns-in-Ok-Done-clause-takes c = λ s h.
     let l = limits_meant c.args.limits.now in
     let d = rw c.in-Ok-Done.field-0-is at (c.in-Ok-Done.ensures.steps l.terms s h.stack) in
     let kept = kept_on c.commands_keep_stacks.ensures.next c.commands_leave_script_names.ensures.next l.terms s x d.0 d.1 h.kept in
-    record { a = record { response = success; stack = d.0.stack }; answers = taken_as l s (tree_of x) success done d.0 d.1 d.2 refl; is = refl; asked = tt; held = record { stack = d.3; kept = kept }; learned = tt }
+    record { a = record { response = success; stack = d.0.stack }; answers = taken_as l s (tree_of x) success done d.0 d.1 d.2 refl; is = refl; asked = tt; held = record { stack = d.3; kept = kept; readable = c.commands_leave_readable_definitions.ensures.next l.terms s (tree_of x) d.0 d.1 h.readable }; learned = tt }
 
 pub returns-in-Ok-Unsupported-clause-takes : goal.returns-in-Ok-Unsupported-clause-takes
 returns-in-Ok-Unsupported-clause-takes c = λ s h.
@@ -22,7 +22,7 @@ returns-in-Ok-Unsupported-clause-takes c = λ s h.
     let l = limits_meant c.args.limits.now in
     let d = rw c.in-Ok-Unsupported.field-0-is at (c.in-Ok-Unsupported.ensures.steps l.terms s h.stack) in
     let kept = kept_on c.commands_keep_stacks.ensures.next c.commands_leave_script_names.ensures.next l.terms s x d.0 d.1 h.kept in
-    record { a = record { response = not_supported; stack = d.0.stack }; answers = taken_as l s (tree_of x) not_supported unsupported d.0 d.1 d.2 refl; is = refl; asked = tt; held = record { stack = d.3; kept = kept }; learned = tt }
+    record { a = record { response = not_supported; stack = d.0.stack }; answers = taken_as l s (tree_of x) not_supported unsupported d.0 d.1 d.2 refl; is = refl; asked = tt; held = record { stack = d.3; kept = kept; readable = c.commands_leave_readable_definitions.ensures.next l.terms s (tree_of x) d.0 d.1 h.readable }; learned = tt }
 
 pub returns-in-Ok-Say-clause-takes : goal.returns-in-Ok-Say-clause-takes
 returns-in-Ok-Say-clause-takes c = λ s h.
@@ -31,7 +31,7 @@ returns-in-Ok-Say-clause-takes c = λ s h.
     let text = c.in-Ok-Say.text.now in
     let d = rw c.in-Ok-Say.field-0-is at (c.in-Ok-Say.ensures.steps l.terms s h.stack) in
     let kept = kept_on c.commands_keep_stacks.ensures.next c.commands_leave_script_names.ensures.next l.terms s x d.0 d.1 h.kept in
-    record { a = record { response = said text; stack = d.0.stack }; answers = taken_as l s (tree_of x) (said text) (say text) d.0 d.1 d.2 refl; is = refl; asked = tt; held = record { stack = d.3; kept = kept }; learned = tt }
+    record { a = record { response = said text; stack = d.0.stack }; answers = taken_as l s (tree_of x) (said text) (say text) d.0 d.1 d.2 refl; is = refl; asked = tt; held = record { stack = d.3; kept = kept; readable = c.commands_leave_readable_definitions.ensures.next l.terms s (tree_of x) d.0 d.1 h.readable }; learned = tt }
 
 pub returns-in-Ok-Exit-clause-takes : goal.returns-in-Ok-Exit-clause-takes
 returns-in-Ok-Exit-clause-takes c = λ s h.
@@ -39,7 +39,7 @@ returns-in-Ok-Exit-clause-takes c = λ s h.
     let l = limits_meant c.args.limits.now in
     let d = rw c.in-Ok-Exit.field-0-is at (c.in-Ok-Exit.ensures.steps l.terms s h.stack) in
     let kept = kept_on c.commands_keep_stacks.ensures.next c.commands_leave_script_names.ensures.next l.terms s x d.0 d.1 h.kept in
-    record { a = record { response = ended; stack = d.0.stack }; answers = taken_as l s (tree_of x) ended leave d.0 d.1 d.2 refl; is = refl; asked = tt; held = record { stack = d.3; kept = kept }; learned = tt }
+    record { a = record { response = ended; stack = d.0.stack }; answers = taken_as l s (tree_of x) ended leave d.0 d.1 d.2 refl; is = refl; asked = tt; held = record { stack = d.3; kept = kept; readable = c.commands_leave_readable_definitions.ensures.next l.terms s (tree_of x) d.0 d.1 h.readable }; learned = tt }
 
 pub check-requires-clause-held : goal.check-requires-clause-held
 check-requires-clause-held c =
@@ -47,7 +47,7 @@ check-requires-clause-held c =
     let terms = c.args.limits.now.terms in
     let h = c.requires.1 in
     let d = rw c.in-Ok-Check.field-0-is at (c.in-Ok-Check.ensures.steps terms c.requires.0 h.stack) in
-    (d.0.stack, record { stack = d.3; kept = kept_on c.commands_keep_stacks.ensures.next c.commands_leave_script_names.ensures.next terms c.requires.0 x d.0 d.1 h.kept })
+    (d.0.stack, record { stack = d.3; kept = kept_on c.commands_keep_stacks.ensures.next c.commands_leave_script_names.ensures.next terms c.requires.0 x d.0 d.1 h.kept; readable = c.commands_leave_readable_definitions.ensures.next terms c.requires.0 (tree_of x) d.0 d.1 h.readable })
 
 pub returns-then-not-are_in_reach-clause-takes : goal.returns-then-not-are_in_reach-clause-takes
 returns-then-not-are_in_reach-clause-takes c = λ s h.
@@ -57,7 +57,7 @@ returns-then-not-are_in_reach-clause-takes c = λ s h.
     let kept = kept_on c.commands_keep_stacks.ensures.next c.commands_leave_script_names.ensures.next l.terms s x d.0 d.1 h.kept in
     let far = sym (c.if-not-are_in_reach.ensures.reach l.terms c.command.new.table d.0.stack d.3) in
     let r = c.unreached_check in
-    unreached_as l s x c.in-Ok-Check.at d.0 (standing c.command.new.table c.command.new.self) c.args.budget.now r.result d.1 d.2 far r.ensures.fault r.ensures.place (r.ensures.offset l.terms s d.0 d.1 d.2) (record { stack = d.3; kept = kept })
+    unreached_as l s x c.in-Ok-Check.at d.0 (standing c.command.new.table c.command.new.self) c.args.budget.now r.result d.1 d.2 far r.ensures.fault r.ensures.place (r.ensures.offset l.terms s d.0 d.1 d.2) (record { stack = d.3; kept = kept; readable = c.commands_leave_readable_definitions.ensures.next l.terms s (tree_of x) d.0 d.1 h.readable })
 
 pub returns-in-Ok-clause-takes : goal.returns-in-Ok-clause-takes
 returns-in-Ok-clause-takes c = λ s h.
@@ -65,7 +65,8 @@ returns-in-Ok-clause-takes c = λ s h.
     let l = limits_meant c.args.limits.now in
     let d = rw c.in-Ok-Check.field-0-is at (c.in-Ok-Check.ensures.steps l.terms s h.stack) in
     let kept = kept_on c.commands_keep_stacks.ensures.next c.commands_leave_script_names.ensures.next l.terms s x d.0 d.1 h.kept in
-    let k = c.in-Ok.ensures.checks d.0.stack (record { stack = d.3; kept = kept }) in
+    let readable = c.commands_leave_readable_definitions.ensures.next l.terms s (tree_of x) d.0 d.1 h.readable in
+    let k = c.in-Ok.ensures.checks d.0.stack (record { stack = d.3; kept = kept; readable = readable }) in
     let found = checked_on d.0.stack k.shown.0 in
     let evidence = subst (λ b. IsEvidence c.check.new.table b c.in-Ok.evidence k.shown.0) (sym k.budget_is) k.shown.2 in
     record {

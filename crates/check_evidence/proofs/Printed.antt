@@ -1,0 +1,110 @@
+-- That each term which is printed for an answer can be read back: it is of a clause that the search began with, of a lemma, or of a clause that was learned.
+use Rattle.std.proofs.Common.{◌≡◌, ℕ, List, [], ◌∷◌, ◌++◌, length, All, Contains, inl, inr, refl, sym, ◌∙◌, subst, ◌+◌}
+use Rattle.std.proofs.lemmas.Bool.{cases_lt}
+use Rattle.std.proofs.lemmas.List.{append-nil, get_or_past}
+use Rattle.std.proofs.lemmas.List.Elements.{All-contains, Contains-get_or, Contains-append_left, Contains-append_right, Contains-append_cases, Contains-push_cases}
+use Rattle.spec_text.proofs.Members.{first, none, only, each_of, to_image}
+use Rattle.spec_sorts.specs.Terms.{True, Not, Term, Terms, app, nil, cons, list_of, of}
+use Rattle.spec_sorts.specs.Subsets.{arguments_of}
+use Rattle.spec_sorts.specs.Literals.{Clause, Literal, literal_of, literals_of}
+use Rattle.spec_derivations.specs.Problems.{Problem, terms_of_problem}
+use Rattle.spec_derivations.specs.Derivations.{Inference, «assumption», by_rule, Derivation, conclusion, inference_at, conclusion_at, no_inference}
+use Rattle.spec_derivations.specs.Orders.{whole_terms, whole_clauses}
+use Rattle.spec_derivations.specs.Lemmas.{IsMadeOf, given, is_true, IsLemma}
+use Rattle.spec_derivations.specs.Examples.{asserting}
+use Rattle.spec_derivations.specs.Spent.{IsAtomOf, IsOverAtoms}
+use Rattle.spec_proof_texts.specs.Plans.{IsPrinted, in_clause, as_argument}
+use Rattle.spec_arithmetic.specs.Numbers.{IsLinear, AreLinear}
+use Rattle.spec_readable.specs.Readable.{HasDecimals, HaveDecimals, IsReadableWhole}
+use Rattle.solve_core.specs.Rounds.{AreSteps, nothing, lemmas, learning, HasSteps}
+
+-- a term can be read where what it negates can
+bare_readable : (t : Term) → IsReadableWhole (literal_of t).atom → IsReadableWhole t
+unfolding literal_of IsLinear HasDecimals
+bare_readable (app Not (cons t nil)) e = let r = bare_readable t e in ((tt, (r.0, tt)), (tt, (r.1, tt)))
+bare_readable (app Not nil) e = e
+bare_readable (app Not (cons t (cons u vs))) e = e
+bare_readable (app h ts) e = e
+
+-- and those of a clause where the atoms of its literals can
+clause_readable : (c : Clause) → ((l : Literal) → Contains (literals_of c) l → IsReadableWhole l.atom) → (u : Term) → Contains c u → IsReadableWhole u
+clause_readable c h u i = bare_readable u (h (literal_of u) (to_image literal_of c u i))
+
+members_readable : (ts : Terms) → AreLinear ts → HaveDecimals ts → (u : Term) → Contains (list_of ts) u → IsReadableWhole u
+unfolding AreLinear HaveDecimals
+members_readable nil l d u i = absurd (none u i)
+members_readable (cons t ts) l d u i = each_of IsReadableWhole t (list_of ts) (l.0, d.0) (members_readable ts l.1 d.1) u i
+
+-- the arguments of a term that can be read can
+argument_readable : (t : Term) → IsReadableWhole t → (u : Term) → Contains (arguments_of t) u → IsReadableWhole u
+unfolding IsLinear HasDecimals
+argument_readable (app h ts) r = members_readable ts r.0.1 r.1.1
+
+-- each clause that a search begins with is over terms that it speaks of
+abbrev pub AreOverSearchTerms : Type 0
+AreOverSearchTerms = (p : Problem) (c : Clause) (l : Literal) → Contains (whole_clauses p) c → Contains (literals_of c) l → Contains (whole_terms p) l.atom
+
+-- what lemmas and learned clauses are over can be read
+abbrev pub AreMadeReadable : Type 0
+AreMadeReadable = (p : Problem) → All IsReadableWhole (terms_of_problem p) → (t : Term) → IsMadeOf (whole_terms p) t → IsReadableWhole t
+
+abbrev pub AreAtomsReadable : Type 0
+AreAtomsReadable = (p : Problem) → p.earlier ≡ [] → All IsReadableWhole (terms_of_problem p) → (t : Term) → IsAtomOf p t → IsReadableWhole t
+
+module _ (made : AreMadeReadable) (atoms_in : AreAtomsReadable) (ts : List Term) (readable : All IsReadableWhole ts) where
+  whole : All IsReadableWhole (terms_of_problem (asserting ts))
+  whole = subst (All IsReadableWhole) (sym (append-nil ts)) readable
+
+  made_readable : (t : Term) → IsMadeOf (whole_terms (asserting ts)) t → IsReadableWhole t
+  made_readable = made (asserting ts) whole
+
+  -- the terms of lemmas
+  lemma_readable : (n : ℕ) (x : Inference) → IsLemma (whole_terms (asserting ts)) n x → (u : Term) → Contains (conclusion x) u → IsReadableWhole u
+  lemma_readable n («assumption» t) h u i = absurd h
+  lemma_readable n (by_rule r ps arguments c) h u i = made_readable u (All-contains (IsMadeOf (whole_terms (asserting ts))) c u h.1 i)
+
+  -- each literal of these clauses is over a term that can be read
+  abbrev AreReadableLists : List (List Literal) → Type 0
+  AreReadableLists cs = (c : List Literal) → Contains cs c → (l : Literal) → Contains c l → IsReadableWhole l.atom
+
+  -- lemmas, and what was learned where its literals are over such terms, are of terms that can be read
+  steps_readable : (n : ℕ) (xs : Derivation) (cs : List (List Literal)) → AreSteps (whole_terms (asserting ts)) n xs cs → AreReadableLists cs
+      → (x : Inference) → Contains xs x → (u : Term) → Contains (conclusion x) u → IsReadableWhole u
+  steps_readable n _ _ nothing over y i = absurd (none y i)
+  steps_readable n _ _ (lemmas xs ys cs steps each) over y i = elim (Contains-append_cases xs ys y i) [
+    | inl old ↦ steps_readable n xs cs steps over y old
+    | inr new ↦ lemma_readable (n + length xs) y (All-contains (IsLemma (whole_terms (asserting ts)) (n + length xs)) ys y each new)
+  ]
+  steps_readable n _ _ (learning xs x cs steps resolved) over y i = elim (Contains-append_cases xs (x ∷ []) y i) [
+    | inl old ↦ steps_readable n xs cs steps (λ c k. over c (Contains-append_left cs (literals_of (conclusion x) ∷ []) c k)) y old
+    | inr new ↦ subst (λ (z : Inference). (u : Term) → Contains (conclusion z) u → IsReadableWhole u) (only x y new) (clause_readable (conclusion x)
+        (over (literals_of (conclusion x)) (Contains-append_right cs (literals_of (conclusion x) ∷ []) (literals_of (conclusion x)) (first (literals_of (conclusion x)) []))))
+  ]
+
+  module _ (over : AreOverSearchTerms) (d : Derivation) (learned : List (List Literal)) (atoms : All (IsOverAtoms (asserting ts)) learned) (h : HasSteps (asserting ts) d (learned ++ [] ∷ [])) where
+    base_readable : (c : Clause) → Contains (whole_clauses (asserting ts)) c → (l : Literal) → Contains (literals_of c) l → IsReadableWhole l.atom
+    base_readable c i l j = made_readable l.atom (given l.atom (over (asserting ts) c l i j))
+
+    learned_readable : AreReadableLists (learned ++ [] ∷ [])
+    learned_readable c i l j = elim (Contains-push_cases learned [] c i) [
+      | inl k ↦ atoms_in (asserting ts) refl whole l.atom (All-contains (λ (m : Literal). IsAtomOf (asserting ts) m.atom) c l (All-contains (IsOverAtoms (asserting ts)) learned c atoms k) j)
+      | inr e ↦ absurd (none l (subst (λ (ls : List Literal). Contains ls l) (sym e) j))
+    ]
+
+    -- each inference states a clause that the search began with, a lemma, a clause that was learned, or the empty one
+    inference_readable : (x : Inference) → Contains d x → (u : Term) → Contains (conclusion x) u → IsReadableWhole u
+    inference_readable x i = elim (Contains-append_cases h.base h.more x (subst (λ (xs : Derivation). Contains xs x) h.all i)) [
+      | inl b ↦ clause_readable (conclusion x) (base_readable (conclusion x) (All-contains (λ (y : Inference). Contains (whole_clauses (asserting ts)) (conclusion y)) h.base x h.stated b))
+      | inr m ↦ steps_readable (length h.base) h.more (learned ++ [] ∷ []) h.steps learned_readable x m
+    ]
+
+    stated_readable : (m : ℕ) (u : Term) → Contains (conclusion_at d m) u → IsReadableWhole u
+    stated_readable m u i = elim (cases_lt m (length d)) [
+      | inl lt ↦ inference_readable (inference_at d m) (Contains-get_or d m no_inference lt) u i
+      | inr past ↦ subst IsReadableWhole (only (of True []) u (subst (λ (x : Inference). Contains (conclusion x) u) (get_or_past d m no_inference past) i)) (made_readable (of True []) is_true)
+    ]
+
+    -- so each term that is printed can be read
+    pub printed_readable : (n : ℕ) (u : Term) → IsPrinted d n u → IsReadableWhole u
+    printed_readable n _ (in_clause m u rests i) = stated_readable m u i
+    printed_readable n _ (as_argument t u p i) = argument_readable t (printed_readable n t p) u i
