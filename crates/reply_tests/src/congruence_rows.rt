@@ -143,15 +143,15 @@ unsat
 /// Scripts with checks that the search does not reach, each after a line with what is answered to a refutation of `p` and
 /// `(not p)` at the check of that number.
 pub(crate) const UNREACHED: &str = "valid|1
-(declare-const p Bool)(declare-const x Real)(assert (< x 1))(assert p)(assert (not p))(check-sat)
+(declare-const p Bool)(declare-fun f (Bool) Real)(assert (< (f p) 1))(assert p)(assert (not p))(check-sat)
 -- valid|2
-(declare-const p Bool)(declare-const x Real)(assert (< x 1))(check-sat)(assert p)(assert (not p))(check-sat)
+(declare-const p Bool)(declare-fun f (Bool) Real)(assert (< (f p) 1))(check-sat)(assert p)(assert (not p))(check-sat)
 -- NotAsserted 1:12|1
-(declare-const p Bool)(declare-const x Real)(assert (< x 1))(check-sat)(assert p)(assert (not p))(check-sat)
+(declare-const p Bool)(declare-fun f (Bool) Real)(assert (< (f p) 1))(check-sat)(assert p)(assert (not p))(check-sat)
 -- NoSuchCheck 1:1|3
-(declare-const p Bool)(declare-const x Real)(assert (< x 1))(check-sat)(assert p)(assert (not p))(check-sat)
+(declare-const p Bool)(declare-fun f (Bool) Real)(assert (< (f p) 1))(check-sat)(assert p)(assert (not p))(check-sat)
 -- valid|3
-(declare-const p Bool)(check-sat)(assert (= 1 1))(check-sat)(check-sat 1)(assert p)(assert (not p))(check-sat)
+(declare-const p Bool)(declare-fun f (Bool) Real)(check-sat)(assert (= (f p) 1))(check-sat)(check-sat 1)(assert p)(assert (not p))(check-sat)
 -- NotAsserted 2:12|2
 (declare-fun p () Bool)(declare-fun g (Bool) Real)(assert p)(check-sat)(assert (< (g p) 1))(check-sat)(assert (not p))(check-sat)
 ";

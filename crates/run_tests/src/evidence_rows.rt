@@ -87,16 +87,16 @@ sat
 1 smt_cli|certify
 ----
 (set-option :print-success false) ; a check that is out of reach has no model, and the next one has none
-(declare-const x Real)
+(declare-fun f (Bool) Real)
 (check-sat)
-(assert (< 0 x))
+(assert (< 0 (f true)))
 (check-sat)
 (check-sat)
 
 ----
 sat
 (
-  (define-fun x () Real 0)
+  (define-fun f ((@x0 Bool)) Real 0)
 )
 (error \"5:2: UnknownLogic\")
 (error \"6:2: UnknownLogic\")

@@ -312,10 +312,10 @@ valid
 ====
 1 smt_cli|check|--at|2|script.smt2|proof.alethe
 ----
-(declare-const p Bool)(assert p)(check-sat true)(check-sat)(assert (= 1 1))(check-sat) ; one that the search does not reach does
+(declare-const p Bool)(declare-fun f (Bool) Real)(assert p)(check-sat true)(check-sat)(assert (= (f p) 1))(check-sat) ; one that the search does not reach does
 ----
 (assume h1 p)
-(assume h2 (= 1 1))
+(assume h2 (= (f p) 1))
 
 ----
 (error \"3:1: NoEmptyClause\")

@@ -100,7 +100,7 @@ sat
 ====
 1 smt_cli|solve
 ----
-(set-option :print-success false) ; equalities of other sorts are in reach, those of numbers are not
+(set-option :print-success false) ; equalities of each sort are in reach
 (declare-sort U 0)
 (declare-const u U)
 (assert (= u u))
@@ -111,7 +111,7 @@ sat
 
 ----
 sat
-(error \"7:2: UnknownLogic\")
+sat
 (error \"8:1: WrongMode\")
 ====
 0 smt_cli|solve
@@ -138,7 +138,7 @@ unsat
 
 ----
 (error \"3:12: NumberWide\")
-(error \"4:2: UnknownLogic\")
+unsat
 ====
 1 smt_cli|solve
 ----
@@ -155,7 +155,7 @@ unsat
 (error \"4:12: NotLinear\")
 (error \"5:12: ZeroDivisor\")
 (error \"7:12: NotLinear\")
-(error \"8:2: UnknownLogic\")
+sat
 ";
 
 /// Bytes that begin no token, or end none; what ends a run; what is answered to each command; chains.

@@ -29,6 +29,8 @@ mod model_rows;
 #[cfg(test)]
 mod name_rows;
 #[cfg(test)]
+mod number_rows;
+#[cfg(test)]
 mod reading_rows;
 #[cfg(test)]
 mod refusal_rows;

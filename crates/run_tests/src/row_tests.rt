@@ -14,6 +14,7 @@ use crate::language_rows::{LANGUAGE, LOGICS};
 use crate::limit_rows::LIMITS;
 use crate::model_rows::MODELS;
 use crate::name_rows::{NAMES, ROOMS};
+use crate::number_rows::NUMBERS;
 use crate::reading_rows::READS;
 use crate::refusal_rows::REFUSED;
 use crate::row_support::{AMPLE, ROOMY, Run, Way, number_of, outcome_of};
@@ -149,6 +150,7 @@ fn first_of_all(alloc: Global) -> Result<Option<&'static str>, NoMemory> {
         LANGUAGE,
         EVIDENCE,
         FUNCTIONS,
+        NUMBERS,
         SHAPES,
         JUDGEMENTS,
     ] {

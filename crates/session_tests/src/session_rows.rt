@@ -36,8 +36,8 @@ solve 1 1000
 (assert (f (not q)))|went 0|success
 (assert (or (not p) q))|went 0|success
 (check-sat)|went 1|sat
-(declare-const x Real)|went 1|success
-(assert (< x 1))|went 1|success
+(declare-fun h (Bool) Real)|went 1|success
+(assert (< (h p) 1))|went 1|success
 (check-sat)|refused 1|(error \"1:2: UnknownLogic\")
 (exit)|ended 1|success
 ====
