@@ -23,18 +23,23 @@ check forms            forms of a small proof, with odd names, attributes, defin
 functions              scripts over two declared sorts and functions, by `certify`, with `check` of one proof of each;
                        some are solved, too, and compared with the answers of z3 and cvc5 where they are on the path
 few conflicts          such scripts under a small limit on conflicts, where checks may be answered `unknown`
+numbers                scripts over linear real arithmetic, Bool, declared sorts and functions over these, by `certify`,
+                       half of them with small limits on conflicts and pivots; each proof is given back to `check`,
+                       some scripts are solved, too, and put to z3 and cvc5
 
 With --only these kinds alone are run. Whether there is a model is known from truth tables, or else by trying values up
-to a bound (bench/compare/models.py); where that is too much, the model or the proof alone decides. Of each `valid` it
-is looked up that no model was found of all assertions, too.
+to a bound (bench/compare/models.py). Where that is too much, and where there are numbers, the model, the proof or the
+reason of `unknown` alone decides. Of each `valid` it is looked up that no model was found of all assertions, too.
 
-It prints a table of the kinds with the number of runs and of differences. What each difference is on is written to
-files in a temporary folder, which is printed. It ends with status 1 where there is a difference, else with 0.
+It prints a table of the kinds with the number of runs and of differences, and of the last three kinds how the checks
+were answered. What each difference is on is written to files in a temporary folder, which is printed. It ends with
+status 1 where there is a difference, else with 0.
 """
 
 import argparse
 import os
 import random
+import re
 import subprocess
 import sys
 import tempfile
@@ -46,16 +51,19 @@ sys.path.insert(0, os.path.join(os.path.dirname(os.path.abspath(__file__)), "com
 
 import bool_scripts
 from changes import changed, proof_text
+from commands import checks_of, read_script
 from forms import SCRIPTS, a_form
 from function_scripts import a_function_script
 from judging import predict_check
-from language import BOOL, checks_of, read_script
 from layout import damaged, laid_out, tree_of_item
+from number_scripts import a_number_script
 from others import answers_in, answers_of, are_at_odds, solvers
 from proofs import proof_of_single_steps, some_trees
 from reading import read_one
+from reasons import NONE, Limits
 from scripts import NAMES, a_session, an_arithmetic_script
 from sessions import judge_certify, judge_solve, run_script
+from terms import BOOL
 
 MOST_DIFFERENCES = 20
 LONGEST_RUN = 120
@@ -65,6 +73,8 @@ OTHERS = solvers()
 CHECKS = {True: "with a model", False: "without one", None: "left open"}
 # The share of the scripts over functions that are solved too, and put to the others.
 SOLVED_SHARE = 0.1
+# The words of the reasons of `unknown`.
+REASONS = re.compile(rb"^\((overflow|pivots|conflicts)\b", re.MULTILINE)
 
 
 class Comparison:
@@ -78,6 +88,7 @@ class Comparison:
         self.differences = 0
         self.scripts = 0
         self.known = Counter()
+        self.answers = Counter()
         self.asked = dict.fromkeys(OTHERS, 0)
 
     def run(self, words, text=b""):
@@ -104,11 +115,11 @@ class Comparison:
         if wrong or errors:
             self.tell(f"{wrong} {errors!r}", script)
 
-    def certify(self, script, conflicts=None):
-        """Judges `certify` on a script, under a limit on conflicts if one is given; returns the right proofs."""
-        limit = [] if conflicts is None else ["--conflicts", str(conflicts)]
-        output, status, errors = self.run(["certify", *limit], script)
-        wrong, proofs = judge_certify(script, output, status, conflicts)
+    def certify(self, script, limits=NONE):
+        """Judges `certify` on a script, under limits if some are given; returns the right proofs."""
+        output, status, errors = self.run(["certify", *limits.words], script)
+        wrong, proofs = judge_certify(script, output, status, limits)
+        self.answers.update(answers_in(output) + REASONS.findall(output))
         if wrong or errors:
             self.tell(f"{wrong} {errors!r}", script)
         return proofs
@@ -167,10 +178,12 @@ def a_script(share):
     choice = random.random()
     if choice < 0.3:
         return bool_scripts.a_script(share)
-    if choice < 0.4:
+    if choice < 0.35:
         script = an_arithmetic_script() + b"(check-sat)\n"
+    elif choice < 0.5:
+        script = a_number_script()
     else:
-        script = a_function_script() if choice < 0.6 else a_session(share)
+        script = a_function_script() if choice < 0.65 else a_session(share)
     return laid_out(script, NAMES) if random.random() < 0.3 else script
 
 
@@ -258,9 +271,27 @@ def functions(comparison):
 def few_conflicts(comparison):
     script = a_function_script()
     comparison.count(script)
-    proofs = comparison.certify(script, random.choice([1, 1, 2, 3, 5, 8]))
+    proofs = comparison.certify(script, Limits(conflicts=random.choice([1, 1, 2, 3, 5, 8])))
     if proofs:
         comparison.accept(script, *random.choice(proofs))
+
+
+def some_limits():
+    """Returns no limits in half of the cases, else small ones on conflicts, on pivots or on both."""
+    if random.random() < 0.5:
+        return NONE
+    conflicts, pivots = random.choice([1, 2, 3, 5, 8]), random.choice([1, 1, 2, 3, 5, 8, 20])
+    return random.choice([Limits(conflicts), Limits(None, pivots), Limits(None, pivots), Limits(conflicts, pivots)])
+
+
+def numbers(comparison):
+    script = a_number_script()
+    comparison.count(script)
+    for number, proof in comparison.certify(script, some_limits()):
+        comparison.accept(script, number, proof)
+    if random.random() < SOLVED_SHARE:
+        comparison.solve(script)
+        comparison.ask_others(script)
 
 
 KINDS = {
@@ -274,6 +305,7 @@ KINDS = {
     "check forms": check_forms,
     "functions": functions,
     "few conflicts": few_conflicts,
+    "numbers": numbers,
 }
 
 
@@ -310,6 +342,8 @@ def main():
             asked = "".join(f", {count:,} put to {name}" for name, count in comparison.asked.items() if count)
             checks = [f"{comparison.known[known]:,} {word}" for known, word in CHECKS.items()]
             print(f"{comparison.kind}: {comparison.scripts:,} scripts{asked}; checks: {', '.join(checks)}")
+            answers = [f"{count:,} {word.decode()}" for word, count in sorted(comparison.answers.items())]
+            print(f"{comparison.kind}: answers: {', '.join(answers)}")
     if any(comparison.differences for comparison in done):
         print(f"the texts are in {folder}", file=sys.stderr)
         return 1

@@ -6,7 +6,7 @@ usage: bench/compare_definitions.py [--scripts N] [--proofs N] [--models N] [--p
 
 The last is the repository whose crates are compared, this one where none is given.
 
---scripts N   `bench/compare/language.py` foretells the first fault of each command of N scripts, with line and column,
+--scripts N   `bench/compare/commands.py` foretells the first fault of each command of N scripts, with line and column,
               under a limit on terms and names, and the term that each assertion is read as. `bench/compare/values.py`
               foretells the values of these terms under tables by chance, or the first operation that leaves 128 bits.
               The definitions are `faults_after` and `stack_after` of `spec_commands`, and `bounded_value` of

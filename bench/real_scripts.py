@@ -11,8 +11,8 @@ Where the folder has a table LIST.tsv, its columns `script` and `answers` tell w
 z3 answers is taken for that. A script counts as answered where no command was refused and each check has that answer,
 and as wrong where no command was refused and a check has another answer that is not `unknown`. With --certify the proof
 that `certify` writes for each `unsat` has to be `valid` to `check` too, and what it writes is judged by the independent
-reading of bench/compare: each model makes all current assertions true, and each proof is right. Scripts with a command
-that was refused are left out of that.
+reading of bench/compare: each model makes all current assertions true, each proof is right, and so is the reason of
+each `unknown`. Scripts with a command that was refused are left out of that.
 
 It prints the rows, and how many scripts were answered. The status is 1 where one is wrong, or ended by a signal or with
 a status that no script may have, else 0. It needs Python 3 and its standard library.
@@ -31,6 +31,7 @@ from collections import Counter
 sys.dont_write_bytecode = True  # so that the imports below leave no files here
 sys.path.insert(0, os.path.join(os.path.dirname(os.path.abspath(__file__)), "compare"))
 
+from reasons import USUAL
 from runs import least
 from sessions import judge_certify
 
@@ -73,14 +74,14 @@ def proofs_of(lines):
 
 
 def judged(executable, script, seconds):
-    """Returns what is wrong with the models and proofs that `certify` writes, or nothing."""
+    """Returns what is wrong with the models, proofs and reasons that `certify` writes, or nothing."""
     certified = least([executable, "certify", script], 1, seconds)
     if certified.status is None:
         return ["certify stopped"]
     if any(map(REFUSAL.fullmatch, certified.lines)):
         return []
     with open(script, "rb") as text:
-        said, _ = judge_certify(text.read(), certified.output, certified.status, is_foretold=False)
+        said, _ = judge_certify(text.read(), certified.output, certified.status, USUAL, is_foretold=False)
     wrong = [said] if said else []
     with tempfile.TemporaryDirectory() as folder:
         path = os.path.join(folder, "proof.alethe")
@@ -144,6 +145,7 @@ def main():
     parser.add_argument("--runs", type=int, default=1)
     parser.add_argument("--certify", action="store_true")
     asked = parser.parse_args()
+    sys.setrecursionlimit(20_000)
     asked.executable = os.path.abspath(asked.executable)
     known, counts = known_answers(asked.folder), Counter()
     print("| script | bytes | verdict | answers | wanted | refused or wrong | seconds | z3 | times z3 |")

@@ -27,11 +27,11 @@ commuting          tables of commuting quasigroups of order 4, 5 and 6 in which 
 facts              1,000 clauses of equalities of 200 terms by chance, by ten seeds
 
 A row has the answer, the seconds of each program, how many times as long `solve` took as z3 and as cvc5, and the peak
-memory of `solve` in KB. Instead of seconds `limit` says that the limit stopped it, and `none` that it gave no answer for
-another reason. A table by family follows: how many each answered, and of those that `solve` and all other programs
-answered the seconds together and the geometric mean of the ratios; and the greatest memory. Times below 0.001 s count
-as 0.001 s in ratios. For chains a third table has how many times as long ten times N took, which may be fifteen times;
-there times below 0.01 s count as 0.01 s.
+memory of `solve` in KB. Instead of seconds `limit` says that the limit stopped it, `unknown` or a reason that it gave
+this answer, and `none` that it gave no answer. A table by family follows: how many each answered, and of those that
+`solve` and all other programs answered the seconds together and the geometric mean of the ratios; and the greatest
+memory. Times below 0.001 s count as 0.001 s in ratios. For chains a third table has how many times as long ten times N
+took, which may be fifteen times; there times below 0.01 s count as 0.01 s.
 
 WRONG comes where two answers differ, where an answer is not the known one, where a model does not make all clauses
 true, where `solve` or `certify` ends with a status that it may not have, or a proof is not `valid`. The status is 1
@@ -68,6 +68,14 @@ def evidence(ran):
     return ran.lines[ran.lines.index(verdicts(ran)[0]) :]
 
 
+def missing(ran):
+    """Says why a run gave no answer: the limit, the reason of `unknown` or that word, or something else."""
+    words = [line.split()[0].lstrip("(") for line in ran.lines if line]
+    if ran.status is None or "unknown" not in words:
+        return "limit" if ran.status is None else "none"
+    return " ".join(words[words.index("unknown") :][1:2]) or "unknown"
+
+
 class Race:
     """The runs of all programs on one formula."""
 
@@ -80,9 +88,8 @@ class Race:
             words = [shutil.which(name), script] if name in OTHERS else [asked.executable, name, script]
             self.runs[name] = self.ran(words)
         self.judge_answers(formula.answer)
-        if self.answer_of("certify") == "sat" and formula.clauses:
-            if not is_model(evidence(self.runs["certify"])[1:], *formula.clauses):
-                self.wrong.append("a model that does not make all clauses true")
+        if self.answer_of("certify") == "sat":
+            self.judge_model(formula, script)
         if asked.check and self.answer_of("certify") == "unsat":
             self.judge_proof(script, os.path.join(folder, "proof.alethe"))
 
@@ -108,6 +115,11 @@ class Race:
             if self.runs[name].status not in ALLOWED:
                 self.wrong.append(f"{name}: status {self.runs[name].status}, {self.runs[name].output[:80]!r}")
 
+    def judge_model(self, formula, _script):
+        """Notes a model that does not make all clauses true, where the formula has them."""
+        if formula.clauses and not is_model(evidence(self.runs["certify"])[1:], *formula.clauses):
+            self.wrong.append("a model that does not make all clauses true")
+
     def judge_proof(self, script, path):
         """Notes a proof that `check` does not find valid; one that is too long for it is passed over."""
         with open(path, "w", encoding="utf-8") as out:
@@ -131,8 +143,7 @@ class Race:
         """Returns the row as it is printed."""
         cells = [self.name, f"`{self.answer}`" if self.answer else ""]
         for name in PROGRAMS:
-            missing = "limit" if self.runs[name].status is None else "none"
-            cells.append(f"{self.runs[name].seconds:.3f}" if self.answer_of(name) else missing)
+            cells.append(f"{self.runs[name].seconds:.3f}" if self.answer_of(name) else missing(self.runs[name]))
         if self.asked.check:
             checked = self.runs.get("check")
             cells.append("" if checked is None else "limit" if checked.status is None else f"{checked.seconds:.3f}")

@@ -3,7 +3,8 @@
 import os
 import re
 
-from language import BOOL, REAL, Definition
+from language import Definition
+from terms import BOOL, REAL
 from values import Overflow
 
 HEADS = {

@@ -5,8 +5,8 @@ A form is a constant and a dict of coefficients by variable, in order. What leav
 
 from fractions import Fraction
 
-from language import GREATEST, REAL
 from literals import strip
+from terms import GREATEST, REAL
 from values import Overflow, add, multiply
 
 ARITHMETIC_RULES = {b"la_generic", b"la_disequality", b"la_totality"}

@@ -4,7 +4,7 @@ import random
 from fractions import Fraction
 
 from arithmetic_rules import ARITHMETIC_RULES, Malformed, denied, form_of, joined
-from language import GREATEST, REAL
+from terms import GREATEST, REAL
 from values import Overflow
 
 WEIGHTS = [Fraction(n, d) for n in (1, 2, 3, 4, -1, -2) for d in (1, 1, 2, 4)]

@@ -167,6 +167,26 @@ def change_attributes(_commands, step):
             step[random.choice(places)] = raw(random.choice(KEYWORDS))
 
 
+def change_arguments(_commands, step):
+    """Changes the numbers that a step has as arguments, where it has some."""
+    place = value_of(step, b":args")
+    if place is None or step[place][0] != "row" or not step[place][1]:
+        return
+    numbers = step[place][1]
+    at = random.randrange(len(numbers))
+    choice = random.randrange(5)
+    if choice == 0:
+        del numbers[at]
+    elif choice == 1:
+        numbers[at] = row(symbol(b"-"), numbers[at])
+    elif choice == 2:
+        numbers[at] = row(symbol(b"/"), numbers[at], raw(random.choice([b"2", b"3", b"1", b"0"])))
+    elif choice == 3:
+        numbers[:] = [row(symbol(b"/"), number, raw(b"0.5")) for number in numbers]
+    else:
+        numbers[at] = random.choice([raw(b"0"), raw(b"1"), raw(b"2.0"), copied(random.choice(numbers)), odd()])
+
+
 def add_copy(commands, step):
     """Adds a step that has this one as its premise, and the same literals in another order."""
     if len(step) < 3 or step[2][0] != "row":
@@ -181,6 +201,7 @@ def add_copy(commands, step):
 
 
 STEP_CHANGES = [change_premises, change_clause, change_clause, change_rule, change_attributes, add_copy]
+ARGUMENT_CHANGES = [*STEP_CHANGES, change_arguments, change_arguments, change_arguments]
 
 
 def change_definition(commands, names):
@@ -269,7 +290,8 @@ def changed(commands, names, times):
         if steps and random.random() < 0.6:
             step = random.choice(steps)[1]
             if len(step) > 1:
-                random.choice(STEP_CHANGES)(commands, step)
+                changes = STEP_CHANGES if value_of(step, b":args") is None else ARGUMENT_CHANGES
+                random.choice(changes)(commands, step)
         else:
             random.choice([change_definition, change_assumption, change_order])(commands, names)
     return commands

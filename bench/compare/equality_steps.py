@@ -7,7 +7,7 @@ import random
 
 from clauses import changed_clause
 from equality_rules import CHOICES, EQUALITY_RULES, PREMISED_EQUALITIES, REFLEXIVE, sides
-from language import BOOL, REAL
+from terms import BOOL, REAL
 
 ALL_EQUALITY_RULES = sorted(EQUALITY_RULES)
 # Heads that may not stand before all arguments of their sorts: a product and a quotient have to stay linear.

@@ -6,10 +6,12 @@ A proof's terms are read as those of its script, with the names that the proof d
 
 from typing import NamedTuple
 
-from language import BOOL, Definition, Reader, State, checks_of, define_fun, read_script
+from commands import checks_of, define_fun, read_script
+from language import Definition, Reader, State
 from proof_texts import step_parts, take_all
 from reading import Fault, error_line
 from rules import RULES, follows
+from terms import BOOL
 from values import Overflow
 
 

@@ -1,4 +1,4 @@
-"""Reads scripts: sorts, functions, numbers, `let`, `!` and definitions, as SMT-LIB 2.6 has them.
+"""Reads terms: sorts, functions, numbers, `let`, `!` and definitions, as SMT-LIB 2.6 has them.
 
 It shares nothing with the program. What the standard leaves open is as in docs/DECISIONS.md: chains and `distinct` are
 read as conjunctions of pairs, the first fault in the order of reading counts, and numbers end at 128 bits.
@@ -8,13 +8,10 @@ from fractions import Fraction
 from functools import cached_property
 
 from models import Spent, find_model
-from reading import THEORY, Fault, error_line, read_one
+from reading import THEORY, Fault
+from terms import BOOL, GREATEST, REAL, Terms
 from truths import Tables
 
-LOGICS = (b"QF_UFLRA", b"QF_UF", b"QF_LRA", b"QF_RDL", b"ALL")
-OPTIONS = (b":print-success", b":produce-models", b":produce-proofs", b":produce-assertions")
-GREATEST = 2**127 - 1
-BOOL, REAL = (b"Bool",), (b"Real",)
 BOOL_HEADS = {b"not": (1, 1), b"and": (1, None), b"or": (1, None), b"xor": (2, None), b"=>": (2, None)}
 REAL_HEADS = {b"-": 1, b"+": 1, b"*": 1, b"/": 2, b"<": 2, b"<=": 2, b">": 2, b">=": 2}
 
@@ -27,89 +24,6 @@ def is_name(item):
 def pairs_of(items):
     """Returns each item with the next."""
     return list(zip(items, items[1:]))
-
-
-class Terms:
-    """Terms as they are read, each by a number, with its sort; equal terms have equal numbers."""
-
-    def __init__(self):
-        self.numbers = {}
-        self.nodes = []
-        self.sorts = []
-
-    def make(self, head, given=(), sort=BOOL):
-        """Returns the number of the term of a head before terms."""
-        node = (head, tuple(given))
-        if node not in self.numbers:
-            self.numbers[node] = len(self.nodes)
-            self.nodes.append(node)
-            self.sorts.append(sort)
-        return self.numbers[node]
-
-    def negation(self, term):
-        """Returns the number of the negated term."""
-        return self.make(b"not", (term,))
-
-    def is_formula(self, term):
-        """Tells whether the term has the sort Bool."""
-        return self.sorts[term] == BOOL
-
-    def conjunction(self, terms):
-        """Returns one term alone, or the conjunction of several."""
-        return terms[0] if len(terms) == 1 else self.make(b"and", terms)
-
-    def filled(self, term, arguments):
-        """Returns the term with each parameter replaced by the argument of its number."""
-        made = {}
-        for number in self.below([term]):
-            head, given = self.nodes[number]
-            if head[0] == "parameter":
-                made[number] = arguments[head[1]]
-            else:
-                made[number] = self.make(head, [made[t] for t in given], self.sorts[number])
-        return made[term]
-
-    def below(self, roots):
-        """Returns the numbers of the terms and of all their subterms, arguments first."""
-        seen, waiting = set(), list(roots)
-        while waiting:
-            number = waiting.pop()
-            if number not in seen:
-                seen.add(number)
-                waiting += self.nodes[number][1]
-        return sorted(seen)
-
-    def is_closed(self, term):
-        """Tells whether no parameter of a definition is in the term."""
-        return all(self.nodes[number][0][0] != "parameter" for number in self.below([term]))
-
-    def are_in_reach(self, roots):
-        """Tells whether no subterm has the sort Real: the search reaches all others."""
-        return all(self.sorts[number] != REAL for number in self.below(roots))
-
-    def are_over_truths(self, roots):
-        """Tells whether the terms have constants of sort Bool and theory Core alone: truth tables decide these."""
-        return all(self.sorts[t] == BOOL and not (self.nodes[t][0][0] == "symbol" and self.nodes[t][1])
-                   for t in self.below(roots))
-
-    def is_constant(self, term):
-        """Tells whether the term is a literal, or `-`, `+`, `*`, `/` before such."""
-        heads = (self.nodes[number][0] for number in self.below([term]))
-        return all(head[0] == "number" or head in (b"-", b"+", b"*", b"/") for head in heads)
-
-    def is_divisor(self, term):
-        """Tells whether the term is a literal, or `(- d)` or `(/ d e)` of such."""
-        head, given = self.nodes[term]
-        if head[0] == "number":
-            return True
-        if head == b"-":
-            return len(given) == 1 and self.is_divisor(given[0])
-        return head == b"/" and all(self.is_divisor(t) for t in given)
-
-    def is_zero(self, term):
-        """Tells whether a divisor is zero: its literal is 0, or what `-` or `/` has first is zero."""
-        head, given = self.nodes[term]
-        return head[1] == 0 if head[0] == "number" else self.is_zero(given[0])
 
 
 class Definition:
@@ -410,10 +324,20 @@ class Check(State):
         self.assertions = list(state.assertions)
         self.order = [name for name, known in self.functions.items() if not isinstance(known, Definition)]
 
-    @property
+    @cached_property
     def is_in_reach(self):
-        """Tells whether the search reaches all assertions: they have no term of sort Real."""
+        """Tells whether the search reaches all assertions, as they are read."""
         return self.terms.are_in_reach(self.assertions)
+
+    @cached_property
+    def has_numbers(self):
+        """Tells whether an assertion has a term of sort Real."""
+        return self.terms.have_numbers(self.assertions)
+
+    @property
+    def is_open(self):
+        """Tells whether it is in reach, and not known whether there is a model."""
+        return self.is_in_reach and self.is_satisfiable is None
 
     @property
     def is_over_truths(self):
@@ -422,7 +346,12 @@ class Check(State):
 
     @cached_property
     def is_satisfiable(self):
-        """Tells whether the assertions, which are in reach, have a model; None where that was too much to try."""
+        """Tells whether the assertions, which are in reach, have a model.
+
+        It is None where they have numbers, and where it was too much to try.
+        """
+        if self.has_numbers:
+            return None
         if self.is_over_truths:
             tables = Tables(self.terms, self.assertions)
             rows = tables.all_true
@@ -433,190 +362,3 @@ class Check(State):
             return find_model(self.terms, self.assertions) is not None
         except Spent:
             return None
-
-
-def set_logic(state, parts, start):
-    """Performs `set-logic`."""
-    if len(parts) != 2 or not is_name(parts[1]):
-        raise Fault(start, b"BadShape")
-    kind, name, place = parts[1]
-    if kind == "res":
-        raise Fault(place, b"Reserved")
-    if name not in LOGICS:
-        raise Fault(place, b"UnknownLogic")
-    if state.has_begun:
-        raise Fault(start, b"WrongMode")
-    return "success"
-
-
-def set_option(state, parts, start):
-    """Performs `set-option`."""
-    if len(parts) != 3 or parts[1][0] != "kw":
-        raise Fault(start, b"BadShape")
-    if parts[1][1] not in OPTIONS:
-        return "unsupported"
-    if parts[2][0] != "sym" or parts[2][1] not in (b"true", b"false"):
-        raise Fault(start, b"BadShape")
-    state.options[parts[1][1]] = parts[2][1] == b"true"
-    return "success"
-
-
-def set_info(_state, parts, start):
-    """Performs `set-info`."""
-    if len(parts) not in (2, 3) or parts[1][0] != "kw":
-        raise Fault(start, b"BadShape")
-    return "success"
-
-
-def declare_sort(state, parts, start):
-    """Performs `declare-sort`."""
-    if len(parts) != 3 or not is_name(parts[1]) or parts[2][:2] != ("num", b"0"):
-        raise Fault(start, b"BadShape")
-    name = state.new_sort(parts[1])
-    state.require_room(start, 1)
-    state.sorts[name] = (name, "declared")
-    return "success"
-
-
-def define_sort(state, parts, start):
-    """Performs `define-sort`."""
-    if len(parts) != 4 or not is_name(parts[1]) or parts[2][:2] != ("list", []):
-        raise Fault(start, b"BadShape")
-    name = state.new_sort(parts[1])
-    sort = state.sort(parts[3])
-    state.require_room(start, 1)
-    state.sorts[name] = sort
-    return "success"
-
-
-def declare(state, parts, start):
-    """Performs `declare-const` and `declare-fun`."""
-    takes = parts[0][1] == b"declare-fun"
-    if len(parts) != 3 + takes or not is_name(parts[1]) or (takes and parts[2][0] != "list"):
-        raise Fault(start, b"BadShape")
-    name = state.new_function(parts[1])
-    sorts = [state.sort(item) for item in parts[2][1]] if takes else []
-    result = state.sort(parts[-1])
-    state.require_room(start, 1)
-    state.functions[name] = (sorts, result)
-    return "success"
-
-
-def define_fun(state, parts, start):
-    """Performs `define-fun`."""
-    if len(parts) != 5 or not is_name(parts[1]) or parts[2][0] != "list" or not Reader.are_pairs(parts[2][1]):
-        raise Fault(start, b"BadShape")
-    name = state.new_function(parts[1])
-    reader = state.reader(name)
-    parameters = []
-    for _, (parameter, sort), _ in parts[2][1]:
-        new = reader.new_name(parameter, lambda n: n in [m for m, _ in parameters])
-        parameters.append((new, state.sort(sort)))
-    result = state.sort(parts[3])
-    bound = {new: state.terms.make(("parameter", k, sort), (), sort) for k, (new, sort) in enumerate(parameters)}
-    term = reader.term(bound, parts[4])
-    if state.terms.sorts[term] != result:
-        raise Fault(parts[4][2], b"WrongSort")
-    made = {**reader.made, name: Definition(name, parameters, term)}
-    state.require_room(start, len(made), [d.term for d in made.values()])
-    state.functions.update(made)
-    return "success"
-
-
-def assert_term(state, parts, start):
-    """Performs `assert`."""
-    if len(parts) != 2:
-        raise Fault(start, b"BadShape")
-    reader = state.reader()
-    term = reader.term({}, parts[1])
-    if state.terms.sorts[term] != BOOL:
-        raise Fault(parts[1][2], b"WrongSort")
-    state.require_room(start, len(reader.made), [term])
-    state.functions.update(reader.made)
-    state.assertions.append(term)
-    return "success"
-
-
-def check_sat(_state, parts, start):
-    """Performs `check-sat`, whether its assertions are in reach or not."""
-    if len(parts) != 1:
-        raise Fault(start, b"BadShape")
-    return "check"
-
-
-def echo(_state, parts, start):
-    """Performs `echo`."""
-    if len(parts) != 2 or parts[1][0] != "str":
-        raise Fault(start, b"BadShape")
-    return parts[1][1] + b"\n"
-
-
-def leave(_state, parts, start):
-    """Performs `exit`."""
-    if len(parts) != 1:
-        raise Fault(start, b"BadShape")
-    return "exit"
-
-
-SETTINGS = {b"set-option": set_option, b"set-info": set_info, b"echo": echo, b"exit": leave}
-STATEMENTS = {
-    b"set-logic": set_logic,
-    b"declare-sort": declare_sort,
-    b"define-sort": define_sort,
-    b"declare-const": declare,
-    b"declare-fun": declare,
-    b"define-fun": define_fun,
-    b"assert": assert_term,
-    b"check-sat": check_sat,
-}
-
-
-def perform(state, item):
-    """Performs a command; returns `success`, `unsupported`, `check`, `exit` or a line, or raises its first fault."""
-    kind, parts, start = item
-    if kind != "list" or not parts:
-        raise Fault(start, b"BadShape")
-    verb_kind, verb, verb_start = parts[0]
-    if verb_kind == "res" and verb in SETTINGS:
-        return SETTINGS[verb](state, parts, start)
-    if verb_kind == "res" and verb in STATEMENTS:
-        answer = STATEMENTS[verb](state, parts, start)
-        state.has_begun = True
-        return answer
-    raise Fault(verb_start, b"UnknownCommand")
-
-
-def read_script(text, limit=2**24):
-    """Returns what each command of a script is answered, up to its end or `exit`, and what it stated.
-
-    An answer is a line, or of a check what is current there.
-    """
-    state, answers, at = State(limit), [], 0
-    while True:
-        try:
-            found = read_one(text, at)
-        except Fault as fault:
-            return [*answers, error_line(text, fault)], state
-        if found is None:
-            return answers, state
-        item, at = found
-        try:
-            answer = perform(state, item)
-        except Fault as fault:
-            answers.append(error_line(text, fault))
-            continue
-        if answer == "unsupported":
-            answers.append(b"unsupported\n")
-        elif answer == "check":
-            answers.append(state.at_check(item[1][0][2]))
-        elif isinstance(answer, bytes):
-            answers.append(answer)
-        elif state.options[b":print-success"]:
-            answers.append(b"success\n")
-        if answer == "exit":
-            return answers, state
-
-
-def checks_of(answers):
-    """Returns the checks among the answers of a script."""
-    return [answer for answer in answers if isinstance(answer, Check)]

@@ -6,9 +6,9 @@ The texts are those of docs/FORMATS.md: a definition for each symbol, whose body
 import random
 
 from antt import listed, lines_written, read, sort_written, value_written, world_written, written
-from language import BOOL, REAL
 from reading import printed_name, read_one
 from sessions import table_of
+from terms import BOOL, REAL
 from values import some_tables, some_value
 
 NAMES = [b"p", b"f", b"a b", b"let", b"x", b"", b"define-fun", b"0", b"as", b"U", b"Bool", b"a.b", b"<=>"]

@@ -6,8 +6,8 @@ that were used by then and one more. Elements are alike, so this misses no model
 there is none. It shares nothing with the program, which closes equalities under congruence.
 """
 
-# The sort Bool, as language.py has it, which imports this module.
-BOOL = (b"Bool",)
+from terms import BOOL
+
 MOST_NODES = 400
 
 

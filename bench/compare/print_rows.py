@@ -7,8 +7,8 @@ steps that the last one rests on. The independent judge has to take what is prin
 import random
 
 from antt import declared, lines_written, listed, read, term_written, written
+from commands import checks_of, read_script
 from judging import Assumed, Defined, Stepped, first_fault
-from language import checks_of, read_script
 from proofs import Invented, a_script, refutation
 from reading import Fault, printed_name, read_one
 

@@ -1,5 +1,6 @@
 """Checks the form of proofs that `certify` prints, as docs/FORMATS.md says, beside what a judge says of them."""
 
+from printed_values import Wrong, number_of
 from reading import Fault, printed_name, read_one
 
 
@@ -11,11 +12,19 @@ def printed(item):
     return printed_name(value) if kind == "sym" else value
 
 
-HEADS = {b"not", b"and", b"or", b"xor", b"=>", b"=", b"ite"}
+HEADS = {b"not", b"and", b"or", b"xor", b"=>", b"=", b"ite", b"-", b"+", b"*", b"/", b"<", b"<="}
+# Heads that take two arguments as they are read.
+PAIRED = {b"=", b"xor", b"=>", b"/", b"<", b"<="}
 
 
-class Wrong(Exception):
-    """What is wrong with an output of `certify`."""
+def is_shortest(item):
+    """Tells whether a number is written as a numeral or as the shortest decimal."""
+    return item[0] == "num" or (item[0] == "dec" and not item[1].endswith(b"0"))
+
+
+def is_in_place(item):
+    """Tells whether an item stands for a term in place: a name, or a number where it is an argument."""
+    return item[0] == "sym" or is_shortest(item)
 
 
 def proof_end(judge, output, at):
@@ -46,13 +55,15 @@ class PrintedProof:
         self.defined_terms = set()
 
     def take_definition(self, parts):
-        """Checks the form of a definition: one head over names, which stand before it."""
+        """Checks the form of a definition: one head over names, which stand before it, and numbers."""
         body = parts[4]
-        if self.steps or body[0] != "list" or len(body[1]) < 2 or any(item[0] != "sym" for item in body[1]):
-            raise Wrong("a definition behind a step, or not of names")
+        if self.steps or body[0] != "list" or len(body[1]) < 2 or body[1][0][0] != "sym":
+            raise Wrong("a definition behind a step, or without a head")
+        if not all(map(is_in_place, body[1][1:])):
+            raise Wrong("a definition that is not of names and numbers")
         head, *given = [item[1] for item in body[1]]
         is_head = head in HEADS or self.judge.names.is_declared(head)
-        if not is_head or (head in (b"=", b"xor", b"=>") and len(given) != 2):
+        if not is_head or (head in PAIRED and len(given) != 2) or (head == b"-" and len(given) > 2):
             raise Wrong("a definition that is not of a term as read")
         used = [name for name in given if name.startswith(b"@p")]
         if any(name not in self.uses for name in used):
@@ -60,15 +71,23 @@ class PrintedProof:
         self.uses[parts[1][1]] = used
 
     def take_step(self, parts):
-        """Checks the form of a step: names alone as literals, and `:premises` behind `:rule` if there are any."""
+        """Checks the form of a step: names alone as literals, and `:premises` behind `:rule` if there are any.
+
+        Of `la_generic` the arguments come last, a value for each literal; no other rule has any.
+        """
         literals = parts[2][1]
-        keywords = [item[1] for item in parts[3::2]]
+        found = {key[1]: value for key, value in zip(parts[3::2], parts[4::2])}
         if any(item[0] != "sym" for item in literals):
             raise Wrong("a literal that is no name")
-        if keywords not in ([b":rule"], [b":rule", b":premises"]):
+        wanted = [b":rule", *[key for key in (b":premises", b":args") if key in found]]
+        if [item[1] for item in parts[3::2]] != wanted:
             raise Wrong("a step with other attributes")
-        premises = [item[1] for item in parts[6][1]] if len(keywords) == 2 else []
-        if len(keywords) == 2 and not premises:
+        if (found[b":rule"][1] == b"la_generic") != (b":args" in found):
+            raise Wrong("arguments of another rule, or none")
+        for item in found[b":args"][1] if b":args" in found else []:
+            number_of(item)
+        premises = [item[1] for item in found[b":premises"][1]] if b":premises" in found else []
+        if b":premises" in found and not premises:
             raise Wrong("an empty list of premises")
         self.named.update(item[1] for item in literals[1:])
         self.steps.append((parts[1][1], premises))

@@ -4,8 +4,8 @@ import os
 import random
 
 from antt import declared, lines_written, listed, read, term_written, written
+from commands import checks_of, read_script
 from judging import Assumed, Defined, Judge, first_fault
-from language import checks_of, read_script
 from proof_texts import list_start, take_list, take_row
 from proofs import a_proof
 from reading import Fault, place_of, read_one

@@ -1,7 +1,7 @@
 """Makes scripts with proofs by chance: mostly right proofs, with a fault of any kind in some.
 
-Assertions have no terms of sort Real, so that checks are in reach; the clauses of a proof have terms of every sort. A
-proof is made by terms, and each of these is written in one of the ways in which it can be.
+Assertions have no functions that take or give numbers, so that checks are in reach; the clauses of a proof have terms
+of every sort. A proof is made by terms, and each of these is written in one of the ways in which it can be.
 """
 
 import random
@@ -9,14 +9,16 @@ from typing import NamedTuple
 
 from arithmetic_steps import arithmetic_step
 from clauses import changed_clause, opened, resolved, single_step, stated_clause
+from commands import checks_of, read_script
 from equality_steps import equality_of_held, equality_step
 from faulty import DECLARATIONS, DEFINITIONS, ODD_TERMS, command_of_a_proof
 from judging import Judge
-from language import BOOL, REAL, Definition, checks_of, read_script
+from language import Definition
 from layout import damaged, tree_of_item
 from reading import Fault, printed_name, read_one
 from rules import PREMISED, RESOLUTIONS, RULES, STATING, SUBSET_RULES, follows
 from scripts import Maker, assertion_in_reach, one_of
+from terms import BOOL, REAL
 from values import Overflow
 
 BOOLS = [b"p", b"q", b"|a b|"]

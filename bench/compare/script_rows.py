@@ -5,7 +5,7 @@ import re
 
 import faulty
 from antt import declared, lines_written, listed, outcome_written, read, term_written, world_written, written
-from language import read_script
+from commands import read_script
 from scripts import a_script, an_arithmetic_script
 from values import Values, some_tables
 

@@ -2,8 +2,8 @@
 
 import random
 
+from commands import checks_of, read_script
 from faulty import NUMERALS, ODD_TERMS, command_of_a_script
-from language import checks_of, read_script
 
 NAMES = [b"p", b"q", b"x", b"y", b"a", b"b", b"f", b"g", b"h", b"|a b|", b"n"]
 SORTS = [b"Bool", b"Bool", b"Real", b"Real", b"U", b"V"]
@@ -226,7 +226,7 @@ def a_session(share):
     maker, reached = Maker(0), Maker(0)
     lines = [b"(set-option :print-success false)"] if random.random() < 0.5 else []
     lines += [maker.declaration() for _ in range(random.randint(1, 6))]
-    reached.functions = {n: f for n, f in maker.functions.items() if b"Real" not in (*f[0], f[1])}
+    reached.functions = {n: f for n, f in maker.functions.items() if not f[0] or b"Real" not in (*f[0], f[1])}
     reached.sorts = maker.sorts
     for _ in range(random.randint(2, 8)):
         choice = random.random()

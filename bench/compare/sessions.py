@@ -1,22 +1,28 @@
 """Foretells what `solve` writes for a script, and judges what `certify` writes.
 
-It follows docs/FORMATS.md. A check is in reach where no term of its assertions has the sort Real. Of these, assertions
-over constants of sort Bool and theory Core alone are decided by truth tables, all others by trying values of symbols,
-up to a bound: where that is too much, either answer may come, and what `certify` shows has to bear it out. Every other
-check is refused, and counted as a check. So what is left is foretold to the byte.
+It follows docs/FORMATS.md. A check is in reach where its assertions, as they are read, have no function with parameters
+that takes or gives a number. Of these, assertions over constants of sort Bool and theory Core alone are decided by
+truth tables. Others without numbers are decided by trying values of symbols, up to a bound. Where that is too much, and
+where there are numbers, either answer may come, and what `certify` shows has to bear it out. Every check out of reach
+is refused, and counted as a check. So what is left is foretold to the byte.
+
+With numbers `unknown` may come too, and under limits that are given: reasons.py judges the reason that `certify` shows.
 """
 
-from fractions import Fraction
 from functools import lru_cache
 
+from commands import read_script
 from judging import Judge
-from language import BOOL, REAL, Check, read_script
-from printed_proofs import Wrong, printed, proof_end
+from language import Check
+from printed_proofs import printed, proof_end
+from printed_values import Wrong, require, value_of
 from reading import Fault, error_line, printed_name, read_one
-from values import Values
+from reasons import NONE, reason_end
+from values import Exact
 
 # The lines that answer a check by what is known of it: that there is a model, or none, or nothing.
 ANSWERS = {True: (b"sat\n",), False: (b"unsat\n",), None: (b"sat\n", b"unsat\n")}
+UNKNOWN = b"unknown\n"
 
 
 def answer_lines(text, check):
@@ -52,14 +58,14 @@ def predict_solve(text, limit=2**24):
     return b"".join(choices[0] for choices in lines), status
 
 
-def line_at(script, answer, output, at, conflicts=None):
+def line_at(script, answer, output, at, limits=NONE):
     """Returns the line of an answer that stands in the output at `at`, or raises that there is none.
 
-    Where a limit on conflicts is given, a check in reach may be answered `unknown`, with that limit as the reason.
+    A check in reach may be answered `unknown` where it has numbers, or where a limit on conflicts is given.
     """
     choices = lines_of(script, answer)
-    if conflicts is not None and isinstance(answer, Check) and answer.is_in_reach:
-        choices += (b"unknown\n(conflicts %d)\n" % conflicts,)
+    if isinstance(answer, Check) and answer.is_in_reach and (answer.has_numbers or limits.conflicts is not None):
+        choices += (UNKNOWN,)
     for line in choices:
         if output.startswith(line, at):
             return line
@@ -83,48 +89,6 @@ def require_end(output, at, status, wanted_status):
     """Raises that an output goes on, or that the status is another one."""
     require(at == len(output), f"more output: {output[at : at + 80]!r}")
     require(status == wanted_status, f"status {status}, expected {wanted_status}")
-
-
-def require(holds, what):
-    """Raises what is wrong where something does not hold."""
-    if not holds:
-        raise Wrong(what)
-
-
-def is_positive(item):
-    """Tells whether an item is a numeral other than 0."""
-    return item[0] == "num" and item[1] != b"0"
-
-
-def number_of(item):
-    """Returns the number of a printed value, in lowest terms and with its sign in the numerator."""
-    kind, parts, _ = item
-    if kind == "num":
-        return Fraction(int(parts))
-    require(kind == "list" and len(parts) > 1 and parts[0][0] == "sym", "no number")
-    head = parts[0][1]
-    if head == b"-" and len(parts) == 2 and is_positive(parts[1]):
-        return Fraction(-int(parts[1][1]))
-    require(head == b"/" and len(parts) == 3 and is_positive(parts[2]) and parts[2][1] != b"1", "no number")
-    above = number_of(parts[1])
-    value = above / int(parts[2][1])
-    require(value.denominator == int(parts[2][1]) and value.numerator == above, "a number not in lowest terms")
-    return value
-
-
-def value_of(item, sort):
-    """Returns the value that an item of a model is, for a sort."""
-    kind, parts, _ = item
-    if sort == BOOL:
-        require(item[:2] in (("sym", b"true"), ("sym", b"false")), "no truth value")
-        return parts == b"true"
-    if sort == REAL:
-        return number_of(item)
-    require(kind == "list" and len(parts) == 3 and parts[0][:2] == ("res", b"as"), "no element")
-    require(parts[1][0] == "sym" and parts[1][1][:2] == b"@e" and parts[2][:2] == ("sym", sort[0]), "no element")
-    digits = parts[1][1][2:]
-    require(digits.isdigit() and str(int(digits)).encode() == digits, "no number of an element")
-    return (sort[0], int(digits))
 
 
 def row_of(item, sorts):
@@ -171,16 +135,24 @@ def model_end(check, output, at):
     require(output.startswith(wanted, at), "the model is not printed a definition a line")
     require(len(items) == len(check.order), "not one definition for each symbol")
     tables = {name: table_of(item, name, *check.functions[name]) for item, name in zip(items, check.order)}
-    values = Values(check.terms, tables)
-    require(all(values.of(assertion) for assertion in check.assertions), "the model makes an assertion false")
+    require(all(Exact(check.terms, tables).all(check.assertions)), "the model makes an assertion false")
     return at + len(wanted)
 
 
-def judge_certify(script, output, status, conflicts=None, is_foretold=True):
+def evidence_end(check, line, output, at, limits):
+    """Returns the offset behind the model, proof or reason that follows a check's line, which has to be right."""
+    if line == b"sat\n":
+        return model_end(check, output, at)
+    if line == b"unsat\n":
+        return proof_end(Judge(check), output, at)
+    return reason_end(check, output, at, limits) if line == UNKNOWN else at
+
+
+def judge_certify(script, output, status, limits=NONE, is_foretold=True):
     """Returns what is wrong with an output, or None, and its right proofs: pairs of a check's number and a text.
 
-    The limit on conflicts is given where the program was given it. Where answers are not foretold, their models and proofs
-    alone decide: to foretell them may take time exponential in the script.
+    The limits are those that the program was given. Where answers are not foretold, their models and proofs alone
+    decide: to foretell them may take time exponential in the script.
     """
     answers, wanted_status = run_script(script)
     proofs, at, number = [], 0, 0
@@ -189,14 +161,12 @@ def judge_certify(script, output, status, conflicts=None, is_foretold=True):
             is_check = isinstance(answer, Check)
             if is_check and not is_foretold:
                 answer.is_satisfiable = None
-            line = line_at(script, answer, output, at, conflicts)
-            at += len(line)
-            number += is_check
-            if is_check and line == b"sat\n":
-                at = model_end(answer, output, at)
-            elif is_check and line == b"unsat\n":
-                start, at = at, proof_end(Judge(answer), output, at)
-                proofs.append((number, output[start:at]))
+            line = line_at(script, answer, output, at, limits)
+            start, at = at, at + len(line)
+            if is_check:
+                number += 1
+                at = evidence_end(answer, line, output, at, limits)
+                proofs += [(number, output[start:at])] if line == b"unsat\n" else []
         require_end(output, at, status, wanted_status)
     except Wrong as wrong:
         return str(wrong), proofs

@@ -4,7 +4,7 @@ import random
 from fractions import Fraction
 from math import gcd
 
-from language import BOOL, GREATEST, REAL
+from terms import BOOL, GREATEST, REAL
 
 SOME_NUMBERS = [Fraction(0), Fraction(1), Fraction(-1), Fraction(1, 2), Fraction(-7, 3), Fraction(GREATEST)]
 
@@ -104,6 +104,26 @@ class Values:
         if head in (b"=", b"xor"):
             return (left == right) == (head == b"=")
         return left < right if head == b"<" else left <= right
+
+
+class Exact(Values):
+    """Values without any limit on numbers, as the standard has them."""
+
+    def all(self, roots):
+        """Returns the values of terms, however deep they are."""
+        for number in self.terms.below(roots):
+            self.of(number)
+        return [self.known[root] for root in roots]
+
+    @staticmethod
+    def of_reals(head, values):
+        """Returns what an operation on numbers gives."""
+        first, rest = values[0], values[1:]
+        if head == b"-":
+            return first - rest[0] if rest else -first
+        for value in rest:
+            first = first + value if head == b"+" else first * value if head == b"*" else first / value
+        return first
 
 
 def some_value(sort):

@@ -15,7 +15,7 @@ from solve_and_check import numbers, pigeons, random_clauses
 from solve_implications import assertions as chain_assertions
 from solve_implications import exchanged
 
-START = ("(set-logic QF_UF)\n", "(set-option :print-success false)\n")
+QUIET = "(set-option :print-success false)\n"
 CHECK = "(check-sat)\n"
 HOLES = (5, 6, 7, 8, 9)
 SEEDS = range(10)
@@ -31,7 +31,7 @@ ORDERS = (4, 5, 6)
 
 
 class Formula(NamedTuple):
-    """A formula: its name, its commands between the first two and the check, what is known of it.
+    """A formula: its name, its commands between the first two and the check, what is known of it, its logic.
 
     `answer` is that of its check, or nothing where it is not known. Of a formula of clauses `clauses` are these, after
     the number of its constants.
@@ -41,11 +41,12 @@ class Formula(NamedTuple):
     lines: Callable[[], object]
     answer: str | None = "unsat"
     clauses: tuple | None = None
+    logic: str = "QF_UF"
 
     def write(self, path):
         """Writes the script to a file."""
         with open(path, "w", encoding="ascii") as out:
-            out.writelines(START)
+            out.writelines((f"(set-logic {self.logic})\n", QUIET))
             out.writelines(self.lines())
             out.write(CHECK)
 

@@ -1,0 +1,195 @@
+"""Reads scripts, command by command, as SMT-LIB 2.6 has them; terms are read by language.py."""
+
+from language import Check, Definition, Reader, State, is_name
+from reading import Fault, error_line, read_one
+from terms import BOOL
+
+LOGICS = (b"QF_UFLRA", b"QF_UF", b"QF_LRA", b"QF_RDL", b"ALL")
+OPTIONS = (b":print-success", b":produce-models", b":produce-proofs", b":produce-assertions")
+
+
+def set_logic(state, parts, start):
+    """Performs `set-logic`."""
+    if len(parts) != 2 or not is_name(parts[1]):
+        raise Fault(start, b"BadShape")
+    kind, name, place = parts[1]
+    if kind == "res":
+        raise Fault(place, b"Reserved")
+    if name not in LOGICS:
+        raise Fault(place, b"UnknownLogic")
+    if state.has_begun:
+        raise Fault(start, b"WrongMode")
+    return "success"
+
+
+def set_option(state, parts, start):
+    """Performs `set-option`."""
+    if len(parts) != 3 or parts[1][0] != "kw":
+        raise Fault(start, b"BadShape")
+    if parts[1][1] not in OPTIONS:
+        return "unsupported"
+    if parts[2][0] != "sym" or parts[2][1] not in (b"true", b"false"):
+        raise Fault(start, b"BadShape")
+    state.options[parts[1][1]] = parts[2][1] == b"true"
+    return "success"
+
+
+def set_info(_state, parts, start):
+    """Performs `set-info`."""
+    if len(parts) not in (2, 3) or parts[1][0] != "kw":
+        raise Fault(start, b"BadShape")
+    return "success"
+
+
+def declare_sort(state, parts, start):
+    """Performs `declare-sort`."""
+    if len(parts) != 3 or not is_name(parts[1]) or parts[2][:2] != ("num", b"0"):
+        raise Fault(start, b"BadShape")
+    name = state.new_sort(parts[1])
+    state.require_room(start, 1)
+    state.sorts[name] = (name, "declared")
+    return "success"
+
+
+def define_sort(state, parts, start):
+    """Performs `define-sort`."""
+    if len(parts) != 4 or not is_name(parts[1]) or parts[2][:2] != ("list", []):
+        raise Fault(start, b"BadShape")
+    name = state.new_sort(parts[1])
+    sort = state.sort(parts[3])
+    state.require_room(start, 1)
+    state.sorts[name] = sort
+    return "success"
+
+
+def declare(state, parts, start):
+    """Performs `declare-const` and `declare-fun`."""
+    takes = parts[0][1] == b"declare-fun"
+    if len(parts) != 3 + takes or not is_name(parts[1]) or (takes and parts[2][0] != "list"):
+        raise Fault(start, b"BadShape")
+    name = state.new_function(parts[1])
+    sorts = [state.sort(item) for item in parts[2][1]] if takes else []
+    result = state.sort(parts[-1])
+    state.require_room(start, 1)
+    state.functions[name] = (sorts, result)
+    return "success"
+
+
+def define_fun(state, parts, start):
+    """Performs `define-fun`."""
+    if len(parts) != 5 or not is_name(parts[1]) or parts[2][0] != "list" or not Reader.are_pairs(parts[2][1]):
+        raise Fault(start, b"BadShape")
+    name = state.new_function(parts[1])
+    reader = state.reader(name)
+    parameters = []
+    for _, (parameter, sort), _ in parts[2][1]:
+        new = reader.new_name(parameter, lambda n: n in [m for m, _ in parameters])
+        parameters.append((new, state.sort(sort)))
+    result = state.sort(parts[3])
+    bound = {new: state.terms.make(("parameter", k, sort), (), sort) for k, (new, sort) in enumerate(parameters)}
+    term = reader.term(bound, parts[4])
+    if state.terms.sorts[term] != result:
+        raise Fault(parts[4][2], b"WrongSort")
+    made = {**reader.made, name: Definition(name, parameters, term)}
+    state.require_room(start, len(made), [d.term for d in made.values()])
+    state.functions.update(made)
+    return "success"
+
+
+def assert_term(state, parts, start):
+    """Performs `assert`."""
+    if len(parts) != 2:
+        raise Fault(start, b"BadShape")
+    reader = state.reader()
+    term = reader.term({}, parts[1])
+    if state.terms.sorts[term] != BOOL:
+        raise Fault(parts[1][2], b"WrongSort")
+    state.require_room(start, len(reader.made), [term])
+    state.functions.update(reader.made)
+    state.assertions.append(term)
+    return "success"
+
+
+def check_sat(_state, parts, start):
+    """Performs `check-sat`, whether its assertions are in reach or not."""
+    if len(parts) != 1:
+        raise Fault(start, b"BadShape")
+    return "check"
+
+
+def echo(_state, parts, start):
+    """Performs `echo`."""
+    if len(parts) != 2 or parts[1][0] != "str":
+        raise Fault(start, b"BadShape")
+    return parts[1][1] + b"\n"
+
+
+def leave(_state, parts, start):
+    """Performs `exit`."""
+    if len(parts) != 1:
+        raise Fault(start, b"BadShape")
+    return "exit"
+
+
+SETTINGS = {b"set-option": set_option, b"set-info": set_info, b"echo": echo, b"exit": leave}
+STATEMENTS = {
+    b"set-logic": set_logic,
+    b"declare-sort": declare_sort,
+    b"define-sort": define_sort,
+    b"declare-const": declare,
+    b"declare-fun": declare,
+    b"define-fun": define_fun,
+    b"assert": assert_term,
+    b"check-sat": check_sat,
+}
+
+
+def perform(state, item):
+    """Performs a command; returns `success`, `unsupported`, `check`, `exit` or a line, or raises its first fault."""
+    kind, parts, start = item
+    if kind != "list" or not parts:
+        raise Fault(start, b"BadShape")
+    verb_kind, verb, verb_start = parts[0]
+    if verb_kind == "res" and verb in SETTINGS:
+        return SETTINGS[verb](state, parts, start)
+    if verb_kind == "res" and verb in STATEMENTS:
+        answer = STATEMENTS[verb](state, parts, start)
+        state.has_begun = True
+        return answer
+    raise Fault(verb_start, b"UnknownCommand")
+
+
+def read_script(text, limit=2**24):
+    """Returns what each command of a script is answered, up to its end or `exit`, and what it stated.
+
+    An answer is a line, or of a check what is current there.
+    """
+    state, answers, at = State(limit), [], 0
+    while True:
+        try:
+            found = read_one(text, at)
+        except Fault as fault:
+            return [*answers, error_line(text, fault)], state
+        if found is None:
+            return answers, state
+        item, at = found
+        try:
+            answer = perform(state, item)
+        except Fault as fault:
+            answers.append(error_line(text, fault))
+            continue
+        if answer == "unsupported":
+            answers.append(b"unsupported\n")
+        elif answer == "check":
+            answers.append(state.at_check(item[1][0][2]))
+        elif isinstance(answer, bytes):
+            answers.append(answer)
+        elif state.options[b":print-success"]:
+            answers.append(b"success\n")
+        if answer == "exit":
+            return answers, state
+
+
+def checks_of(answers):
+    """Returns the checks among the answers of a script."""
+    return [answer for answer in answers if isinstance(answer, Check)]
