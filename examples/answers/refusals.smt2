@@ -16,5 +16,6 @@
 (assert (= x 170141183460469231731687303715884105728))
 (assert p)
 (check-sat)
-(assert (< x 1))
+(declare-fun f (Real) Bool)
+(assert (f x))
 (check-sat)

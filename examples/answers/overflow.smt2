@@ -1,0 +1,5 @@
+(set-option :print-success false)
+(declare-const x Real)
+(define-fun large () Real 100000000000000000000)
+(assert (< (* large (* large x)) 1))
+(check-sat)

@@ -1,0 +1,7 @@
+(set-option :print-success false)
+(declare-const x Real)
+(declare-const y Real)
+(assert (<= 2 (+ x y)))
+(assert (<= 2 (- x y)))
+(assert (<= x 1))
+(check-sat)
