@@ -1,4 +1,2 @@
--- What numbers with an infinitesimal part are.
-pub mod Deltas
+-- What the numbers of the code are.
 pub mod Meant
-pub mod Examples

@@ -23,8 +23,9 @@ use Rattle.held_literals.specs.Room.{AreOver}
 use Rattle.tableau.specs.Views.{IsTableau}
 use Rattle.simplex_bounds.specs.Held.{ranges_in}
 use Rattle.simplex_check.specs.Boards.{BoardView, state_of, IsBasisOf}
-use Rattle.simplex_check.specs.Strains.{Ranges}
-use Rattle.simplex_check.specs.Ends.{BoardState, Stopped, settling, exchanging, Ends}
+use Rattle.spec_strains.specs.Points.{Ranges, BoardState}
+use Rattle.simplex_check.specs.Ends.{Ends}
+use Rattle.spec_strains.specs.Runs.{Stopped, settling, exchanging}
 use Rattle.simplex_check.specs.declared.check.Outcome.{Outcome}
 use Rattle.simplex_check.specs.declared.check.Outcome.TheVariants.{Fine, Crossed, Conflict}
 use Rattle.simplex_explain.specs.declared.weighted.Weighted.{Weighted}

@@ -15,10 +15,11 @@ use Rattle.term_core.specs.declared.ids.Lit.{Lit}
 use Rattle.term_core.specs.Tables.{TableView, term_at, clause_at, IsIn, AreDifferent}
 use Rattle.tableau.specs.Numbers.{number_of}
 use Rattle.proof_log.specs.Theories.{IsAtomIn, IsOver}
-use Rattle.simplex_check.specs.Boards.{point_in}
+use Rattle.spec_strains.specs.Points.{point_in}
 use Rattle.simplex_atoms.specs.Owners.{owner_at, IsNumberOf, AreOwned}
 use Rattle.simplex_held.proofs.Owners.{point_of, owned, absent}
-use Rattle.simplex_numbers.specs.Values.{at_number, flat}
+use Rattle.simplex_numbers.specs.Values.{flat}
+use Rattle.spec_strains.specs.Halves.{at_number}
 use Rattle.simplex.specs.Views.{SimplexView, IsOf}
 use Rattle.simplex.specs.Numbers.{number_by, IsNumberAt}
 

@@ -14,11 +14,11 @@ use Rattle.sat_budget.specs.declared.limits.Strain.{Strain}
 use Rattle.sat_budget.specs.declared.limits.Stop.{Stop}
 use Rattle.proof_log.specs.declared.theory.Verdict.{Verdict}
 use Rattle.proof_log.specs.declared.theory.Verdict.TheVariants as verdicts
-use Rattle.simplex_bounds.specs.Deltas.{deltas}
+use Rattle.spec_strains.specs.Points.{deltas, point_in}
 use Rattle.simplex_bounds.specs.Held.{ranges_in}
-use Rattle.simplex_check.specs.Boards.{point_in, state_of, IsBasisOf}
-use Rattle.simplex_check.specs.Strains.{Strains}
-use Rattle.simplex_check.specs.Ends.{WantsMore}
+use Rattle.simplex_check.specs.Boards.{state_of, IsBasisOf}
+use Rattle.spec_strains.specs.Strains.{Strains}
+use Rattle.spec_strains.specs.Runs.{WantsMore}
 use Rattle.simplex_check.specs.declared.check.Outcome.{Outcome}
 use Rattle.simplex_check.specs.declared.check.Outcome.TheVariants.{Fine, Crossed, Conflict}
 use Rattle.simplex_atoms.specs.Watching.{StrainsAtom}

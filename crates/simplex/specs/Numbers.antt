@@ -3,7 +3,7 @@ use Rattle.std.specs.Prelude.{◌≡◌, ℕ, true, List, map, All, Option, Some
 use Rattle.spec_numbers.specs.Fractions.{Fraction, IsReduced}
 use Rattle.spec_numbers.specs.Bounds.{Overflow}
 use Rattle.spec_sorts.specs.Terms.{Term}
-use Rattle.delta_num.specs.Deltas.{delta_evaluated}
+use Rattle.spec_strains.specs.Deltas.{delta_evaluated}
 use Rattle.spec_tableaux.specs.Fields.{is_positive}
 use Rattle.spec_tableaux.specs.Numbers.{Number, numbers}
 use Rattle.spec_simplex.specs.Numbers.{HoldsAt}
@@ -13,11 +13,11 @@ use Rattle.term_core.specs.Tables.{TableView}
 use Rattle.sat_budget.specs.declared.limits.Strain.{Strain}
 use Rattle.proof_log.specs.Theories.{literals_held}
 use Rattle.simplex_bounds.specs.Held.{ranges_in}
-use Rattle.simplex_check.specs.Boards.{point_in, IsBasisOf}
-use Rattle.simplex_check.specs.Strains.{delta_in}
+use Rattle.simplex_check.specs.Boards.{IsBasisOf}
+use Rattle.spec_strains.specs.Points.{point_in, delta_in}
 use Rattle.simplex_atoms.specs.Owners.{IsNumberOf}
-use Rattle.simplex_numbers.specs.Values.{at_number, KeepsAt}
-use Rattle.simplex_numbers.specs.Strains.{StrainsNumber}
+use Rattle.simplex_numbers.specs.Values.{KeepsAt}
+use Rattle.spec_strains.specs.Halves.{at_number, StrainsNumber}
 use Rattle.simplex.specs.Views.{SimplexView}
 
 -- the number of a variable where the infinitesimal is e, and 0 of none

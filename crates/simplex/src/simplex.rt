@@ -2,9 +2,10 @@
 
 ghost use Rattle.std.specs.Prelude.{◌≡◌, [], IfOk};
 ghost use Rattle.spec_tableaux.specs.LeastVariable as rule;
-ghost use Rattle.simplex_bounds.specs.Deltas.{pair_of, deltas};
+ghost use Rattle.simplex_bounds.specs.Deltas.{pair_of};
+ghost use Rattle.spec_strains.specs.Points.{deltas, point_in};
 ghost use Rattle.simplex_bounds.specs.Held.{ranges_in};
-ghost use Rattle.simplex_check.specs.Boards.{state_of, point_in, empty_board, IsBasisOf};
+ghost use Rattle.simplex_check.specs.Boards.{state_of, empty_board, IsBasisOf};
 ghost use Rattle.simplex_check.specs.Moves.{said};
 ghost use Rattle.simplex_atoms.specs.Owners.{IsNumberOf};
 ghost use Rattle.simplex.specs.Views.{Fits};

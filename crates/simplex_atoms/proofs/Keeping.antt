@@ -19,7 +19,7 @@ use Rattle.term_core.specs.declared.ids.Lit.{Lit}
 use Rattle.tableau.specs.Numbers.{number_of}
 use Rattle.simplex_bounds.specs.declared.bounds.Side.{Side}
 use Rattle.simplex_bounds.specs.declared.bounds.Side.TheVariants.{Lower, Upper}
-use Rattle.simplex_bounds.specs.Deltas.{deltas}
+use Rattle.spec_strains.specs.Points.{deltas}
 use Rattle.simplex_atoms.specs.declared.place.Kind.{Kind}
 use Rattle.simplex_atoms.specs.declared.place.Kind.TheVariants as kinds
 use Rattle.simplex_atoms.specs.declared.place.Place.{Place}

@@ -26,7 +26,7 @@ use Rattle.tableau.specs.Numbers.{number_of}
 use Rattle.tableau.specs.Entries.{entries_of}
 use Rattle.tableau.specs.Views as views
 use Rattle.simplex_check.specs.Boards.{BoardView, board_with_sum, state_of}
-use Rattle.simplex_check.specs.Strains.{StrainsNew}
+use Rattle.spec_strains.specs.Strains.{StrainsNew}
 use Rattle.simplex_atoms.specs.declared.place.Kind.{Kind}
 use Rattle.simplex_atoms.specs.declared.place.Place.{Place}
 use Rattle.simplex_atoms.specs.declared.stop.AtomStop.{AtomStop}

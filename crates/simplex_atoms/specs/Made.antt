@@ -9,7 +9,7 @@ use Rattle.tableau.specs.declared.entries.Entry.{Entry}
 use Rattle.tableau.specs.Numbers.{number_of}
 use Rattle.tableau.specs.Entries.{entries_of}
 use Rattle.simplex_check.specs.Boards.{BoardView, state_of}
-use Rattle.simplex_check.specs.Strains.{StrainsNew}
+use Rattle.spec_strains.specs.Strains.{StrainsNew}
 use Rattle.simplex_atoms.specs.declared.place.Kind.{Kind}
 use Rattle.simplex_atoms.specs.declared.place.Place.{Place}
 use Rattle.simplex_atoms.specs.Atoms.{Ground, IsMultiple}

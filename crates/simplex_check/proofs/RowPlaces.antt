@@ -9,8 +9,8 @@ use Rattle.spec_tableaux.specs.LeastVariable.{State, is_out}
 use Rattle.spec_tableaux.specs.Numbers.{Number, numbers}
 use Rattle.spec_tableaux.proofs.Steps.{same_eqb}
 use Rattle.tableau.specs.Views.{row_at, no_row}
-use Rattle.simplex_bounds.specs.Deltas.{deltas}
-use Rattle.simplex_check.specs.Strains.{coefficient_in}
+use Rattle.spec_strains.specs.Points.{deltas}
+use Rattle.spec_strains.specs.Strains.{coefficient_in}
 
 or_true : (q : Bool) → (q || true) ≡ true
 or_true true = refl

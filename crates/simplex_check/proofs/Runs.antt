@@ -10,10 +10,11 @@ use Rattle.sat_budget.specs.declared.limits.Stop.TheVariants as stops
 use Rattle.tableau.specs.Views.{OnWide}
 use Rattle.tableau.specs.declared.stops.RowStop.{RowStop}
 use Rattle.tableau.specs.declared.stops.RowStop.TheVariants as row_stops
-use Rattle.simplex_bounds.specs.Deltas.{deltas}
+use Rattle.spec_strains.specs.Points.{deltas, Ranges, BoardState}
 use Rattle.simplex_check.specs.Boards.{BoardView, state_of}
-use Rattle.simplex_check.specs.Strains.{Ranges, Strains}
-use Rattle.simplex_check.specs.Ends.{BoardState, Ran, RanShort, settling, exchanging, StopsStep, StopsSettling, IsStopOf, Ends}
+use Rattle.spec_strains.specs.Strains.{Strains}
+use Rattle.simplex_check.specs.Ends.{StopsStep, StopsSettling, IsStopOf, Ends}
+use Rattle.spec_strains.specs.Runs.{Ran, RanShort, settling, exchanging}
 
 append_nil : (xs : List (ℕ × ℕ)) → xs ++ [] ≡ xs
 append_nil [] = refl

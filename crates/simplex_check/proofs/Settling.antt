@@ -10,13 +10,12 @@ use Rattle.spec_tableaux.specs.SolvedForms.{IsNonbasic}
 use Rattle.spec_tableaux.specs.Ranges.{settled_value}
 use Rattle.spec_tableaux.specs.LeastVariable.{Settles}
 use Rattle.spec_tableaux.specs.Numbers.{Number}
-use Rattle.simplex_bounds.specs.Deltas.{deltas}
+use Rattle.spec_strains.specs.Points.{deltas, Ranges, BoardState}
 use Rattle.simplex_bounds.specs.Held.{same_side, stronger, strongest_after, strongest, value_in, ranges_in}
 use Rattle.simplex_bounds.specs.declared.bounds.Bound.{Bound}
 use Rattle.simplex_bounds.specs.declared.bounds.Side.{Side}
 use Rattle.simplex_bounds.specs.declared.bounds.Side.TheVariants.{Lower, Upper}
-use Rattle.simplex_check.specs.Strains.{Ranges}
-use Rattle.simplex_check.specs.Ends.{BoardState, SettlesBelow}
+use Rattle.spec_strains.specs.Runs.{SettlesBelow}
 
 pub settles_none : (ranges : Ranges) (t : BoardState) → Solves deltas t.point t.rows → SettlesBelow ranges 0 t t
 settles_none ranges t s = record { rows = refl; solves = s; settled = λ y h n. absurd (omega arith); others = λ y h n. refl }

@@ -3,7 +3,7 @@ use Rattle.std.proofs.Common.{◌≡◌, ℕ, suc, ◌<◌, Bool, true, false, �
 use Rattle.std.proofs.Math.ListN.{get_or-append}
 use Rattle.std.proofs.Math.Seq.{get_or-append_seam}
 use Rattle.spec_numbers.specs.Bounds.{Overflow}
-use Rattle.delta_num.specs.Deltas.{delta_added, delta_scaled}
+use Rattle.spec_strains.specs.Deltas.{delta_added, delta_scaled}
 use Rattle.spec_tableaux.specs.Spaces.{Space, IsSpace, Pair}
 use Rattle.spec_tableaux.specs.Rows.{Entry, Row, Solves, is_basic, sum_of}
 use Rattle.spec_tableaux.specs.SolvedForms.{IsOver, AreOver}
@@ -11,9 +11,9 @@ use Rattle.spec_tableaux.specs.Numbers.{Number}
 use Rattle.spec_tableaux.proofs.Growing.{row_added}
 use Rattle.spec_tableaux.proofs.Steps.{agreeing_sums, same_eqb}
 use Rattle.tableau.specs.Views.{TableauView, IsTableau, with_variable, with_sum}
-use Rattle.simplex_bounds.specs.Deltas.{deltas}
-use Rattle.simplex_check.specs.Boards.{BoardView, IsBoard, point_in}
-use Rattle.simplex_check.specs.Strains.{StrainsValue, delta_in, product, sum_of_product}
+use Rattle.spec_strains.specs.Points.{deltas, point_in, delta_in}
+use Rattle.simplex_check.specs.Boards.{BoardView, IsBoard}
+use Rattle.spec_strains.specs.Strains.{StrainsValue, product, sum_of_product}
 use Rattle.simplex_check.proofs.Points.{deltas_are_space, same_point, point_more}
 
 -- an entry more at the end

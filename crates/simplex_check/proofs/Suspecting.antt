@@ -16,10 +16,8 @@ use Rattle.spec_tableaux.specs.LeastVariable.{IsLeast, is_out}
 use Rattle.spec_tableaux.specs.Numbers.{Number, numbers}
 use Rattle.spec_tableaux.proofs.SolvedForms.{nonbasic_after, leaving_nonbasic, apart}
 use Rattle.spec_tableaux.proofs.Steps.{same_eqb}
-use Rattle.simplex_bounds.specs.Deltas.{deltas}
+use Rattle.spec_strains.specs.Points.{deltas, Ranges, BoardState}
 use Rattle.simplex_check.specs.Changes.{Lead, is_changed}
-use Rattle.simplex_check.specs.Strains.{Ranges}
-use Rattle.simplex_check.specs.Ends.{BoardState}
 use Rattle.simplex_check.specs.Suspects.{is_among, Suspect, SuspectBut}
 use Rattle.simplex_check.specs.declared.changes.Change.{Change}
 

@@ -1,11 +1,12 @@
 -- Tableaus with a value of each variable.
-use Rattle.std.specs.Prelude.{◌≡◌, ℕ, List, [], ◌∷◌, ◌++◌, length, map, get_or}
+use Rattle.std.specs.Prelude.{◌≡◌, List, [], ◌∷◌, ◌++◌, length, map}
 use Rattle.spec_tableaux.specs.Spaces.{Pair}
 use Rattle.spec_tableaux.specs.Rows.{Entry, Row, Solves, sum_of}
 use Rattle.spec_tableaux.specs.LeastVariable.{State}
 use Rattle.spec_tableaux.specs.Numbers.{Number}
 use Rattle.tableau.specs.Views.{TableauView, empty, with_variable, with_sum}
-use Rattle.simplex_bounds.specs.Deltas.{pair_of, deltas}
+use Rattle.simplex_bounds.specs.Deltas.{pair_of}
+use Rattle.spec_strains.specs.Points.{deltas, point_in}
 use Rattle.sat_budget.specs.declared.limits.Basis.{Basis}
 
 -- A tableau, and the values of its variables.
@@ -13,10 +14,6 @@ pub record BoardView : Type 0 where
   pub tableau : TableauView
   -- the value of each variable, by its number from 0
   pub values : List (Pair Number)
-
--- the values as a point, which is the origin where there is no variable
-abbrev pub point_in : List (Pair Number) → ℕ → Pair Number
-point_in vs y = get_or vs y deltas.origin
 
 -- the rows in solved form, and the point
 abbrev pub state_of : BoardView → State Number (Pair Number)

@@ -2,7 +2,6 @@
 pub mod Boards
 pub mod Kept
 pub mod Changes
-pub mod Strains
 pub mod Moves
 pub mod Ends
 pub mod Suspects

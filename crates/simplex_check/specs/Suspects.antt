@@ -1,9 +1,7 @@
 -- Variables that may violate a bound.
 use Rattle.std.specs.Prelude.{◌≡◌, ℕ, Bool, true, false, ◌==◌, ◌||◌, ◌⊎◌, List, [], ◌∷◌}
 use Rattle.spec_tableaux.specs.LeastVariable.{is_out}
-use Rattle.simplex_bounds.specs.Deltas.{deltas}
-use Rattle.simplex_check.specs.Strains.{Ranges}
-use Rattle.simplex_check.specs.Ends.{BoardState}
+use Rattle.spec_strains.specs.Points.{deltas, Ranges, BoardState}
 use Rattle.simplex_check.specs.declared.rule.Move.{Move}
 use Rattle.simplex_check.specs.declared.rule.Move.TheVariants.{Exchange}
 

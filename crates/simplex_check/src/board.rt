@@ -6,9 +6,10 @@ ghost use Rattle.spec_tableaux.specs.SolvedForms.{IsOver};
 ghost use Rattle.tableau.specs.Entries.{entries_of};
 ghost use Rattle.tableau.specs.Views.{OnWide};
 ghost use Rattle.simplex_bounds.specs.Deltas.{pair_of};
-ghost use Rattle.simplex_check.specs.Boards.{IsBoard, IsBasisOf, point_in, state_of};
+ghost use Rattle.simplex_check.specs.Boards.{IsBoard, IsBasisOf, state_of};
+ghost use Rattle.spec_strains.specs.Points.{point_in};
 ghost use Rattle.simplex_check.specs.Boards.{empty_board, board_with_variable, board_with_sum};
-ghost use Rattle.simplex_check.specs.Strains.{StrainsNew};
+ghost use Rattle.spec_strains.specs.Strains.{StrainsNew};
 
 use crate::sums::sum_at;
 use delta_num::Delta;

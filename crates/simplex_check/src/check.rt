@@ -2,7 +2,7 @@
 
 ghost use Rattle.std.specs.Prelude.{◌≡◌, ◌≤◌, OnOk, OnErr, IfErr};
 ghost use Rattle.spec_tableaux.specs.LeastVariable.{Says, Exchanges, Settles, exchange};
-ghost use Rattle.simplex_bounds.specs.Deltas.{deltas};
+ghost use Rattle.spec_strains.specs.Points.{deltas};
 ghost use Rattle.simplex_bounds.specs.Held.{ranges_in};
 ghost use Rattle.simplex_check.specs.Boards.{state_of};
 ghost use Rattle.simplex_check.specs.Ends.{Ends, StopsStep, StopsSettling};

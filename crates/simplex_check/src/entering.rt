@@ -8,9 +8,8 @@ ghost use Rattle.spec_tableaux.specs.LeastVariable.{IsLeast};
 ghost use Rattle.spec_tableaux.specs.Numbers.{numbers};
 ghost use Rattle.tableau.specs.Numbers.{number_of};
 ghost use Rattle.tableau.specs.Entries.{entries_of};
-ghost use Rattle.simplex_bounds.specs.Deltas.{deltas};
+ghost use Rattle.spec_strains.specs.Points.{deltas, point_in};
 ghost use Rattle.simplex_bounds.specs.Held.{ranges_in};
-ghost use Rattle.simplex_check.specs.Boards.{point_in};
 
 use crate::board::Board;
 use simplex_bounds::Bounds;

@@ -4,10 +4,10 @@ ghost use Rattle.std.specs.Prelude.{◌≡◌, ◌<◌, true, length, map, IfOk,
 ghost use Rattle.spec_tableaux.specs.SolvedForms.{IsNonbasic};
 ghost use Rattle.spec_tableaux.specs.LeastVariable.{moved};
 ghost use Rattle.tableau.specs.Views.{row_at, OnWide};
-ghost use Rattle.simplex_bounds.specs.Deltas.{pair_of, deltas};
-ghost use Rattle.simplex_check.specs.Boards.{point_in};
+ghost use Rattle.simplex_bounds.specs.Deltas.{pair_of};
+ghost use Rattle.spec_strains.specs.Points.{deltas, point_in, state_at};
 ghost use Rattle.simplex_check.specs.Changes.{AreKnown, Lead, is_changed};
-ghost use Rattle.simplex_check.specs.Strains.{StrainsMove, state_at};
+ghost use Rattle.spec_strains.specs.Strains.{StrainsMove};
 
 use crate::changes::{Change, value_at};
 use delta_num::Delta;

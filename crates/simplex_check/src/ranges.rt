@@ -1,9 +1,10 @@
 //! What a value does within a range.
 
-ghost use Rattle.std.specs.Prelude.{◌≡◌, ◌||◌, false, not, MatchOption};
+ghost use Rattle.std.specs.Prelude.{◌≡◌, ◌||◌, false, MatchOption};
 ghost use Rattle.spec_tableaux.specs.Ranges as ranges;
 ghost use Rattle.spec_tableaux.specs.LeastVariable as rule;
-ghost use Rattle.simplex_bounds.specs.Deltas.{pair_of, range_of, deltas};
+ghost use Rattle.simplex_bounds.specs.Deltas.{pair_of, range_of};
+ghost use Rattle.spec_strains.specs.Points.{deltas};
 ghost use Rattle.simplex_check.specs.Moves.{keeps};
 
 use delta_num::Delta;

@@ -7,10 +7,11 @@ ghost use Rattle.spec_tableaux.specs.Ranges.{settled_value};
 ghost use Rattle.spec_tableaux.specs.LeastVariable.{Says, Exchanges, exchange, distance, moved};
 ghost use Rattle.tableau.specs.Numbers.{number_of};
 ghost use Rattle.tableau.specs.Views.{OnWide};
-ghost use Rattle.simplex_bounds.specs.Deltas.{pair_of, deltas};
+ghost use Rattle.simplex_bounds.specs.Deltas.{pair_of};
+ghost use Rattle.spec_strains.specs.Points.{deltas, point_in};
 ghost use Rattle.simplex_bounds.specs.Held.{ranges_in};
-ghost use Rattle.simplex_check.specs.Boards.{IsBoard, point_in, state_of};
-ghost use Rattle.simplex_check.specs.Strains.{coefficient_in, StrainsMove, Strains};
+ghost use Rattle.simplex_check.specs.Boards.{IsBoard, state_of};
+ghost use Rattle.spec_strains.specs.Strains.{coefficient_in, StrainsMove, Strains};
 ghost use Rattle.simplex_check.specs.Ends.{IsStopOf};
 ghost use Rattle.simplex_check.specs.Suspects.{Suspect, SuspectBut};
 

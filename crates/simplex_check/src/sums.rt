@@ -5,9 +5,9 @@ ghost use Rattle.ratio128.specs.Meant.{overflow};
 ghost use Rattle.spec_tableaux.specs.Rows.{sum_of};
 ghost use Rattle.spec_tableaux.specs.SolvedForms.{IsOver};
 ghost use Rattle.tableau.specs.Entries.{entries_of};
-ghost use Rattle.simplex_bounds.specs.Deltas.{pair_of, deltas};
-ghost use Rattle.simplex_check.specs.Boards.{point_in};
-ghost use Rattle.simplex_check.specs.Strains.{StrainsValue};
+ghost use Rattle.simplex_bounds.specs.Deltas.{pair_of};
+ghost use Rattle.spec_strains.specs.Points.{deltas, point_in};
+ghost use Rattle.spec_strains.specs.Strains.{StrainsValue};
 
 use crate::changes::value_at;
 use delta_num::Delta;

@@ -1,7 +1,5 @@
 //! Checks of small systems by hand. The variables are x0, x1 and x2, which is the sum of multiples of the others.
 
-ghost use Rattle.std.specs.Prelude.{◌≡◌, IfOk};
-
 use crate::{Board, Outcome};
 use delta_num::Delta;
 use sat_budget::{Budget, Limits, Stop};

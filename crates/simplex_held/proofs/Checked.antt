@@ -3,9 +3,8 @@ use Rattle.std.proofs.Common.{Ok}
 use Rattle.spec_tableaux.specs.Ranges.{Meets}
 use Rattle.spec_tableaux.proofs.Steps.{done_meets}
 use Rattle.sat_budget.specs.Budgets.{BudgetView}
-use Rattle.simplex_bounds.specs.Deltas.{deltas}
-use Rattle.simplex_check.specs.Boards.{BoardView, point_in, state_of}
-use Rattle.simplex_check.specs.Strains.{Ranges}
+use Rattle.spec_strains.specs.Points.{deltas, point_in, Ranges}
+use Rattle.simplex_check.specs.Boards.{BoardView, state_of}
 use Rattle.simplex_check.specs.Ends.{Ends}
 use Rattle.simplex_check.specs.declared.check.Outcome.TheVariants.{Fine}
 use Rattle.simplex_reasons.proofs.Holding.{ran_settled}

@@ -13,10 +13,11 @@ use Rattle.tableau.specs.Views.{TableauView, IsTableau}
 use Rattle.simplex_bounds.specs.declared.bounds.Bound.{Bound}
 use Rattle.simplex_bounds.specs.declared.bounds.Side.{Side}
 use Rattle.simplex_bounds.specs.declared.bounds.Side.TheVariants.{Lower, Upper}
-use Rattle.simplex_bounds.specs.Deltas.{pair_of, deltas}
+use Rattle.simplex_bounds.specs.Deltas.{pair_of}
+use Rattle.spec_strains.specs.Points.{deltas, point_in}
 use Rattle.simplex_bounds.specs.Held.{BoundsView, is_tighter, Keeps as KeepsBound}
 use Rattle.simplex_bounds.proofs.Keeping.{ranges_kept}
-use Rattle.simplex_check.specs.Boards.{BoardView, point_in}
+use Rattle.simplex_check.specs.Boards.{BoardView}
 use Rattle.simplex_atoms.specs.declared.place.Place.{Place}
 use Rattle.simplex_atoms.specs.Owners.{AreOwned}
 use Rattle.simplex_atoms.specs.Places.{IsPlaced, place_in}

@@ -4,9 +4,9 @@ use Rattle.spec_tableaux.specs.Ranges.{Meets}
 use Rattle.term_core.specs.declared.ids.Lit.{Lit}
 use Rattle.term_core.specs.Tables.{TableView, AreDifferent}
 use Rattle.tableau.specs.Views.{IsTableau}
-use Rattle.simplex_bounds.specs.Deltas.{deltas}
+use Rattle.spec_strains.specs.Points.{deltas, point_in}
 use Rattle.simplex_bounds.specs.Held.{BoundsView, ranges_in}
-use Rattle.simplex_check.specs.Boards.{BoardView, point_in}
+use Rattle.simplex_check.specs.Boards.{BoardView}
 use Rattle.simplex_atoms.specs.Atoms.{AtomsView, AreRight}
 use Rattle.simplex_held.specs.Stated.{AreBoundsOf, IsKnownIn}
 

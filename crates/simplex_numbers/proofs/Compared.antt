@@ -18,14 +18,16 @@ use Rattle.term_core.specs.declared.ids.Lit.{Lit}
 use Rattle.term_core.specs.Tables.{TableView, term_at, literal_at}
 use Rattle.tableau.specs.Numbers.{number_of}
 use Rattle.simplex_bounds.specs.Held.{BoundsView, ranges_in}
-use Rattle.simplex_check.specs.Boards.{BoardView, point_in}
+use Rattle.simplex_check.specs.Boards.{BoardView}
+use Rattle.spec_strains.specs.Points.{point_in}
 use Rattle.simplex_atoms.specs.Owners.{AreOwned}
 use Rattle.simplex_atoms.specs.Atoms.{AtomsView, setting_of, ground_of}
 use Rattle.simplex_atoms.proofs.Values.{tilt_comes}
 use Rattle.simplex_held.specs.Keeping.{KeepsHeld}
 use Rattle.simplex_held.proofs.Stating.{all_from}
 use Rattle.simplex_held.proofs.Feasible.{placed, solved, literal_kept}
-use Rattle.simplex_numbers.specs.Values.{at_number, flat, board_at, KeepsAt}
+use Rattle.simplex_numbers.specs.Values.{flat, board_at, KeepsAt}
+use Rattle.spec_strains.specs.Halves.{at_number}
 use Rattle.simplex_numbers.proofs.Flat.{flat_point}
 use Rattle.simplex_numbers.proofs.Holding.{held_at}
 use Rattle.simplex_numbers.proofs.Sides.{real_sides}

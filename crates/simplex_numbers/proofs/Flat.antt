@@ -9,12 +9,13 @@ use Rattle.spec_tableaux.proofs.PairSolutions.{parts_pair}
 use Rattle.simplex_bounds.specs.declared.bounds.Bound.{Bound}
 use Rattle.simplex_bounds.specs.declared.bounds.Side.{Side}
 use Rattle.simplex_bounds.specs.declared.bounds.Side.TheVariants.{Lower, Upper}
-use Rattle.simplex_bounds.specs.Deltas.{pair_of, deltas}
+use Rattle.simplex_bounds.specs.Deltas.{pair_of}
+use Rattle.spec_strains.specs.Points.{deltas, point_in}
 use Rattle.simplex_bounds.specs.Held.{strongest, value_in, ranges_in}
 use Rattle.simplex_bounds.proofs.Keeping.{strongest_is_held}
-use Rattle.simplex_check.specs.Boards.{point_in}
 use Rattle.simplex_reasons.proofs.Refuting.{zero_solves}
-use Rattle.simplex_numbers.specs.Values.{at_number, is_less, bound_at, flat, IsInward, KeepsAt}
+use Rattle.simplex_numbers.specs.Values.{bound_at, flat, IsInward, KeepsAt}
+use Rattle.spec_strains.specs.Halves.{at_number, is_less}
 use Rattle.simplex_numbers.proofs.Orders.{level_stays}
 use Rattle.simplex_numbers.proofs.Rows.{base_at, rows_at}
 use Rattle.simplex_numbers.proofs.Keeping.{kept_sides}

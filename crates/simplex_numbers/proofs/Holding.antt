@@ -7,9 +7,10 @@ use Rattle.spec_tableaux.specs.Numbers.{Number, numbers}
 use Rattle.term_core.specs.declared.ids.Lit.{Lit}
 use Rattle.term_core.specs.Tables.{TableView}
 use Rattle.simplex_bounds.specs.declared.bounds.Bound.{Bound}
-use Rattle.simplex_bounds.specs.Deltas.{pair_of, deltas}
+use Rattle.simplex_bounds.specs.Deltas.{pair_of}
+use Rattle.spec_strains.specs.Points.{deltas, point_in}
 use Rattle.simplex_bounds.specs.Held.{BoundsView, ranges_in}
-use Rattle.simplex_check.specs.Boards.{BoardView, point_in}
+use Rattle.simplex_check.specs.Boards.{BoardView}
 use Rattle.simplex_check.proofs.Points.{same_point}
 use Rattle.simplex_atoms.specs.Limits.{limit_of}
 use Rattle.simplex_atoms.specs.Atoms.{AtomsView}
@@ -17,7 +18,8 @@ use Rattle.simplex_reasons.specs.Stops.{IsStated}
 use Rattle.simplex_held.specs.Keeping.{KeepsHeld}
 use Rattle.simplex_held.proofs.Stating.{bounds_stated}
 use Rattle.simplex_held.proofs.Boards.{fit}
-use Rattle.simplex_numbers.specs.Values.{at_number, flat, board_at, IsInward, KeepsAt}
+use Rattle.simplex_numbers.specs.Values.{flat, board_at, IsInward, KeepsAt}
+use Rattle.spec_strains.specs.Halves.{at_number}
 use Rattle.simplex_numbers.proofs.Tilts.{inward}
 use Rattle.simplex_numbers.proofs.Flat.{flat_solves, flat_point, flat_within}
 

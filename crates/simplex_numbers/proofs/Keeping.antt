@@ -8,9 +8,10 @@ use Rattle.spec_tableaux.proofs.OrderedSpaces.{field_is_ordered, pairs_are_order
 use Rattle.ratio128.specs.declared.ratio.Ratio.{Ratio}
 use Rattle.ratio128.specs.declared.wide.Wide.{Wide}
 use Rattle.tableau.specs.Numbers.{number_of}
-use Rattle.simplex_bounds.specs.Deltas.{deltas}
+use Rattle.spec_strains.specs.Points.{deltas}
 use Rattle.simplex_check.specs.Moves.{keeps}
-use Rattle.simplex_numbers.specs.Values.{at_number, is_less, bound_at, range_at, IsSmaller, StaysLess, StaysAbove, StaysBelow, StaysOff}
+use Rattle.simplex_numbers.specs.Values.{bound_at, range_at, IsSmaller, StaysLess, StaysAbove, StaysBelow, StaysOff}
+use Rattle.spec_strains.specs.Halves.{at_number, is_less}
 use Rattle.simplex_numbers.proofs.Orders.{less_stays, smaller_smaller, asymmetric}
 
 -- what is not greater is not so at the number

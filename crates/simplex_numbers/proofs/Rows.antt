@@ -6,7 +6,7 @@ use Rattle.spec_tableaux.specs.Numbers.{Number, numbers}
 use Rattle.spec_tableaux.proofs.Numbers.{numbers_are_ordered_field as l}
 use Rattle.spec_tableaux.proofs.Groups.{inner_two}
 use Rattle.spec_tableaux.proofs.Signs.{zero_product}
-use Rattle.simplex_numbers.specs.Values.{at_number}
+use Rattle.spec_strains.specs.Halves.{at_number}
 
 -- a pair without an infinitesimal part is its base
 pub base_at : (e q : Number) → at_number e (record { base = q; tilt = numbers.zero }) ≡ q

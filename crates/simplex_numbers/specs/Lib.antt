@@ -1,3 +1,2 @@
 -- Numbers in the place of the infinitesimal.
 pub mod Values
-pub mod Strains

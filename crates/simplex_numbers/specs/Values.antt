@@ -1,27 +1,19 @@
 -- Numbers in the place of the infinitesimal, and what pairs and ranges of them come to.
 -- Source: Dutertre and de Moura, A Fast Linear-Arithmetic Solver for DPLL(T), CAV 2006.
-use Rattle.std.specs.Prelude.{◌≡◌, ℕ, Bool, true, false, map, Option, Some, None}
+use Rattle.std.specs.Prelude.{◌≡◌, ℕ, true, false, map, Option, Some, None}
 use Rattle.spec_tableaux.specs.Fields.{is_positive}
 use Rattle.spec_tableaux.specs.Spaces.{Pair, as_space}
 use Rattle.spec_tableaux.specs.Ranges.{Range, is_within}
 use Rattle.spec_tableaux.specs.Numbers.{Number, numbers}
 use Rattle.simplex_bounds.specs.declared.bounds.Side.{Side}
 use Rattle.simplex_bounds.specs.declared.bounds.Side.TheVariants.{Lower, Upper}
-use Rattle.simplex_bounds.specs.Deltas.{deltas}
+use Rattle.spec_strains.specs.Points.{deltas, Ranges}
 use Rattle.simplex_check.specs.Boards.{BoardView}
-use Rattle.simplex_check.specs.Strains.{Ranges}
-
--- a number is less than another
-abbrev pub is_less : Number → Number → Bool
-is_less = (as_space numbers).less
+use Rattle.spec_strains.specs.Halves.{is_less, at_number}
 
 -- d is above 0, and not greater than e
 abbrev pub IsSmaller : Number → Number → Type 0
 IsSmaller d e = (is_positive numbers d ≡ true) × (is_less e d ≡ false)
-
--- the number that a pair is where the infinitesimal is e
-abbrev pub at_number : Number → Pair Number → Number
-at_number e x = numbers.plus x.base (numbers.times x.tilt e)
 
 -- a bound where the infinitesimal is e, if there is one
 abbrev pub bound_at : Number → Option (Pair Number) → Option Number
@@ -53,30 +45,6 @@ StaysBelow e (Some b) x = StaysLess e x b
 -- a value that is off a bound of its range is so where the infinitesimal is e
 abbrev pub StaysOff : Number → Range (Pair Number) → Pair Number → Type 0
 StaysOff e r x = StaysAbove e r.lower x × StaysBelow e r.upper x
-
--- how much the base of y is above that of x
-abbrev pub gap : Pair Number → Pair Number → Number
-gap x y = numbers.plus y.base (numbers.opposite x.base)
-
--- how much the tilt of x is above that of y
-abbrev pub steepness : Pair Number → Pair Number → Number
-steepness x y = numbers.plus x.tilt (numbers.opposite y.tilt)
-
--- the tilt of x is above that of y
-abbrev pub IsSteeper : Pair Number → Pair Number → Type 0
-IsSteeper x y = is_less y.tilt x.tilt ≡ true
-
--- the number at which x, of the greater tilt, comes to y
-abbrev pub meeting : Pair Number → Pair Number → Number
-meeting x y = numbers.times (gap x y) (numbers.inverse (steepness x y))
-
--- 2
-abbrev pub two : Number
-two = numbers.plus numbers.one numbers.one
-
--- half of that number
-abbrev pub halfway : Pair Number → Pair Number → Number
-halfway x y = numbers.times (meeting x y) (numbers.inverse two)
 
 -- a number as a pair without an infinitesimal part
 abbrev pub flat : Number → Pair Number

@@ -13,15 +13,17 @@ ghost use Rattle.spec_simplex.specs.Numbers.{HoldsAt};
 ghost use Rattle.term_core.specs.declared.ids.Lit.{Lit};
 ghost use Rattle.term_core.specs.Tables.{TableView, term_at, literal_at};
 ghost use Rattle.simplex_bounds.specs.declared.bounds.Bound.{Bound};
-ghost use Rattle.simplex_bounds.specs.Deltas.{pair_of, deltas};
+ghost use Rattle.simplex_bounds.specs.Deltas.{pair_of};
+ghost use Rattle.spec_strains.specs.Points.{deltas, point_in};
 ghost use Rattle.simplex_bounds.specs.Held.{BoundsView, ranges_in};
-ghost use Rattle.simplex_check.specs.Boards.{BoardView, point_in};
+ghost use Rattle.simplex_check.specs.Boards.{BoardView};
 ghost use Rattle.simplex_atoms.specs.declared.place.Place.{Place};
 ghost use Rattle.simplex_atoms.specs.Owners.{AreOwned};
 ghost use Rattle.simplex_atoms.specs.Limits.{Limit, limits_by};
 ghost use Rattle.simplex_atoms.specs.Atoms.{AtomsView};
 ghost use Rattle.simplex_held.specs.Keeping.{KeepsHeld};
-ghost use Rattle.simplex_numbers.specs.Values.{at_number, flat, board_at, IsInward, IsSmaller, StaysLess, KeepsAt};
+ghost use Rattle.simplex_numbers.specs.Values.{flat, board_at, IsInward, IsSmaller, StaysLess, KeepsAt};
+ghost use Rattle.spec_strains.specs.Halves.{at_number};
 
 /// States that values that solve rows do so at each number in the place of the infinitesimal.
 pub fn rows_hold_at_numbers()

@@ -6,10 +6,11 @@ ghost use Rattle.spec_tableaux.specs.Fields.{is_positive};
 ghost use Rattle.spec_tableaux.specs.Ranges.{below, above};
 ghost use Rattle.spec_tableaux.specs.Numbers.{numbers};
 ghost use Rattle.tableau.specs.Numbers.{number_of};
-ghost use Rattle.simplex_bounds.specs.Deltas.{pair_of, pair_in, range_of, deltas};
+ghost use Rattle.simplex_bounds.specs.Deltas.{pair_of, pair_in, range_of};
+ghost use Rattle.spec_strains.specs.Points.{deltas};
 ghost use Rattle.simplex_check.specs.Moves.{keeps};
-ghost use Rattle.simplex_numbers.specs.Values.{two, IsSmaller, StaysLess, StaysAbove, StaysBelow, StaysOff};
-ghost use Rattle.simplex_numbers.specs.Strains.{StrainsOrder, StrainsLower, StrainsUpper, StrainsRange};
+ghost use Rattle.simplex_numbers.specs.Values.{IsSmaller, StaysLess, StaysAbove, StaysBelow, StaysOff};
+ghost use Rattle.spec_strains.specs.Halves.{two, StrainsOrder, StrainsLower, StrainsUpper, StrainsRange};
 
 use delta_num::Delta;
 use ratio128::{Ratio, Wide};

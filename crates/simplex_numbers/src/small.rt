@@ -6,11 +6,10 @@ ghost use Rattle.spec_tableaux.specs.Fields.{is_positive};
 ghost use Rattle.spec_tableaux.specs.Ranges.{Meets};
 ghost use Rattle.spec_tableaux.specs.Numbers.{numbers};
 ghost use Rattle.tableau.specs.Numbers.{number_of};
-ghost use Rattle.simplex_bounds.specs.Deltas.{deltas};
+ghost use Rattle.spec_strains.specs.Points.{deltas, point_in};
 ghost use Rattle.simplex_bounds.specs.Held.{ranges_in};
-ghost use Rattle.simplex_check.specs.Boards.{point_in};
 ghost use Rattle.simplex_numbers.specs.Values.{KeepsAt, StaysOff};
-ghost use Rattle.simplex_numbers.specs.Strains.{StrainsNumber};
+ghost use Rattle.spec_strains.specs.Halves.{StrainsNumber};
 
 use crate::narrowing::narrowed_by;
 use ratio128::{Ratio, Wide};

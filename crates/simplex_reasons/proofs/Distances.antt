@@ -19,7 +19,8 @@ use Rattle.spec_tableaux.proofs.Exchanges.{row_holds}
 use Rattle.spec_tableaux.proofs.PairSolutions.{pair_parts, parts_pair}
 use Rattle.simplex_bounds.specs.declared.bounds.Bound.{Bound}
 use Rattle.simplex_bounds.specs.declared.bounds.Side.TheVariants.{Lower, Upper}
-use Rattle.simplex_bounds.specs.Deltas.{pair_of, deltas}
+use Rattle.simplex_bounds.specs.Deltas.{pair_of}
+use Rattle.spec_strains.specs.Points.{deltas}
 use Rattle.simplex_bounds.specs.Held.{strongest, value_in, range_in, ranges_in}
 use Rattle.simplex_atoms.specs.Limits.{side_by}
 use Rattle.simplex_reasons.specs.Stops.{directed, stop_of, AreAllStopped, value_of, all_beyond, with_basic, unit_entries}

@@ -9,9 +9,8 @@ use Rattle.spec_tableaux.proofs.Settling.{settles_settled}
 use Rattle.spec_tableaux.proofs.Steps.{exchange_settled}
 use Rattle.term_core.specs.declared.ids.Lit.{Lit}
 use Rattle.simplex_bounds.specs.declared.bounds.Bound.{Bound}
-use Rattle.simplex_bounds.specs.Deltas.{deltas}
-use Rattle.simplex_check.specs.Ends.{BoardState, Ran}
-use Rattle.simplex_check.specs.Strains.{Ranges}
+use Rattle.spec_strains.specs.Points.{deltas, BoardState, Ranges}
+use Rattle.spec_strains.specs.Runs.{Ran}
 use Rattle.simplex_atoms.specs.declared.place.Place.{Place}
 use Rattle.simplex_atoms.specs.Places.{place_in}
 use Rattle.simplex_atoms.specs.Limits.{limit_of, limits_by, one_of, limits_meant}

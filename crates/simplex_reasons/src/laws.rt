@@ -3,9 +3,8 @@
 ghost use Rattle.std.specs.Prelude.{◌≡◌, ℕ, false, List};
 ghost use Rattle.spec_tableaux.specs.Ranges.{is_crossed};
 ghost use Rattle.spec_tableaux.specs.LeastVariable.{IsSettled};
-ghost use Rattle.simplex_bounds.specs.Deltas.{deltas};
-ghost use Rattle.simplex_check.specs.Strains.{Ranges};
-ghost use Rattle.simplex_check.specs.Ends.{BoardState, Ran};
+ghost use Rattle.spec_strains.specs.Points.{deltas, Ranges, BoardState};
+ghost use Rattle.spec_strains.specs.Runs.{Ran};
 
 /// States that nonbasic variables keep their bounds after the exchanges of a check, where no bounds cross.
 pub fn checks_keep_nonbasic_bounds()

@@ -7,7 +7,8 @@ use Rattle.spec_tableaux.specs.LeastVariable.{State}
 use Rattle.spec_tableaux.specs.Numbers.{Number}
 use Rattle.spec_overflows.specs.Overflows.{IsOverflow}
 use Rattle.spec_overflows.proofs.TableauFaults.{exchange_overflows, row_overflows}
-use Rattle.simplex_check.specs.Strains.{Ranges, StrainsMove, sum_of_product, sum, Strains, difference, quotient, move, rows, StrainsValue, product, StrainsNew}
+use Rattle.spec_strains.specs.Points.{Ranges}
+use Rattle.spec_strains.specs.Strains.{StrainsMove, sum_of_product, sum, Strains, difference, quotient, move, rows, StrainsValue, product, StrainsNew}
 use Rattle.strain_overflows.proofs.DeltaFaults.{delta_sum_overflows, delta_difference_overflows, delta_product_overflows, delta_quotient_overflows}
 
 move_overflows : (t : State Number (Pair Number)) (x : ℕ) (d : Pair Number) (o : Overflow) → StrainsMove t x d o → IsOverflow o

@@ -8,8 +8,8 @@ use Rattle.spec_tableaux.specs.Numbers.{Number}
 use Rattle.spec_overflows.specs.Overflows.{IsOverflow}
 use Rattle.spec_overflows.proofs.Operations.{difference_overflows, quotient_overflows}
 use Rattle.simplex_bounds.specs.Held.{ranges_in}
-use Rattle.simplex_check.specs.Boards.{point_in}
-use Rattle.simplex_numbers.specs.Strains.{StrainsHalf, bases, tilts, quotient, half, StrainsLower, StrainsUpper, StrainsRange}
+use Rattle.spec_strains.specs.Points.{point_in}
+use Rattle.spec_strains.specs.Halves.{StrainsHalf, bases, tilts, quotient, half, StrainsLower, StrainsUpper, StrainsRange}
 use Rattle.simplex.specs.Views.{SimplexView}
 use Rattle.simplex.specs.Numbers.{StrainsNumbers, finding, computing}
 use Rattle.strain_overflows.proofs.DeltaFaults.{delta_value_overflows}

@@ -6,7 +6,7 @@ use Rattle.spec_tableaux.specs.LeastVariable.{goes_up}
 use Rattle.spec_tableaux.specs.Rows.{row_of}
 use Rattle.spec_overflows.specs.Overflows.{IsOverflow}
 use Rattle.spec_overflows.proofs.RuleFaults.{numbers_too_wide}
-use Rattle.simplex_bounds.specs.Deltas.{deltas}
+use Rattle.spec_strains.specs.Points.{deltas}
 use Rattle.simplex_bounds.specs.Held.{ranges_in}
 use Rattle.simplex_check.specs.Boards.{state_of}
 use Rattle.simplex_check.specs.declared.check.Outcome.{Outcome}

@@ -2,9 +2,8 @@ use Rattle.std.proofs.Common.{length}
 use Rattle.spec_tableaux.specs.Ranges as ranges
 use Rattle.spec_tableaux.specs.Numbers.{numbers}
 use Rattle.tableau.specs.Entries.{entries_of}
-use Rattle.simplex_bounds.specs.Deltas.{deltas}
+use Rattle.spec_strains.specs.Points.{deltas, point_in}
 use Rattle.simplex_bounds.specs.Held.{ranges_in}
-use Rattle.simplex_check.specs.Boards.{point_in}
 use Rattle.simplex_check.proofs.FirstOfRow.{Passed}
 use Rattle.simplex_check.proofs.entering.find_entering.Given as goal
 

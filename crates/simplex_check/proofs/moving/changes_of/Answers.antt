@@ -2,8 +2,8 @@ use Rattle.std.proofs.Common.{◌≡◌, ◌≤◌, ◌∷◌, ◌++◌, [], tru
 use Rattle.std.proofs.lemmas.List.Elements.{Contains-get_or}
 use Rattle.spec_tableaux.specs.LeastVariable.{moved}
 use Rattle.tableau.specs.Views.{row_at}
-use Rattle.simplex_bounds.specs.Deltas.{pair_of, deltas}
-use Rattle.simplex_check.specs.Boards.{point_in}
+use Rattle.simplex_bounds.specs.Deltas.{pair_of}
+use Rattle.spec_strains.specs.Points.{deltas, point_in}
 use Rattle.simplex_check.specs.Changes.{AreKnown, ComeTo, is_changed}
 use Rattle.simplex_check.proofs.Writing.{known_push, come_push, changed_push, changed_last}
 use Rattle.simplex_check.proofs.Following.{first_comes, others_stay}

@@ -3,8 +3,8 @@ use Rattle.ratio128.specs.Meant.{overflow}
 use Rattle.tableau.specs.Numbers.{number_of}
 use Rattle.tableau.proofs.Telling.{told_wide}
 use Rattle.simplex_bounds.specs.Deltas.{pair_of}
-use Rattle.simplex_check.specs.Boards.{point_in}
-use Rattle.simplex_check.specs.Strains.{StrainsMove, state_at}
+use Rattle.spec_strains.specs.Points.{point_in, state_at}
+use Rattle.spec_strains.specs.Strains.{StrainsMove}
 use Rattle.simplex_check.proofs.RowPlaces.{basic_of, coefficient_at}
 use Rattle.simplex_check.proofs.Following.{follower_value, follower_product, follower_sum}
 use Rattle.simplex_check.proofs.moving.follower.Goals as goal

@@ -7,8 +7,7 @@ use Rattle.ratio128.specs.Meant.{overflow}
 use Rattle.tableau.specs.Numbers.{number_of}
 use Rattle.simplex_bounds.specs.Deltas.{pair_of}
 use Rattle.simplex_check.proofs.Summing.{told}
-use Rattle.simplex_numbers.specs.Values.{is_less, IsSteeper, meeting, halfway}
-use Rattle.simplex_numbers.specs.Strains.{StrainsOrder, half}
+use Rattle.spec_strains.specs.Halves.{is_less, IsSteeper, meeting, halfway, StrainsOrder, half}
 use Rattle.simplex_numbers.proofs.Orders.{irreflexive, level_stays, rises_not_zero, two_not_zero, steep_less, half_above, half_stays, steep_stays}
 use Rattle.simplex_numbers.proofs.narrowing.narrowed.Goals as goal
 

@@ -5,7 +5,7 @@ use Rattle.spec_tableaux.specs.Numbers.{numbers}
 use Rattle.tableau.specs.Numbers.{number_of}
 use Rattle.simplex_bounds.specs.Deltas.{pair_of, range_of}
 use Rattle.simplex_bounds.specs.Held.{ranges_in}
-use Rattle.simplex_check.specs.Boards.{point_in}
+use Rattle.spec_strains.specs.Points.{point_in}
 use Rattle.simplex_reasons.proofs.Distances.{one_above}
 use Rattle.simplex_numbers.proofs.Keeping.{range_kept}
 use Rattle.simplex_numbers.proofs.Everywhere.{everywhere, one_more}

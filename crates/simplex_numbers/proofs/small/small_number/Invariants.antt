@@ -4,7 +4,7 @@ use Rattle.spec_tableaux.specs.Fields.{is_positive}
 use Rattle.spec_tableaux.specs.Numbers.{numbers}
 use Rattle.tableau.specs.Numbers.{number_of}
 use Rattle.simplex_bounds.specs.Held.{ranges_in}
-use Rattle.simplex_check.specs.Boards.{point_in}
+use Rattle.spec_strains.specs.Points.{point_in}
 use Rattle.simplex_numbers.specs.Values.{StaysOff}
 use Rattle.simplex_numbers.proofs.small.small_number.Given as goal
 

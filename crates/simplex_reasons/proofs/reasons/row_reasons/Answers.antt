@@ -3,7 +3,7 @@ use Rattle.std.proofs.Common.{subst}
 use Rattle.spec_tableaux.specs.Rows.{row_of}
 use Rattle.spec_tableaux.specs.LeastVariable.{goes_up}
 use Rattle.tableau.specs.Views.{IsTableau}
-use Rattle.simplex_bounds.specs.Deltas.{deltas}
+use Rattle.spec_strains.specs.Points.{deltas}
 use Rattle.simplex_bounds.specs.Held.{ranges_in}
 use Rattle.simplex_check.specs.Boards.{state_of}
 use Rattle.simplex_reasons.specs.Stops.{with_basic}

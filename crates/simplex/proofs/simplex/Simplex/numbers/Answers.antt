@@ -5,7 +5,7 @@ use Rattle.tableau.specs.Numbers.{number_of}
 use Rattle.tableau.specs.Views.{IsTableau}
 use Rattle.held_literals.specs.Room.{AreOver}
 use Rattle.simplex_bounds.specs.Held.{ranges_in}
-use Rattle.simplex_check.specs.Boards.{point_in}
+use Rattle.spec_strains.specs.Points.{point_in}
 use Rattle.simplex_numbers.specs.Values.{KeepsAt}
 use Rattle.simplex_numbers.proofs.Compared.{all_hold}
 use Rattle.simplex.specs.Views.{SimplexView, Fits}

@@ -6,9 +6,10 @@ use Rattle.spec_tableaux.specs.SolvedForms.{IsOver}
 use Rattle.spec_tableaux.specs.Strains.{StrainsSum}
 use Rattle.tableau.specs.Entries.{entries_of}
 use Rattle.tableau.proofs.Telling.{told_wide, passed_on}
-use Rattle.simplex_bounds.specs.Deltas.{pair_of, deltas}
-use Rattle.simplex_check.specs.Boards.{BoardView, point_in, state_of}
-use Rattle.simplex_check.specs.Strains.{StrainsNew, StrainsValue}
+use Rattle.simplex_bounds.specs.Deltas.{pair_of}
+use Rattle.spec_strains.specs.Points.{deltas, point_in}
+use Rattle.simplex_check.specs.Boards.{BoardView, state_of}
+use Rattle.spec_strains.specs.Strains.{StrainsNew, StrainsValue}
 use Rattle.simplex_check.proofs.Summing.{sum_added}
 use Rattle.simplex_check.proofs.board.Board.add_row.Goals as goal
 

@@ -7,7 +7,7 @@ use Rattle.tableau.proofs.Telling.{told_wide}
 use Rattle.simplex_bounds.specs.Deltas.{pair_of, range_of}
 use Rattle.simplex_bounds.specs.Held.{ranges_in}
 use Rattle.simplex_check.specs.Boards.{BoardView, state_of}
-use Rattle.simplex_check.specs.Strains.{Strains}
+use Rattle.spec_strains.specs.Strains.{Strains}
 use Rattle.simplex_check.proofs.Shifts.{violates_out, goal_at, gap_at, strains_difference, strains_quotient, pivot_said}
 use Rattle.simplex_check.proofs.board.Board.distance_of.Goals as goal
 

@@ -1,20 +1,21 @@
 use Rattle.std.proofs.Common.{◌≡◌, map, ap, sym, ◌∙◌, subst, ℕ}
 use Rattle.ratio128.specs.Meant.{overflow}
-use Rattle.delta_num.specs.Deltas.{delta_added}
+use Rattle.spec_strains.specs.Deltas.{delta_added}
 use Rattle.spec_tableaux.specs.SolvedForms.{IsSolved}
 use Rattle.spec_tableaux.specs.LeastVariable.{Says, Exchanges, exchange, distance, moved}
 use Rattle.spec_tableaux.specs.Numbers.{numbers}
 use Rattle.spec_tableaux.specs.Strains.{StrainsExchange}
 use Rattle.tableau.proofs.Telling.{told_wide, passed_on}
-use Rattle.simplex_bounds.specs.Deltas.{pair_of, deltas}
+use Rattle.simplex_bounds.specs.Deltas.{pair_of}
+use Rattle.spec_strains.specs.Points.{deltas, point_in, state_at, delta_in}
 use Rattle.simplex_bounds.specs.Held.{ranges_in}
-use Rattle.simplex_check.specs.Boards.{BoardView, point_in, state_of}
+use Rattle.simplex_check.specs.Boards.{BoardView, state_of}
 use Rattle.simplex_check.specs.Changes.{Lead, written, is_changed}
 use Rattle.simplex_check.specs.Suspects.{SuspectBut}
 use Rattle.simplex_check.proofs.Suspecting.{suspect_exchange}
 use Rattle.tableau.specs.Views.{TableauView}
 use Rattle.simplex_check.specs.Kept.{view_of}
-use Rattle.simplex_check.specs.Strains.{Strains, StrainsMove, state_at, sum, delta_in}
+use Rattle.spec_strains.specs.Strains.{Strains, StrainsMove, sum}
 use Rattle.simplex_check.proofs.Shifts.{lead_written, same_lengths, exchange_is_made, pivot_said, entering_known, violates_out, strains_entering, strains_rows}
 use Rattle.simplex_check.proofs.board.Board.exchange.Goals as goal
 

@@ -2,7 +2,7 @@ use Rattle.std.proofs.Common.{sym, subst}
 use Rattle.tableau.specs.Views.{OnWide}
 use Rattle.simplex_bounds.specs.Held.{ranges_in}
 use Rattle.simplex_check.specs.Boards.{BoardView, state_of}
-use Rattle.simplex_check.specs.Strains.{Strains}
+use Rattle.spec_strains.specs.Strains.{Strains}
 use Rattle.simplex_check.proofs.Runs.{stops_step}
 use Rattle.simplex_check.proofs.board.Board.exchange_or_stop.Goals as goal
 

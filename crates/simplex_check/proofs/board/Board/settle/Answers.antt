@@ -2,8 +2,8 @@ use Rattle.std.proofs.Common.{◌≡◌, ◌≤◌, ap, sym, ◌∙◌, subst, r
 use Rattle.tableau.specs.Views.{TableauView, OnWide}
 use Rattle.simplex_bounds.specs.Held.{ranges_in}
 use Rattle.simplex_check.specs.Boards.{BoardView, state_of}
-use Rattle.simplex_check.specs.Strains.{Strains}
-use Rattle.simplex_check.specs.Ends.{SettlesBelow}
+use Rattle.spec_strains.specs.Strains.{Strains}
+use Rattle.spec_strains.specs.Runs.{SettlesBelow}
 use Rattle.simplex_check.proofs.Settling.{settles_none, settles_more, settles_same, settles_all}
 use Rattle.simplex_check.proofs.Runs.{stops_step}
 use Rattle.simplex_check.proofs.board.Board.settle.Goals as goal

@@ -1,7 +1,7 @@
 use Rattle.std.proofs.Common.{◌≡◌}
 use Rattle.simplex_bounds.specs.Held.{ranges_in}
 use Rattle.simplex_check.specs.Boards.{state_of}
-use Rattle.simplex_check.specs.Ends.{SettlesBelow}
+use Rattle.spec_strains.specs.Runs.{SettlesBelow}
 use Rattle.simplex_check.proofs.board.Board.settle.Given as goal
 
 abbrev pub invariant-loop-y : goal.invariant-loop-y

@@ -3,10 +3,11 @@ use Rattle.ratio128.specs.Meant.{overflow}
 use Rattle.spec_tableaux.specs.Ranges.{below, settled_value}
 use Rattle.spec_tableaux.specs.LeastVariable.{moved}
 use Rattle.tableau.proofs.Telling.{told_wide, err_as}
-use Rattle.simplex_bounds.specs.Deltas.{pair_of, range_of, deltas}
+use Rattle.simplex_bounds.specs.Deltas.{pair_of, range_of}
+use Rattle.spec_strains.specs.Points.{deltas, point_in}
 use Rattle.simplex_bounds.specs.Held.{ranges_in}
-use Rattle.simplex_check.specs.Boards.{point_in, state_of}
-use Rattle.simplex_check.specs.Strains.{Strains, StrainsMove}
+use Rattle.simplex_check.specs.Boards.{state_of}
+use Rattle.spec_strains.specs.Strains.{Strains, StrainsMove}
 use Rattle.simplex_check.proofs.Following.{first_comes}
 use Rattle.simplex_check.proofs.Shifts.{violates_at, goal_at, gap_at, strains_difference, strains_settling, on_ok, reached_by}
 use Rattle.simplex_check.proofs.board.Board.settle_one.Goals as goal

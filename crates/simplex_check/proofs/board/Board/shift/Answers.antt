@@ -1,8 +1,9 @@
 use Rattle.std.proofs.Common.{◌≡◌, ℕ, map, ap, sym, ◌∙◌, subst}
 use Rattle.spec_tableaux.specs.SolvedForms.{IsNonbasic}
 use Rattle.spec_tableaux.specs.LeastVariable.{moved}
-use Rattle.simplex_bounds.specs.Deltas.{pair_of, deltas}
-use Rattle.simplex_check.specs.Boards.{BoardView, IsBoard, point_in}
+use Rattle.simplex_bounds.specs.Deltas.{pair_of}
+use Rattle.spec_strains.specs.Points.{deltas, point_in}
+use Rattle.simplex_check.specs.Boards.{BoardView, IsBoard}
 use Rattle.simplex_check.specs.Changes.{Lead, written}
 use Rattle.simplex_check.proofs.Shifts.{lead_written, same_lengths, moved_solve}
 use Rattle.simplex_check.proofs.board.Board.shift.Goals as goal

@@ -1,7 +1,7 @@
 use Rattle.std.proofs.Common.{◌≡◌, ◌≤◌, true, ap, ◌∙◌, arith, subst, below_more}
 use Rattle.spec_tableaux.specs.LeastVariable as rule
 use Rattle.tableau.specs.Views.{TableauView, IsTableau}
-use Rattle.simplex_bounds.specs.Deltas.{deltas}
+use Rattle.spec_strains.specs.Points.{deltas}
 use Rattle.simplex_bounds.specs.Held.{ranges_in}
 use Rattle.simplex_check.specs.Boards.{state_of}
 use Rattle.simplex_check.specs.Suspects.{is_among}

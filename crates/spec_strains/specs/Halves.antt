@@ -1,12 +1,44 @@
--- The operations by which a number in the place of the infinitesimal can leave the bound on fractions.
-use Rattle.std.specs.Prelude.{ℕ, Option, Some, None, ◌⊎◌}
+-- Numbers in the place of the infinitesimal, and the operations by which they can leave the bound on fractions.
+-- Source: Dutertre and de Moura, A Fast Linear-Arithmetic Solver for DPLL(T), CAV 2006.
+use Rattle.std.specs.Prelude.{◌≡◌, ℕ, Bool, true, Option, Some, None, ◌⊎◌}
 use Rattle.spec_numbers.specs.Bounds.{Overflow, subtracted, divided}
-use Rattle.spec_tableaux.specs.Spaces.{Pair}
+use Rattle.spec_tableaux.specs.Spaces.{Pair, as_space}
 use Rattle.spec_tableaux.specs.Ranges.{Range}
-use Rattle.spec_tableaux.specs.Numbers.{Number}
+use Rattle.spec_tableaux.specs.Numbers.{Number, numbers}
 use Rattle.spec_tableaux.specs.Strains.{Overflows}
-use Rattle.simplex_check.specs.Strains.{Ranges}
-use Rattle.simplex_numbers.specs.Values.{IsSteeper, gap, steepness, meeting, two}
+use Rattle.spec_strains.specs.Points.{Ranges}
+
+-- a number is less than another
+abbrev pub is_less : Number → Number → Bool
+is_less = (as_space numbers).less
+
+-- the number that a pair is where the infinitesimal is e
+abbrev pub at_number : Number → Pair Number → Number
+at_number e x = numbers.plus x.base (numbers.times x.tilt e)
+
+-- how much the base of y is above that of x
+abbrev pub gap : Pair Number → Pair Number → Number
+gap x y = numbers.plus y.base (numbers.opposite x.base)
+
+-- how much the tilt of x is above that of y
+abbrev pub steepness : Pair Number → Pair Number → Number
+steepness x y = numbers.plus x.tilt (numbers.opposite y.tilt)
+
+-- the tilt of x is above that of y
+abbrev pub IsSteeper : Pair Number → Pair Number → Type 0
+IsSteeper x y = is_less y.tilt x.tilt ≡ true
+
+-- the number at which x, of the greater tilt, comes to y
+abbrev pub meeting : Pair Number → Pair Number → Number
+meeting x y = numbers.times (gap x y) (numbers.inverse (steepness x y))
+
+-- 2
+abbrev pub two : Number
+two = numbers.plus numbers.one numbers.one
+
+-- half of that number
+abbrev pub halfway : Pair Number → Pair Number → Number
+halfway x y = numbers.times (meeting x y) (numbers.inverse two)
 
 -- Half of the number at which x, of the greater tilt, comes to y leads to the overflow o.
 pub data StrainsHalf (x y : Pair Number) (o : Overflow) : Type 0 where

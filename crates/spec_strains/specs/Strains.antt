@@ -1,28 +1,15 @@
 -- The operations by which a check can leave the bound on the parts of fractions.
 use Rattle.std.specs.Prelude.{◌≡◌, ℕ, true, false, ◌⊎◌, List, ◌∷◌, ◌++◌, Err}
 use Rattle.spec_numbers.specs.Bounds.{Overflow}
-use Rattle.delta_num.specs.Deltas.{Delta, delta_added, delta_subtracted, delta_scaled, delta_divided}
+use Rattle.spec_strains.specs.Deltas.{delta_added, delta_subtracted, delta_scaled, delta_divided}
 use Rattle.spec_tableaux.specs.Spaces.{Pair, minus}
 use Rattle.spec_tableaux.specs.Rows.{Entry, Row, coefficient_of, row_of, is_basic, sum_of}
 use Rattle.spec_tableaux.specs.SolvedForms.{IsNonbasic, IsPivot}
-use Rattle.spec_tableaux.specs.Ranges.{Range, is_within}
+use Rattle.spec_tableaux.specs.Ranges.{is_within}
 use Rattle.spec_tableaux.specs.LeastVariable.{State, goes_up, goal_of, distance}
 use Rattle.spec_tableaux.specs.Numbers.{Number, numbers}
 use Rattle.spec_tableaux.specs.Strains.{StrainsExchange, StrainsSum}
-use Rattle.simplex_bounds.specs.Deltas.{deltas}
-use Rattle.simplex_check.specs.Boards.{point_in}
-
--- the ranges of all variables
-abbrev pub Ranges : Type 0
-Ranges = ℕ → Range (Pair Number)
-
--- a pair as a number with an infinitesimal part
-abbrev pub delta_in : Pair Number → Delta
-delta_in p = record { base = p.base.fraction; tilt = p.tilt.fraction }
-
--- rows and values as a state
-abbrev pub state_at : List (Row Number) → List (Pair Number) → State Number (Pair Number)
-state_at rs vs = record { rows = rs; point = point_in vs }
+use Rattle.spec_strains.specs.Points.{deltas, delta_in, Ranges}
 
 -- the coefficient of x in the row of b
 abbrev pub coefficient_in : List (Row Number) → ℕ → ℕ → Number
