@@ -20,7 +20,8 @@ use Rattle.clausify.specs.declared.sides.Sides.{Sides}
 use Rattle.clausify.specs.declared.stop.ClauseStop.{ClauseStop}
 use Rattle.clausify.specs.declared.stop.ClauseStop.TheVariants as stops
 use Rattle.clausify.specs.Orders.{AreSidesOf, order_clause, arguments_by}
-use Rattle.clausify.specs.Overflows.{IsOverflowAmong, OnWide}
+use Rattle.clausify.specs.Overflows.{OnWide}
+use Rattle.spec_causes.specs.Checks.{IsOverflowAmong}
 use Rattle.clausify.proofs.Equalities.{clauses_are}
 
 on_wide : (P Q : Overflow → Type 0) → ((o : Overflow) → P o → Q o) → (s : ClauseStop) → OnWide P s → OnWide Q s

@@ -8,12 +8,12 @@ use Rattle.spec_sorts.specs.WellSorted.{IsWellSorted}
 use Rattle.spec_arithmetic.specs.Signs.{is_zero, is_above_zero, size}
 use Rattle.spec_arithmetic.specs.Forms.{Answer, Form, Fault, subtracting, combined, at_term, form, difference, form_value}
 use Rattle.spec_arithmetic.specs.Contradictions as sums
-use Rattle.spec_arithmetic.specs.Contradictions.{Negation, is_nought, is_below, are_numbers, negation_of, Coefficient, given, paired, paired_with, numbered, where_true, without_term, parts_of, Failure, as_failure, judged_parts, judged_pairs, la_generic}
+use Rattle.spec_arithmetic.specs.Contradictions.{Negation, is_nought, is_below, are_numbers, negation_of, given, paired, paired_with, numbered, where_true, without_term, parts_of, Failure, as_failure, judged_parts, judged_pairs, la_generic}
 use Rattle.spec_arithmetic.proofs.Zero.{times-one_left}
 use Rattle.spec_arithmetic.proofs.FormValues.{subtracting_fair, form_value_reduced}
 use Rattle.spec_arithmetic.proofs.FormNumbers.{form_number}
 use Rattle.spec_simplex.specs.Constraints as constraints
-use Rattle.spec_simplex.specs.Constraints.{equals, above, below, Constraint, saying, constraint_by}
+use Rattle.spec_simplex.specs.Constraints.{equals, above, below, saying, constraint_by}
 use Rattle.spec_simplex.specs.Weights.{Summand, IsSummand, weighted_sum, has_strict, CannotHold, IsTakenOrWide}
 use Rattle.spec_simplex.proofs.LowestForms.{AreNumbers, combined_parts}
 use Rattle.spec_simplex.proofs.Reversed.{lowest_proper, difference_lowest, difference_parts}

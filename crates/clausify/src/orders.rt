@@ -10,7 +10,8 @@ ghost use Rattle.proof_log.specs.Theories.{IsTermIn};
 ghost use Rattle.term_clauses.specs.Growth.{Grows};
 ghost use Rattle.term_clauses.specs.Stating.{listed, Tells};
 ghost use Rattle.clausify.specs.Orders.{IsNumberIn, AreSidesOf, order_clause, arguments_by};
-ghost use Rattle.clausify.specs.Overflows.{IsOverflowAmong, OnWide};
+ghost use Rattle.clausify.specs.Overflows.{OnWide};
+ghost use Rattle.spec_causes.specs.Checks.{IsOverflowAmong};
 
 use crate::judged::{one, state_judged};
 use crate::sides::{Sides, at_most, order_fact, sides_of};

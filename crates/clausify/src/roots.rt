@@ -12,7 +12,8 @@ ghost use Rattle.term_clauses.specs.Stating.{listed, Tells};
 ghost use Rattle.term_clauses.specs.Marks.{marked};
 ghost use Rattle.clausify.specs.HavingClauses.{HasClauses};
 ghost use Rattle.clausify.specs.SearchTerms.{AreSearchTerms};
-ghost use Rattle.clausify.specs.Overflows.{IsOverflowAmong, IsOrderOverflow, OnWide};
+ghost use Rattle.clausify.specs.Overflows.{IsOrderOverflow, OnWide};
+ghost use Rattle.spec_causes.specs.Checks.{IsOverflowAmong};
 
 use crate::ordered::ordered_of;
 use crate::orders::state_orders;

@@ -23,7 +23,8 @@ use Rattle.simplex_bounds.specs.Deltas.{pair_of}
 use Rattle.spec_strains.specs.Points.{deltas}
 use Rattle.simplex_bounds.specs.Held.{strongest, value_in, range_in, ranges_in}
 use Rattle.simplex_atoms.specs.Limits.{side_by}
-use Rattle.simplex_reasons.specs.Stops.{directed, stop_of, AreAllStopped, value_of, all_beyond, with_basic, unit_entries}
+use Rattle.simplex_reasons.specs.Stops.{stop_of, AreAllStopped, value_of, all_beyond}
+use Rattle.spec_causes.specs.Reasons.{directed, with_basic, unit_entries}
 
 pub space : IsSpace deltas
 space = pairs_are_space numbers numbers_are_ordered_field

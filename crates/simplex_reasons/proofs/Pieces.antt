@@ -36,7 +36,8 @@ use Rattle.simplex_atoms.specs.Limits.{Limit, limit_of, limits_where, limits_by,
 use Rattle.simplex_atoms.proofs.Values.{form_comes}
 use Rattle.simplex_atoms.proofs.Weighing.{weighs, size_reduced}
 use Rattle.simplex_explain.specs.declared.weighted.Weighted.{Weighted}
-use Rattle.simplex_reasons.specs.Stops.{IsStated, AreStated, stopping_side, directed, stop_of, IsStopped, value_of, beyond}
+use Rattle.simplex_reasons.specs.Stops.{IsStated, AreStated, stopping_side, stop_of, IsStopped, value_of, beyond}
+use Rattle.spec_causes.specs.Reasons.{directed}
 use Rattle.simplex_reasons.specs.Reasons.{Footing, weight_by, IsReason}
 
 -- What bounds are that literals state.
@@ -80,7 +81,7 @@ positively kinds.AtMost = refl
 positively kinds.Equal = refl
 
 -- the constraint with another relation
-abbrev with_relation : Relation → Constraint → Constraint
+abbrev pub with_relation : Relation → Constraint → Constraint
 with_relation r c = saying r c.atom c.left c.right
 
 less_reads : (b : Bool) (s u : Term) (c : Constraint) (k : Kind) (r : Relation) → where_true b (saying below (pair Less s u) s u) ≡ Some c → c.relation ≡ relation_meant k
@@ -115,7 +116,7 @@ negatively (app AtMost (cons s (cons u nil))) c k r p q e = at_most_reads (are_n
 negatively (app Equal (cons s (cons u nil))) c k r p q e = absurd (equal_reads (are_numbers s u) s u c k r p q e)
 negatively t c k r p q e = absurd (no_constraint c p)
 
-reads : (t : Term) (b : Bool) (c : Constraint) (k : Kind) (r : Relation) → constraint_by true t ≡ Some c → c.relation ≡ relation_meant k → relation_by k b ≡ Some r
+pub reads : (t : Term) (b : Bool) (c : Constraint) (k : Kind) (r : Relation) → constraint_by true t ≡ Some c → c.relation ≡ relation_meant k → relation_by k b ≡ Some r
     → constraint_by b t ≡ Some (with_relation r c)
 reads t true c k r p q e =
     let relation : c.relation ≡ r = q ∙ same_some (relation_meant k) r (sym (positively k) ∙ e) in

@@ -16,7 +16,8 @@ use Rattle.simplex_atoms.specs.Places.{relation_by, place_in}
 use Rattle.simplex_atoms.specs.Limits.{weight_of}
 use Rattle.simplex_atoms.specs.Atoms.{AtomsView}
 use Rattle.simplex_explain.specs.declared.weighted.Weighted.{Weighted}
-use Rattle.simplex_reasons.specs.Stops.{stop_of, directed}
+use Rattle.simplex_reasons.specs.Stops.{stop_of}
+use Rattle.spec_causes.specs.Reasons.{directed}
 use Rattle.simplex_reasons.specs.declared.stop.ReasonStop.{ReasonStop}
 use Rattle.simplex_reasons.specs.declared.stop.ReasonStop.TheVariants.{Wide, Memory}
 

@@ -1,9 +1,10 @@
 -- The bounds that stop the variables of a sum.
-use Rattle.std.specs.Prelude.{◌≡◌, ℕ, Bool, true, false, not, cond, List, [], ◌∷◌, Option, Some, None, All, Contains}
+use Rattle.std.specs.Prelude.{◌≡◌, ℕ, Bool, false, not, cond, List, [], ◌∷◌, Option, Some, None, All, Contains}
 use Rattle.spec_tableaux.specs.Fields.{is_positive}
 use Rattle.spec_tableaux.specs.Spaces.{Pair, minus}
 use Rattle.spec_tableaux.specs.Rows.{Entry}
 use Rattle.spec_tableaux.specs.Numbers.{Number, numbers}
+use Rattle.spec_causes.specs.Reasons.{directed}
 use Rattle.term_core.specs.declared.ids.TermId.{TermId}
 use Rattle.tableau.specs.Numbers.{number_of}
 use Rattle.simplex_bounds.specs.declared.bounds.Bound.{Bound}
@@ -35,11 +36,6 @@ HaveFactors placed = (id : TermId) (place : Place) → place_in placed id ≡ So
 abbrev pub stopping_side : Bool → Number → Side
 stopping_side up c = side_by (cond (is_positive numbers c) up (not up))
 
--- the number, or minus it where up is false
-abbrev pub directed : Bool → Number → Number
-directed true c = c
-directed false c = numbers.opposite c
-
 -- the bound that stops the variable of an entry, where there is one
 abbrev pub stop_of : List Bound → Bool → Entry Number → Option Bound
 stop_of held up e = strongest (stopping_side up e.coefficient) e.variable held
@@ -70,11 +66,3 @@ beyond held up v e =
 abbrev pub all_beyond : List Bound → Bool → (ℕ → Pair Number) → List (Entry Number) → Pair Number
 all_beyond held up v [] = deltas.origin
 all_beyond held up v (e ∷ es) = deltas.plus (beyond held up v e) (all_beyond held up v es)
-
--- the entries of a row with its basic variable, so that their sum is 0
-abbrev pub with_basic : ℕ → List (Entry Number) → List (Entry Number)
-with_basic b es = record { variable = b; coefficient = numbers.opposite numbers.one } ∷ es
-
--- the one entry of a variable, with the coefficient 1
-abbrev pub unit_entries : ℕ → List (Entry Number)
-unit_entries y = record { variable = y; coefficient = numbers.one } ∷ []

@@ -10,7 +10,8 @@ ghost use Rattle.simplex_bounds.specs.Held.{ranges_in};
 ghost use Rattle.simplex_check.specs.Boards.{state_of};
 ghost use Rattle.simplex_atoms.specs.Atoms.{AreRight};
 ghost use Rattle.simplex_explain.specs.Reasons.{Refutes};
-ghost use Rattle.simplex_reasons.specs.Stops.{AreStated, with_basic, unit_entries};
+ghost use Rattle.simplex_reasons.specs.Stops.{AreStated};
+ghost use Rattle.spec_causes.specs.Reasons.{with_basic, unit_entries};
 ghost use Rattle.simplex_reasons.specs.Reasons.{Meaning, footing, AreReasonsFor, AreOfHeld, StrainsReasons, OnWide};
 
 use crate::rows::{crossed_reasons, stuck_reasons};

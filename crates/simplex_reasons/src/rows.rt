@@ -7,7 +7,8 @@ ghost use Rattle.spec_tableaux.specs.LeastVariable.{Says, IsSettled, goes_up, st
 ghost use Rattle.spec_strains.specs.Points.{deltas};
 ghost use Rattle.simplex_bounds.specs.Held.{ranges_in};
 ghost use Rattle.simplex_check.specs.Boards.{state_of};
-ghost use Rattle.simplex_reasons.specs.Stops.{AreStated, HaveFactors, with_basic, unit_entries};
+ghost use Rattle.simplex_reasons.specs.Stops.{AreStated, HaveFactors};
+ghost use Rattle.spec_causes.specs.Reasons.{with_basic, unit_entries};
 ghost use Rattle.simplex_reasons.specs.Reasons.{footing, AreReasonsFor, AreOfHeld, StrainsReasons, OnWide};
 
 use crate::stop::ReasonStop;

@@ -2,7 +2,8 @@
 
 ghost use Rattle.std.specs.Prelude.{IfOk, IfErr};
 ghost use Rattle.tableau.specs.Entries.{entries_of};
-ghost use Rattle.simplex_reasons.specs.Stops.{AreStated, HaveFactors, AreAllStopped, with_basic};
+ghost use Rattle.simplex_reasons.specs.Stops.{AreStated, HaveFactors, AreAllStopped};
+ghost use Rattle.spec_causes.specs.Reasons.{with_basic};
 ghost use Rattle.simplex_reasons.specs.Reasons.{footing, AreReasonsFor, StrainsReasons, OnWide};
 
 use crate::stop::ReasonStop;

@@ -9,6 +9,7 @@ ghost use Rattle.tableau.specs.Numbers.{number_of};
 ghost use Rattle.tableau.specs.Entries.{entry_of};
 ghost use Rattle.simplex_bounds.specs.Held as held;
 ghost use Rattle.simplex_atoms.specs.Places.{relation_by};
+ghost use Rattle.spec_causes.specs.Reasons as causes;
 ghost use Rattle.simplex_reasons.specs.Stops as stops;
 ghost use Rattle.simplex_reasons.specs.Stops.{AreStated, HaveFactors, IsStopped};
 ghost use Rattle.simplex_reasons.specs.Reasons.{weight_by, footing, IsReason, StrainsReason};
@@ -59,7 +60,7 @@ fn stopping_side(up: bool, coefficient: Ratio) -> Side
 
 /// Gives the number, or minus it where `up` is false.
 fn directed(up: bool, a: Ratio) -> Ratio
-    ensures { number_of result ≡ stops.directed up (number_of a) }
+    ensures { number_of result ≡ causes.directed up (number_of a) }
 {
     if up { a } else { negative(a) }
 }

@@ -18,7 +18,7 @@ use Rattle.clausify.specs.Orders.{order_at, order_clause, arguments_by}
 use Rattle.clausify.specs.Overflows.{OnWide}
 use Rattle.clausify.proofs.Equalities.{number_kept, order_kept, order_in}
 use Rattle.clausify.proofs.orders.state_order.Goals as goal
-use Rattle.clausify.proofs.orders.state_order.Goals.{After-signed, After-at_most, In_ok-clause}
+use Rattle.clausify.proofs.orders.state_order.Goals.{After-at_most, In_ok-clause}
 
 -- the table is wider
 wide_table : (c : After-at_most) → Widens c.args.table.now c.at_most.new.table

@@ -14,7 +14,7 @@ use Rattle.term_clauses.proofs.Arguments.{Widens-trans}
 use Rattle.term_clauses.proofs.Parts.{formula_kept}
 use Rattle.term_clauses.proofs.Growing.{Grows-self, Grows-trans, Tells-none, Tells-trans, Tells-same}
 use Rattle.clausify.specs.Orders.{order_clause, arguments_by}
-use Rattle.clausify.specs.Overflows.{IsOverflowAmong}
+use Rattle.spec_causes.specs.Checks.{IsOverflowAmong}
 use Rattle.clausify.proofs.Equalities.{equality_formula, clauses_are, number_kept, sides_kept, forth_judged, back_judged, clause_kept}
 use Rattle.clausify.proofs.Overflowing.{wide_weaker, passed_on, forth_leaves, back_leaves}
 use Rattle.clausify.proofs.orders.state_orders.Goals as goal

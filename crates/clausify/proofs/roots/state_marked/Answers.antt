@@ -10,7 +10,7 @@ use Rattle.term_clauses.specs.Marks.{marked}
 use Rattle.term_clauses.proofs.Marked.{in_marked}
 use Rattle.term_clauses.proofs.Growing.{Grows-self, Grows-trans, Tells-none, Tells-trans, Tells-same}
 use Rattle.term_clauses.proofs.Bases.{flat_marked, flat_marked_more, flat_marked_same, marked_term}
-use Rattle.clausify.specs.Overflows.{IsOverflowAmong}
+use Rattle.spec_causes.specs.Checks.{IsOverflowAmong}
 use Rattle.clausify.proofs.Overflowing.{passed_on, alone_among}
 use Rattle.clausify.proofs.roots.state_marked.Goals as goal
 

@@ -9,7 +9,8 @@ use Rattle.term_core.specs.Tables.{term_at}
 use Rattle.term_core.proofs.TermsExtend.{term_at-kept}
 use Rattle.term_clauses.proofs.Choosing.{term_kept}
 use Rattle.term_clauses.proofs.Growing.{Grows-trans, Tells-trans, Tells-same}
-use Rattle.clausify.specs.Overflows.{IsOverflowAmong, OnWide}
+use Rattle.clausify.specs.Overflows.{OnWide}
+use Rattle.spec_causes.specs.Checks.{IsOverflowAmong}
 use Rattle.clausify.proofs.roots.state_whole.Goals as goal
 
 pub state_orders-requires-clause-there : goal.state_orders-requires-clause-there

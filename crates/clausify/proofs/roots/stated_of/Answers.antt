@@ -11,7 +11,7 @@ use Rattle.term_core.proofs.TermsExtend.{clause_at-kept}
 use Rattle.proof_log.specs.declared.premises.StepId.{StepId}
 use Rattle.proof_log.specs.Logs.{IsLogOf}
 use Rattle.clausify.specs.HavingClauses.{HasClauses}
-use Rattle.clausify.specs.Overflows.{IsOverflowAmong}
+use Rattle.spec_causes.specs.Checks.{IsOverflowAmong}
 use Rattle.clausify.proofs.Overflowing.{passed_on, among_more}
 use Rattle.term_clauses.specs.Growth.{Grows, AreAllMade}
 use Rattle.term_clauses.specs.Stating.{Says}

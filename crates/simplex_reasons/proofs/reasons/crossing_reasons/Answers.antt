@@ -1,6 +1,6 @@
 -- Bounds that cross contradict the row of a variable that is itself.
 use Rattle.std.proofs.Common.{true}
-use Rattle.simplex_reasons.specs.Stops.{with_basic, unit_entries}
+use Rattle.spec_causes.specs.Reasons.{with_basic, unit_entries}
 use Rattle.simplex_reasons.specs.Reasons.{footing}
 use Rattle.simplex_reasons.proofs.Distances.{crossing_contradicts}
 use Rattle.simplex_reasons.proofs.Pieces.{LimitLaws}

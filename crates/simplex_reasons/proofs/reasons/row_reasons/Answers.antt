@@ -6,7 +6,7 @@ use Rattle.tableau.specs.Views.{IsTableau}
 use Rattle.spec_strains.specs.Points.{deltas}
 use Rattle.simplex_bounds.specs.Held.{ranges_in}
 use Rattle.simplex_check.specs.Boards.{state_of}
-use Rattle.simplex_reasons.specs.Stops.{with_basic}
+use Rattle.spec_causes.specs.Reasons.{with_basic}
 use Rattle.simplex_reasons.specs.Reasons.{footing, StrainsReasons, OnWide}
 use Rattle.simplex_reasons.proofs.Distances.{stuck_contradicts}
 use Rattle.simplex_reasons.proofs.Pieces.{LimitLaws}

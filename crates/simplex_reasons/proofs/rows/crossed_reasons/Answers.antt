@@ -1,7 +1,7 @@
 -- Bounds that cross contradict the row of a variable that is itself.
 use Rattle.std.proofs.Common.{true, [], ◌∷◌}
 use Rattle.tableau.specs.Numbers.{number_of}
-use Rattle.simplex_reasons.specs.Stops.{with_basic}
+use Rattle.spec_causes.specs.Reasons.{with_basic}
 use Rattle.simplex_reasons.specs.Reasons.{footing}
 use Rattle.simplex_reasons.proofs.Distances.{unit_contradiction}
 use Rattle.simplex_reasons.proofs.Telling.{of_held}

@@ -7,7 +7,7 @@ use Rattle.tableau.specs.Numbers.{number_of}
 use Rattle.tableau.specs.Entries.{entry_of, entries_of}
 use Rattle.simplex_explain.specs.declared.weighted.Weighted.{Weighted}
 use Rattle.simplex_reasons.specs.declared.stop.ReasonStop.TheVariants as stops
-use Rattle.simplex_reasons.specs.Stops.{with_basic}
+use Rattle.spec_causes.specs.Reasons.{with_basic}
 use Rattle.simplex_reasons.specs.Reasons.{footing, IsReason, StrainsReason, StrainsReasons, OnWide}
 use Rattle.simplex_reasons.proofs.Telling.{told, Told, told_first, told_more, told_all, told_strain, first_strain}
 use Rattle.simplex_reasons.proofs.sums.reasons_for.Goals as goal

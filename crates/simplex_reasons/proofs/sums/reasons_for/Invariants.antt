@@ -1,6 +1,6 @@
 use Rattle.std.proofs.Common.{length}
 use Rattle.tableau.specs.Entries.{entries_of}
-use Rattle.simplex_reasons.specs.Stops.{with_basic}
+use Rattle.spec_causes.specs.Reasons.{with_basic}
 use Rattle.simplex_reasons.specs.Reasons.{footing}
 use Rattle.simplex_reasons.proofs.Telling.{Told}
 use Rattle.simplex_reasons.proofs.sums.reasons_for.Given as goal

@@ -1,0 +1,7 @@
+-- Lemmas on the causes of an undecided check.
+pub mod DeltaFaults
+pub mod CheckFaults
+pub mod NumberFaults
+pub mod CauseFaults
+pub mod Wider
+pub mod Silent

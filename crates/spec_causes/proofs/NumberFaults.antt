@@ -1,0 +1,37 @@
+-- What computes numbers of terms comes to the overflow of one operation.
+use Rattle.std.proofs.Common.{ℕ, inl, inr}
+use Rattle.std.specs.Prelude.{Option, Some, None}
+use Rattle.spec_numbers.specs.Bounds.{Overflow}
+use Rattle.spec_tableaux.specs.Spaces.{Pair}
+use Rattle.spec_tableaux.specs.Ranges.{Range}
+use Rattle.spec_tableaux.specs.Numbers.{Number}
+use Rattle.spec_overflows.specs.Overflows.{IsOverflow}
+use Rattle.spec_overflows.proofs.Operations.{difference_overflows, quotient_overflows}
+use Rattle.spec_strains.specs.Points.{Ranges}
+use Rattle.spec_strains.specs.Halves.{StrainsHalf, bases, tilts, quotient, half, StrainsLower, StrainsUpper, StrainsRange, StrainsNumber}
+use Rattle.spec_causes.specs.Causes.{StrainsValueAt}
+use Rattle.spec_causes.proofs.DeltaFaults.{delta_value_overflows}
+
+half_overflows : (x y : Pair Number) (o : Overflow) → StrainsHalf x y o → IsOverflow o
+half_overflows x y o (bases w) = difference_overflows _ _ o w
+half_overflows x y o (tilts w) = difference_overflows _ _ o w
+half_overflows x y o (quotient w) = quotient_overflows _ _ o w
+half_overflows x y o (half w) = quotient_overflows _ _ o w
+
+lower_overflows : (b : Option (Pair Number)) (x : Pair Number) (o : Overflow) → StrainsLower b x o → IsOverflow o
+lower_overflows None x o w = absurd w
+lower_overflows (Some b) x o w = half_overflows b x o w.1
+
+upper_overflows : (b : Option (Pair Number)) (x : Pair Number) (o : Overflow) → StrainsUpper b x o → IsOverflow o
+upper_overflows None x o w = absurd w
+upper_overflows (Some b) x o w = half_overflows x b o w.1
+
+range_overflows : (r : Range (Pair Number)) (x : Pair Number) (o : Overflow) → StrainsRange r x o → IsOverflow o
+range_overflows r x o (inl w) = lower_overflows r.lower x o w
+range_overflows r x o (inr w) = upper_overflows r.upper x o w
+
+pub number_overflows : (ranges : Ranges) (v : ℕ → Pair Number) (o : Overflow) → StrainsNumber ranges v o → IsOverflow o
+number_overflows ranges v o w = range_overflows (ranges w.variable) (v w.variable) o w.strains
+
+pub value_at_overflows : (e : Number) (v : ℕ → Pair Number) (o : Overflow) → StrainsValueAt e v o → IsOverflow o
+value_at_overflows e v o w = delta_value_overflows _ _ o w.1

@@ -1,0 +1,55 @@
+-- What simplex comes to over terms it comes to over more of them.
+use Rattle.std.proofs.Common.{ℕ, List, Contains}
+use Rattle.std.proofs.lemmas.List.Elements.{All-weaker}
+use Rattle.spec_numbers.specs.Bounds.{Overflow}
+use Rattle.spec_sorts.specs.Terms.{Term}
+use Rattle.spec_sorts.specs.Literals.{Literal}
+use Rattle.spec_sorts.specs.Subsets.{AreAmong}
+use Rattle.spec_arithmetic.specs.Forms.{Form}
+use Rattle.spec_strains.specs.Points.{Ranges}
+use Rattle.spec_causes.specs.Standing.{Standing}
+use Rattle.spec_causes.specs.Bounds.{AreBounds}
+use Rattle.spec_causes.specs.Reached.{IsFormAmong, IsReached, beginning, naming, summing, settling, checking}
+use Rattle.spec_causes.specs.Causes.{StrainsForm, StrainsAt, forming, bounding, adding_row, explaining, finding, evaluating, NeedsMore}
+use Rattle.spec_causes.specs.Causes as causes
+
+module _ (ts us : List Term) (more : AreAmong ts us) where
+  form_among_more : (f : Form) → IsFormAmong ts f → IsFormAmong us f
+  form_among_more f h = record { atom = h.atom; there = more h.atom h.there; constraint = h.constraint; says = h.says; has = h.has }
+
+  bounds_among_more : (s : Standing) (ranges : Ranges) → AreBounds ts s ranges → AreBounds us s ranges
+  bounds_among_more s ranges h = record {
+    literals = h.literals;
+    atoms = All-weaker (λ (l : Literal). Contains ts l.atom) (λ (l : Literal). Contains us l.atom) (λ l there. more l.atom there) h.literals h.atoms;
+    stated = h.stated;
+  }
+
+  pub reached_over_more : (es : List (ℕ × ℕ)) (s : Standing) → IsReached ts es s → IsReached us es s
+  reached_over_more _ _ beginning = beginning
+  reached_over_more _ _ (naming es s0 h f among u k has new) =
+      naming es s0 (reached_over_more es s0 h) f (form_among_more f among) u k has new
+  reached_over_more _ _ (summing es s0 h f among gs are) = summing es s0 (reached_over_more es s0 h) f (form_among_more f among) gs are
+  reached_over_more _ _ (settling es s0 h ranges bounds n rs vs goes) =
+      settling es s0 (reached_over_more es s0 h) ranges (bounds_among_more s0 ranges bounds) n rs vs goes
+  reached_over_more _ _ (checking old new s0 h ranges bounds rs vs ran) =
+      checking old new s0 (reached_over_more old s0 h) ranges (bounds_among_more s0 ranges bounds) rs vs ran
+
+  pub strains_over_more : (s : Standing) (o : Overflow) → StrainsAt ts s o → StrainsAt us s o
+  strains_over_more s o (forming w) = forming (record {
+    atom = w.atom;
+    there = more w.atom w.there;
+    constraint = w.constraint;
+    says = w.says;
+    fault = w.fault;
+    fails = w.fails;
+    is = w.is;
+  })
+  strains_over_more s o (bounding f among u k is w) = bounding f (form_among_more f among) u k is w
+  strains_over_more s o (adding_row f among gs are w) = adding_row f (form_among_more f among) gs are w
+  strains_over_more s o (causes.checking ranges bounds w) = causes.checking ranges (bounds_among_more s ranges bounds) w
+  strains_over_more s o (explaining ranges bounds up es conflict w) = explaining ranges (bounds_among_more s ranges bounds) up es conflict w
+  strains_over_more s o (finding ranges bounds w) = finding ranges (bounds_among_more s ranges bounds) w
+  strains_over_more s o (evaluating ranges bounds e is w) = evaluating ranges (bounds_among_more s ranges bounds) e is w
+
+  pub needs_over_more : (s : Standing) → NeedsMore ts s → NeedsMore us s
+  needs_over_more s h = record { ranges = h.ranges; bounds = bounds_among_more s h.ranges h.bounds; wants = h.wants }

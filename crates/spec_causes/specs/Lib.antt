@@ -1,0 +1,7 @@
+-- Why a check about numbers is not decided.
+pub mod Standing
+pub mod Bounds
+pub mod Reached
+pub mod Reasons
+pub mod Causes
+pub mod Checks
