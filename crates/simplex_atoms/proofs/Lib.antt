@@ -14,3 +14,4 @@ pub mod Summing
 pub mod Turning
 pub mod Adding
 pub mod Multiples
+pub mod Coming

@@ -5,7 +5,7 @@ use Rattle.std.proofs.lemmas.List.{length-append}
 use Rattle.spec_numbers.specs.Fractions.{Fraction, opposite}
 use Rattle.spec_numbers.specs.Bounds.{Overflow, divided}
 use Rattle.spec_arithmetic.specs.Forms.{variables_value}
-use Rattle.spec_simplex.specs.Entries.{AreEntries}
+use Rattle.spec_causes.specs.Standing.{AreEntriesOf}
 use Rattle.spec_tableaux.specs.Spaces.{Space, as_space}
 use Rattle.spec_tableaux.specs.Rows.{Entry as RowEntry, Row, Holds, Solves, sum_of}
 use Rattle.spec_tableaux.specs.SolvedForms.{IsOver}
@@ -31,7 +31,7 @@ use Rattle.simplex_atoms.specs.declared.place.Kind.{Kind}
 use Rattle.simplex_atoms.specs.declared.place.Place.{Place}
 use Rattle.simplex_atoms.specs.declared.stop.AtomStop.{AtomStop}
 use Rattle.simplex_atoms.specs.declared.stop.AtomStop.TheVariants as stops
-use Rattle.simplex_atoms.specs.Owners.{owner_term}
+use Rattle.simplex_atoms.specs.Standings.{owner_meant}
 use Rattle.simplex_atoms.specs.Stops.{of_row}
 use Rattle.simplex_atoms.specs.Places.{IsFormOf}
 use Rattle.simplex_atoms.specs.Atoms.{Ground, ground_of, setting_of, Grows, IsMultiple}
@@ -122,7 +122,7 @@ pub form_strains : (os : List (Option TermId)) (b : BoardView) (g : Ground) (f :
 form_strains os b g f xs es constant stops.Memory vs k numbered grows h = tt
 form_strains os b g f xs es constant (stops.Wide w) vs k numbered grows (made.row h) = λ t.
     let all : AreNumbered g.owners es xs = subst (λ l. AreNumbered l es xs) (sym grows.owners) (numbered_kept os grows.more_owners es xs numbered) in
-    row (entries_of es) (subst (λ (l : List (TermId × Fraction)). AreEntries (owner_term t g.owners) (entries_of es) (map (pair_meant t) l)) vs (numbered_entries t g.owners es xs all)) h
+    row (entries_of es) (subst (λ (l : List (TermId × Fraction)). AreEntriesOf (map (owner_meant t) g.owners) (entries_of es) (map (pair_meant t) l)) vs (numbered_entries t g.owners es xs all)) h
 form_strains os b g f xs es constant (stops.Wide w) vs k numbered grows (made.bound e is h) = λ t.
     let one = one_of e xs (subst (λ l. AreNumbered os l xs) is numbered) in
     bound (term_at t one.0.0) (fraction e.coefficient)

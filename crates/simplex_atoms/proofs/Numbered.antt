@@ -1,7 +1,8 @@
 -- Entries for the variables of a form.
-use Rattle.std.proofs.Common.{◌≡◌, ℕ, ◌+◌, ◌<◌, List, [], ◌∷◌, ◌++◌, length, map, take, get_or, Option, refl, sym, ◌∙◌, ap, subst, add-one}
+use Rattle.std.proofs.Common.{◌≡◌, ℕ, ◌+◌, ◌<◌, List, [], ◌∷◌, ◌++◌, length, map, take, get_or, Option, None, refl, sym, ◌∙◌, ap, subst, add-one}
 use Rattle.std.specs.Prelude.{All}
 use Rattle.std.proofs.Math.Seq.{take-suc}
+use Rattle.std.proofs.Math.ListN.{get_or-map}
 use Rattle.std.proofs.lemmas.List.Elements.{All-nil, All-cons, All-head, All-tail, All-get_or}
 use Rattle.spec_numbers.specs.Fractions.{Fraction, plus, times}
 use Rattle.spec_sorts.specs.Terms.{Term}
@@ -10,7 +11,7 @@ use Rattle.spec_tableaux.specs.Spaces.{as_space}
 use Rattle.spec_tableaux.specs.Rows.{sum_of}
 use Rattle.spec_tableaux.specs.SolvedForms.{IsOver}
 use Rattle.spec_tableaux.specs.Numbers.{Number, numbers, fractions}
-use Rattle.spec_simplex.specs.Entries.{AreEntries}
+use Rattle.spec_causes.specs.Standing.{owner_in, AreEntriesOf}
 use Rattle.ratio128.specs.declared.ratio.Ratio.{Ratio}
 use Rattle.ratio128.specs.Meant.{fraction}
 use Rattle.term_core.specs.declared.ids.TermId.{TermId}
@@ -19,8 +20,9 @@ use Rattle.linear_form.specs.Meant.{FormView, pair_meant, AreVariablesOf}
 use Rattle.linear_form.specs.Entries.{pair_view}
 use Rattle.tableau.specs.declared.entries.Entry.{Entry}
 use Rattle.tableau.specs.Entries.{entries_of}
-use Rattle.simplex_atoms.specs.Owners.{owner_term, term_in, AreOwned}
+use Rattle.simplex_atoms.specs.Owners.{owner_at, AreOwned}
 use Rattle.simplex_atoms.specs.Watching.{IsNumbered, AreNumbered}
+use Rattle.simplex_atoms.specs.Standings.{owner_meant}
 use Rattle.simplex_atoms.proofs.Owning.{owner_kept, owner_below}
 
 pub numbered_kept : (os more : List (Option TermId)) (es : List Entry) (xs : List (TermId × Ratio)) → AreNumbered os es xs → AreNumbered (os ++ more) es xs
@@ -60,11 +62,16 @@ numbered_value t os n v (e ∷ es) (x ∷ xs) h o =
 numbered_value t os n v [] (x ∷ xs) h o = absurd h
 numbered_value t os n v (e ∷ es) [] h o = absurd h
 
+-- the term of a variable, as a table means it
+pub owner_mapped : (t : TableView) (os : List (Option TermId)) (y : ℕ) → owner_in (map (owner_meant t) os) y ≡ owner_meant t (owner_at os y)
+owner_mapped t os y = get_or-map (owner_meant t) os y None
+
+-- so entries are those of the variables
 pub numbered_entries : (t : TableView) (os : List (Option TermId)) (es : List Entry) (xs : List (TermId × Ratio)) → AreNumbered os es xs
-    → AreEntries (owner_term t os) (entries_of es) (map (pair_meant t) (map pair_view xs))
+    → AreEntriesOf (map (owner_meant t) os) (entries_of es) (map (pair_meant t) (map pair_view xs))
 numbered_entries t os [] [] h = tt
 numbered_entries t os (e ∷ es) (x ∷ xs) h =
-    (record { variable = ap (term_in t) h.0.owner; coefficient = ap fraction h.0.coefficient }, numbered_entries t os es xs h.1)
+    (record { owner = owner_mapped t os e.variable ∙ ap (owner_meant t) h.0.owner; coefficient = ap fraction h.0.coefficient }, numbered_entries t os es xs h.1)
 numbered_entries t os [] (x ∷ xs) h = absurd h
 numbered_entries t os (e ∷ es) [] h = absurd h
 

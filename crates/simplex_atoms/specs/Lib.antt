@@ -8,3 +8,4 @@ pub mod Sums
 pub mod Atoms
 pub mod Watching
 pub mod Made
+pub mod Standings

@@ -1,6 +1,6 @@
 -- The terms that variables of a tableau stand for.
 use Rattle.std.specs.Prelude.{◌≡◌, ℕ, List, get_or, Option, Some, None}
-use Rattle.spec_sorts.specs.Terms.{Term, no_term}
+use Rattle.spec_sorts.specs.Terms.{Term}
 use Rattle.term_core.specs.declared.ids.TermId.{TermId}
 use Rattle.term_core.specs.Tables.{TableView, term_at, IsIn}
 
@@ -20,15 +20,6 @@ AreOnce owners = (x y : ℕ) (id : TermId) → owner_at owners x ≡ Some id →
 -- each term that a variable stands for is one of the table
 abbrev pub AreOwnersIn : TableView → List (Option TermId) → Type 0
 AreOwnersIn t owners = (y : ℕ) (id : TermId) → owner_at owners y ≡ Some id → IsIn t id
-
--- the term of a number, where there is one
-abbrev pub term_in : TableView → Option TermId → Term
-term_in t (Some id) = term_at t id
-term_in t None = no_term
-
--- the term that a variable stands for
-abbrev pub owner_term : TableView → List (Option TermId) → ℕ → Term
-owner_term t owners y = term_in t (owner_at owners y)
 
 -- values of variables are those of the terms that they stand for
 abbrev pub AreOwned : {V : Type 0} → TableView → List (Option TermId) → (Term → V) → (ℕ → V) → Type 0

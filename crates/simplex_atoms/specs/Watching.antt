@@ -1,5 +1,5 @@
 -- What it is to watch an atom, and by which operations it can leave the bound on fractions.
-use Rattle.std.specs.Prelude.{◌≡◌, List, [], ◌∷◌, Option, Some, None, Result, Ok, Err, IsSome}
+use Rattle.std.specs.Prelude.{◌≡◌, List, [], ◌∷◌, map, Option, Some, None, Result, Ok, Err, IsSome}
 use Rattle.spec_numbers.specs.Fractions.{Fraction, opposite}
 use Rattle.spec_numbers.specs.Bounds.{Overflow, divided}
 use Rattle.spec_sorts.specs.Terms.{Term}
@@ -7,7 +7,7 @@ use Rattle.spec_arithmetic.specs.Forms.{Form, Fault}
 use Rattle.spec_tableaux.specs.Rows.{Entry}
 use Rattle.spec_tableaux.specs.Numbers.{Number}
 use Rattle.spec_simplex.specs.Constraints.{Constraint, constraint_of, form_of}
-use Rattle.spec_simplex.specs.Entries.{AreEntries}
+use Rattle.spec_causes.specs.Standing.{AreEntriesOf}
 use Rattle.ratio128.specs.declared.ratio.Ratio.{Ratio}
 use Rattle.ratio128.specs.Meant.{overflow}
 use Rattle.term_core.specs.declared.ids.TermId.{TermId}
@@ -24,8 +24,9 @@ use Rattle.simplex_atoms.specs.declared.reading.Sides.{Sides}
 use Rattle.simplex_atoms.specs.declared.place.Place.{Place}
 use Rattle.simplex_atoms.specs.declared.stop.AtomStop.{AtomStop}
 use Rattle.simplex_atoms.specs.declared.stop.AtomStop.TheVariants as stops
-use Rattle.simplex_atoms.specs.Owners.{owner_at, owner_term}
+use Rattle.simplex_atoms.specs.Owners.{owner_at}
 use Rattle.simplex_atoms.specs.Places.{relation_meant}
+use Rattle.simplex_atoms.specs.Standings.{owner_meant}
 
 -- how atoms with a head compare numbers, where they do
 abbrev pub kind_by : Head → Option Kind
@@ -86,8 +87,8 @@ pub data StrainsForm (t : TableView) (owners : Owned) (b : BoardView) (f : Form)
   bound : (u : Term) (k : Fraction) → f.variables ≡ (u, k) ∷ [] → divided (opposite f.constant) k ≡ Err o
       → StrainsForm t owners b f o
   -- the row of the variables
-  row : (es : List (Entry Number)) → AreEntries (owner_term t owners) es f.variables → StrainsNew (state_of b) es o
-      → StrainsForm t owners b f o
+  row : (es : List (Entry Number)) → AreEntriesOf (map (owner_meant t) owners) es f.variables
+      → StrainsNew (state_of b) es o → StrainsForm t owners b f o
 
 -- The place of an atom comes to the overflow o: its form does, or the place of this.
 pub data StrainsAtom (t : TableView) (owners : Owned) (b : BoardView) (id : TermId) (o : Overflow) : Type 0 where

@@ -1,13 +1,16 @@
 //! Atoms on the variables of a board.
 
-ghost use Rattle.std.specs.Prelude.{◌≡◌, ◌≤◌, OnOk, OnErr, IfErr, []};
+ghost use Rattle.std.specs.Prelude.{◌≡◌, ℕ, ◌≤◌, List, [], Contains, OnOk, OnErr, IfErr};
+ghost use Rattle.spec_sorts.specs.Terms.{Term};
 ghost use Rattle.spec_simplex.specs.Constraints.{constraint_of};
+ghost use Rattle.spec_causes.specs.Reached.{IsReached};
 ghost use Rattle.term_core.specs.Tables.{IsIn, term_at, positive_literal};
 ghost use Rattle.term_core.specs.declared.ids.TermId.{TermId as Number};
 ghost use Rattle.simplex_atoms.specs.Owners.{owner_at, IsNumberOf};
 ghost use Rattle.simplex_atoms.specs.Places.{place_in};
 ghost use Rattle.simplex_atoms.specs.Atoms.{ground_of, Grows, KeepBounds, AreRight};
 ghost use Rattle.simplex_atoms.specs.Watching.{OnWide, StrainsAtom, IsWatched};
+ghost use Rattle.simplex_atoms.specs.Standings.{standing_in, ButForMemory};
 
 use crate::owners::Owners;
 use crate::place::Place;
@@ -125,6 +128,9 @@ impl Atoms {
         ensures same { OnErr result ((other : Number)
             → place_in self.new.placed other ≡ place_in self.old.placed other) }
         ensures wide { IfErr result (OnWide (StrainsAtom table.now self.new.owners board.new id)) }
+        ensures came { (ts : List Term) (es : List (ℕ × ℕ)) → Contains ts (term_at table.now id)
+            → IsReached ts es (standing_in table.now self.old.owners board.old)
+            → ButForMemory (IsReached ts es (standing_in table.now self.new.owners board.new)) result }
     {
         if self.place(id).is_some() {
             return Ok(());
@@ -142,6 +148,7 @@ impl Atoms {
             &form,
         );
         self.owners.are_once();
+        table.ids_are_unique();
         let place = made?;
         reach(bounds, self.owners.len())?;
         self.places.insert(id.0, place)?;

@@ -1,7 +1,6 @@
 //! The bounds that literals state.
 
 ghost use Rattle.std.specs.Prelude.{◌≡◌};
-ghost use Rattle.spec_tableaux.specs.Numbers.{numbers};
 ghost use Rattle.tableau.specs.Numbers.{number_of};
 ghost use Rattle.simplex_atoms.specs.Limits.{side_by, tilt_by, limit_of, limit_on, limits_meant, limits_by};
 

@@ -1,12 +1,14 @@
 //! Numbers of variables for terms, and entries for the variables of forms.
 
-ghost use Rattle.std.specs.Prelude.{◌≡◌, Some, All, IfOk};
+ghost use Rattle.std.specs.Prelude.{◌≡◌, Some, All, IfOk, OnOk};
+ghost use Rattle.spec_arithmetic.specs.Forms.{Form};
 ghost use Rattle.term_core.specs.Tables.{TableView, IsIn};
 ghost use Rattle.term_core.specs.declared.ids.TermId.{TermId as Number};
 ghost use Rattle.ratio128.specs.declared.ratio.Ratio.{Ratio as Coefficient};
 ghost use Rattle.simplex_atoms.specs.Owners.{owner_at, AreOwnersIn};
 ghost use Rattle.simplex_atoms.specs.Atoms.{ground_of, AreCounted, IsGrounded, Grows};
 ghost use Rattle.simplex_atoms.specs.Watching.{IsNumbered, AreNumbered};
+ghost use Rattle.simplex_atoms.specs.Standings.{Leads, TellsOwners, IsVariableOf};
 
 use crate::owners::Owners;
 use ratio128::Ratio;
@@ -31,6 +33,9 @@ pub(crate) fn variable_of(
         → IsGrounded (ground_of owners.new.list board.new) }
     ensures there { (t : TableView) → IsIn t id → AreOwnersIn t owners.old.list → AreOwnersIn t owners.new.list }
     ensures ok { IfOk result (λ y. owner_at owners.new.list y ≡ Some id) }
+    ensures came { OnOk result ((t : TableView) (f : Form) (k : Coefficient) → TellsOwners t owners.old.list
+        → IsVariableOf t f (id, k)
+        → Leads t f (ground_of owners.old.list board.old) (ground_of owners.new.list board.new)) }
 {
     if let Some(y) = owners.var(id) {
         return Ok(y);
@@ -56,6 +61,9 @@ fn entry_of(
     ensures there { (t : TableView) → IsIn t variable.0 → AreOwnersIn t owners.old.list
         → AreOwnersIn t owners.new.list }
     ensures ok { IfOk result (λ e. IsNumbered owners.new.list e variable) }
+    ensures came { OnOk result ((t : TableView) (f : Form) → TellsOwners t owners.old.list
+        → IsVariableOf t f variable
+        → Leads t f (ground_of owners.old.list board.old) (ground_of owners.new.list board.new)) }
 {
     let y = variable_of(owners, board, variable.0)?;
     Ok(Entry {
@@ -81,6 +89,9 @@ pub(crate) fn entries_of(
     ensures there { (t : TableView) → All (λ (p : Number × Coefficient). IsIn t p.0) variables.now
         → AreOwnersIn t owners.old.list → AreOwnersIn t owners.new.list }
     ensures ok { IfOk result (λ es. AreNumbered owners.new.list es.items variables.now) }
+    ensures came { OnOk result ((t : TableView) (f : Form) → TellsOwners t owners.old.list
+        → All (IsVariableOf t f) variables.now
+        → Leads t f (ground_of owners.old.list board.old) (ground_of owners.new.list board.new)) }
 {
     let mut entries = Vec::new(alloc);
     'variables: for at in 0..variables.len() {

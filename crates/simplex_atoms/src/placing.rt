@@ -1,12 +1,14 @@
 //! The place of a form.
 
-ghost use Rattle.std.specs.Prelude.{◌≡◌, ◌<◌, false, IfOk, IfErr, Err};
+ghost use Rattle.std.specs.Prelude.{◌≡◌, ◌<◌, false, map, IfOk, IfErr, Err};
 ghost use Rattle.spec_numbers.specs.Fractions.{opposite};
 ghost use Rattle.spec_numbers.specs.Bounds.{divided};
+ghost use Rattle.spec_arithmetic.specs.Forms.{Form as Meant};
 ghost use Rattle.spec_tableaux.specs.SolvedForms.{IsOver};
 ghost use Rattle.spec_tableaux.specs.Numbers.{numbers};
 ghost use Rattle.ratio128.specs.Meant.{fraction, overflow};
 ghost use Rattle.term_core.specs.Tables.{TableView};
+ghost use Rattle.spec_causes.specs.Standing.{AreEntriesOf};
 ghost use Rattle.linear_form.specs.Meant.{form_meant, AreVariablesOf};
 ghost use Rattle.tableau.specs.Numbers.{number_of};
 ghost use Rattle.tableau.specs.Entries.{entries_of};
@@ -16,6 +18,7 @@ ghost use Rattle.simplex_atoms.specs.Places.{IsFormOf};
 ghost use Rattle.simplex_atoms.specs.Atoms.{ground_of, setting_of, AreCounted, IsGrounded, Grows, IsMultiple, AreSums};
 ghost use Rattle.simplex_atoms.specs.Watching.{OnWide, StrainsForm};
 ghost use Rattle.simplex_atoms.specs.Made.{IsMade, Covers, IsSingle, StrainsEntries};
+ghost use Rattle.simplex_atoms.specs.Standings.{owner_meant, ButForMemory, Leads, TellsOwners};
 
 use crate::numbering::entries_of;
 use crate::owners::Owners;
@@ -105,6 +108,9 @@ fn add_row(owners: &mut Owners, board: &mut Board, entries: &[Entry]) -> Result<
     ensures there { (t : TableView) → AreOwnersIn t owners.old.list → AreOwnersIn t owners.new.list }
     ensures is { IfOk result (IsMultiple (ground_of owners.new.list board.new) (entries_of entries.now) numbers.one) }
     ensures wide { (constant : Ratio) → IfErr result (OnWide (StrainsEntries board.new constant entries.now)) }
+    ensures came { ButForMemory ((t : TableView) (f : Meant)
+        → AreEntriesOf (map (owner_meant t) owners.old.list) (entries_of entries.now) f.variables
+        → Leads t f (ground_of owners.old.list board.old) (ground_of owners.new.list board.new)) result }
 {
     owners.reserve()?;
     let variable = board.add_row(entries)?;
@@ -133,6 +139,9 @@ fn on_row(
     ensures made { IfOk result (IsMade kind constant) }
     ensures covers { IfOk result (Covers (ground_of owners.new.list board.new) entries.now) }
     ensures wide { IfErr result (OnWide (StrainsEntries board.new constant entries.now)) }
+    ensures came { ButForMemory ((t : TableView) (f : Meant)
+        → AreEntriesOf (map (owner_meant t) owners.old.list) (entries_of entries.now) f.variables
+        → Leads t f (ground_of owners.old.list board.old) (ground_of owners.new.list board.new)) result }
 {
     let key = sums.key(entries)?;
     if let Some(known) = sums.find(&key) {
@@ -173,6 +182,9 @@ fn place_by(
     ensures made { IfOk result (IsMade kind constant) }
     ensures covers { IfOk result (Covers (ground_of owners.new.list board.new) entries.now) }
     ensures wide { IfErr result (OnWide (StrainsEntries board.new constant entries.now)) }
+    ensures came { ButForMemory ((t : TableView) (f : Meant)
+        → AreEntriesOf (map (owner_meant t) owners.old.list) (entries_of entries.now) f.variables
+        → Leads t f (ground_of owners.old.list board.old) (ground_of owners.new.list board.new)) result }
 {
     match single(entries) {
         Some(entry) => {
@@ -210,6 +222,9 @@ pub(crate) fn place_of(
         → IsFormOf (setting_of t (ground_of owners.new.list board.new)) p (form_meant t form.now)) }
     ensures wide { IfErr result (OnWide (λ o. (t : TableView)
         → StrainsForm t owners.new.list board.new (form_meant t form.now) o)) }
+    ensures came { ButForMemory ((t : TableView) → AreVariablesOf t form.now → TellsOwners t owners.old.list
+        → Leads t (form_meant t form.now) (ground_of owners.old.list board.old)
+        (ground_of owners.new.list board.new)) result }
 {
     let variables = form.variables(alloc)?;
     let entries = entries_of(alloc, owners, board, &variables)?;

@@ -1,12 +1,14 @@
 -- The entries so far are those of the variables so far.
 use Rattle.std.proofs.Common.{take}
 use Rattle.std.specs.Prelude.{All}
+use Rattle.spec_arithmetic.specs.Forms.{Form}
 use Rattle.ratio128.specs.declared.ratio.Ratio.{Ratio}
 use Rattle.term_core.specs.declared.ids.TermId.{TermId}
 use Rattle.term_core.specs.Tables.{TableView, IsIn}
 use Rattle.simplex_atoms.specs.Owners.{AreOwnersIn}
 use Rattle.simplex_atoms.specs.Atoms.{ground_of, AreCounted, IsGrounded, Grows}
 use Rattle.simplex_atoms.specs.Watching.{AreNumbered}
+use Rattle.simplex_atoms.specs.Standings.{Leads, TellsOwners, IsVariableOf}
 use Rattle.simplex_atoms.proofs.numbering.entries_of.Given as goal
 
 abbrev pub invariant-variables : goal.invariant-variables
@@ -15,5 +17,6 @@ invariant-variables l = record {
   grows : Grows (ground_of l.initial.owners.list l.initial.board) (ground_of l.owners.list l.board);
   grounded : IsGrounded (ground_of l.initial.owners.list l.initial.board) → IsGrounded (ground_of l.owners.list l.board);
   there : (t : TableView) → All (λ (p : TermId × Ratio). IsIn t p.0) l.variables → AreOwnersIn t l.initial.owners.list → AreOwnersIn t l.owners.list;
+  came : (t : TableView) (f : Form) → TellsOwners t l.initial.owners.list → All (IsVariableOf t f) l.variables → Leads t f (ground_of l.initial.owners.list l.initial.board) (ground_of l.owners.list l.board);
   so_far : AreNumbered l.owners.list l.entries.items (take l.at l.variables);
 }

@@ -3,6 +3,7 @@ use Rattle.std.proofs.Common.{[], ◌∷◌, ◌++◌, List, Option, Some, None,
 use Rattle.term_core.specs.declared.ids.TermId.{TermId}
 use Rattle.simplex_atoms.proofs.Growth.{grows_same, grows_variable}
 use Rattle.simplex_atoms.proofs.Grounding.{grounded_same, grounded_variable}
+use Rattle.simplex_atoms.proofs.Coming.{variable_leads}
 use Rattle.simplex_atoms.proofs.numbering.variable_of.Goals as goal
 
 pub returns-in-Some-clause-grows : goal.returns-in-Some-clause-grows
@@ -41,3 +42,8 @@ pub returns-clause-grounded : goal.returns-clause-grounded
 returns-clause-grounded c =
     grounded_variable c.args.owners.now.list c.add_term.new.self.list (Some c.args.id) c.args.board.now c.add_var.new.self c.requires
     (c.in_ok-add_term.ensures.ok ∙ ap (λ (l : List (Option TermId)). l ++ Some c.args.id ∷ []) c.reserve.ensures.list) c.in_ok-add_var.ensures.ok
+
+pub returns-clause-came : goal.returns-clause-came
+returns-clause-came c t f k tells is =
+    variable_leads t f c.args.owners.now.list c.add_term.new.self.list c.args.board.now c.add_var.new.self c.args.id k
+    (c.in_ok-add_term.ensures.ok ∙ ap (λ (l : List (Option TermId)). l ++ Some c.args.id ∷ []) c.reserve.ensures.list) c.in_ok-add_var.ensures.ok c.in_default.ensures tells is

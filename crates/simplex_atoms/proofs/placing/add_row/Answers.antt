@@ -5,6 +5,7 @@ use Rattle.tableau.specs.Entries.{entries_of}
 use Rattle.simplex_atoms.proofs.Growth.{grows_same}
 use Rattle.simplex_atoms.proofs.Grounding.{grounded_row}
 use Rattle.simplex_atoms.proofs.Making.{row_strains, row_is_sum}
+use Rattle.simplex_atoms.proofs.Coming.{row_leads}
 use Rattle.simplex_atoms.proofs.placing.add_row.Goals as goal
 
 pub returns-in_err-reserve-clause-grows : goal.returns-in_err-reserve-clause-grows
@@ -28,3 +29,8 @@ pub returns-clause-is : goal.returns-clause-is
 returns-clause-is c =
     row_is_sum c.args.owners.now.list c.add_none.new.self.list c.args.board.now c.add_row.new.self (entries_of c.args.entries.now) c.in_ok-variable.variable c.requires.counted
     (c.add_none.ensures ∙ ap (λ (l : List (Option TermId)). l ++ None ∷ []) c.reserve.ensures.list) c.in_ok-variable.ensures.ok.1 c.in_ok-variable.ensures.ok.0
+
+pub returns-clause-came : goal.returns-clause-came
+returns-clause-came c t f are =
+    row_leads t f c.args.owners.now.list c.add_none.new.self.list c.args.board.now c.add_row.new.self (entries_of c.args.entries.now) c.requires.counted
+    (c.add_none.ensures ∙ ap (λ (l : List (Option TermId)). l ++ None ∷ []) c.reserve.ensures.list) c.in_ok-variable.ensures.ok.1 are

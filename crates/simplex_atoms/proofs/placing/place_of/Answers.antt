@@ -7,6 +7,7 @@ use Rattle.simplex_atoms.proofs.Fitting.{sums_on}
 use Rattle.simplex_atoms.proofs.Growth.{grows_same}
 use Rattle.simplex_atoms.proofs.Numbered.{are_in, numbered_over, variables_as}
 use Rattle.simplex_atoms.proofs.Making.{result_formed, result_strains}
+use Rattle.simplex_atoms.proofs.Coming.{place_comes}
 use Rattle.simplex_atoms.proofs.placing.place_of.Goals as goal
 
 pub returns-in_err-variables-clause-grows : goal.returns-in_err-variables-clause-grows
@@ -50,3 +51,11 @@ returns-clause-wide c =
     (variables_as c.deref.result.now c.in_ok-variables.variables.items c.args.form.now c.deref.ensures.value c.in_ok-variables.ensures) c.constant.ensures
     (subst (λ (es : List Entry). AreNumbered c.entries_of.new.owners.list es c.deref.result.now) (sym c.deref-2.ensures.value) c.in_ok-entries.ensures.ok)
     c.place_by.ensures.grows c.place_by.ensures.wide
+
+pub returns-clause-came : goal.returns-clause-came
+returns-clause-came c =
+    place_comes c.args.form.now c.args.owners.now.list c.entries_of.new.owners.list c.place_by.new.owners.list c.args.board.now c.entries_of.new.board c.place_by.new.board
+    c.deref.result.now c.deref-2.result.now
+    (variables_as c.deref.result.now c.in_ok-variables.variables.items c.args.form.now c.deref.ensures.value c.in_ok-variables.ensures)
+    (subst (λ (es : List Entry). AreNumbered c.entries_of.new.owners.list es c.deref.result.now) (sym c.deref-2.ensures.value) c.in_ok-entries.ensures.ok)
+    c.in_ok-entries.ensures.came c.place_by.result c.place_by.ensures.came

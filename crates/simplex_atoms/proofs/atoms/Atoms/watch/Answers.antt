@@ -1,10 +1,13 @@
 -- A place comes, or none does.
 use Rattle.std.proofs.Common.{ℕ, refl, sym, ◌∙◌, ap, subst, arith}
 use Rattle.std.specs.Option.{is_some}
+use Rattle.spec_causes.specs.Reached.{IsReached}
 use Rattle.simplex_atoms.specs.Atoms.{AtomsView, ground_of, setting_of, AreRight}
+use Rattle.simplex_atoms.specs.Standings.{standing_in}
 use Rattle.simplex_atoms.proofs.Growth.{grows_same}
 use Rattle.simplex_atoms.proofs.Fitting.{placed_more}
 use Rattle.simplex_atoms.proofs.Watched.{atoms_of, right_on, reach_stays, placed_now, form_wide, place_wide, watched_before}
+use Rattle.simplex_atoms.proofs.Coming.{atom_comes, atom_stops}
 use Rattle.simplex_atoms.proofs.atoms.Atoms.watch.Goals as goal
 
 pub returns-then-is_some-clause-grows : goal.returns-then-is_some-clause-grows
@@ -101,3 +104,25 @@ returns-clause-right c =
           placed_more (setting_of t (ground_of us d)) c.reach.new.bounds.variables c.self.inside.places.entries c.insert.new.self.entries c.args.id place on.are_placed now
           (λ (q : ℕ). c.in_ok-insert.ensures.updates.0 q);
     }
+
+pub returns-in_err-place-clause-came : goal.returns-in_err-place-clause-came
+returns-in_err-place-clause-came c ts es there h =
+    let t = c.args.table.now in
+    let b = c.args.board.now in
+    let os = c.self.inside.owners.list in
+    let right : AreRight t (atoms_of os c.self.inside.sums c.self.inside.places.entries) b c.args.bounds.now =
+    subst (λ (a : AtomsView). AreRight t a b c.args.bounds.now) (sym c.self.view_is) c.requires.right in
+    let before : IsReached ts es (standing_in t os b) = subst (λ (a : AtomsView). IsReached ts es (standing_in t a.owners b)) (sym c.self.view_is) h in
+    atom_stops t c.args.id c.in-Some.sides c.in_ok-form.form os c.place_of-made.new.owners.list b c.place_of-made.new.board c.in-Some.ensures.means c.in_ok-form.ensures.exact c.in_ok-form.ensures.there
+    (c.ids_are_unique.ensures, right.owners_in) ts es there before c.in_err-place.field-0.0 c.from_residual-in_err-place.result c.in_err-place.ensures.came c.from_residual-in_err-place.ensures.1
+
+pub returns-clause-came : goal.returns-clause-came
+returns-clause-came c ts es there h =
+    let t = c.args.table.now in
+    let b = c.args.board.now in
+    let os = c.self.inside.owners.list in
+    let right : AreRight t (atoms_of os c.self.inside.sums c.self.inside.places.entries) b c.args.bounds.now =
+    subst (λ (a : AtomsView). AreRight t a b c.args.bounds.now) (sym c.self.view_is) c.requires.right in
+    let before : IsReached ts es (standing_in t os b) = subst (λ (a : AtomsView). IsReached ts es (standing_in t a.owners b)) (sym c.self.view_is) h in
+    atom_comes t c.args.id c.in-Some.sides c.in_ok-form.form os c.place_of-made.new.owners.list b c.place_of-made.new.board c.in-Some.ensures.means c.in_ok-form.ensures.exact c.in_ok-form.ensures.there
+    (c.ids_are_unique.ensures, right.owners_in) ts es there before c.in_ok-place.ensures.came
