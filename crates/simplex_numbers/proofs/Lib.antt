@@ -9,3 +9,4 @@ pub mod Flat
 pub mod Holding
 pub mod Sides
 pub mod Compared
+pub mod Epsilons

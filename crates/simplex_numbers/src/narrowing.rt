@@ -1,6 +1,6 @@
 //! Numbers in the place of the infinitesimal, small enough for two values or for the bounds of one.
 
-ghost use Rattle.std.specs.Prelude.{◌≡◌, true, false, IfOk, IfErr};
+ghost use Rattle.std.specs.Prelude.{◌≡◌, ◌⊎◌, true, false, IfOk, IfErr};
 ghost use Rattle.ratio128.specs.Meant.{overflow};
 ghost use Rattle.spec_tableaux.specs.Fields.{is_positive};
 ghost use Rattle.spec_tableaux.specs.Ranges.{below, above};
@@ -10,7 +10,8 @@ ghost use Rattle.simplex_bounds.specs.Deltas.{pair_of, pair_in, range_of};
 ghost use Rattle.spec_strains.specs.Points.{deltas};
 ghost use Rattle.simplex_check.specs.Moves.{keeps};
 ghost use Rattle.simplex_numbers.specs.Values.{IsSmaller, StaysLess, StaysAbove, StaysBelow, StaysOff};
-ghost use Rattle.spec_strains.specs.Halves.{two, StrainsOrder, StrainsLower, StrainsUpper, StrainsRange};
+ghost use Rattle.spec_strains.specs.Halves.{two, IsSteeper, halfway, StrainsOrder, StrainsLower, StrainsUpper, StrainsRange};
+ghost use Rattle.spec_causes.specs.Causes.{IsHalfAbove, IsHalfBelow, IsHalfIn};
 
 use delta_num::Delta;
 use ratio128::{Ratio, Wide};
@@ -31,6 +32,7 @@ fn lesser(a: Ratio, b: Ratio) -> Ratio
     requires second { is_positive numbers (number_of b) ≡ true }
     ensures first { IsSmaller (number_of result) (number_of a) }
     ensures second { IsSmaller (number_of result) (number_of b) }
+    ensures either { (result ≡ a) ⊎ (result ≡ b) }
 {
     if less(b, a) { b } else { a }
 }
@@ -44,6 +46,8 @@ fn narrowed(e: Ratio, x: Delta, y: Delta) -> Result<Ratio, Wide>
     requires order { deltas.less (pair_of y) (pair_of x) ≡ false }
     ensures smaller { IfOk result (λ d. IsSmaller (number_of d) (number_of e)) }
     ensures less { IfOk result (λ d. StaysLess (number_of d) (pair_of x) (pair_of y)) }
+    ensures is { IfOk result (λ d. (d ≡ e)
+        ⊎ (IsSteeper (pair_of x) (pair_of y) × (number_of d ≡ halfway (pair_of x) (pair_of y)))) }
     ensures wide { IfErr result (λ w. StrainsOrder (pair_of x) (pair_of y) (overflow w)) }
 {
     if !less(y.tilt, x.tilt) {
@@ -65,6 +69,7 @@ fn narrowed_above(e: Ratio, lower: Option<Delta>, x: Delta) -> Result<Ratio, Wid
     requires within { below deltas (pair_of x) (pair_in lower) ≡ false }
     ensures smaller { IfOk result (λ d. IsSmaller (number_of d) (number_of e)) }
     ensures stays { IfOk result (λ d. StaysAbove (number_of d) (pair_in lower) (pair_of x)) }
+    ensures is { IfOk result (λ d. (d ≡ e) ⊎ IsHalfAbove (pair_in lower) (pair_of x) (number_of d)) }
     ensures wide { IfErr result (λ w. StrainsLower (pair_in lower) (pair_of x) (overflow w)) }
 {
     match lower {
@@ -82,6 +87,7 @@ fn narrowed_below(e: Ratio, upper: Option<Delta>, x: Delta) -> Result<Ratio, Wid
     requires within { above deltas (pair_of x) (pair_in upper) ≡ false }
     ensures smaller { IfOk result (λ d. IsSmaller (number_of d) (number_of e)) }
     ensures stays { IfOk result (λ d. StaysBelow (number_of d) (pair_in upper) (pair_of x)) }
+    ensures is { IfOk result (λ d. (d ≡ e) ⊎ IsHalfBelow (pair_in upper) (pair_of x) (number_of d)) }
     ensures wide { IfErr result (λ w. StrainsUpper (pair_in upper) (pair_of x) (overflow w)) }
 {
     match upper {
@@ -98,6 +104,7 @@ pub(crate) fn narrowed_by(e: Ratio, range: Range, x: Delta) -> Result<Ratio, Wid
     requires within { keeps (range_of range) (pair_of x) ≡ true }
     ensures smaller { IfOk result (λ d. IsSmaller (number_of d) (number_of e)) }
     ensures off { IfOk result (λ d. StaysOff (number_of d) (range_of range) (pair_of x)) }
+    ensures is { IfOk result (λ d. (d ≡ e) ⊎ IsHalfIn (range_of range) (pair_of x) (number_of d)) }
     ensures wide { IfErr result (λ w. StrainsRange (range_of range) (pair_of x) (overflow w)) }
 {
     let small = narrowed_above(e, range.lower, x)?;

@@ -10,6 +10,7 @@ ghost use Rattle.spec_strains.specs.Points.{deltas, point_in};
 ghost use Rattle.simplex_bounds.specs.Held.{ranges_in};
 ghost use Rattle.simplex_numbers.specs.Values.{KeepsAt, StaysOff};
 ghost use Rattle.spec_strains.specs.Halves.{StrainsNumber};
+ghost use Rattle.spec_causes.specs.Causes.{IsEpsilon};
 
 use crate::narrowing::narrowed_by;
 use ratio128::{Ratio, Wide};
@@ -31,6 +32,7 @@ pub fn small_number(bounds: &Bounds, board: &Board) -> Result<Ratio, Wide>
     ensures keeps { IfOk result (λ e. KeepsAt (number_of e) (ranges_in bounds.now.held) (point_in board.now.values)) }
     ensures off { IfOk result (λ e. (y : ℕ)
         → StaysOff (number_of e) (ranges_in bounds.now.held y) (point_in board.now.values y)) }
+    ensures is { IfOk result (λ e. IsEpsilon (ranges_in bounds.now.held) (point_in board.now.values) (number_of e)) }
     ensures wide { IfErr result (λ w. StrainsNumber (ranges_in bounds.now.held) (point_in board.now.values)
         (overflow w)) }
 {

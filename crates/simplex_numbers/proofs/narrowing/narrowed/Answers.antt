@@ -9,6 +9,7 @@ use Rattle.simplex_bounds.specs.Deltas.{pair_of}
 use Rattle.simplex_check.proofs.Summing.{told}
 use Rattle.spec_strains.specs.Halves.{is_less, IsSteeper, meeting, halfway, StrainsOrder, half}
 use Rattle.simplex_numbers.proofs.Orders.{irreflexive, level_stays, rises_not_zero, two_not_zero, steep_less, half_above, half_stays, steep_stays}
+use Rattle.simplex_numbers.proofs.Epsilons.{half_or}
 use Rattle.simplex_numbers.proofs.narrowing.narrowed.Goals as goal
 
 pub returns-then-not-less-clause-smaller : goal.returns-then-not-less-clause-smaller
@@ -49,3 +50,11 @@ returns-clause-less c = λ less.
     let is : number_of c.in_ok-half.half ≡ halfway x y = c.in_ok-half.ensures.ok ∙ (λ i. numbers.times ((c.in_ok-meeting.ensures.ok
     ∙ (λ j. numbers.times (c.in_ok-gap.ensures.ok j) (numbers.inverse (c.in_ok-steepness.ensures.ok j)))) i) (numbers.inverse (c.two.ensures i))) in
     steep_stays x y steep (halfway x y) (number_of c.lesser.result) (ap (λ (n : Number). is_less n (number_of c.lesser.result)) (sym is) ∙ c.lesser.ensures.first.1) (half_stays x y steep less)
+
+pub returns-clause-is : goal.returns-clause-is
+returns-clause-is c =
+    let x = pair_of c.args.x in
+    let y = pair_of c.args.y in
+    let is : number_of c.in_ok-half.half ≡ halfway x y = c.in_ok-half.ensures.ok ∙ (λ i. numbers.times ((c.in_ok-meeting.ensures.ok
+    ∙ (λ j. numbers.times (c.in_ok-gap.ensures.ok j) (numbers.inverse (c.in_ok-steepness.ensures.ok j)))) i) (numbers.inverse (c.two.ensures i))) in
+    half_or c.args.e c.in_ok-half.half c.lesser.result x y (sym c.less.ensures ∙ c.if-not-less.false) is c.lesser.ensures.either

@@ -2,6 +2,7 @@
 use Rattle.tableau.specs.Numbers.{number_of}
 use Rattle.simplex_bounds.specs.Deltas.{pair_of, range_of}
 use Rattle.simplex_numbers.proofs.Keeping.{smaller_again, off_both}
+use Rattle.simplex_numbers.proofs.Epsilons.{half_in}
 use Rattle.simplex_numbers.proofs.narrowing.narrowed_by.Goals as goal
 
 pub returns-clause-smaller : goal.returns-clause-smaller
@@ -11,3 +12,6 @@ pub returns-clause-off : goal.returns-clause-off
 returns-clause-off c =
     off_both c.narrowed_below.result (number_of c.in_ok-small.small) (range_of c.args.range) (pair_of c.args.x) c.in_ok-small.ensures.stays
     c.narrowed_below.ensures.smaller c.narrowed_below.ensures.stays
+
+pub returns-clause-is : goal.returns-clause-is
+returns-clause-is c = half_in c.narrowed_below.result c.args.e c.in_ok-small.small (range_of c.args.range) (pair_of c.args.x) c.in_ok-small.ensures.is c.narrowed_below.ensures.is

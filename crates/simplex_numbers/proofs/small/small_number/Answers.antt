@@ -1,5 +1,5 @@
 -- The number serves a variable more at each step, and in the end all.
-use Rattle.std.proofs.Common.{arith, ◌∙◌, ap}
+use Rattle.std.proofs.Common.{arith, ◌∙◌, ap, inl}
 use Rattle.spec_tableaux.specs.Fields.{is_positive}
 use Rattle.spec_tableaux.specs.Numbers.{numbers}
 use Rattle.tableau.specs.Numbers.{number_of}
@@ -9,16 +9,19 @@ use Rattle.spec_strains.specs.Points.{point_in}
 use Rattle.simplex_reasons.proofs.Distances.{one_above}
 use Rattle.simplex_numbers.proofs.Keeping.{range_kept}
 use Rattle.simplex_numbers.proofs.Everywhere.{everywhere, one_more}
+use Rattle.simplex_numbers.proofs.Epsilons.{epsilon_on}
 use Rattle.simplex_numbers.proofs.small.small_number.Goals as goal
 
 pub loop-y-init : goal.loop-y-init
-loop-y-init c = record { positive = ap (is_positive numbers) c.one-e.ensures ∙ one_above; off = λ y lt. absurd (omega (arith, lt)) }
+loop-y-init c = record { positive = ap (is_positive numbers) c.one-e.ensures ∙ one_above; off = λ y lt. absurd (omega (arith, lt)); is = inl c.one-e.ensures }
 
 pub loop-y-preserved : goal.loop-y-preserved
 loop-y-preserved c = record {
   positive = c.in_ok-e.ensures.smaller.0;
   off = one_more (number_of c.loop-y.e) c.args.bounds.now.held (point_in c.args.board.now.values) c.loop-y.y (number_of c.in_ok-e.e) (range_of c.range.result) (pair_of c.value.result)
       c.loop-y.invariant.off c.in_ok-e.ensures.smaller c.in_ok-e.ensures.off c.range.ensures c.value.ensures;
+  is = epsilon_on (ranges_in c.args.bounds.now.held) (point_in c.args.board.now.values) c.loop-y.y c.loop-y.e c.in_ok-e.e (range_of c.range.result) (pair_of c.value.result)
+      c.loop-y.invariant.is c.range.ensures c.value.ensures c.in_ok-e.ensures.is;
 }
 
 pub returns-clause-keeps : goal.returns-clause-keeps
