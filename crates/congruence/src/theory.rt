@@ -1,6 +1,7 @@
 //! Congruence closure as a theory.
 
-ghost use Rattle.std.specs.Prelude.{◌≡◌, ◌-◌, ◌≤◌, ◌++◌, ◌∷◌, [], true, length, get_or, take, Contains, MatchResult, IfOk, IfErr, OnOk, OnErr, Ok};
+ghost use Rattle.std.specs.Prelude.{◌≡◌, ◌-◌, ◌≤◌, ◌++◌, ◌∷◌, ℕ, List, [], true, length, get_or, take, Contains, MatchResult, IfOk, IfErr, OnOk, OnErr, Ok};
+ghost use Rattle.spec_sorts.specs.Terms.{Term};
 ghost use Rattle.spec_congruence.specs.Congruence.{IsFine, IsRefuted};
 ghost use Rattle.term_core.specs.Tables.{TableView};
 ghost use Rattle.sat_budget.specs.declared.limits.Stop.TheVariants as stops;
@@ -8,7 +9,7 @@ ghost use Rattle.sat_budget.specs.Budgets.{Spends, StopsBy, AreSpent};
 ghost use Rattle.proof_log.specs.declared.theory.Verdict.TheVariants.{Fine};
 ghost use Rattle.proof_log.specs.Logs.{IsLogOf};
 ghost use Rattle.proof_log.specs.Clashes.{IsClash};
-ghost use Rattle.proof_log.specs.Theories.{with_watched, with_mark, gone_back, IsTermIn, IsOver, terms_watched, literals_held, Derives, Checks};
+ghost use Rattle.proof_log.specs.Theories.{with_watched, with_mark, gone_back, IsTermIn, IsOver, terms_watched, literals_held, Derives, Checks, CameTo};
 ghost use Rattle.congruence_relation.specs.Relation.{Facts, AreOf, terms_listed};
 ghost use Rattle.congruence_relation.specs.Edges.{IsConflict};
 ghost use Rattle.congruence.specs.Views.{theory_of};
@@ -68,9 +69,11 @@ impl Theory for Congruence {
 
     ghost refuses = { λ c ts ls. IsRefuted ts ls };
 
-    ghost strains = { λ _ _ _. ⊥ };
+    ghost came_by = { λ _ _ _ _. Unit {0} };
 
-    ghost needs_more = { λ _ _. ⊥ };
+    ghost strains = { λ _ _ _ _. ⊥ };
+
+    ghost needs_more = { λ _ _ _. ⊥ };
 
     /// Watches a term that it does not watch yet, which must be one over the table's symbols. `Memory` comes where memory ran out, the one
     /// stop, as it computes with no numbers; then it watches what it did.
@@ -81,6 +84,7 @@ impl Theory for Congruence {
         ensures with { AreOf table.now self.new.now.facts }
         ensures watches { MatchResult result (λ _. theory_of self.new ≡ with_watched (theory_of self.old) id)
             (λ _. theory_of self.new ≡ theory_of self.old) }
+        ensures came { (ts : List Term) (es : List (ℕ × ℕ)) → CameTo result (λ _. Unit {0}) es }
         ensures stops { IfErr result (StopsBy (λ _. ⊥) (λ _. ⊥)) }
         ensures memory { IfErr result (λ stop. stop ≡ stops.Memory) }
     {
@@ -116,6 +120,7 @@ impl Theory for Congruence {
             (IsRefuted (terms_watched table.old (theory_of self.old)) (literals_held table.old (theory_of self.old)))
             (theory_of self.old) (record { table = table.old; log = log.old }) result
             (record { table = table.new; log = log.new }) }
+        ensures came { (ts : List Term) → CameTo result (λ _. Unit {0}) budget.new.exchanges }
         ensures stops { IfErr result (StopsBy (λ _. ⊥) (AreSpent ⊥ budget.new)) }
         ensures memory { IfErr result (λ stop. stop ≡ stops.Memory) }
     {
@@ -158,6 +163,8 @@ impl Theory for Congruence {
     }
 
     ghost grown = { λ c t u more with. of_more t u more c.now.facts with };
+
+    ghost came_grown = { λ c t u more with ts es came. came };
 
     ghost exact = { λ c ts ls fine refuted. fine.0 refuted };
 }

@@ -8,7 +8,10 @@ use Rattle.spec_derivations.specs.Lemmas.{IsLemma}
 use Rattle.term_core.specs.declared.ids.TermId.{TermId}
 use Rattle.term_core.specs.declared.ids.Lit.{Lit}
 use Rattle.term_core.specs.Tables.{TableView, term_at, IsIn, clause_at, literal_at, positive_literal, declared_in, Extends}
+use Rattle.spec_causes.specs.Reached.{IsAtLast}
 use Rattle.sat_budget.specs.declared.limits.Stop.{Stop}
+use Rattle.sat_budget.specs.declared.limits.Stop.TheVariants.{Strained, Pivots}
+use Rattle.sat_budget.specs.declared.limits.Stop.TheVariants as stops
 use Rattle.proof_log.specs.declared.theory.Verdict.{Verdict}
 use Rattle.proof_log.specs.declared.theory.Verdict.TheVariants.{Fine, Clash}
 use Rattle.proof_log.specs.Logs.{Logged, inference_of, IsFormulaIn, IsLogOf}
@@ -114,3 +117,11 @@ abbrev pub Checks : Type 0 → Type 0 → TheoryView → Derived → Result Verd
 Checks agrees refuses v old (Ok Fine) new = agrees × Derives (terms_watched old.table v) old new
 Checks agrees refuses v old (Ok (Clash step)) new = refuses × Derives (terms_watched old.table v) old new × IsClash new.table new.log v.held step
 Checks agrees refuses v old (Err stop) new = new ≡ old
+
+-- what a call of a theory leaves is what the exchanges came to; after a stop by an overflow perhaps all but the last of them,
+-- as it is then told before it is made; where memory runs out nothing is said
+abbrev pub CameTo : {A : Type 0} → Result A Stop → (List (ℕ × ℕ) → Type 0) → List (ℕ × ℕ) → Type 0
+CameTo (Ok _) came es = came es
+CameTo (Err (Strained s)) came es = IsAtLast came es
+CameTo (Err (Pivots n)) came es = came es
+CameTo (Err stops.Memory) came es = Unit {0}
