@@ -1,11 +1,12 @@
 //! Both theories, and how to look at each.
 
-ghost use Rattle.std.specs.Prelude.{◌≡◌, [], IfOk};
-ghost use Rattle.spec_sorts.specs.Terms.{True, False, of};
+ghost use Rattle.std.specs.Prelude.{◌≡◌, List, [], IfOk};
+ghost use Rattle.spec_sorts.specs.Terms.{Term, True, False, of};
 ghost use Rattle.term_core.specs.Tables.{IsIn, term_at};
 ghost use Rattle.congruence_relation.specs.Relation.{AreOf};
 ghost use Rattle.congruence.specs.Views.{theory_of};
 ghost use Rattle.simplex.specs.Checks.{Suits};
+ghost use Rattle.simplex.specs.Coming.{CameBy};
 ghost use Rattle.combined.specs.Views.{HoldTheSame};
 
 use congruence::{Congruence, Truths};
@@ -49,6 +50,7 @@ impl Combined {
         ensures empty { IfOk result (λ c. theory_of c.congruence ≡ record { held = []; watched = []; marks = [] }) }
         ensures congruence { IfOk result (λ c. AreOf table.now c.congruence.now.facts) }
         ensures simplex { IfOk result (λ c. Suits c.simplex table.now) }
+        ensures came { IfOk result (λ c. (ts : List Term) → CameBy table.now ts [] c.simplex) }
     {
         no_atoms_fit();
         let congruence = Congruence::new(alloc, table, truths)?;

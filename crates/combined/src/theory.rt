@@ -26,9 +26,11 @@ impl Theory for Combined {
     ghost refuses = { λ c ts ls. ⟦<Congruence as Theory>⟧.refuses c.congruence ts ls
         ⊎ ⟦<Simplex as Theory>⟧.refuses c.simplex ts ls };
 
-    ghost strains = { λ c ts s. ⟦<Simplex as Theory>⟧.strains c.simplex ts s };
+    ghost came_by = { λ c t ts es. ⟦<Simplex as Theory>⟧.came_by c.simplex t ts es };
 
-    ghost needs_more = { λ c ts. ⟦<Simplex as Theory>⟧.needs_more c.simplex ts };
+    ghost strains = { λ c t ts s. ⟦<Simplex as Theory>⟧.strains c.simplex t ts s };
+
+    ghost needs_more = { λ c t ts. ⟦<Simplex as Theory>⟧.needs_more c.simplex t ts };
 
     fn watch_term(&mut self, table: &TermTable, id: TermId) -> Result<(), Stop> {
         // Nothing can be unwatched, but simplex can go back to a mark.
@@ -80,6 +82,8 @@ impl Theory for Combined {
       of_congruence.grown-law c.congruence t u more with.0,
       of_simplex.grown-law c.simplex t u more with.1,
     ) };
+
+    ghost came_grown = { λ c t u more with ts es came. of_simplex.came_grown-law c.simplex t u more with.1 ts es came };
 
     ghost exact = { λ c ts ls agree refused. ⊎_elim (of_congruence.exact-law c.congruence ts ls agree.0)
         (of_simplex.exact-law c.simplex ts ls agree.1) refused };

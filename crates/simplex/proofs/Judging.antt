@@ -6,11 +6,14 @@ use Rattle.spec_sorts.specs.Terms.{Term}
 use Rattle.spec_simplex.specs.Constraints.{constraint_of, HaveForms}
 use Rattle.spec_simplex.specs.Points.{IsFeasible}
 use Rattle.spec_derivations.specs.Lemmas.{IsLemma}
+use Rattle.spec_causes.specs.Bounds.{AreBounds}
+use Rattle.spec_causes.specs.Causes.{StrainsAt, checking, NeedsMore}
 use Rattle.ratio128.specs.Meant.{overflow}
 use Rattle.ratio128.specs.declared.wide.Wide.{Wide}
 use Rattle.term_core.specs.declared.ids.Lit.{Lit}
 use Rattle.term_core.specs.Tables.{TableView, positive_literal, IsIn, AreDifferent, Extends}
 use Rattle.sat_budget.specs.Budgets.{BudgetView, StopsBy, AreSpent}
+use Rattle.sat_budget.specs.declared.limits.Strain.{Strain}
 use Rattle.sat_budget.specs.declared.limits.Stop.{Stop}
 use Rattle.sat_budget.specs.declared.limits.Stop.TheVariants.{Strained, Pivots}
 use Rattle.sat_budget.specs.declared.limits.Stop.TheVariants as stops
@@ -29,7 +32,7 @@ use Rattle.spec_strains.specs.Runs.{Stopped, settling, exchanging}
 use Rattle.simplex_check.specs.declared.check.Outcome.{Outcome}
 use Rattle.simplex_check.specs.declared.check.Outcome.TheVariants.{Fine, Crossed, Conflict}
 use Rattle.simplex_explain.specs.declared.weighted.Weighted.{Weighted}
-use Rattle.simplex_explain.specs.Reasons.{Refutes}
+use Rattle.simplex_explain.specs.Reasons.{AreReasons, AreHeld, Refutes}
 use Rattle.simplex_reasons.specs.Reasons.{AreOfHeld}
 use Rattle.simplex_reasons.proofs.Holding.{ran_settled}
 use Rattle.simplex_held.specs.Stated.{AreBoundsOf, IsKnownIn}
@@ -44,7 +47,8 @@ use Rattle.simplex_atoms.proofs.Fitting.{right_after}
 use Rattle.simplex.specs.Views.{SimplexView, Fits, IsOf}
 use Rattle.simplex_explain.specs.Steps.{derived}
 use Rattle.term_core.proofs.TermsExtend.{Extends-self, term_at-kept}
-use Rattle.simplex.specs.Checks.{KeepsBounds, Found, Answers, AreRefuted, StrainsSimplex, checking, IsStrainOf, NeedsMore}
+use Rattle.simplex.specs.Checks.{KeepsBounds, Found, Answers}
+use Rattle.simplex.specs.Coming.{standing_of, IsStrainAt}
 
 -- what a check says that something is wrong with is so
 pub found : (v : SimplexView) (b : BoardView) (old new : BudgetView) (o : Outcome) → (o ≡ Fine → ⊥) → Ends (ranges_in v.bounds.held) b v.board old new (Ok o) → Found v o
@@ -66,11 +70,12 @@ spent ranges b c old new (Err (Strained s)) e = stopped_more ranges (state_of b)
 spent ranges b c old new (Err stops.Memory) (inl ran) = (ran.made, ran.kept)
 spent ranges b c old new (Err stops.Memory) (inr s) = stopped_more ranges (state_of b) (state_of c) old.exchanges new.exchanges s
 
--- its stop is one of simplex
-pub stopped : (ts : List Term) (v : SimplexView) (b : BoardView) (old new : BudgetView) (stop : Stop) → Ends (ranges_in v.bounds.held) b v.board old new (Err stop) → StopsBy (IsStrainOf ts v) (AreSpent (NeedsMore v) new) stop
-stopped ts v b old new (Strained s) e = (checking e.1.0, e.1.1)
-stopped ts v b old new (Pivots n) e = e.1
-stopped ts v b old new stops.Memory e = tt
+-- its stop is one of simplex where it stands
+pub stopped : (t : TableView) (ts : List Term) (v : SimplexView) (b : BoardView) (old new : BudgetView) (stop : Stop) → AreBounds ts (standing_of t v) (ranges_in v.bounds.held)
+    → Ends (ranges_in v.bounds.held) b v.board old new (Err stop) → StopsBy (λ s. IsStrainAt t ts s v) (AreSpent (NeedsMore ts (standing_of t v)) new) stop
+stopped t ts v b old new (Strained s) bounds e = (checking (ranges_in v.bounds.held) bounds e.1.0, e.1.1)
+stopped t ts v b old new (Pivots n) bounds e = (record { ranges = ranges_in v.bounds.held; bounds = bounds; wants = e.1.0 }, e.1.1, e.1.2)
+stopped t ts v b old new stops.Memory bounds e = tt
 
 -- the stop of an overflow, of which P holds
 pub strained_by : (P : Overflow → Type 0) (v : SimplexView) (w : Wide) (stop : Stop) → P (overflow w) → StopsBy (λ s. (s.wide ≡ w) × IsBasisOf v.board s.basis) (λ _. ⊥) stop
@@ -79,15 +84,25 @@ strained_by P v w (Strained s) h p = (subst (λ (x : Wide). P (overflow x)) (sym
 strained_by P v w (Pivots n) h p = p
 strained_by P v w stops.Memory h p = tt
 
--- it is one of simplex
-pub strained : (ts : List Term) (v : SimplexView) (w : Wide) (stop : Stop) → StrainsSimplex ts v (overflow w) → StopsBy (λ s. (s.wide ≡ w) × IsBasisOf v.board s.basis) (λ _. ⊥) stop → StopsBy (IsStrainOf ts v) (λ _. ⊥) stop
-strained ts v w stop h p = strained_by (StrainsSimplex ts v) v w stop h p
+-- it is one of simplex where it stands
+pub strained : (t : TableView) (ts : List Term) (v : SimplexView) (w : Wide) (stop : Stop) → StrainsAt ts (standing_of t v) (overflow w) → StopsBy (λ s. (s.wide ≡ w) × IsBasisOf v.board s.basis) (λ _. ⊥) stop
+    → StopsBy (λ s. IsStrainAt t ts s v) (λ _. ⊥) stop
+strained t ts v w stop h p = strained_by (StrainsAt ts (standing_of t v)) v w stop h p
 
 -- a stop that is no number of exchanges
-pub no_pivots : (ts : List Term) (v : SimplexView) (budget : BudgetView) (stop : Stop) → StopsBy (IsStrainOf ts v) (λ _. ⊥) stop → StopsBy (IsStrainOf ts v) (AreSpent (NeedsMore v) budget) stop
-no_pivots ts v budget (Strained s) p = p
-no_pivots ts v budget (Pivots n) p = absurd p
-no_pivots ts v budget stops.Memory p = tt
+pub no_pivots : (P : Strain → Type 0) (Q : ℕ → Type 0) (stop : Stop) → StopsBy P (λ _. ⊥) stop → StopsBy P Q stop
+no_pivots P Q (Strained s) p = p
+no_pivots P Q (Pivots n) p = absurd p
+no_pivots P Q stops.Memory p = tt
+
+-- Literals of watched terms are held that cannot all hold by their weights, over a table.
+pub record AreRefuted (ts : List Term) (v : SimplexView) (t : TableView) (rs : List Weighted) : Type 0 where
+  -- they are of watched terms
+  pub watched : AreReasons ts t rs
+  -- they are held
+  pub held : AreHeld v.theory.held rs
+  -- their sum is a contradiction
+  pub refutes : Refutes t rs
 
 -- reasons are held literals of watched atoms
 pub refuted : (t : TableView) (v : SimplexView) (rs : List Weighted) → Fits v → AreOver v.theory.held v.theory.watched → IsOver t v.theory → AreOfHeld v.bounds.held rs → Refutes t rs → AreRefuted (terms_watched t v.theory) v t rs

@@ -2,6 +2,9 @@
 pub mod Stated
 pub mod Fitting
 pub mod Placed
+pub mod Bounding
+pub mod Reasoning
+pub mod Coming
 pub mod Judging
 pub mod Suiting
 pub mod TermNumbers

@@ -1,26 +1,32 @@
 -- The parts of simplex fit together as a term gets its place, room for bounds is taken, and the term is watched.
-use Rattle.std.proofs.Common.{◌≡◌, ◌*◌, ◌≤◌, ℕ, List, [], ◌∷◌, ◌++◌, length, map, take, get_or, All, Contains, Some, sym, ap, ◌∙◌, subst, arith}
-use Rattle.std.proofs.lemmas.List.Elements.{All-take, All-push, Contains-get_or}
+use Rattle.std.proofs.Common.{◌≡◌, ◌*◌, ◌≤◌, ℕ, List, [], ◌∷◌, ◌++◌, length, map, take, get_or, All, Contains, Some, Result, Ok, Err, sym, ap, ◌∙◌, subst, arith}
+use Rattle.std.specs.Prelude.{IfErr, IsErrAnd}
+use Rattle.std.proofs.lemmas.List.Elements.{All-take, All-push, Contains-get_or, Contains-push}
+use Rattle.spec_text.proofs.Members.{to_image}
+use Rattle.spec_numbers.specs.Bounds.{Overflow}
+use Rattle.spec_sorts.specs.Terms.{Term}
+use Rattle.spec_causes.specs.Reached.{IsFormAmong}
+use Rattle.spec_causes.specs.Causes.{StrainsAt, forming, bounding, adding_row}
 use Rattle.term_core.specs.declared.ids.TermId.{TermId}
 use Rattle.term_core.specs.declared.ids.Lit.{Lit}
-use Rattle.term_core.specs.Tables.{TableView}
-use Rattle.proof_log.specs.Theories.{TheoryView, no_mark, with_watched}
+use Rattle.term_core.specs.Tables.{TableView, term_at}
+use Rattle.proof_log.specs.Theories.{TheoryView, no_mark, with_watched, terms_watched}
 use Rattle.held_literals.specs.Room.{AreMarks, AreOver}
 use Rattle.simplex_check.specs.Boards.{BoardView, IsBasisOf}
 use Rattle.simplex_atoms.specs.declared.place.Place.{Place}
 use Rattle.simplex_atoms.specs.Places.{place_in}
 use Rattle.simplex_atoms.specs.Limits.{limit_of}
 use Rattle.simplex_atoms.specs.Atoms.{AtomsView, AreRight, KeepBounds}
-use Rattle.simplex_atoms.specs.Watching.{StrainsAtom}
+use Rattle.simplex_atoms.specs.Watching.{StrainsForm, bound, row, StrainsAtom, in_form, in_place}
 use Rattle.ratio128.specs.declared.wide.Wide.{Wide}
 use Rattle.ratio128.specs.Meant.{overflow}
 use Rattle.sat_budget.specs.declared.limits.Stop.{Stop}
 use Rattle.sat_budget.specs.declared.limits.Stop.TheVariants.{Strained, Pivots}
 use Rattle.sat_budget.specs.declared.limits.Stop.TheVariants as stops
 use Rattle.sat_budget.specs.Budgets.{StopsBy}
-use Rattle.simplex.specs.Stops.{IsPlaceStrain}
 use Rattle.simplex_held.specs.Stated.{all_stated, IsKnownIn}
 use Rattle.simplex.specs.Views.{SimplexView, Fits, IsOf, start_of, placed_count}
+use Rattle.simplex.specs.Coming.{standing_of, IsStrainAt}
 use Rattle.simplex.proofs.Stated.{early, stated_same, count_same}
 use Rattle.simplex.proofs.Fitting.{each_mark, right_with}
 
@@ -98,9 +104,31 @@ of_watched t v w id a b e is (o, known) = record {
       (subst (All (IsKnownIn t v.atoms.placed)) (sym is) (All-push (IsKnownIn t v.atoms.placed) v.theory.watched id o.known known));
 }
 
--- the overflow's stop, with the board's basis
+-- the overflow of an atom's place is one over terms among which it is
+atom_strains : (t : TableView) (v : SimplexView) (id : TermId) (ts : List Term) → Contains ts (term_at t id) → (o : Overflow) → StrainsAtom t v.atoms.owners v.board id o → StrainsAt ts (standing_of t v) o
+atom_strains t v id ts there o (in_form c says e fails is) =
+    forming (record { atom = term_at t id; there = there; constraint = c; says = says; fault = e; fails = fails; is = is })
+atom_strains t v id ts there o (in_place c says f has w) = by (record { atom = term_at t id; there = there; constraint = c; says = says; has = has }) w
+  where
+    by : IsFormAmong ts f → StrainsForm t v.atoms.owners v.board f o → StrainsAt ts (standing_of t v) o
+    by among (bound u k one d) = bounding f among u k one d
+    by among (row gs are d) = adding_row f among gs are d
+
+-- its stop, with the board's basis
 pub stop_of : (t : TableView) (v : SimplexView) (id : TermId) (w : Wide) → StrainsAtom t v.atoms.owners v.board id (overflow w) → (stop : Stop)
-    → StopsBy (λ s. (s.wide ≡ w) × IsBasisOf v.board s.basis) (λ _. ⊥) stop → StopsBy (IsPlaceStrain t v id) (λ _. ⊥) stop
-stop_of t v id w cause (Strained s) h = (subst (λ x. StrainsAtom t v.atoms.owners v.board id (overflow x)) (sym h.0) cause, h.1)
+    → StopsBy (λ s. (s.wide ≡ w) × IsBasisOf v.board s.basis) (λ _. ⊥) stop → StopsBy (λ s. (ts : List Term) → Contains ts (term_at t id) → IsStrainAt t ts s v) (λ _. ⊥) stop
+stop_of t v id w cause (Strained s) h = λ ts there. (atom_strains t v id ts there (overflow s.wide) (subst (λ x. StrainsAtom t v.atoms.owners v.board id (overflow x)) (sym h.0) cause), h.1)
 stop_of t v id w cause (Pivots n) h = h
 stop_of t v id w cause stops.Memory h = h
+
+-- it is one over the watched terms with the new one
+stop_watching : (t : TableView) (v : SimplexView) (old : TheoryView) (id : TermId) (stop : Stop) → StopsBy (λ s. (ts : List Term) → Contains ts (term_at t id) → IsStrainAt t ts s v) (λ _. ⊥) stop
+    → StopsBy (λ s. IsStrainAt t (terms_watched t (with_watched old id)) s v) (λ _. ⊥) stop
+stop_watching t v old id (Strained s) h = h (terms_watched t (with_watched old id)) (to_image (term_at t) (old.watched ++ id ∷ []) id (Contains-push old.watched id))
+stop_watching t v old id (Pivots n) h = h
+stop_watching t v old id stops.Memory h = h
+
+pub stops_watching : (t : TableView) (v : SimplexView) (old : TheoryView) (id : TermId) (r : Result (Unit {0}) Stop) (stop : Stop) → IsErrAnd r (λ e. e ≡ stop)
+    → StopsBy (λ s. (ts : List Term) → Contains ts (term_at t id) → IsStrainAt t ts s v) (λ _. ⊥) stop → IfErr r (StopsBy (λ s. IsStrainAt t (terms_watched t (with_watched old id)) s v) (λ _. ⊥))
+stops_watching t v old id (Ok x) stop is h = tt
+stops_watching t v old id (Err e) stop is h = stop_watching t v old id e (subst (StopsBy (λ s. (ts : List Term) → Contains ts (term_at t id) → IsStrainAt t ts s v) (λ _. ⊥)) (sym is) h)

@@ -1,14 +1,16 @@
 //! The check of simplex: literals that it holds, and a step of the log where they cannot all hold.
 
-ghost use Rattle.std.specs.Prelude.{◌≡◌, Result, IfOk, IfErr, OnOk, OnErr};
+ghost use Rattle.std.specs.Prelude.{◌≡◌, List, Result, IfOk, IfErr, OnOk, OnErr};
+ghost use Rattle.spec_sorts.specs.Terms.{Term};
 ghost use Rattle.spec_simplex.specs.Constraints.{HaveForms};
 ghost use Rattle.spec_simplex.specs.Points.{IsFeasible, IsInfeasible};
+ghost use Rattle.spec_causes.specs.Causes.{NeedsMore};
 ghost use Rattle.ratio128.specs.declared.wide.Wide.{Wide};
 ghost use Rattle.sat_budget.specs.Budgets.{Spends, StopsBy, AreSpent};
 ghost use Rattle.sat_budget.specs.declared.limits.Stop.{Stop};
 ghost use Rattle.proof_log.specs.Logs.{IsLogOf};
 ghost use Rattle.proof_log.specs.Clashes.{IsClash};
-ghost use Rattle.proof_log.specs.Theories.{IsOver, terms_watched, literals_held, Derives, Checks};
+ghost use Rattle.proof_log.specs.Theories.{IsOver, terms_watched, literals_held, Derives, Checks, CameTo};
 ghost use Rattle.simplex_bounds.specs.Held.{ranges_in};
 ghost use Rattle.simplex_check.specs.Boards.{IsBasisOf};
 ghost use Rattle.simplex_check.specs.Ends.{Ends};
@@ -17,7 +19,8 @@ ghost use Rattle.simplex_explain.specs.Reasons.{Refutes};
 ghost use Rattle.simplex_explain.specs.Steps.{derived};
 ghost use Rattle.simplex_reasons.specs.Reasons.{AreOfHeld, OnWide};
 ghost use Rattle.simplex.specs.Views.{IsOf};
-ghost use Rattle.simplex.specs.Checks.{Case, KeepsBounds, Found, StrainsFound, IsStrainOf, NeedsMore, Answers};
+ghost use Rattle.simplex.specs.Checks.{Case, KeepsBounds, Found, StrainsFound, AreReasonsOf, Answers};
+ghost use Rattle.simplex.specs.Coming.{standing_of, CameBy, IsStrainAt};
 
 use crate::simplex::Simplex;
 use proof_log::{ProofLog, StepId, Verdict};
@@ -48,6 +51,7 @@ impl Simplex {
         requires of { of.simplex ≡ self.now }
         requires with { IsOf self.now of.table }
         requires found { Found self.now outcome }
+        ensures reasons { IfOk result (λ reasons. AreReasonsOf self.now outcome reasons.items) }
         ensures refutes { IfOk result (λ reasons. Refutes of.table reasons.items) }
         ensures held { IfOk result (λ reasons. AreOfHeld self.now.bounds.held reasons.items) }
         ensures wide { IfErr result (OnWide (StrainsFound self.now outcome)) }
@@ -84,7 +88,8 @@ impl Simplex {
         ensures clash { IfOk result (IsClash table.new log.new self.now.theory.held) }
         ensures infeasible { OnOk result (IsInfeasible (literals_held table.old self.now.theory)) }
         ensures same { OnErr result ((table.new ≡ table.old) × (log.new ≡ log.old)) }
-        ensures stops { IfErr result (StopsBy (IsStrainOf (terms_watched table.old self.now.theory) self.now) (λ _. ⊥)) }
+        ensures stops { IfErr result (StopsBy (λ s. IsStrainAt table.old (terms_watched table.old self.now.theory) s
+            self.now) (λ _. ⊥)) }
     {
         self.literals.are_of_watched_terms();
         let reasons = match self.reasons(outcome) {
@@ -124,8 +129,11 @@ impl Simplex {
             × IsFeasible (literals_held table.old self.old.theory) × KeepsBounds self.new)
             (IsInfeasible (literals_held table.old self.old.theory))
             self.old.theory (derived table.old log.old) result (derived table.new log.new) }
-        ensures stops { IfErr result (StopsBy (IsStrainOf (terms_watched table.old self.old.theory) self.new)
-            (AreSpent (NeedsMore self.new) budget.new)) }
+        ensures came { (ts : List Term) → CameBy table.old ts budget.old.exchanges self.old
+            → CameTo result (λ es. CameBy table.new ts es self.new) budget.new.exchanges }
+        ensures stops { IfErr result (StopsBy
+            (λ s. IsStrainAt table.new (terms_watched table.old self.old.theory) s self.new)
+            (AreSpent (NeedsMore (terms_watched table.old self.old.theory) (standing_of table.new self.new)) budget.new)) }
     {
         self.literals.are_of_watched_terms();
         table.ids_are_unique();

@@ -1,14 +1,17 @@
 //! Numbers of terms by which the literals that simplex holds hold.
 
 ghost use Rattle.std.specs.Prelude.{map, IfOk, IfErr};
+ghost use Rattle.spec_strains.specs.Points.{point_in};
+ghost use Rattle.spec_causes.specs.Causes.{StrainsValueAt};
 ghost use Rattle.ratio128.specs.Meant.{fraction, overflow};
 ghost use Rattle.term_core.specs.Tables.{AreIn, clause_at};
 ghost use Rattle.sat_budget.specs.Budgets.{StopsBy};
-ghost use Rattle.proof_log.specs.Theories.{IsOver};
+ghost use Rattle.proof_log.specs.Theories.{IsOver, terms_watched};
 ghost use Rattle.tableau.specs.Numbers.{number_of};
 ghost use Rattle.simplex.specs.Views.{IsOf};
 ghost use Rattle.simplex.specs.Checks.{KeepsBounds};
-ghost use Rattle.simplex.specs.Numbers.{IsNumberAt, HoldBy, StrainsValueAt, IsNumberStrain};
+ghost use Rattle.simplex.specs.Numbers.{IsNumberAt, HoldBy};
+ghost use Rattle.simplex.specs.Coming.{IsStrainAt};
 
 use crate::simplex::Simplex;
 use ratio128::{Ratio, Wide};
@@ -24,7 +27,7 @@ impl Simplex {
     /// `Wide` comes where the tilt of the variable's value times e, or the base plus this product, leaves 128 bits.
     fn number_at(&self, e: Ratio, id: TermId) -> Result<Ratio, Wide>
         ensures number { IfOk result (λ q. IsNumberAt (number_of e) self.now id (number_of q)) }
-        ensures wide { IfErr result (λ w. StrainsValueAt (number_of e) self.now (overflow w)) }
+        ensures wide { IfErr result (λ w. StrainsValueAt (number_of e) (point_in self.now.board.values) (overflow w)) }
     {
         match self.atoms.var(id) {
             None => Ok(zero()),
@@ -46,7 +49,8 @@ impl Simplex {
         requires terms { AreIn table.now terms.now }
         ensures ok { IfOk result (λ xs. HoldBy table.now self.now (clause_at table.now terms.now)
             (map fraction xs.items)) }
-        ensures stops { IfErr result (StopsBy (IsNumberStrain self.now) (λ _. ⊥)) }
+        ensures stops { IfErr result (StopsBy
+            (λ s. IsStrainAt table.now (terms_watched table.now self.now.theory) s self.now) (λ _. ⊥)) }
     {
         self.literals.are_of_watched_terms();
         self.board.tableau().rows_are_in_solved_form();

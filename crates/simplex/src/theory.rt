@@ -10,8 +10,11 @@ impl Theory for Simplex {
     ghost use Rattle.std.proofs.Common.{sym, subst};
     ghost use Rattle.std.proofs.lemmas.List.Elements.{All-weaker, All-contains};
     ghost use Rattle.spec_sorts.specs.Terms.{Term};
+    ghost use Rattle.spec_causes.specs.Reached.{IsReached};
+    ghost use Rattle.spec_causes.specs.Causes.{NeedsMore};
     ghost use Rattle.spec_simplex.specs.Constraints.{constraint_of, HaveForms};
     ghost use Rattle.spec_simplex.specs.Points.{IsFeasible, IsInfeasible};
+    ghost use Rattle.term_core.specs.declared.ids.Lit.{Lit};
     ghost use Rattle.term_core.specs.Tables.{IsIn, positive_literal};
     ghost use Rattle.term_core.proofs.TermsExtend.{IsIn-kept, term_at-kept};
     ghost use Rattle.simplex_atoms.specs.Places.{place_in};
@@ -19,7 +22,9 @@ impl Theory for Simplex {
     ghost use Rattle.simplex_atoms.proofs.Fitting.{right_after};
     ghost use Rattle.simplex_held.specs.Stated.{IsKnownIn};
     ghost use Rattle.simplex_held.proofs.Stating.{all_from};
-    ghost use Rattle.simplex.specs.Checks.{Suits, KeepsBounds, IsStrainOf, NeedsMore};
+    ghost use Rattle.simplex_held.proofs.Standings.{standing_kept, among_kept, atoms_kept};
+    ghost use Rattle.simplex.specs.Checks.{Suits, KeepsBounds};
+    ghost use Rattle.simplex.specs.Coming.{standing_of, CameBy, IsStrainAt};
 
     ghost view = { λ s. s.theory };
 
@@ -29,9 +34,11 @@ impl Theory for Simplex {
 
     ghost refuses = { λ s ts ls. IsInfeasible ls };
 
-    ghost strains = { λ s ts x. IsStrainOf ts s x };
+    ghost came_by = { λ s t ts es. CameBy t ts es s };
 
-    ghost needs_more = { λ s ts. NeedsMore s };
+    ghost strains = { λ s t ts x. IsStrainAt t ts x s };
+
+    ghost needs_more = { λ s t ts. NeedsMore ts (standing_of t s) };
 
     fn watch_term(&mut self, table: &TermTable, id: TermId) -> Result<(), Stop> {
         Simplex::watch_term(self, table, id)
@@ -67,6 +74,15 @@ impl Theory for Simplex {
             (All-contains (IsKnownIn t s.atoms.placed) s.theory.watched id with.is.known has));
       };
       there = All-weaker (IsIn t) (IsIn u) (λ id within. IsIn-kept t u more id within) s.theory.watched with.there;
+      held = All-weaker (λ (l : Lit). IsIn t l.term) (λ (l : Lit). IsIn u l.term)
+          (λ l within. IsIn-kept t u more l.term within) s.theory.held with.held;
+    } };
+
+    ghost came_grown = { λ s t u more with ts es came. record {
+      watched = among_kept t u more ts s.theory.watched with.there came.watched;
+      held = atoms_kept t u more ts s.theory.held with.held came.held;
+      reached = subst (IsReached ts es) (sym (standing_kept t u more s.atoms.owners s.board with.is.right.owners_in))
+          came.reached;
     } };
 
     ghost exact = { λ s ts ls fine refuted. refuted fine.1.0 fine.1.1 };

@@ -1,15 +1,16 @@
 //! Terms are watched, with places and room for their literals' bounds.
 
-ghost use Rattle.std.specs.Prelude.{◌≡◌, ◌++◌, ◌∷◌, [], Contains, OnOk, IfOk, IfErr, MatchResult};
+ghost use Rattle.std.specs.Prelude.{◌≡◌, ◌++◌, ◌∷◌, ℕ, List, [], Contains, OnOk, IfOk, IfErr, MatchResult};
+ghost use Rattle.spec_sorts.specs.Terms.{Term};
 ghost use Rattle.ratio128.specs.declared.wide.Wide.{Wide};
-ghost use Rattle.term_core.specs.Tables.{IsIn};
+ghost use Rattle.term_core.specs.Tables.{IsIn, term_at};
 ghost use Rattle.sat_budget.specs.Budgets.{StopsBy};
 ghost use Rattle.sat_budget.specs.declared.limits.Stop.TheVariants as stops;
-ghost use Rattle.proof_log.specs.Theories.{with_watched, IsTermIn};
+ghost use Rattle.proof_log.specs.Theories.{with_watched, terms_watched, IsTermIn, CameTo};
 ghost use Rattle.simplex_check.specs.Boards.{IsBasisOf};
 ghost use Rattle.simplex_held.specs.Stated.{IsKnownIn};
 ghost use Rattle.simplex.specs.Views.{IsOf, placed_count};
-ghost use Rattle.simplex.specs.Stops.{IsPlaceStrain};
+ghost use Rattle.simplex.specs.Coming.{CameBy, IsStrainAt};
 
 use crate::simplex::Simplex;
 use ratio128::Wide;
@@ -38,7 +39,10 @@ impl Simplex {
         ensures with { IsOf self.new table.now }
         ensures theory { self.new.theory ≡ self.old.theory }
         ensures known { OnOk result (IsKnownIn table.now self.new.atoms.placed id) }
-        ensures stops { IfErr result (StopsBy (IsPlaceStrain table.now self.new id) (λ _. ⊥)) }
+        ensures came { (ts : List Term) (es : List (ℕ × ℕ)) → Contains ts (term_at table.now id)
+            → CameBy table.now ts es self.old → CameTo result (λ es. CameBy table.now ts es self.new) es }
+        ensures stops { IfErr result (StopsBy (λ s. (ts : List Term) → Contains ts (term_at table.now id)
+            → IsStrainAt table.now ts s self.new) (λ _. ⊥)) }
     {
         self.literals.are_of_watched_terms();
         self.literals.marks_are_prefixes();
@@ -78,7 +82,10 @@ impl Simplex {
         ensures with { IsOf self.new table.now }
         ensures watches { MatchResult result (λ _. self.new.theory ≡ with_watched self.old.theory id)
             (λ _. self.new.theory ≡ self.old.theory) }
-        ensures stops { IfErr result (StopsBy (IsPlaceStrain table.now self.new id) (λ _. ⊥)) }
+        ensures came { (ts : List Term) (es : List (ℕ × ℕ)) → Contains ts (term_at table.now id)
+            → CameBy table.now ts es self.old → CameTo result (λ es. CameBy table.now ts es self.new) es }
+        ensures stops { IfErr result (StopsBy (λ s. IsStrainAt table.now
+            (terms_watched table.now (with_watched self.old.theory id)) s self.new) (λ _. ⊥)) }
     {
         self.place_term(table, id)?;
         let placed = self.placed_with(id)?;

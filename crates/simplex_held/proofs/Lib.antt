@@ -6,3 +6,4 @@ pub mod Owners
 pub mod Feasible
 pub mod Boards
 pub mod Checked
+pub mod Standings

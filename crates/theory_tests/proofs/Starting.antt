@@ -1,6 +1,7 @@
 -- Simplex at its start.
 use Rattle.std.proofs.Common.{◌≡◌, List, [], sym, ap, ◌∙◌, subst}
 use Rattle.std.proofs.lemmas.List.Elements.{All-nil}
+use Rattle.term_core.specs.declared.ids.Lit.{Lit}
 use Rattle.term_core.specs.Tables.{TableView, IsIn}
 use Rattle.proof_log.specs.Logs.{Logged, IsLogOf}
 use Rattle.proof_log.specs.Theories.{TheoryView}
@@ -29,6 +30,7 @@ first_suits : (t : TableView) → Suits first t
 first_suits t = record {
   is = record { right = right_first t; known = All-nil (IsKnownIn t []) };
   there = All-nil (IsIn t);
+  held = All-nil (λ (l : Lit). IsIn t l.term);
 }
 
 -- it goes with every table

@@ -1,8 +1,10 @@
 -- Both go with the table.
-use Rattle.std.proofs.Common.{subst}
+use Rattle.std.proofs.Common.{ℕ, List, subst}
+use Rattle.spec_sorts.specs.Terms.{Term}
 use Rattle.term_core.specs.Tables.{TableView}
 use Rattle.congruence_relation.specs.Relation.{AreOf}
 use Rattle.simplex.specs.Checks.{Suits}
+use Rattle.simplex.specs.Coming.{CameBy}
 use Rattle.combined.specs.Views.{CombinedView}
 use Rattle.combined.proofs.theory.CombinedTheory.assume_lit.Goals as goal
 
@@ -10,3 +12,8 @@ pub returns-clause-with : goal.returns-clause-with
 returns-clause-with c =
     subst (λ (v : CombinedView). (t : TableView) → AreOf t v.congruence.now.facts × Suits v.simplex t → AreOf t c.assume_lit.new.self.now.facts × Suits c.assume_lit-2.new.self t)
     c.self.view_is (λ t h. (c.assume_lit.ensures.with t h.0, c.assume_lit-2.ensures.with t h.1))
+
+pub returns-clause-came : goal.returns-clause-came
+returns-clause-came c =
+    subst (λ (v : CombinedView). (t : TableView) (ts : List Term) (es : List (ℕ × ℕ)) → CameBy t ts es v.simplex → CameBy t ts es c.assume_lit-2.new.self)
+    c.self.view_is c.assume_lit-2.ensures.came

@@ -2,7 +2,8 @@
 use Rattle.std.proofs.Common.{◌≡◌, List, Ok, ap, sym, ◌∙◌, subst}
 use Rattle.std.specs.Prelude.{IfErr}
 use Rattle.spec_sorts.specs.Terms.{Term}
-use Rattle.sat_budget.specs.Budgets.{StopsBy, AreSpent}
+use Rattle.term_core.specs.Tables.{TableView}
+use Rattle.sat_budget.specs.Budgets.{BudgetView, StopsBy, AreSpent}
 use Rattle.proof_log.specs.declared.theory.Verdict.{Verdict}
 use Rattle.proof_log.specs.Theories.{Derived, terms_watched, literals_held}
 use Rattle.congruence.specs.Views.{theory_of}
@@ -11,6 +12,7 @@ use Rattle.congruence.specs.contracts.theory.CongruenceTheory.TheImpl.Laws as la
 use Rattle.simplex.specs.contracts.theory.SimplexTheory.TheImpl as of_simplex
 use Rattle.simplex.specs.contracts.theory.SimplexTheory.TheImpl.Laws as laws_of_simplex
 use Rattle.simplex.specs.Checks.{Suits}
+use Rattle.simplex.specs.Coming.{CameBy}
 use Rattle.combined.specs.Views.{CombinedView}
 use Rattle.combined.proofs.Checks.{ChecksOver, grew, second_answers}
 use Rattle.combined.proofs.theory.CombinedTheory.check.Goals as goal
@@ -57,5 +59,25 @@ returns-in-Fine-clause-stops c =
     let u = c.check-in-Fine.new.self in
     let nothing = c.in_ok-step.ensures.nothing_came (ap Ok c.in-Fine.is) in
     let view : s.theory ≡ theory_of c.args.self.now.congruence = sym c.self.invariant ∙ ap (λ (x : CombinedView). theory_of x.congruence) c.self.view_is in
-    subst (λ (ts : List Term). IfErr c.check-in-Fine.result (StopsBy (of_simplex.ghosts.strains u ts) (AreSpent (of_simplex.ghosts.needs_more u ts) c.check-in-Fine.new.budget)))
+    let w = c.check-in-Fine.new.table in
+    subst (λ (ts : List Term). IfErr c.check-in-Fine.result (StopsBy (of_simplex.ghosts.strains u w ts) (AreSpent (of_simplex.ghosts.needs_more u w ts) c.check-in-Fine.new.budget)))
     (λ i. terms_watched (nothing.0 i) (view i)) c.check-in-Fine.ensures.stops
+
+pub returns-in-Clash-clause-came : goal.returns-in-Clash-clause-came
+returns-in-Clash-clause-came c ts came =
+    let t = c.args.table.now in
+    let s = c.self.inside.simplex in
+    let old : Derived = record { table = t; log = c.args.log.now } in
+    let new : Derived = record { table = c.check.new.table; log = c.check.new.log } in
+    let suits : Suits s t = subst (λ (v : CombinedView). Suits v.simplex t) (sym c.self.view_is) c.requires.with.1 in
+    let before = subst (λ (v : CombinedView). CameBy t ts c.args.budget.now.exchanges v.simplex) (sym c.self.view_is) came in
+    subst (λ (b : BudgetView). CameBy c.check.new.table ts b.exchanges s) (sym c.check.ensures.kept)
+    (laws_of_simplex.came_grown-law s t c.check.new.table (grew _ _ (theory_of c.self.inside.congruence) old new c.check.result c.check.ensures.checks) suits ts c.args.budget.now.exchanges before)
+
+pub returns-in-Fine-clause-came : goal.returns-in-Fine-clause-came
+returns-in-Fine-clause-came c ts came =
+    let s = c.self.inside.simplex in
+    let nothing = c.in_ok-step.ensures.nothing_came (ap Ok c.in-Fine.is) in
+    let before = subst (λ (v : CombinedView). CameBy c.args.table.now ts c.args.budget.now.exchanges v.simplex) (sym c.self.view_is) came in
+    c.check-in-Fine.ensures.came ts (subst (λ (b : BudgetView). CameBy c.check.new.table ts b.exchanges s) (sym c.check.ensures.kept)
+    (subst (λ (u : TableView). CameBy u ts c.args.budget.now.exchanges s) (sym nothing.0) before))

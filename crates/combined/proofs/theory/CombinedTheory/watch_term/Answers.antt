@@ -2,11 +2,14 @@
 use Rattle.std.proofs.Common.{◌≡◌, ◌++◌, ◌∷◌, [], Err, ap, sym, ◌∙◌, subst}
 use Rattle.std.proofs.lemmas.List.Elements.{All-push}
 use Rattle.term_core.specs.Tables.{IsIn}
-use Rattle.proof_log.specs.Theories.{TheoryView, with_watched, gone_back}
+use Rattle.sat_budget.specs.Budgets.{StopsBy}
+use Rattle.proof_log.specs.Theories.{TheoryView, with_watched, with_mark, gone_back, terms_watched}
 use Rattle.congruence.specs.Views.{theory_of}
 use Rattle.held_literals.specs.Room.{without_mark}
 use Rattle.simplex.specs.Checks.{Suits}
-use Rattle.simplex.proofs.Suiting.{suits_same, placed_stops}
+use Rattle.simplex.specs.Coming.{CameBy, IsStrainAt}
+use Rattle.simplex.proofs.Suiting.{suits_same}
+use Rattle.simplex.proofs.Coming.{came_same, came_marked, came_back, came_onward, stops_there}
 use Rattle.combined.specs.Views.{CombinedView}
 use Rattle.combined.proofs.Marks.{unwatched, unmarked_watched}
 use Rattle.combined.proofs.Watching.{same_stop}
@@ -15,9 +18,40 @@ use Rattle.combined.proofs.theory.CombinedTheory.watch_term.Goals as goal
 pub returns-in-Err-clause-stops : goal.returns-in-Err-clause-stops
 returns-in-Err-clause-stops c =
     let t = c.args.table.now in
-    let v = c.forget_mark.new.self in
-    placed_stops t v (theory_of c.args.self.now.congruence) c.args.id (Err c.in-Err.stop)
-    (same_stop t c.watch_term.new.self v c.args.id c.in-Err.stop c.forget_mark.ensures.atoms c.forget_mark.ensures.board c.in-Err.ensures.stops)
+    let u = theory_of c.args.self.now.congruence in
+    let view : c.mark.new.self.theory ≡ with_mark u = c.in_ok-mark.ensures.marks ∙ ap with_mark (sym c.self.invariant ∙ ap (λ (x : CombinedView). theory_of x.congruence) c.self.view_is) in
+    same_stop t (terms_watched t (with_watched u c.args.id)) c.watch_term.new.self c.forget_mark.new.self c.in-Err.stop c.forget_mark.ensures.atoms c.forget_mark.ensures.board
+    (subst (λ (x : TheoryView). StopsBy (λ e. IsStrainAt t (terms_watched t (with_watched x c.args.id)) e c.watch_term.new.self) (λ _. ⊥) c.in-Err.stop) view c.in-Err.ensures.stops)
+
+pub returns-in-Err-clause-came : goal.returns-in-Err-clause-came
+returns-in-Err-clause-came c ts es there came =
+    let t = c.args.table.now in
+    let s = c.self.inside.simplex in
+    let marked : CameBy t ts es c.mark.new.self =
+    came_marked t ts es s c.mark.new.self (subst (λ (v : CombinedView). CameBy t ts es v.simplex) (sym c.self.view_is) came) c.mark.result c.mark.ensures.atoms c.mark.ensures.board c.mark.ensures.marks in
+    let w = c.watch_term.new.self in
+    let u = c.forget_mark.new.self in
+    came_onward (Unit {0}) (λ es. CameBy t ts es w) (λ es. CameBy t ts es u) es (Err c.in-Err.stop)
+    (λ es on. came_same t ts es w u on c.forget_mark.ensures.atoms c.forget_mark.ensures.board (ap (λ (v : TheoryView). v.watched) c.forget_mark.ensures.forgets) (ap (λ (v : TheoryView). v.held) c.forget_mark.ensures.forgets))
+    (c.in-Err.ensures.came ts es there marked)
+
+pub returns-in-Err-watch_term-clause-came : goal.returns-in-Err-watch_term-clause-came
+returns-in-Err-watch_term-clause-came c ts es there came =
+    let t = c.args.table.now in
+    let s = c.self.inside.simplex in
+    let marked : CameBy t ts es c.mark.new.self =
+    came_marked t ts es s c.mark.new.self (subst (λ (v : CombinedView). CameBy t ts es v.simplex) (sym c.self.view_is) came) c.mark.result c.mark.ensures.atoms c.mark.ensures.board c.mark.ensures.marks in
+    stops_there (Unit {0}) (λ es. CameBy t ts es c.back.new.self) es c.in-Err-watch_term.stop
+    (came_back t ts es c.watch_term.new.self c.back.new.self (c.in_default.ensures.came ts es there marked) 1 c.back.ensures.atoms c.back.ensures.board c.back.ensures.back)
+
+pub returns-clause-came : goal.returns-clause-came
+returns-clause-came c ts es there came =
+    let t = c.args.table.now in
+    let s = c.self.inside.simplex in
+    let marked : CameBy t ts es c.mark.new.self =
+    came_marked t ts es s c.mark.new.self (subst (λ (v : CombinedView). CameBy t ts es v.simplex) (sym c.self.view_is) came) c.mark.result c.mark.ensures.atoms c.mark.ensures.board c.mark.ensures.marks in
+    let f = c.forget_mark-2.ensures in
+    came_same t ts es c.watch_term.new.self c.forget_mark-2.new.self (c.in_default.ensures.came ts es there marked) f.atoms f.board (ap (λ (v : TheoryView). v.watched) f.forgets) (ap (λ (v : TheoryView). v.held) f.forgets)
 
 pub returns-in-Err-watch_term-clause-with : goal.returns-in-Err-watch_term-clause-with
 returns-in-Err-watch_term-clause-with c =
@@ -27,7 +61,7 @@ returns-in-Err-watch_term-clause-with c =
     let view : c.back.new.self.theory ≡ s.theory =
     c.back.ensures.back ∙ ap (gone_back 1) (c.in_default.ensures.watches ∙ ap (λ (v : TheoryView). with_watched v c.args.id) c.in_ok-mark.ensures.marks) ∙ unwatched s.theory c.args.id in (
       c.watch_term-2.ensures.with,
-      suits_same t c.back.new.self s.theory.watched (ap (λ (v : TheoryView). v.watched) view) suits.there (c.back.ensures.with t c.watch_term.ensures.with),
+      suits_same t c.back.new.self s.theory.watched s.theory.held (ap (λ (v : TheoryView). v.watched) view) (ap (λ (v : TheoryView). v.held) view) suits.there suits.held (c.back.ensures.with t c.watch_term.ensures.with),
     )
 
 pub returns-clause-with : goal.returns-clause-with
@@ -38,6 +72,7 @@ returns-clause-with c =
     let view : c.forget_mark-2.new.self.theory ≡ with_watched s.theory c.args.id =
     c.forget_mark-2.ensures.forgets ∙ ap without_mark (c.in_default.ensures.watches ∙ ap (λ (v : TheoryView). with_watched v c.args.id) c.in_ok-mark.ensures.marks) ∙ unmarked_watched s.theory c.args.id in (
       c.watch_term-2.ensures.with,
-      suits_same t c.forget_mark-2.new.self (s.theory.watched ++ c.args.id ∷ []) (ap (λ (v : TheoryView). v.watched) view) (All-push (IsIn t) s.theory.watched c.args.id suits.there c.requires.term.0)
+      suits_same t c.forget_mark-2.new.self (s.theory.watched ++ c.args.id ∷ []) s.theory.held (ap (λ (v : TheoryView). v.watched) view) (ap (λ (v : TheoryView). v.held) view)
+          (All-push (IsIn t) s.theory.watched c.args.id suits.there c.requires.term.0) suits.held
           (c.forget_mark-2.ensures.with t c.watch_term.ensures.with),
     )

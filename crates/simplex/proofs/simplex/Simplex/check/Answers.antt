@@ -4,14 +4,19 @@ use Rattle.sat_budget.specs.Budgets.{BudgetView}
 use Rattle.std.proofs.lemmas.List.Elements.{All-weaker}
 use Rattle.spec_simplex.specs.Constraints.{HaveForms}
 use Rattle.spec_simplex.specs.Points.{IsFeasible, IsInfeasible}
-use Rattle.term_core.specs.Tables.{IsIn}
-use Rattle.sat_budget.specs.Budgets.{StopsBy, AreSpent}
+use Rattle.term_core.specs.Tables.{TableView, IsIn}
+use Rattle.spec_causes.specs.Bounds.{AreBounds}
+use Rattle.sat_budget.specs.Budgets.{StopsBy}
 use Rattle.proof_log.specs.Clashes.{IsClash}
 use Rattle.proof_log.specs.Theories.{IsOver, IsTermIn, terms_watched, literals_held, Derives}
 use Rattle.tableau.specs.Views.{IsTableau}
 use Rattle.simplex_check.specs.Ends.{Ends}
+use Rattle.simplex_check.specs.declared.check.Outcome.{Outcome}
+use Rattle.proof_log.specs.declared.theory.Verdict.{Verdict}
 use Rattle.simplex_explain.specs.Steps.{derived}
-use Rattle.simplex.specs.Checks.{KeepsBounds, IsStrainOf, NeedsMore}
+use Rattle.simplex.specs.Checks.{KeepsBounds}
+use Rattle.simplex.specs.Coming.{standing_of, CameBy, IsStrainAt}
+use Rattle.simplex.proofs.Coming.{came_over_more, watched_bounds, suits_over, fits_on, checked, stops_there, other_result}
 use Rattle.simplex_bounds.specs.Held.{ranges_in}
 use Rattle.simplex_held.proofs.Checked.{checked_meets}
 use Rattle.simplex.specs.Views.{SimplexView, IsOf}
@@ -31,10 +36,37 @@ returns-in-Err-clause-budget c =
     let more = spent (ranges_in s.bounds.held) s.board c.check.new.self old c.check.new.budget (Err c.in-Err.stop) c.in-Err.ensures.ends in
     (more.0, c.check.ensures.budget ∙ ap (λ (es : List (ℕ × ℕ)). (let b : BudgetView = record { limit = old.limit; learned = old.learned; pivots = old.pivots; exchanges = es } in b)) more.1)
 
+pub returns-in-Err-clause-came : goal.returns-in-Err-clause-came
+returns-in-Err-clause-came c ts came =
+    let s = c.self.inside in
+    let t = c.args.table.now in
+    let old : SimplexView = record { theory = s.literals; atoms = s.atoms; board = s.board; bounds = s.bounds; starts = s.starts.items } in
+    let v : SimplexView = record { theory = s.literals; atoms = s.atoms; board = c.check.new.self; bounds = s.bounds; starts = s.starts.items } in
+    let is : IsOf old t = subst (λ (v : SimplexView). IsOf v t) (sym c.self.view_is) c.requires.with in
+    let came : CameBy t ts c.args.budget.now.exchanges old = subst (CameBy t ts c.args.budget.now.exchanges) (sym c.self.view_is) came in
+    other_result Outcome Verdict (λ es. CameBy t ts es v) c.check.new.budget.exchanges c.in-Err.stop
+    (checked t ts old c.check.new.self is c.self.invariant.0 c.check.ensures.listed c.args.budget.now c.check.new.budget (Err c.in-Err.stop) came c.in-Err.ensures.ends)
+
 pub returns-in-Err-clause-stops : goal.returns-in-Err-clause-stops
 returns-in-Err-clause-stops c =
     let s = c.self.inside in
-    stopped (terms_watched c.args.table.now c.args.self.now.theory) (record { theory = s.literals; atoms = s.atoms; board = c.check.new.self; bounds = s.bounds; starts = s.starts.items }) s.board c.args.budget.now c.check.new.budget c.in-Err.stop c.in-Err.ensures.ends
+    let t = c.args.table.now in
+    let old : SimplexView = record { theory = s.literals; atoms = s.atoms; board = s.board; bounds = s.bounds; starts = s.starts.items } in
+    let v : SimplexView = record { theory = s.literals; atoms = s.atoms; board = c.check.new.self; bounds = s.bounds; starts = s.starts.items } in
+    let with : IsOf v t = board_fits t old c.check.new.self c.check.ensures.variables c.check.ensures.listed (subst (λ (v : SimplexView). IsOf v t) (sym c.self.view_is) c.requires.with) in
+    let bounds = watched_bounds t v with (fits_on old c.check.new.self c.self.invariant.0) c.are_of_watched_terms.ensures.over in
+    stopped t (terms_watched t c.args.self.now.theory) v s.board c.args.budget.now c.check.new.budget c.in-Err.stop
+    (subst (λ (w : SimplexView). AreBounds (terms_watched t w.theory) (standing_of t v) (ranges_in s.bounds.held)) c.self.view_is bounds) c.in-Err.ensures.ends
+
+pub returns-in-Fine-clause-came : goal.returns-in-Fine-clause-came
+returns-in-Fine-clause-came c ts came =
+    let s = c.self.inside in
+    let t = c.args.table.now in
+    let old : SimplexView = record { theory = s.literals; atoms = s.atoms; board = s.board; bounds = s.bounds; starts = s.starts.items } in
+    let v : SimplexView = record { theory = s.literals; atoms = s.atoms; board = c.check.new.self; bounds = s.bounds; starts = s.starts.items } in
+    let is : IsOf old t = subst (λ (v : SimplexView). IsOf v t) (sym c.self.view_is) c.requires.with in
+    let came : CameBy t ts c.args.budget.now.exchanges old = subst (CameBy t ts c.args.budget.now.exchanges) (sym c.self.view_is) came in
+    checked t ts old c.check.new.self is c.self.invariant.0 c.check.ensures.listed c.args.budget.now c.check.new.budget (Ok c.in-Ok.outcome) came c.in-Ok.ensures.ends
 
 pub returns-in-Fine-clause-with : goal.returns-in-Fine-clause-with
 returns-in-Fine-clause-with c =
@@ -95,6 +127,20 @@ returns-in-Ok-clash-clause-checks c =
     subst (λ (w : SimplexView). IsInfeasible (literals_held t w.theory) × Derives (terms_watched t w.theory) (derived t c.args.log.now) (derived c.clash.new.table c.clash.new.log) × IsClash c.clash.new.table c.clash.new.log w.theory.held c.in-Ok-clash.step) c.self.view_is
     (c.in-Ok-clash.ensures.infeasible, c.in-Ok-clash.ensures.derives, c.in-Ok-clash.ensures.clash)
 
+pub returns-in-Ok-clash-clause-came : goal.returns-in-Ok-clash-clause-came
+returns-in-Ok-clash-clause-came c ts came =
+    let s = c.self.inside in
+    let t = c.args.table.now in
+    let old : SimplexView = record { theory = s.literals; atoms = s.atoms; board = s.board; bounds = s.bounds; starts = s.starts.items } in
+    let v : SimplexView = record { theory = s.literals; atoms = s.atoms; board = c.check.new.self; bounds = s.bounds; starts = s.starts.items } in
+    let is : IsOf old t = subst (λ (v : SimplexView). IsOf v t) (sym c.self.view_is) c.requires.with in
+    let came : CameBy t ts c.args.budget.now.exchanges old = subst (CameBy t ts c.args.budget.now.exchanges) (sym c.self.view_is) came in
+    let on : CameBy t ts c.check.new.budget.exchanges v =
+    checked t ts old c.check.new.self is c.self.invariant.0 c.check.ensures.listed c.args.budget.now c.check.new.budget (Ok c.in-Ok.outcome) came c.in-Ok.ensures.ends in
+    let over = subst (λ (w : SimplexView). IsOver t w.theory) (sym c.self.view_is) c.requires.over in
+    let with : IsOf v t = board_fits t old c.check.new.self c.check.ensures.variables c.check.ensures.listed is in
+    came_over_more v t c.clash.new.table c.in-Ok-clash.ensures.derives.table (suits_over t v with over c.are_of_watched_terms.ensures.over) ts c.check.new.budget.exchanges on
+
 pub returns-in-Err-clash-clause-with : goal.returns-in-Err-clash-clause-with
 returns-in-Err-clash-clause-with c =
     let s = c.self.inside in
@@ -114,10 +160,24 @@ returns-in-Err-clash-clause-budget c =
 pub returns-in-Err-clash-clause-ends : goal.returns-in-Err-clash-clause-ends
 returns-in-Err-clash-clause-ends c = (Ok c.in-Ok.outcome, answers c.in-Ok.outcome _ c.in_default.not-Fine (stop_differs c.in-Err-clash.stop), subst (λ (v : SimplexView). Ends (ranges_in v.bounds.held) v.board c.check.new.self c.args.budget.now c.check.new.budget (Ok c.in-Ok.outcome)) c.self.view_is c.in-Ok.ensures.ends)
 
+pub returns-in-Err-clash-clause-came : goal.returns-in-Err-clash-clause-came
+returns-in-Err-clash-clause-came c ts came =
+    let s = c.self.inside in
+    let t = c.args.table.now in
+    let old : SimplexView = record { theory = s.literals; atoms = s.atoms; board = s.board; bounds = s.bounds; starts = s.starts.items } in
+    let v : SimplexView = record { theory = s.literals; atoms = s.atoms; board = c.check.new.self; bounds = s.bounds; starts = s.starts.items } in
+    let is : IsOf old t = subst (λ (v : SimplexView). IsOf v t) (sym c.self.view_is) c.requires.with in
+    let came : CameBy t ts c.args.budget.now.exchanges old = subst (CameBy t ts c.args.budget.now.exchanges) (sym c.self.view_is) came in
+    let on : CameBy t ts c.check.new.budget.exchanges v =
+    checked t ts old c.check.new.self is c.self.invariant.0 c.check.ensures.listed c.args.budget.now c.check.new.budget (Ok c.in-Ok.outcome) came c.in-Ok.ensures.ends in
+    stops_there Verdict (λ es. CameBy c.clash.new.table ts es v) c.check.new.budget.exchanges c.in-Err-clash.stop
+    (subst (λ (u : TableView). CameBy u ts c.check.new.budget.exchanges v) (sym c.in-Err-clash.ensures.same.0) on)
+
 pub returns-in-Err-clash-clause-stops : goal.returns-in-Err-clash-clause-stops
 returns-in-Err-clash-clause-stops c =
     let s = c.self.inside in
     let t = c.args.table.now in
     let v : SimplexView = record { theory = s.literals; atoms = s.atoms; board = c.check.new.self; bounds = s.bounds; starts = s.starts.items } in
-    subst (λ (w : SimplexView). StopsBy (IsStrainOf (terms_watched t w.theory) v) (AreSpent (NeedsMore v) c.check.new.budget) c.in-Err-clash.stop) c.self.view_is
-    (no_pivots (terms_watched t s.literals) v c.check.new.budget c.in-Err-clash.stop c.in-Err-clash.ensures.stops)
+    let stops = subst (λ (w : SimplexView). StopsBy (λ x. IsStrainAt t (terms_watched t w.theory) x v) (λ _. ⊥) c.in-Err-clash.stop) c.self.view_is c.in-Err-clash.ensures.stops in
+    no_pivots _ _ c.in-Err-clash.stop
+    (subst (λ (u : TableView). StopsBy (λ x. IsStrainAt u (terms_watched t c.args.self.now.theory) x v) (λ _. ⊥) c.in-Err-clash.stop) (sym c.in-Err-clash.ensures.same.0) stops)

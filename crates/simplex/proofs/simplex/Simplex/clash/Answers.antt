@@ -13,15 +13,21 @@ use Rattle.simplex_explain.specs.Steps.{IsCause, judged}
 use Rattle.simplex_reasons.specs.Reasons.{OnWide}
 use Rattle.simplex_held.proofs.Reasons.{infeasible}
 use Rattle.simplex.specs.Views.{SimplexView, Fits}
-use Rattle.simplex.specs.Checks.{Case, StrainsFound, weighing, summing, AreRefuted}
-use Rattle.simplex.proofs.Judging.{strained, refuted}
+use Rattle.simplex.specs.Checks.{Case, StrainsFound}
+use Rattle.simplex.proofs.Judging.{AreRefuted, strained, refuted}
+use Rattle.simplex.proofs.Reasoning.{found_weighs, found_adds}
+use Rattle.simplex.proofs.Coming.{watched_bounds}
 use Rattle.simplex.proofs.simplex.Simplex.clash.Goals as goal
 
 pub returns-in-Err-Wide-clause-stops : goal.returns-in-Err-Wide-clause-stops
 returns-in-Err-Wide-clause-stops g c =
     let v = c.args.self.now in
-    strained (terms_watched c.args.table.now v.theory) v c.in-Err-Wide.wide c.stop_of.result
-    (weighing c.args.outcome c.requires.1.1.1.1 (subst (OnWide (StrainsFound v c.args.outcome)) c.in-Err-Wide.field-0-is c.in-Err-Wide.ensures.wide))
+    let t = c.args.table.now in
+    let is = c.requires.1.1.0 in
+    let fits = subst Fits c.self.view_is c.self.invariant.0 in
+    let over = subst (λ (w : SimplexView). AreOver w.theory.held w.theory.watched) c.self.view_is c.are_of_watched_terms.ensures.over in
+    strained t (terms_watched t v.theory) v c.in-Err-Wide.wide c.stop_of.result
+    (found_weighs t v is fits (terms_watched t v.theory) (watched_bounds t v is fits over) c.args.outcome (overflow c.in-Err-Wide.wide) c.requires.1.1.1.1 (subst (OnWide (StrainsFound v c.args.outcome)) c.in-Err-Wide.field-0-is c.in-Err-Wide.ensures.wide))
     (subst (λ (w : Wide). StopsBy (λ s. (s.wide ≡ w) × IsBasisOf v.board s.basis) (λ _. ⊥) c.stop_of.result) c.in-Err-Wide.wide-is c.stop_of.ensures)
 
 pub explain-requires : goal.explain-requires
@@ -65,10 +71,10 @@ returns-in-Err-Wide-explain-clause-stops g c =
     let t = c.args.table.now in
     let v = c.args.self.now in
     let rs = c.in-Ok.reasons.items in
-    let is : AreRefuted (terms_watched t v.theory) v t rs = refuted t v rs (subst Fits c.self.view_is c.self.invariant.0)
-    (subst (λ (w : SimplexView). AreOver w.theory.held w.theory.watched) c.self.view_is c.are_of_watched_terms.ensures.over) c.requires.1.0 c.in-Ok.ensures.held
-    (subst (λ (x : Case). Refutes x.table rs) c.requires.0 c.in-Ok.ensures.refutes) in
     let cause = subst (IsCause (judged t c.deref.result.now)) c.in-Err-Wide-explain.field-0-is c.in-Err-Wide-explain.ensures.cause in
-    strained (terms_watched t v.theory) v c.in-Err-Wide-explain.wide c.stop_of-in-Err-Wide-explain.result
-    (summing t rs is (subst (λ (ws : List Weighted). judged t ws ≡ Err (wide (overflow c.in-Err-Wide-explain.wide))) c.deref.ensures.value cause))
+    let own = c.requires.1.1.0 in
+    let fits = subst Fits c.self.view_is c.self.invariant.0 in
+    let over = subst (λ (w : SimplexView). AreOver w.theory.held w.theory.watched) c.self.view_is c.are_of_watched_terms.ensures.over in
+    strained t (terms_watched t v.theory) v c.in-Err-Wide-explain.wide c.stop_of-in-Err-Wide-explain.result
+    (found_adds t v own fits (terms_watched t v.theory) (watched_bounds t v own fits over) c.args.outcome rs (overflow c.in-Err-Wide-explain.wide) c.requires.1.1.1.1 c.in-Ok.ensures.reasons (subst (λ (ws : List Weighted). judged t ws ≡ Err (wide (overflow c.in-Err-Wide-explain.wide))) c.deref.ensures.value cause))
     (subst (λ (w : Wide). StopsBy (λ s. (s.wide ≡ w) × IsBasisOf v.board s.basis) (λ _. ⊥) c.stop_of-in-Err-Wide-explain.result) c.in-Err-Wide-explain.wide-is c.stop_of-in-Err-Wide-explain.ensures)

@@ -9,18 +9,37 @@ use Rattle.spec_strains.specs.Points.{point_in}
 use Rattle.simplex_numbers.specs.Values.{KeepsAt}
 use Rattle.simplex_numbers.proofs.Compared.{all_hold}
 use Rattle.simplex.specs.Views.{SimplexView, Fits}
-use Rattle.simplex.specs.Numbers.{StrainsNumbers, computing}
-use Rattle.simplex.proofs.Judging.{strained_by, keeps_held}
+use Rattle.spec_strains.specs.Halves.{StrainsNumber}
+use Rattle.spec_causes.specs.Causes.{IsEpsilon, finding, evaluating}
+use Rattle.ratio128.specs.Meant.{overflow}
+use Rattle.proof_log.specs.Theories.{terms_watched}
+use Rattle.simplex.proofs.Judging.{strained, keeps_held}
+use Rattle.simplex.proofs.Coming.{watched_bounds}
 use Rattle.simplex.proofs.TermNumbers.{number_in, held_sorted, numbers_owned, number_is_in, next_number, all_numbers}
 use Rattle.simplex.proofs.simplex.Simplex.numbers.Goals as goal
+
+pub returns-in-Err-clause-stops : goal.returns-in-Err-clause-stops
+returns-in-Err-clause-stops c =
+    let v = c.args.self.now in
+    let t = c.args.table.now in
+    let fits = subst Fits c.self.view_is c.self.invariant.0 in
+    let over = subst (λ (w : SimplexView). AreOver w.theory.held w.theory.watched) c.self.view_is c.are_of_watched_terms.ensures.over in
+    let bounds = watched_bounds t v c.requires.with fits over in
+    strained t (terms_watched t v.theory) v c.in-Err.wide c.stop_of.result
+    (finding (ranges_in v.bounds.held) bounds
+    (subst (λ (v : SimplexView). StrainsNumber (ranges_in v.bounds.held) (point_in v.board.values) (overflow c.in-Err.wide)) c.self.view_is c.in-Err.ensures.wide)) c.stop_of.ensures
 
 pub returns-in-Err-number_at-clause-stops : goal.returns-in-Err-number_at-clause-stops
 returns-in-Err-number_at-clause-stops c =
     let v = c.args.self.now in
+    let t = c.args.table.now in
+    let fits = subst Fits c.self.view_is c.self.invariant.0 in
+    let over = subst (λ (w : SimplexView). AreOver w.theory.held w.theory.watched) c.self.view_is c.are_of_watched_terms.ensures.over in
+    let bounds = watched_bounds t v c.requires.with fits over in
     let e = number_of c.in-Ok.small in
-    let keeps = subst (λ (v : SimplexView). KeepsAt e (ranges_in v.bounds.held) (point_in v.board.values)) c.self.view_is c.in-Ok.ensures.keeps in
-    strained_by (StrainsNumbers v) v c.in-Err-number_at.wide c.stop_of-in-Err-number_at.result
-    (computing e (record { positive = c.in-Ok.ensures.positive; keeps = keeps }) c.in-Err-number_at.ensures.wide) c.stop_of-in-Err-number_at.ensures
+    let is = subst (λ (v : SimplexView). IsEpsilon (ranges_in v.bounds.held) (point_in v.board.values) e) c.self.view_is c.in-Ok.ensures.is in
+    strained t (terms_watched t v.theory) v c.in-Err-number_at.wide c.stop_of-in-Err-number_at.result
+    (evaluating (ranges_in v.bounds.held) bounds e is c.in-Err-number_at.ensures.wide) c.stop_of-in-Err-number_at.ensures
 
 pub terms-preserved : goal.terms-preserved
 terms-preserved c =

@@ -1,9 +1,16 @@
 -- A term may get its place.
-use Rattle.std.proofs.Common.{Contains, IfErr, refl, sym, subst, ◌∙◌}
+use Rattle.std.proofs.Common.{List, Contains, Result, Err, IfErr, refl, sym, subst, ◌∙◌}
+use Rattle.spec_sorts.specs.Terms.{Term}
+use Rattle.spec_causes.specs.Reached.{IsReached}
+use Rattle.term_core.specs.Tables.{term_at}
 use Rattle.sat_budget.specs.Budgets.{StopsBy}
 use Rattle.simplex_atoms.specs.Watching.{OnWide, StrainsAtom}
 use Rattle.simplex.specs.Views.{SimplexView}
-use Rattle.simplex.specs.Stops.{IsPlaceStrain}
+use Rattle.simplex_atoms.specs.declared.stop.AtomStop.{AtomStop}
+use Rattle.simplex_atoms.specs.Standings.{ButForMemory}
+use Rattle.proof_log.specs.Theories.{CameTo}
+use Rattle.simplex.specs.Coming.{standing_of, CameBy, IsStrainAt}
+use Rattle.simplex.proofs.Coming.{stops_there}
 use Rattle.simplex.proofs.Placed.{GivesPlace, fits_placed, count_stays, stop_of}
 use Rattle.simplex.proofs.simplex.Simplex.place_term.Goals as goal
 use Rattle.simplex.proofs.simplex.Simplex.place_term.Goals.{in-Ok, in-Err-Wide, in-Err-Memory}
@@ -33,9 +40,24 @@ returns-clause-stops c =
     let id = c.args.id in
     let w : SimplexView = record { theory = s.literals; atoms = c.watch.new.self; board = c.watch.new.board; bounds = c.watch.new.bounds; starts = s.starts.items } in
     elim c.match-watch.branch [
-      | in-Ok a ↦ subst (λ r. IfErr r (StopsBy (IsPlaceStrain t w id) (λ _. ⊥))) (sym a.result-is) tt
-      | in-Err-Wide a ↦ subst (λ r. IfErr r (StopsBy (IsPlaceStrain t w id) (λ _. ⊥))) (sym a.result-is)
+      | in-Ok a ↦ subst (λ r. IfErr r (StopsBy (λ s. (ts : List Term) → Contains ts (term_at t id) → IsStrainAt t ts s w) (λ _. ⊥))) (sym a.result-is) tt
+      | in-Err-Wide a ↦ subst (λ r. IfErr r (StopsBy (λ s. (ts : List Term) → Contains ts (term_at t id) → IsStrainAt t ts s w) (λ _. ⊥))) (sym a.result-is)
           (stop_of t w id a.in-Err-Wide.wide
           (subst (OnWide (StrainsAtom t w.atoms.owners w.board id)) a.in-Err-Wide.field-0-is a.in-Err-Wide.ensures.wide) a.strained.result a.strained.ensures)
-      | in-Err-Memory a ↦ subst (λ r. IfErr r (StopsBy (IsPlaceStrain t w id) (λ _. ⊥))) (sym a.result-is) tt
+      | in-Err-Memory a ↦ subst (λ r. IfErr r (StopsBy (λ s. (ts : List Term) → Contains ts (term_at t id) → IsStrainAt t ts s w) (λ _. ⊥))) (sym a.result-is) tt
+    ]
+
+pub returns-clause-came : goal.returns-clause-came
+returns-clause-came c ts es there came =
+    let s = c.self.inside in
+    let t = c.args.table.now in
+    let v : SimplexView = record { theory = s.literals; atoms = s.atoms; board = s.board; bounds = s.bounds; starts = s.starts.items } in
+    let w : SimplexView = record { theory = s.literals; atoms = c.watch.new.self; board = c.watch.new.board; bounds = c.watch.new.bounds; starts = s.starts.items } in
+    let old : CameBy t ts es v = subst (CameBy t ts es) (sym c.self.view_is) came in
+    let on : IsReached ts es (standing_of t w) → CameBy t ts es w = λ h. record { watched = old.watched; held = old.held; reached = h } in
+    elim c.match-watch.branch [
+      | in-Ok a ↦ subst (λ r. CameTo r (λ es. CameBy t ts es w) es) (sym a.result-is) (on (a.in-Ok.ensures.came ts es there old.reached))
+      | in-Err-Wide a ↦ subst (λ r. CameTo r (λ es. CameBy t ts es w) es) (sym a.result-is) (stops_there (Unit {0}) (λ es. CameBy t ts es w) es a.strained.result
+          (on (subst (λ (x : AtomStop). ButForMemory (IsReached ts es (standing_of t w)) (let r : Result (Unit {0}) AtomStop = Err x in r)) a.in-Err-Wide.field-0-is (a.in-Err-Wide.ensures.came ts es there old.reached))))
+      | in-Err-Memory a ↦ subst (λ r. CameTo r (λ es. CameBy t ts es w) es) (sym a.result-is) tt
     ]

@@ -1,11 +1,11 @@
 -- The bounds are those that held literals state.
-use Rattle.std.proofs.Common.{IfErr, sym, ◌∙◌, subst}
+use Rattle.std.proofs.Common.{IfErr, IfOk, sym, ◌∙◌, subst}
 use Rattle.simplex_check.specs.declared.check.Outcome.TheVariants.{Crossed, Conflict}
 use Rattle.simplex_atoms.specs.Atoms.{AreRight}
 use Rattle.simplex_reasons.specs.Reasons.{OnWide}
 use Rattle.simplex_held.proofs.Stating.{bounds_stated}
 use Rattle.simplex.specs.Views.{SimplexView, IsOf}
-use Rattle.simplex.specs.Checks.{Found, StrainsFound}
+use Rattle.simplex.specs.Checks.{Found, StrainsFound, AreReasonsOf}
 use Rattle.simplex.proofs.simplex.Simplex.reasons.Goals as goal
 
 pub crossing_reasons-requires : goal.crossing_reasons-requires
@@ -35,3 +35,11 @@ returns-in-Crossed-clause-wide g c = subst (λ o. IfErr c.crossing_reasons.resul
 pub returns-in-Conflict-clause-wide : goal.returns-in-Conflict-clause-wide
 returns-in-Conflict-clause-wide g c = subst (λ o. IfErr c.row_reasons.result (OnWide (StrainsFound c.args.self.now o))) (sym c.in-Conflict.is)
     (subst (λ (v : SimplexView). IfErr c.row_reasons.result (OnWide (StrainsFound v (Conflict c.in-Conflict.b)))) c.self.view_is c.row_reasons.ensures.wide)
+
+pub returns-in-Crossed-clause-reasons : goal.returns-in-Crossed-clause-reasons
+returns-in-Crossed-clause-reasons g c = subst (λ o. IfOk c.crossing_reasons.result (λ reasons. AreReasonsOf c.args.self.now o reasons.items)) (sym c.in-Crossed.is)
+    (subst (λ (v : SimplexView). IfOk c.crossing_reasons.result (λ reasons. AreReasonsOf v (Crossed c.in-Crossed.y) reasons.items)) c.self.view_is c.crossing_reasons.ensures.reasons)
+
+pub returns-in-Conflict-clause-reasons : goal.returns-in-Conflict-clause-reasons
+returns-in-Conflict-clause-reasons g c = subst (λ o. IfOk c.row_reasons.result (λ reasons. AreReasonsOf c.args.self.now o reasons.items)) (sym c.in-Conflict.is)
+    (subst (λ (v : SimplexView). IfOk c.row_reasons.result (λ reasons. AreReasonsOf v (Conflict c.in-Conflict.b) reasons.items)) c.self.view_is c.row_reasons.ensures.reasons)

@@ -4,7 +4,9 @@ use Rattle.proof_log.specs.Theories.{TheoryView}
 use Rattle.simplex_held.specs.Stated.{IsKnownIn}
 use Rattle.simplex.specs.Views.{SimplexView, IsOf, placed_count}
 use Rattle.simplex.proofs.Fitting.{of_kept}
-use Rattle.simplex.proofs.Placed.{fits_watched, of_watched}
+use Rattle.simplex.specs.Coming.{CameBy}
+use Rattle.simplex.proofs.Placed.{fits_watched, of_watched, stops_watching}
+use Rattle.simplex.proofs.Coming.{came_watching}
 use Rattle.simplex.proofs.simplex.Simplex.watch_term.Goals as goal
 
 pub returns-in_err-watch-clause-with : goal.returns-in_err-watch-clause-with
@@ -55,3 +57,21 @@ returns-clause-with c =
     let w : SimplexView = record { theory = c.watch.new.self; atoms = s.atoms; board = s.board; bounds = c.reserve.new.self; starts = s.starts.items } in
     of_watched t v w c.args.id refl refl c.reserve.ensures.variables (ap (λ (x : TheoryView). x.watched) c.in_ok-watch.ensures)
     (subst (λ (x : SimplexView). IsOf x t × IsKnownIn t x.atoms.placed c.args.id) (sym c.self.view_is) (c.place_term.ensures.with, c.in_ok-place_term.ensures.known))
+
+pub returns-in_err-place_term-clause-stops : goal.returns-in_err-place_term-clause-stops
+returns-in_err-place_term-clause-stops c =
+    stops_watching c.args.table.now c.place_term.new.self c.args.self.now.theory c.args.id c.from_residual.result c.in_err-place_term.field-0.0 c.from_residual.ensures.1 c.in_err-place_term.ensures.stops
+
+pub returns-clause-came : goal.returns-clause-came
+returns-clause-came c ts es there came =
+    let s = c.self.inside in
+    let t = c.args.table.now in
+    let v : SimplexView = record {
+      theory = s.literals;
+      atoms = s.atoms;
+      board = s.board;
+      bounds = s.bounds;
+      starts = s.starts.items;
+    } in
+    let w : SimplexView = record { theory = c.watch.new.self; atoms = s.atoms; board = s.board; bounds = c.reserve.new.self; starts = s.starts.items } in
+    came_watching t ts es v w (subst (CameBy t ts es) (sym c.self.view_is) (c.in_ok-place_term.ensures.came ts es there came)) c.args.id there refl refl c.in_ok-watch.ensures

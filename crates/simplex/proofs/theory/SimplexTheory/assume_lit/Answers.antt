@@ -1,8 +1,10 @@
--- The watched terms are the same.
-use Rattle.std.proofs.Common.{ap}
-use Rattle.proof_log.specs.Theories.{TheoryView}
-use Rattle.simplex.proofs.Suiting.{suits_same}
+-- The watched terms are the same, and a literal more of them is held.
+use Rattle.simplex.proofs.Suiting.{suits_held}
+use Rattle.simplex.proofs.Coming.{came_holding}
 use Rattle.simplex.proofs.theory.SimplexTheory.assume_lit.Goals as goal
 
 pub returns-clause-with : goal.returns-clause-with
-returns-clause-with c = λ t s. suits_same t c.assume_lit.new.self c.args.self.now.theory.watched (ap (λ (v : TheoryView). v.watched) c.assume_lit.ensures.holds) s.there (c.assume_lit.ensures.with t s.is)
+returns-clause-with c = λ t s. suits_held t c.args.self.now c.assume_lit.new.self c.args.lit c.requires.watched c.assume_lit.ensures.holds (c.assume_lit.ensures.with t s.is) s
+
+pub returns-clause-came : goal.returns-clause-came
+returns-clause-came c = λ t ts es came. came_holding t ts es c.args.self.now c.assume_lit.new.self came c.args.lit c.requires.watched c.assume_lit.ensures.atoms c.assume_lit.ensures.board c.assume_lit.ensures.holds

@@ -1,0 +1,132 @@
+-- Reasons by the code's words are reasons of simplex where it stands, and so are their overflows.
+use Rattle.std.proofs.Common.{◌≡◌, Bool, true, not, cond, List, [], ◌∷◌, map, Option, Some, Err, refl, sym, ◌∙◌, ap, subst}
+use Rattle.std.proofs.lemmas.Simd.{map-map}
+use Rattle.spec_numbers.specs.Fractions.{Fraction}
+use Rattle.spec_numbers.specs.Bounds.{Overflow, divided}
+use Rattle.spec_sorts.specs.Terms.{Term}
+use Rattle.spec_sorts.specs.Literals.{Literal}
+use Rattle.spec_arithmetic.specs.Contradictions.{wide, given, la_generic}
+use Rattle.spec_tableaux.specs.Fields.{is_positive}
+use Rattle.spec_tableaux.specs.Rows.{Entry}
+use Rattle.spec_tableaux.specs.Numbers.{Number, numbers}
+use Rattle.spec_simplex.specs.Constraints.{Relation, below, at_most, equals, at_least, above}
+use Rattle.spec_simplex.specs.Weights.{denial}
+use Rattle.spec_strains.specs.Points.{Ranges}
+use Rattle.spec_causes.specs.Standing.{Standing}
+use Rattle.spec_causes.specs.Bounds.{bound_on, side_by, AreBounds}
+use Rattle.spec_causes.specs.Reasons.{directed, IsStop, weight_by, IsReason, AreReasons, literals_in, weights_in, crossing, sticking, StrainsReasons, weighing, adding}
+use Rattle.spec_causes.specs.Causes.{StrainsAt, explaining}
+use Rattle.ratio128.specs.Meant.{fraction}
+use Rattle.term_core.specs.declared.ids.Lit.{Lit}
+use Rattle.term_core.specs.Tables.{TableView, literal_at}
+use Rattle.tableau.specs.Numbers.{number_of}
+use Rattle.simplex_bounds.specs.declared.bounds.Bound.{Bound}
+use Rattle.simplex_bounds.specs.Deltas.{pair_of}
+use Rattle.simplex_bounds.specs.Held.{value_in, ranges_in}
+use Rattle.simplex_check.specs.declared.check.Outcome.{Outcome}
+use Rattle.simplex_check.specs.declared.check.Outcome.TheVariants.{Fine, Crossed, Conflict}
+use Rattle.simplex_atoms.specs.declared.place.Place.{Place}
+use Rattle.simplex_atoms.specs.Places.{place_in, relation_by}
+use Rattle.simplex_atoms.specs.Limits.{weight_of}
+use Rattle.simplex_atoms.specs.Limits as limits
+use Rattle.simplex_explain.specs.declared.weighted.Weighted.{Weighted}
+use Rattle.simplex_explain.specs.Reasons.{literals_meant, weights_meant}
+use Rattle.simplex_explain.specs.Steps.{judged}
+use Rattle.simplex_reasons.specs.Stops.{stop_of}
+use Rattle.simplex_reasons.specs.Reasons.{footing, AreReasonsFor}
+use Rattle.simplex_reasons.specs.Reasons as code
+use Rattle.simplex.specs.Views.{SimplexView, Fits, IsOf}
+use Rattle.simplex.specs.Checks.{Found, StrainsFound, AreReasonsOf}
+use Rattle.simplex.specs.Coming.{standing_of}
+use Rattle.simplex.proofs.Bounding.{side_same, bound_same, States, states_strongest}
+
+-- a literal with its weight, as a table means them
+abbrev pub reason_meant : TableView → Weighted → Literal × Fraction
+reason_meant t w = (literal_at t w.literal, fraction w.weight)
+
+literals_same : (t : TableView) (ws : List Weighted) → literals_in (map (reason_meant t) ws) ≡ literals_meant t ws
+literals_same t ws = map-map (λ (x : Literal × Fraction). x.0) (reason_meant t) ws
+
+weights_same : (t : TableView) (ws : List Weighted) → weights_in (map (reason_meant t) ws) ≡ weights_meant ws
+weights_same t ws = map-map (λ (x : Literal × Fraction). x.1) (reason_meant t) ws ∙ sym (map-map fraction (λ (w : Weighted). w.weight) ws)
+
+-- the weight of a literal that says this
+weight_says : (o : Option Relation) (r : Relation) (place : Place) (q : Number) → o ≡ Some r → code.weight_by o place q ≡ weight_by r (numbers.times q (numbers.inverse (number_of place.factor)))
+weight_says o r place q e = ap (λ z. code.weight_by z place q) e ∙ by r
+  where
+    by : (r : Relation) → weight_of r place q ≡ weight_by r (numbers.times q (numbers.inverse (number_of place.factor)))
+    by below = refl
+    by at_most = refl
+    by equals = refl
+    by at_least = refl
+    by above = refl
+
+module _ (t : TableView) (v : SimplexView) (is : IsOf v t) (fits : Fits v) where
+  abbrev s : Standing
+  s = standing_of t v
+
+  abbrev ranges : Ranges
+  ranges = ranges_in v.bounds.held
+
+  -- A literal whose atom has this place stops the variable of an entry, by the factor of the place.
+  abbrev Stops : Bool → Entry Number → Lit → Place → Type 0
+  Stops up e l place =
+      (x : IsStop s ranges up e (literal_at t l)) × (x.states.factor ≡ number_of place.factor) × (relation_by place.kind l.positive ≡ Some x.states.constraint.relation)
+
+  stops : (up : Bool) (e : Entry Number) (b : Bound) → stop_of v.bounds.held up e ≡ Some b → (place : Place) → place_in v.atoms.placed b.literal.term ≡ Some place
+      → Stops up e b.literal place
+  stops up e b stop place there =
+      let q = cond (is_positive numbers e.coefficient) up (not up) in
+      let states = subst (λ side. States t v is b.literal place e.variable side (pair_of b.value)) (side_same q)
+      (states_strongest t v is fits (limits.side_by q) e.variable b stop place there) in (
+        record {
+          bound = pair_of b.value;
+          there = subst (λ side. bound_on side (ranges e.variable) ≡ Some (pair_of b.value)) (side_same q) (bound_same (limits.side_by q) v.bounds.held e.variable ∙ ap value_in stop);
+          states = states.0;
+        },
+        states.1,
+        states.2,
+      )
+
+  reason_is : (up : Bool) (e : Entry Number) (w : Weighted) → code.IsReason (footing v.atoms v.bounds) up e w → IsReason s ranges up e (reason_meant t w)
+  reason_is up e w r =
+      let x = subst (λ l. Stops up e l r.place) (sym r.literal) (stops up e r.bound r.stops r.place r.there) in
+      record {
+        stop = x.0;
+        weight =
+            let relation = ap (λ (l : Lit). relation_by r.place.kind l.positive) (sym r.literal) ∙ x.2 in
+            r.weight ∙ weight_says (relation_by r.place.kind r.bound.literal.positive) x.0.states.constraint.relation r.place (directed up e.coefficient) relation
+            ∙ ap (λ k. weight_by x.0.states.constraint.relation (numbers.times (directed up e.coefficient) (numbers.inverse k))) (sym x.1);
+      }
+
+  reasons_are : (up : Bool) (es : List (Entry Number)) (ws : List Weighted) → AreReasonsFor (footing v.atoms v.bounds) up es ws → AreReasons s ranges up es (map (reason_meant t) ws)
+  reasons_are up [] [] h = tt
+  reasons_are up (e ∷ es) (w ∷ ws) h = (reason_is up e w h.0, reasons_are up es ws h.1)
+  reasons_are up [] (w ∷ ws) h = h
+  reasons_are up (e ∷ es) [] h = h
+
+  -- a weight of them
+  weight_strains : (up : Bool) (es : List (Entry Number)) (o : Overflow) → code.StrainsReasons (footing v.atoms v.bounds) up es o → StrainsReasons s ranges up es o
+  weight_strains up es o (e, has, r) =
+      let x = stops up e r.bound r.stops r.place r.there in
+      weighing e has (literal_at t r.bound.literal) x.0 (ap (λ (k : Number). divided (directed up e.coefficient).fraction k.fraction) x.1 ∙ r.quotient)
+
+  -- their sum
+  sum_strains : (up : Bool) (es : List (Entry Number)) (ws : List Weighted) (o : Overflow) → AreReasonsFor (footing v.atoms v.bounds) up es ws → judged t ws ≡ Err (wide o)
+      → StrainsReasons s ranges up es o
+  sum_strains up es ws o are e =
+      adding (map (reason_meant t) ws) (reasons_are up es ws are)
+      ((λ i. la_generic (map denial (literals_same t ws i)) (map given (weights_same t ws i))) ∙ e)
+
+  module _ (ts : List Term) (bounds : AreBounds ts s ranges) where
+    -- a weight of the reasons for what was found
+    pub found_weighs : (outcome : Outcome) (o : Overflow) → Found v outcome → StrainsFound v outcome o → StrainsAt ts s o
+    found_weighs Fine o found h = absurd found
+    found_weighs (Crossed y) o found h = explaining ranges bounds true _ (crossing y found) (weight_strains true _ o h)
+    found_weighs (Conflict b) o found h = explaining ranges bounds _ _ (sticking b found.0 found.1) (weight_strains _ _ o h)
+
+    -- their sum
+    pub found_adds : (outcome : Outcome) (ws : List Weighted) (o : Overflow) → Found v outcome → AreReasonsOf v outcome ws → judged t ws ≡ Err (wide o) → StrainsAt ts s o
+    found_adds Fine ws o found h e = absurd found
+    found_adds (Crossed y) ws o found h e = explaining ranges bounds true _ (crossing y found) (sum_strains true _ ws o h e)
+    found_adds (Conflict b) ws o found h e = explaining ranges bounds _ _ (sticking b found.0 found.1) (sum_strains _ _ ws o h e)

@@ -1,0 +1,31 @@
+-- How simplex came to stand where it does, and what it is stopped by there.
+use Rattle.std.specs.Prelude.{ℕ, List, All, Contains}
+use Rattle.spec_sorts.specs.Terms.{Term}
+use Rattle.spec_sorts.specs.Subsets.{AreAmong}
+use Rattle.spec_causes.specs.Standing.{Standing}
+use Rattle.spec_causes.specs.Reached.{IsReached}
+use Rattle.spec_causes.specs.Causes.{StrainsAt}
+use Rattle.ratio128.specs.Meant.{overflow}
+use Rattle.term_core.specs.declared.ids.Lit.{Lit}
+use Rattle.term_core.specs.Tables.{TableView, term_at}
+use Rattle.sat_budget.specs.declared.limits.Strain.{Strain}
+use Rattle.proof_log.specs.Theories.{terms_watched}
+use Rattle.simplex_atoms.specs.Standings.{standing_in, IsBasisAt}
+use Rattle.simplex.specs.Views.{SimplexView}
+
+-- its variables, rows and values, as a table means them
+abbrev pub standing_of : TableView → SimplexView → Standing
+standing_of t v = standing_in t v.atoms.owners v.board
+
+-- It came of terms by exchanges: what it watches and holds is of these terms, and so is what it stands on.
+pub record CameBy (t : TableView) (ts : List Term) (es : List (ℕ × ℕ)) (v : SimplexView) : Type 0 where
+  -- the watched terms
+  pub watched : AreAmong (terms_watched t v.theory) ts
+  -- the atoms of held literals
+  pub held : All (λ (l : Lit). Contains ts (term_at t l.term)) v.theory.held
+  -- variables, rows and values
+  pub reached : IsReached ts es (standing_of t v)
+
+-- an operation of it over terms comes to the overflow of a stop, which tells the basis and the values where it stands
+abbrev pub IsStrainAt : TableView → List Term → Strain → SimplexView → Type 0
+IsStrainAt t ts s v = StrainsAt ts (standing_of t v) (overflow s.wide) × IsBasisAt (standing_of t v) s.basis
