@@ -1,21 +1,21 @@
 -- What comes of the forms of marked terms.
-use Rattle.std.proofs.Common.{◌≡◌, ℕ, ◌+◌, ◌<◌, ◌++◌, Bool, List, [], get_or, Contains, inl, inr, sym, ap, ◌∙◌, subst, arith}
-use Rattle.std.specs.Prelude.{Option, Some, None, Ok, Err}
+use Rattle.std.proofs.Common.{◌≡◌, ℕ, ◌+◌, ◌<◌, ◌++◌, Bool, List, [], get_or, Contains, inl, inr, sym, ◌∙◌, subst, arith}
+use Rattle.std.specs.Prelude.{Option, Some, None, Ok}
 use Rattle.std.proofs.lemmas.Bool.{cases_eq}
 use Rattle.std.proofs.lemmas.List.{append-nil}
 use Rattle.spec_sorts.specs.Terms.{Term, no_term}
 use Rattle.spec_sorts.specs.Subterms.{subterms_of}
-use Rattle.spec_arithmetic.specs.Forms.{Form, Fault}
+use Rattle.spec_arithmetic.specs.Forms.{Form}
 use Rattle.spec_simplex.specs.Constraints.{Constraint, constraint_of, form_of, HasForm}
 use Rattle.spec_derivations.specs.Examples.{asserting}
 use Rattle.spec_derivations.specs.Problems.{subterms_in}
+use Rattle.spec_causes.specs.Causes.{StrainsForm}
 use Rattle.ratio128.specs.declared.wide.Wide.{Wide}
 use Rattle.ratio128.specs.Meant.{overflow}
 use Rattle.term_core.specs.declared.ids.TermId.{TermId}
-use Rattle.term_core.specs.Tables.{TableView, clause_at, term_at, positive_literal}
-use Rattle.term_clauses.specs.Marks.{IsMarked, marked, AreMarksOf}
-use Rattle.term_clauses.proofs.Marked.{marked_below, in_marked, from_marked}
-use Rattle.solve_core.specs.Stops.{IsFormOverflow}
+use Rattle.term_core.specs.Tables.{TableView, clause_at, positive_literal}
+use Rattle.term_clauses.specs.Marks.{IsMarked, AreMarksOf}
+use Rattle.term_clauses.proofs.Marked.{in_marked, from_marked}
 use Rattle.solve_core.specs.Forms.{FailsBy}
 
 -- a term that says nothing of linear arithmetic has a form, as far as it needs one
@@ -54,7 +54,7 @@ module _ (t : TableView) (roots : List TermId) (marks : List Bool) (are : AreMar
       subst (λ (w : Term). HasForm (positive_literal w)) n.2 (have n.0 n.1)
 
   -- and where the form of a marked term fails, that of a subterm does
-  pub overflow_found : (k : ℕ) → IsMarked marks k → (w : Wide) → FailsBy (get_or t.terms k no_term) w → IsFormOverflow (asserting (clause_at t roots)) (overflow w)
+  pub overflow_found : (k : ℕ) → IsMarked marks k → (w : Wide) → FailsBy (get_or t.terms k no_term) w → StrainsForm (subterms_in (asserting (clause_at t roots))) (overflow w)
   overflow_found k m w h = record {
     atom = get_or t.terms k no_term;
     there = subst (λ (ts : List Term). Contains (subterms_of ts) (get_or t.terms k no_term)) (sym whole) (are.only (get_or t.terms k no_term) (in_marked marks t.terms are.short k m));

@@ -42,6 +42,10 @@ pub lemma_more : (ts us : List Term) → AreAmong ts us → (n : ℕ) (x : Infer
 lemma_more ts us among n («assumption» t) i = absurd i
 lemma_more ts us among n (by_rule r ps arguments c) i = (i.0, λ k d lt. made_more ts us among (get_or c k d) (i.1 k d lt))
 
+-- the terms of a search are those that it speaks of
+pub spoken : (t : TableView) (x : Search) (problem : Problem) → IsSearch t problem x → AreAmong (clause_at t x.terms.items) (whole_terms problem)
+spoken t x problem s = subst (λ (p : Problem). AreAmong (clause_at t x.terms.items) (whole_terms p)) s.meant s.listed.only
+
 module _ (t u : TableView) (g : Extends t u) (declared : declared_in u ≡ declared_in t) where
   symbols : u.symbols ≡ t.symbols
   symbols = ap (λ (d : SymbolsView). d.symbols) declared
@@ -117,12 +121,9 @@ module _ (t u : TableView) (g : Extends t u) (declared : declared_in u ≡ decla
     is = ap (derivation_in u) last ∙ map-append (inference_of u) x.log more ∙ ap (λ (d : Derivation). d ++ map (inference_of u) more) same
 
     module _ (lemmas : All (λ (l : Logged). IsLemma (clause_at t x.terms.items) (length x.log) (inference_of u l)) more) (problem : Problem) (s : IsSearch t problem x) where
-      spoken : AreAmong (clause_at t x.terms.items) (whole_terms problem)
-      spoken = subst (λ (p : Problem). AreAmong (clause_at t x.terms.items) (whole_terms p)) s.meant s.listed.only
-
       lemmas_of : All (IsLemma (whole_terms problem) (length (derivation_in t x.log))) (map (inference_of u) more)
       lemmas_of = subst (λ (n : ℕ). All (IsLemma (whole_terms problem) n) (map (inference_of u) more)) (sym (length-map x.log (inference_of t)))
-          (All-map (IsLemma (whole_terms problem) (length x.log)) (inference_of u) more (λ k d lt. lemma_more (clause_at t x.terms.items) (whole_terms problem) spoken (length x.log) (inference_of u (get_or more k d)) (lemmas k d lt)))
+          (All-map (IsLemma (whole_terms problem) (length x.log)) (inference_of u) more (λ k d lt. lemma_more (clause_at t x.terms.items) (whole_terms problem) (spoken t x problem s) (length x.log) (inference_of u (get_or more k d)) (lemmas k d lt)))
 
       derived : HasDerived problem (derivation_in t x.log ++ map (inference_of u) more) (images t x.store.clauses) (images t x.budget.learned)
       derived = derived_lemmas problem (derivation_in t x.log) (images t x.store.clauses) (images t x.budget.learned) s.derived (map (inference_of u) more) (subst IsDerivation is right.right) lemmas_of
@@ -160,4 +161,5 @@ module _ (t u : TableView) (g : Extends t u) (declared : declared_in u ≡ decla
       fed = b.fed;
       search = continues_wider.search problem b.search;
       limits_are = b.limits_are;
+      unspent = b.unspent;
     }

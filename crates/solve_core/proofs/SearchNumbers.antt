@@ -1,5 +1,5 @@
 -- Numbers of terms where a search rests: what a theory of numbers may be asked, and that zeros do where no term is a number.
-use Rattle.std.proofs.Common.{◌≡◌, ◌≢◌, ℕ, zero, suc, Bool, true, false, List, [], ◌∷◌, length, get_or, map, All, Contains, refl, sym, ap, ◌∙◌, subst}
+use Rattle.std.proofs.Common.{◌≡◌, ◌≢◌, ℕ, Bool, true, false, List, [], ◌∷◌, length, get_or, map, All, Contains, refl, sym, ap, ◌∙◌, subst}
 use Rattle.std.specs.Prelude.{Option, Some, None, replicate}
 use Rattle.std.proofs.lemmas.Bool.{and_parts}
 use Rattle.std.proofs.lemmas.List.{length-map}
@@ -9,7 +9,6 @@ use Rattle.spec_numbers.specs.Fractions.{Fraction, zero_fraction}
 use Rattle.spec_numbers.proofs.Field.{zero-reduced}
 use Rattle.spec_sorts.specs.Terms.{Number, Head, Equal, Less, AtMost, Term, app, nil, cons, pair, same_sort, sort_of}
 use Rattle.spec_sorts.specs.Subsets.{arguments_of, IsClosed}
-use Rattle.spec_sorts.specs.Literals.{Literal}
 use Rattle.spec_sorts.proofs.WellSorted.{same_sort_is}
 use Rattle.spec_arithmetic.specs.Contradictions.{are_numbers}
 use Rattle.spec_simplex.specs.Constraints.{Relation, below, at_most, equals, at_least, above, Constraint, saying, where_true, constraint_by}
@@ -18,11 +17,9 @@ use Rattle.term_core.specs.declared.ids.TermId.{TermId}
 use Rattle.term_core.specs.declared.ids.Lit.{Lit}
 use Rattle.term_core.specs.Tables.{TableView, Extends, clause_at, literal_at, term_at}
 use Rattle.term_core.proofs.TermsExtend.{clause_at-kept}
-use Rattle.proof_log.specs.Theories.{TheoryView, IsTermIn, IsAtomIn, IsOver, terms_watched, literals_held}
-use Rattle.sat_trail.specs.Trails.{no_lit}
+use Rattle.proof_log.specs.Theories.{TheoryView, IsTermIn, IsAtomIn, IsOver, literals_held}
 use Rattle.solve_core.specs.declared.search.Search.{Search}
 use Rattle.solve_core.specs.Search.{IsReady}
-use Rattle.solve_core.specs.Stops.{HasNumber}
 use Rattle.solve_core.specs.Asking.{HasRested, HoldByNumbers}
 use Rattle.solve_core.proofs.SearchReady.{Ids, atom_in, all_of_atoms}
 
@@ -86,12 +83,10 @@ module _ (t : TableView) (x : Search) (v : TheoryView) (agreed : Type 0) (h : Ha
       are = e ∙ ap (λ (n : ℕ). replicate n zero_fraction) (sym (length-map ids (term_at t))) ∙ same_number zero_fraction (clause_at t ids);
     }
 
--- terms that are no numbers are none in a table that has more
-pub plain_later : (t u : TableView) → Extends t u → (x y : Search) → IsReady t x → y.terms ≡ x.terms → ((w : Term) → Contains (clause_at t x.terms.items) w → sort_of w ≢ Number) → (w : Term) → Contains (clause_at u y.terms.items) w → sort_of w ≢ Number
-plain_later t u g x y r same plain = subst (λ (is : Ids). (w : Term) → Contains (clause_at u is.items) w → sort_of w ≢ Number) (sym same)
-    (subst (λ (ts : List Term). (w : Term) → Contains ts w → sort_of w ≢ Number) (sym (clause_at-kept t u g x.terms.items (λ k d lt. (r.atoms_are.there k d lt).0))) plain)
+-- the terms of a search are the same in a table that has more
+pub same_terms : (t u : TableView) → Extends t u → (x y : Search) → IsReady t x → y.terms ≡ x.terms → clause_at u y.terms.items ≡ clause_at t x.terms.items
+same_terms t u g x y r same = ap (λ (is : Ids). clause_at u is.items) same ∙ clause_at-kept t u g x.terms.items (λ k d lt. (r.atoms_are.there k d lt).0)
 
--- so is a number one still
-pub number_later : (t u : TableView) → Extends t u → (x y : Search) → IsReady t x → y.terms ≡ x.terms → HasNumber (clause_at t x.terms.items) → HasNumber (clause_at u y.terms.items)
-number_later t u g x y r same h = subst (λ (is : Ids). HasNumber (clause_at u is.items)) (sym same)
-    (subst HasNumber (sym (clause_at-kept t u g x.terms.items (λ k d lt. (r.atoms_are.there k d lt).0))) h)
+-- so those that are no numbers are none there
+pub plain_later : (t u : TableView) → Extends t u → (x y : Search) → IsReady t x → y.terms ≡ x.terms → ((w : Term) → Contains (clause_at t x.terms.items) w → sort_of w ≢ Number) → (w : Term) → Contains (clause_at u y.terms.items) w → sort_of w ≢ Number
+plain_later t u g x y r same plain = subst (λ (ts : List Term). (w : Term) → Contains ts w → sort_of w ≢ Number) (sym (same_terms t u g x y r same)) plain

@@ -10,6 +10,8 @@ use Rattle.sat_budget.specs.declared.limits.Stop.TheVariants.{Strained, Pivots, 
 use Rattle.solve_core.specs.Asking.{OnStop}
 use Rattle.sat_budget.specs.Budgets.{BudgetView, Spends}
 use Rattle.proof_log.specs.Logs.{derivation_in}
+use Rattle.proof_log.specs.Theories.{CameTo}
+use Rattle.simplex.proofs.Coming.{other_result}
 use Rattle.solve_core.specs.declared.search.Search.{Search}
 use Rattle.solve_core.specs.Search.{images, AreAllOf, IsReady}
 use Rattle.solve_core.specs.Rounds.{HasDerived, Continues}
@@ -59,6 +61,11 @@ module _ (t : TableView) (x : Search) (b : BudgetView) (spends : Spends x.budget
 pub handed_on : {A : Type 0} (P : Stop → Type 0) (r : Result A Stop) (e : Stop) → IsErrAnd r (λ s. s ≡ e) → P e → IfErr r P
 handed_on P (Ok x) e is h = absurd is
 handed_on P (Err s) e is h = subst P (sym is) h
+
+-- so is what it came to
+pub came_handed_on : (A B : Type 0) (P : List (ℕ × ℕ) → Type 0) (es : List (ℕ × ℕ)) (r : Result B Stop) (e : Stop) → IsErrAnd r (λ s. s ≡ e) → CameTo (let q : Result A Stop = Err e in q) P es → CameTo r P es
+came_handed_on A B P es (Ok x) e is h = absurd is
+came_handed_on A B P es (Err s) e is h = subst (λ (stop : Stop). CameTo (let q : Result B Stop = Err stop in q) P es) (sym is) (other_result A B P es e h)
 
 -- what is so is so where a theory stopped
 pub on_stop : (P : Type 0) → P → (stop : Stop) → OnStop P stop

@@ -1,23 +1,24 @@
 -- That an operation which leaves the bound before a search begins justifies that nothing was found out.
-use Rattle.std.proofs.Common.{◌≡◌, ◌⊎◌, inl, inr, List, [], refl, sym, ap, subst}
+use Rattle.std.proofs.Common.{◌⊎◌, inl, inr, List, [], refl, sym, ap, subst}
 use Rattle.std.proofs.lemmas.List.Elements.{All-nil}
-use Rattle.spec_derivations.specs.Problems.{Problem, terms_of_problem}
+use Rattle.spec_derivations.specs.Problems.{Problem, terms_of_problem, subterms_in}
+use Rattle.spec_derivations.specs.Orders.{whole_terms}
 use Rattle.spec_derivations.specs.Derivations.{AssumesAmong}
 use Rattle.spec_derivations.specs.Spent.{IsLearnedFrom, IsOverAtoms}
+use Rattle.spec_causes.specs.Causes.{StrainsForm}
+use Rattle.spec_causes.specs.Checks.{IsOverflowAmong}
 use Rattle.ratio128.specs.declared.wide.Wide.{Wide}
 use Rattle.ratio128.specs.Meant.{overflow}
-use Rattle.term_core.specs.declared.ids.Lit.{Lit}
 use Rattle.term_core.specs.Tables.{TableView}
 use Rattle.sat_budget.specs.declared.limits.Limits.{Limits}
 use Rattle.sat_budget.specs.declared.limits.Strain.{Strain}
 use Rattle.sat_budget.specs.declared.limits.Reason.TheVariants.{Overflow}
 use Rattle.sat_budget.specs.Budgets.{BudgetView}
 use Rattle.proof_log.specs.Logs.{Logged, inference_of, derivation_in, IsLogOf}
-use Rattle.clausify.specs.Overflows.{IsOrderOverflow}
 use Rattle.solve_core.specs.declared.cdcl.Answer.{Answer}
 use Rattle.solve_core.specs.declared.cdcl.Answer.TheVariants.{Unknown}
 use Rattle.solve_core.specs.declared.outcome.Outcome.{Outcome}
-use Rattle.solve_core.specs.Stops.{IsFormOverflow, IsStrained, forming, ordering}
+use Rattle.solve_core.specs.Stops.{IsStrained, forming, ordering}
 use Rattle.solve_core.specs.Rounds.{HasEvidence, IsLearning}
 use Rattle.solve_core.specs.Decisions.{IsJustified, IsStrainedBy}
 
@@ -35,12 +36,12 @@ module _ (t : TableView) (p : Problem) (limits : Limits) (empty : IsLogOf t []) 
     logged = inr (refl, refl);
   }
 
-  pub strained_justified : (w : Wide) (d : Outcome) → IsStrainedBy limits w d → IsFormOverflow p (overflow w) ⊎ IsOrderOverflow p.asserted (overflow w) → IsJustified t p limits d
+  pub strained_justified : (w : Wide) (d : Outcome) → IsStrainedBy limits w d → StrainsForm (subterms_in p) (overflow w) ⊎ IsOverflowAmong (whole_terms p) (overflow w) → IsJustified t p limits d
   strained_justified w d h cause =
       let is = ap overflow h.is in
-      let shown : IsStrained t p h.strain = elim cause [
-        | inl f ↦ forming (subst (IsFormOverflow p) (sym is) f) h.basis
-        | inr o ↦ ordering (subst (IsOrderOverflow p.asserted) (sym is) o) h.basis
+      let shown : IsStrained p d.budget.exchanges h.strain = elim cause [
+        | inl f ↦ forming (subst (StrainsForm (subterms_in p)) (sym is) f) h.basis
+        | inr o ↦ ordering (subst (IsOverflowAmong (whole_terms p)) (sym is) o) h.basis
       ] in
       let none = ap (λ (b : BudgetView). b.learned) h.budget in
       record {

@@ -2,12 +2,13 @@
 use Rattle.std.specs.Prelude.{◌≡◌, ◌+◌, ◌<◌, ◌≤◌, ℕ, suc, true, List, length, map, take, get_or, All, Option, Some, None, Result, Ok, Err}
 use Rattle.spec_numbers.specs.Fractions.{Fraction, IsReduced}
 use Rattle.spec_sorts.specs.Terms.{Term}
+use Rattle.spec_sorts.specs.Subsets.{AreAmong}
 use Rattle.spec_sorts.specs.Literals.{Literal}
 use Rattle.spec_congruence.specs.Congruence.{IsFine}
 use Rattle.spec_simplex.specs.Constraints.{HaveForms}
 use Rattle.spec_simplex.specs.Points.{IsFeasible}
 use Rattle.spec_simplex.specs.Numbers.{HoldsAt}
-use Rattle.term_core.specs.Tables.{TableView}
+use Rattle.term_core.specs.Tables.{TableView, clause_at}
 use Rattle.world_io.specs.declared.bytes.NoMemory.{NoMemory}
 use Rattle.sat_budget.specs.declared.limits.Stop.{Stop}
 use Rattle.sat_budget.specs.declared.limits.Stop.TheVariants as stops
@@ -20,7 +21,9 @@ use Rattle.proof_log.specs.Clashes.{IsClash}
 use Rattle.proof_log.specs.Theories.{Mark, no_mark, TheoryView}
 use Rattle.sat_trail.specs.Trails.{TrailView}
 use Rattle.clause_store.specs.Propagating.{IsQuiet}
+use Rattle.simplex.specs.Views.{SimplexView}
 use Rattle.simplex.specs.Checks.{KeepsBounds}
+use Rattle.simplex.specs.Coming.{CameBy}
 use Rattle.combined.specs.Views.{CombinedView}
 use Rattle.solve_core.specs.declared.search.Search.{Search}
 use Rattle.solve_core.specs.declared.cdcl.End.{End}
@@ -86,6 +89,10 @@ pub record HoldByNumbers (ts : List Term) (held : List Literal) (xs : List Fract
 -- both theories agree to literals over terms, and the values keep the bounds
 abbrev pub AgreeBoth : List Term → List Literal → CombinedView → Type 0
 AgreeBoth ts ls v = (IsFine ts ls × (v.congruence.now.settled ≡ true)) × (HaveForms ls × IsFeasible ls × KeepsBounds v.simplex)
+
+-- linear arithmetic came of all terms that the search speaks of, among any others, by the exchanges that are kept
+abbrev pub HasCome : TableView → Search → SimplexView → Type 0
+HasCome t x v = (ts : List Term) → AreAmong (clause_at t x.terms.items) ts → CameBy t ts x.budget.exchanges v
 
 -- A search over a table.
 pub record State : Type 0 where

@@ -4,10 +4,10 @@ use Rattle.spec_sorts.specs.Terms.{Term}
 use Rattle.spec_arithmetic.specs.Forms.{Fault}
 use Rattle.spec_simplex.specs.Constraints.{Constraint, constraint_of, form_of, HasForm}
 use Rattle.spec_derivations.specs.Problems.{Problem, subterms_in}
+use Rattle.spec_causes.specs.Causes.{StrainsForm}
 use Rattle.ratio128.specs.declared.wide.Wide.{Wide}
 use Rattle.ratio128.specs.Meant.{overflow}
 use Rattle.term_core.specs.Tables.{positive_literal}
-use Rattle.solve_core.specs.Stops.{IsFormOverflow}
 
 -- The form of an atom fails first by this operation.
 pub record FailsBy (atom : Term) (w : Wide) : Type 0 where
@@ -27,4 +27,4 @@ FindsInForm atom (Some w) = FailsBy atom w
 -- each atom among the subterms of a problem's terms has a form; or that of one of them fails
 abbrev pub FindsOverflow : Problem → Option Wide → Type 0
 FindsOverflow p None = (u : Term) → Contains (subterms_in p) u → HasForm (positive_literal u)
-FindsOverflow p (Some w) = IsFormOverflow p (overflow w)
+FindsOverflow p (Some w) = StrainsForm (subterms_in p) (overflow w)

@@ -117,6 +117,8 @@ pub record Begins (t : TableView) (p : Problem) (limits : Limits) (x : Search) :
   pub search : IsSearch t p x
   -- the budget has the limits
   pub limits_are : HasLimits limits x.budget
+  -- no exchange was made
+  pub unspent : x.budget.exchanges ≡ []
 
 -- the clauses that a search adds to a log: those that it learned, and after them at unsat the answer's, which has no literals
 abbrev pub added_by : Answer → List (List Literal) → List (List Literal)
@@ -129,8 +131,8 @@ added_by (Unknown reason) learned = learned
 abbrev pub HasEvidence : TableView → Problem → List Logged → BudgetView → Answer → Type 0
 HasEvidence t p log budget (Sat interp) = IsModel t (terms_of_problem p) interp
 HasEvidence t p log budget (Unsat step) = (stated t log step ≡ []) × IsDerivedFrom (terms_of_problem p) (derivation_in t log) step.0
-HasEvidence t p log budget (Unknown (Overflow s)) = IsStrained t p s
-HasEvidence t p log budget (Unknown (Pivots n)) = ArePivotsSpent t p budget n
+HasEvidence t p log budget (Unknown (Overflow s)) = IsStrained p budget.exchanges s
+HasEvidence t p log budget (Unknown (Pivots n)) = ArePivotsSpent p budget n
 HasEvidence t p log budget (Unknown (Conflicts n)) = IsConflictBudgetSpent p (derivation_in t log) budget.limit n (map (map (literal_at t)) budget.learned) × IsConflict p (derivation_in t log) (map (map (literal_at t)) budget.learned)
 
 -- what came into a log: the clauses that a search begins with, and after them those that it added; nothing where an operation left the

@@ -1,6 +1,6 @@
 //! The search with its theories, from the beginning to an answer.
 
-ghost use Rattle.std.specs.Prelude.{◌≡◌, ◌≢◌, [], All, Contains, IfOk, IfErr, MatchBool};
+ghost use Rattle.std.specs.Prelude.{◌≡◌, ◌≢◌, [], List, All, Contains, IfOk, IfErr, MatchBool};
 ghost use Rattle.spec_sorts.specs.Terms.{Number, Term, sort_of};
 ghost use Rattle.spec_derivations.specs.Problems.{Problem};
 ghost use Rattle.term_core.specs.Tables.{declared_in, Extends, IsIn, clause_at, term_at};
@@ -11,10 +11,11 @@ ghost use Rattle.proof_log.specs.Theories.{IsTermIn, terms_watched, literals_hel
 ghost use Rattle.congruence_relation.specs.Relation.{AreOf};
 ghost use Rattle.congruence.specs.Views.{theory_of};
 ghost use Rattle.simplex.specs.Checks.{Suits};
+ghost use Rattle.simplex.specs.Coming.{CameBy};
 ghost use Rattle.solve_core.specs.declared.cdcl.Answer.TheVariants.{Unknown};
 ghost use Rattle.solve_core.specs.Stops.{HasNumber};
 ghost use Rattle.solve_core.specs.Rounds.{Begins, Shows};
-ghost use Rattle.solve_core.specs.Asking.{AgreeBoth, HasRested, IsAnswered, IsStoppedBy, state, Answers};
+ghost use Rattle.solve_core.specs.Asking.{AgreeBoth, HasRested, HasCome, IsAnswered, IsStoppedBy, state, Answers};
 
 use crate::cdcl::{Answer, End};
 use crate::modelling::zeros;
@@ -108,7 +109,6 @@ impl Search {
     /// Searches with both theories, where some term is a number.
     fn answer_numbers(&mut self, table: &mut TermTable) -> Result<Answer, NoMemory>
         requires begins { (p : Problem) × (limits : Limits) × Begins table.old p limits self.old }
-        requires numbers { HasNumber (clause_at table.old self.old.terms.items) }
         ensures grown { Extends table.old table.new }
         ensures declared { declared_in table.new ≡ declared_in table.old }
         ensures answered { IfOk result (IsAnswered (state table.old self.old) (state table.new self.new)) }
@@ -127,10 +127,10 @@ impl Search {
     /// `Memory` comes where memory ran out, here or in a theory. The other stops are those of linear arithmetic.
     fn search_with(&mut self, table: &mut TermTable, theory: &mut Combined) -> Result<Answer, Stop>
         requires begins { (p : Problem) × (limits : Limits) × Begins table.old p limits self.old }
-        requires numbers { HasNumber (clause_at table.old self.old.terms.items) }
         requires empty { theory_of theory.old.congruence ≡ record { held = []; watched = []; marks = [] } }
         requires congruence { AreOf table.old theory.old.congruence.now.facts }
         requires simplex { Suits theory.old.simplex table.old }
+        requires came { (ts : List Term) → CameBy table.old ts [] theory.old.simplex }
         ensures grown { Extends table.old table.new }
         ensures declared { declared_in table.new ≡ declared_in table.old }
         ensures answered { IfOk result (IsAnswered (state table.old self.old) (state table.new self.new)) }
@@ -157,9 +157,9 @@ impl Search {
         requires rested { HasRested table.now self.now (theory_of theory.now.congruence)
             (AgreeBoth (terms_watched table.now (theory_of theory.now.congruence))
             (literals_held table.now (theory_of theory.now.congruence)) theory.now) }
-        requires number { HasNumber (clause_at table.now self.now.terms.items) }
         requires congruence { AreOf table.now theory.now.congruence.now.facts }
         requires simplex { Suits theory.now.simplex table.now }
+        requires came { HasCome table.now self.now theory.now.simplex }
         ensures answered { IfOk result (Shows table.now table.now self.now self.now) }
         ensures strained { IfErr result (StopsBy (λ s. Shows table.now table.now self.now self.now
             (Unknown (Overflow s))) (λ _. ⊥)) }

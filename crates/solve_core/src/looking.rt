@@ -1,9 +1,10 @@
 //! What follows from the literals that hold, and whether something is wrong with them.
 
-ghost use Rattle.std.specs.Prelude.{◌≡◌, IfOk, IfErr};
+ghost use Rattle.std.specs.Prelude.{◌≡◌, List, IfOk, IfErr};
+ghost use Rattle.spec_sorts.specs.Terms.{Term};
 ghost use Rattle.term_core.specs.Tables.{declared_in, Extends};
 ghost use Rattle.sat_budget.specs.Budgets.{StopsBy, AreSpent};
-ghost use Rattle.proof_log.specs.Theories.{terms_watched, literals_held};
+ghost use Rattle.proof_log.specs.Theories.{terms_watched, literals_held, CameTo};
 ghost use Rattle.solve_core.specs.Search.{IsReady};
 ghost use Rattle.solve_core.specs.Asking.{IsAsked, HasStopped, OnStop, state, Looks};
 
@@ -35,8 +36,12 @@ impl Search {
         ensures with { IfOk result (λ _. T.goes_with theory.new table.new) }
         ensures looks { IfOk result (Looks (state table.old self.old) (state table.new self.new) (T.view theory.new)
             (T.agrees theory.new (terms_watched table.new (T.view theory.new)) (literals_held table.new (T.view theory.new)))) }
-        ensures stops { IfErr result (StopsBy (T.strains theory.new (terms_watched table.new (T.view theory.new)))
-            (AreSpent (T.needs_more theory.new (terms_watched table.new (T.view theory.new))) self.new.budget)) }
+        ensures came { (ts : List Term) → T.came_by theory.old table.old ts self.old.budget.exchanges
+            → CameTo result (T.came_by theory.new table.new ts) self.new.budget.exchanges }
+        ensures stops { IfErr result (StopsBy
+            (T.strains theory.new table.new (terms_watched table.new (T.view theory.new)))
+            (AreSpent (T.needs_more theory.new table.new (terms_watched table.new (T.view theory.new)))
+            self.new.budget)) }
         ensures stopped { IfErr result (OnStop (T.goes_with theory.new table.new
             × HasStopped (state table.old self.old) (state table.new self.new) (T.view theory.new))) }
     {

@@ -1,6 +1,6 @@
 //! The model where a search rests.
 
-ghost use Rattle.std.specs.Prelude.{◌≡◌, true, length, map, replicate, IfOk};
+ghost use Rattle.std.specs.Prelude.{◌≡◌, true, map, replicate, IfOk};
 ghost use Rattle.spec_congruence.specs.Congruence.{IsFine};
 ghost use Rattle.spec_tableaux.specs.Numbers.{numbers as exact};
 ghost use Rattle.ratio128.specs.Meant.{fraction};

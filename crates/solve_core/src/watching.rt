@@ -1,10 +1,11 @@
 //! What a theory watches.
 
-ghost use Rattle.std.specs.Prelude.{◌≡◌, ◌+◌, ◌<◌, [], ℕ, length, get_or, take, All, IfOk, IfErr, OnOk};
-ghost use Rattle.spec_sorts.specs.Terms.{True, False, of};
+ghost use Rattle.std.specs.Prelude.{◌≡◌, ◌+◌, ◌<◌, [], ℕ, List, length, get_or, take, All, IfOk, IfErr, OnOk};
+ghost use Rattle.spec_sorts.specs.Terms.{Term, True, False, of};
+ghost use Rattle.spec_sorts.specs.Subsets.{AreAmong};
 ghost use Rattle.term_core.specs.Tables.{declared_in, Extends, IsIn, clause_at, term_at};
 ghost use Rattle.sat_budget.specs.Budgets.{StopsBy};
-ghost use Rattle.proof_log.specs.Theories.{IsTermIn};
+ghost use Rattle.proof_log.specs.Theories.{IsTermIn, CameTo};
 ghost use Rattle.term_clauses.specs.SpokenTerms.{no_id};
 
 use congruence::Truths;
@@ -49,9 +50,11 @@ pub(crate) fn watch_all<T: Theory>(
       watched = terms.now;
       marks = (T.view theory.old).marks;
     }) }
+    ensures came { (ts : List Term) (es : List (ℕ × ℕ)) → AreAmong (clause_at table.now terms.now) ts
+        → T.came_by theory.old table.now ts es → CameTo result (T.came_by theory.new table.now ts) es }
     ensures stops { IfErr result (λ stop. (k : ℕ) × (k < length terms.now)
         × ((T.view theory.new).watched ≡ take k terms.now)
-        × StopsBy (T.strains theory.new (clause_at table.now (take (k + 1) terms.now))) (λ _. ⊥) stop) }
+        × StopsBy (T.strains theory.new table.now (clause_at table.now (take (k + 1) terms.now))) (λ _. ⊥) stop) }
 {
     'terms: for id in terms.iter() {
         theory.watch_term(table, *id)?;

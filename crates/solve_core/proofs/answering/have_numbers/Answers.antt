@@ -1,5 +1,5 @@
 -- Term by term.
-use Rattle.std.proofs.Common.{◌≡◌, ◌≢◌, ◌+◌, [], ◌∷◌, ◌++◌, take, get_or, Contains, map, sym, ap, ◌∙◌, subst}
+use Rattle.std.proofs.Common.{◌≢◌, [], ◌∷◌, take, get_or, Contains, sym, ap, ◌∙◌, subst}
 use Rattle.std.proofs.lemmas.List.{take_all, take_more, map-append}
 use Rattle.spec_text.proofs.Members.{none, each_pushed}
 use Rattle.spec_sorts.specs.Terms.{Number, Term, sort_of}

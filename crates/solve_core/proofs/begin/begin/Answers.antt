@@ -59,4 +59,5 @@ returns-clause-begins c =
       fed = refl;
       search = search_begins t u c.ids_are_unique.ensures c.args.roots.now c.requires.roots c.requires.answered log c.new-log.result c.new-log.ensures steps made.grown made.clauses made.made store stored terms atoms made.terms chosen x refl refl refl none;
       limits_are = (ap (λ b. b.limit) c.in_ok-budget.ensures, ap (λ b. b.pivots) c.in_ok-budget.ensures);
+      unspent = ap (λ b. b.exchanges) c.in_ok-budget.ensures;
     }

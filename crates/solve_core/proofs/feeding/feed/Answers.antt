@@ -15,6 +15,7 @@ places-init g c = record {
     marks = (g.T.Theory.view c.args.theory.now).marks;
   };
   goes = λ t h. h;
+  came = λ t ts es h. h;
 }
 
 pub assume_lit-requires-clause-watched : goal.assume_lit-requires-clause-watched
@@ -34,6 +35,7 @@ places-preserved g c =
     record {
       view = c.assume_lit.ensures.holds ∙ rw (c.places.invariant.view, c.literal.ensures) (ap (λ (xs : List Lit). fed (g.T.Theory.view c.args.theory.now) xs) (sym (take_more ls c.places.place no_lit lt)));
       goes = λ t h. c.assume_lit.ensures.with t (c.places.invariant.goes t h);
+      came = λ t ts es h. c.assume_lit.ensures.came t ts es (c.places.invariant.came t ts es h);
     }
 
 pub returns-clause-holds : goal.returns-clause-holds
@@ -43,3 +45,6 @@ returns-clause-holds g c =
 
 pub returns-clause-with : goal.returns-clause-with
 returns-clause-with g c = c.places.invariant.goes
+
+pub returns-clause-came : goal.returns-clause-came
+returns-clause-came g c = c.places.invariant.came

@@ -22,3 +22,6 @@ returns-clause-holds g c = ap (λ (v : TheoryView). v.held) (went_back (g.T.Theo
 pub returns-clause-watched : goal.returns-clause-watched
 returns-clause-watched g c = ap (λ (v : TheoryView). v.watched) (went_back (g.T.Theory.view c.args.theory.now) (g.T.Theory.view c.back.new.theory) c.args.trail.now c.args.level (c.level.result - c.args.level) c.requires.keeps c.requires.below (ap (λ (k : ℕ). k - c.args.level) c.level.ensures) c.back.ensures.back)
     ∙ watched_back (g.T.Theory.view c.args.theory.now) c.args.trail.now c.requires.keeps c.is_sound.ensures.leveled c.args.level c.requires.below c.back_to.new.self c.back_to.ensures
+
+pub returns-clause-came : goal.returns-clause-came
+returns-clause-came g c = c.back.ensures.came

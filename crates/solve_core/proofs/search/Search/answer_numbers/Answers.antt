@@ -1,8 +1,6 @@
 -- From the beginning to an answer, where some term is a number.
-use Rattle.std.proofs.Common.{refl}
 use Rattle.solve_core.specs.Asking.{IsAnswered, state}
 use Rattle.solve_core.proofs.SearchGrown.{continues_wider, begins_wider}
-use Rattle.solve_core.proofs.SearchNumbers.{number_later}
 use Rattle.solve_core.proofs.SearchStops.{answers_show, answered_on, stopped_on}
 use Rattle.solve_core.proofs.search.Search.answer_numbers.Goals as goal
 
@@ -16,9 +14,6 @@ search_with-requires-clause-begins c =
     let r = b.2.ready in
     let laws = c.logs_stand_in_grown_tables.ensures in
     (b.0, b.1, begins_wider t u e.grown e.declared x (laws.right t u x.log r.right e.grown) (laws.same t u x.log r.right e.grown) r b.0 b.1 b.2)
-
-pub search_with-requires-clause-numbers : goal.search_with-requires-clause-numbers
-search_with-requires-clause-numbers c = number_later c.args.table.now c.truth_values.new.table c.truth_values.ensures.grown c.args.self.now c.args.self.now c.requires.begins.2.ready refl c.requires.numbers
 
 pub returns-in-Ok-clause-answered : goal.returns-in-Ok-clause-answered
 returns-in-Ok-clause-answered c =

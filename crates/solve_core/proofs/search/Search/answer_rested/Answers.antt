@@ -4,8 +4,8 @@ use Rattle.sat_budget.specs.declared.limits.Reason.TheVariants.{Overflow}
 use Rattle.sat_budget.specs.Budgets.{StopsBy}
 use Rattle.congruence.specs.Views.{theory_of}
 use Rattle.simplex.specs.Views.{SimplexView}
-use Rattle.simplex.specs.Numbers.{IsNumberStrain}
-use Rattle.proof_log.specs.Theories.{IsOver}
+use Rattle.simplex.specs.Coming.{IsStrainAt}
+use Rattle.proof_log.specs.Theories.{IsOver, terms_watched}
 use Rattle.solve_core.specs.declared.cdcl.Answer.TheVariants.{Unknown}
 use Rattle.solve_core.specs.Rounds.{Shows}
 use Rattle.solve_core.proofs.SearchNumbers.{over_rested}
@@ -26,6 +26,6 @@ returns-in_err-numbers-clause-strained c =
     let x = c.args.self.now in
     let theory = c.args.theory.now in
     let stop = c.in_err-numbers.field-0.0 in
-    let strains = subst (λ (v : SimplexView). StopsBy (IsNumberStrain v) (λ _. ⊥) stop) c.simplex.ensures c.in_err-numbers.ensures.stops in
+    let strains = subst (λ (v : SimplexView). StopsBy (λ e. IsStrainAt t (terms_watched t v.theory) e v) (λ _. ⊥) stop) c.simplex.ensures c.in_err-numbers.ensures.stops in
     handed_on (StopsBy (λ s. Shows t t x x (Unknown (Overflow s))) (λ _. ⊥)) c.from_residual.result stop c.from_residual.ensures.1
-    (model_stops t x theory.simplex (theory_of theory.congruence) c.parts_hold_the_same.ensures c.requires.rested.terms c.requires.simplex c.requires.rested.ready.right c.requires.number stop strains)
+    (model_stops t x (theory_of theory.congruence) theory.simplex c.parts_hold_the_same.ensures c.requires.rested.terms c.requires.came c.requires.rested.ready.right stop strains)

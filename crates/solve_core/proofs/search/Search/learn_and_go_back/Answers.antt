@@ -1,5 +1,5 @@
 -- That what the search has fits together with the clause that was learned, and that the theory keeps up.
-use Rattle.std.proofs.Common.{◌≡◌, ◌<◌, ◌∙◌, ap, subst, sym, refl, arith, length, List, ◌∷◌, []}
+use Rattle.std.proofs.Common.{◌≡◌, ◌<◌, ◌∙◌, ℕ, ap, subst, sym, refl, arith, length, List, ◌∷◌, []}
 use Rattle.std.proofs.lemmas.List.{length-append}
 use Rattle.std.proofs.lemmas.List.Elements.{All-contains}
 use Rattle.spec_proofs.specs.declared.Rule.TheVariants.{Resolution}
@@ -40,6 +40,15 @@ go_back-requires-clause-keeps g c = c.requires.asked.keeps
 
 pub returns-clause-with : goal.returns-clause-with
 returns-clause-with g c = c.go_back.ensures.with c.learn.new.table (g.met.T.Theory.grown c.args.theory.now c.args.table.now c.learn.new.table c.learn.ensures.grown c.requires.with)
+
+pub returns-clause-came : goal.returns-clause-came
+returns-clause-came g c ts h =
+    let t = c.args.table.now in
+    let u = c.learn.new.table in
+    let x = c.args.self.now in
+    let noted : IsNoted c.in_ok-learned.learned.clause x.budget c.note.new.budget = subst (λ (ls : List Lit). IsNoted ls x.budget c.note.new.budget) c.as_slice.ensures c.in_ok-note.ensures in
+    subst (λ (es : List (ℕ × ℕ)). g.T.Theory.came_by c.go_back.new.theory u ts es) (sym (ap (λ (b : BudgetView). b.exchanges) noted))
+    (c.go_back.ensures.came u ts x.budget.exchanges (g.met.T.Theory.came_grown c.args.theory.now t u c.learn.ensures.grown c.requires.with ts x.budget.exchanges h))
 
 pub returns-clause-asked : goal.returns-clause-asked
 returns-clause-asked g c = record {

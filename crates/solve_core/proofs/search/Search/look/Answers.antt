@@ -8,12 +8,13 @@ use Rattle.term_core.proofs.TermsExtend.{Extends-self}
 use Rattle.sat_budget.specs.declared.limits.Stop.{Stop}
 use Rattle.sat_budget.specs.declared.limits.Strain.{Strain}
 use Rattle.sat_budget.specs.Budgets.{StopsBy, AreSpent}
+use Rattle.proof_log.specs.declared.theory.Verdict.{Verdict}
 use Rattle.proof_log.specs.Theories.{TheoryView, Derived, IsOver, terms_watched, literals_held, Checks}
 use Rattle.solve_core.proofs.SearchReasons.{clash_is}
 use Rattle.solve_core.proofs.SearchTheories.{fed}
 use Rattle.solve_core.specs.Asking.{HasStopped, OnStop, state}
 use Rattle.solve_core.proofs.SearchRounds.{propagated}
-use Rattle.solve_core.proofs.SearchSpends.{handed_on, on_stop}
+use Rattle.solve_core.proofs.SearchSpends.{handed_on, came_handed_on, on_stop}
 use Rattle.solve_core.proofs.SearchLooks.{looked_after, fed_within, front_held, watches_held, is_over, stopped_checked, looks}
 use Rattle.solve_core.proofs.search.Search.look.Goals as goal
 
@@ -92,11 +93,23 @@ pub returns-in_err-verdict-clause-grown : goal.returns-in_err-verdict-clause-gro
 returns-in_err-verdict-clause-grown g c =
     subst (λ (u : TableView). Extends c.args.table.now u) (sym (ap (λ (d : Derived). d.table) c.in_err-verdict.ensures.checks)) (Extends-self c.args.table.now)
 
+pub returns-in-Clash-clause-came : goal.returns-in-Clash-clause-came
+returns-in-Clash-clause-came g c ts h = h
+
+pub returns-clause-came : goal.returns-clause-came
+returns-clause-came g c ts h = c.in_ok-verdict.ensures.came ts (c.feed.ensures.came c.args.table.now ts c.args.self.now.budget.exchanges h)
+
+pub returns-in_err-verdict-clause-came : goal.returns-in_err-verdict-clause-came
+returns-in_err-verdict-clause-came g c ts h =
+    came_handed_on Verdict Verdict (g.T.Theory.came_by c.check.new.self c.check.new.table ts) c.check.new.budget.exchanges c.from_residual-in_err-verdict.result c.in_err-verdict.field-0.0 c.from_residual-in_err-verdict.ensures.1
+    (c.in_err-verdict.ensures.came ts (c.feed.ensures.came c.args.table.now ts c.args.self.now.budget.exchanges h))
+
 pub returns-in_err-verdict-clause-stops : goal.returns-in_err-verdict-clause-stops
 returns-in_err-verdict-clause-stops g c =
     let b = c.check.new.budget in
-    let strains : List Term → Strain → Type 0 = g.T.Theory.strains c.check.new.self in
-    let needs_more : List Term → Type 0 = g.T.Theory.needs_more c.check.new.self in
+    let w = c.check.new.table in
+    let strains : List Term → Strain → Type 0 = g.T.Theory.strains c.check.new.self w in
+    let needs_more : List Term → Type 0 = g.T.Theory.needs_more c.check.new.self w in
     let shown : TableView → TheoryView → Stop → Type 0 = λ u v stop. StopsBy (strains (terms_watched u v)) (AreSpent (needs_more (terms_watched u v)) b) stop in
     let stop = c.in_err-verdict.field-0.0 in
     handed_on (shown c.check.new.table (g.T.Theory.view c.check.new.self)) c.from_residual-in_err-verdict.result stop c.from_residual-in_err-verdict.ensures.1

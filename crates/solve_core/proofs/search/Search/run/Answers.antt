@@ -4,9 +4,11 @@ use Rattle.std.specs.Prelude.{None}
 use Rattle.std.proofs.lemmas.List.{length-append}
 use Rattle.sat_budget.specs.declared.limits.Strain.{Strain}
 use Rattle.sat_budget.specs.Budgets.{BudgetView, StopsBy, AreSpent}
+use Rattle.proof_log.specs.declared.theory.Verdict.{Verdict}
 use Rattle.proof_log.specs.Theories.{TheoryView, terms_watched}
+use Rattle.solve_core.specs.declared.cdcl.End.{End}
 use Rattle.solve_core.specs.Asking.{KeepsUp, HasStopped, OnStop, state}
-use Rattle.solve_core.proofs.SearchSpends.{handed_on, on_stop_weaker}
+use Rattle.solve_core.proofs.SearchSpends.{handed_on, came_handed_on, on_stop_weaker}
 use Rattle.solve_core.proofs.SearchLooks.{stopped_on}
 use Rattle.solve_core.proofs.SearchReady.{ready_waiting, ready_decided}
 use Rattle.term_core.proofs.TermsExtend.{Extends-trans}
@@ -20,6 +22,7 @@ rounds-init g c = record {
   ready = c.requires.ready;
   asked = c.requires.asked;
   with = c.requires.with;
+  came = λ ts h. h;
   continues = continues_same c.args.table.now c.args.self.now c.args.self.now refl refl refl refl refl;
 }
 
@@ -66,6 +69,7 @@ rounds-preserved-in-Fine g c =
         fed = l.asked.fed ∙ ap (λ (v : TheoryView). length v.held) (sym c.in_ok-mark-in-Fine.ensures.marks);
       };
       with = c.mark.ensures.with u c.in_ok-look.ensures.with;
+      came = λ ts h. c.mark.ensures.came u ts y.budget.exchanges (c.in_ok-look.ensures.came ts (c.rounds.invariant.came ts h));
       continues = continues_on c.args.table.now u u c.args.self.now y z (continues_on c.args.table.now c.rounds.table u c.args.self.now c.rounds.self y c.rounds.invariant.continues l.continues)
           (continues_same u y z refl refl refl pushed.vars refl);
     }
@@ -108,6 +112,7 @@ rounds-preserved g c =
       ready = settles.0.ready;
       asked = settles.1;
       with = c.in_ok-end-in-Clash.ensures.with;
+      came = λ ts h. c.in_ok-end-in-Clash.ensures.came ts (c.in_ok-look.ensures.came ts (c.rounds.invariant.came ts h));
       continues = continues_on t u c.settle.new.table c.args.self.now y c.settle.new.self (continues_on t c.rounds.table u c.args.self.now c.rounds.self y c.rounds.invariant.continues looks.0.continues) settles.0.continues;
     }
 
@@ -127,11 +132,22 @@ rounds-smaller g c =
 pub returns-in_err-look-clause-grown : goal.returns-in_err-look-clause-grown
 returns-in_err-look-clause-grown g c = Extends-trans c.args.table.now c.rounds.table c.look.new.table c.rounds.invariant.continues.table c.look.ensures.grown
 
+pub returns-in_default-clause-came : goal.returns-in_default-clause-came
+returns-in_default-clause-came g c ts h = c.in_ok-look.ensures.came ts (c.rounds.invariant.came ts h)
+
+pub returns-in-Some-2-clause-came : goal.returns-in-Some-2-clause-came
+returns-in-Some-2-clause-came g c ts h = c.in_ok-end-in-Clash.ensures.came ts (c.in_ok-look.ensures.came ts (c.rounds.invariant.came ts h))
+
+pub returns-in_err-look-clause-came : goal.returns-in_err-look-clause-came
+returns-in_err-look-clause-came g c ts h =
+    came_handed_on Verdict End (g.T.Theory.came_by c.look.new.theory c.look.new.table ts) c.look.new.self.budget.exchanges c.from_residual.result c.in_err-look.field-0.0 c.from_residual.ensures.1
+    (c.in_err-look.ensures.came ts (c.rounds.invariant.came ts h))
+
 pub returns-in_err-look-clause-stops : goal.returns-in_err-look-clause-stops
 returns-in_err-look-clause-stops g c =
     let watched = terms_watched c.look.new.table (g.T.Theory.view c.look.new.theory) in
-    let strains : Strain → Type 0 = g.T.Theory.strains c.look.new.theory watched in
-    let needs_more : Type 0 = g.T.Theory.needs_more c.look.new.theory watched in
+    let strains : Strain → Type 0 = g.T.Theory.strains c.look.new.theory c.look.new.table watched in
+    let needs_more : Type 0 = g.T.Theory.needs_more c.look.new.theory c.look.new.table watched in
     handed_on (StopsBy strains (AreSpent needs_more c.look.new.self.budget)) c.from_residual.result c.in_err-look.field-0.0 c.from_residual.ensures.1 c.in_err-look.ensures.stops
 
 pub returns-in_err-look-clause-stopped : goal.returns-in_err-look-clause-stopped

@@ -1,5 +1,6 @@
 -- What comes of a conflict.
-use Rattle.std.proofs.Common.{arith}
+use Rattle.std.proofs.Common.{sym, subst, arith}
+use Rattle.sat_budget.specs.Budgets.{BudgetView}
 use Rattle.term_core.proofs.TermsExtend.{Extends-self}
 use Rattle.solve_core.proofs.search.Search.settle.Goals as goal
 
@@ -14,3 +15,6 @@ returns-then-conflict_level-eq0-clause-grown g c = Extends-self c.args.table.now
 
 pub returns-clause-settles : goal.returns-clause-settles
 returns-clause-settles g c = (c.in_ok-learn_and_go_back.ensures.learned, c.in_ok-learn_and_go_back.ensures.asked, c.in_default.ensures)
+
+pub returns-then-conflict_level-eq0-clause-came : goal.returns-then-conflict_level-eq0-clause-came
+returns-then-conflict_level-eq0-clause-came g c ts h = subst (λ (b : BudgetView). g.T.Theory.came_by c.args.theory.now c.args.table.now ts b.exchanges) (sym c.refuted.ensures.budget) h
