@@ -8,7 +8,7 @@ use Rattle.spec_sorts.specs.Signatures.{Signature, symbols_in}
 use Rattle.spec_sorts.specs.Meaning.{value_under}
 use Rattle.spec_commands.specs.Stack.{Assertion, Stack, signature_of, assertions_of, terms_asserted}
 use Rattle.spec_commands.specs.Checks.{IsTrueUnder}
-use Rattle.spec_sessions.specs.Evidence.{Limits, model, spent, strained, out_of_pivots, HasNumber, Justifies}
+use Rattle.spec_sessions.specs.Evidence.{Limits, model, spent, strained, out_of_pivots, Justifies}
 use Rattle.term_core.specs.Tables.{TableView, literal_at}
 use Rattle.term_walks.specs.declared.values.Interp.{Interp}
 use Rattle.proof_log.specs.Logs.{derivation_in}
@@ -21,7 +21,7 @@ use Rattle.solve_core.specs.Rounds.{HasLimits, HasEvidence}
 use Rattle.spec_derivations.specs.Examples.{asserting}
 use Rattle.check_evidence.specs.declared.evidence.Evidence.TheVariants as found
 use Rattle.check_evidence.specs.Evidence.{limits_of, check_on, IsShown}
-use Rattle.check_evidence.proofs.Causes.{HasNumberIn, AddsNone, FormsFail, RulesFail, SimplexFails, NumbersFail, number_in, strained_number, strained_overflow}
+use Rattle.check_evidence.proofs.Causes.{AreOverflows, cause_of}
 
 -- the text has its term's value under an interpretation
 abbrev pub HasValue : Signature → Interpretation → Assertion → Type 0
@@ -62,13 +62,11 @@ module _ (limits : Limits) (t : TableView) (s : Stack) (symbols : symbols_in (si
         (is, refl, refl),
       )
 
-  -- a number among the check's terms is one that it asks about
-  asks_number : HasNumberIn (asserting asked) → HasNumber (check_on s)
-  asks_number h = record { term = h.term; there = h.there; number = h.number }
-
-  pub reason_shown : AddsNone → FormsFail → RulesFail → SimplexFails → NumbersFail → (r : Reason) → o.answer ≡ Unknown r → HasLimits (limits_of limits) o.budget → HasEvidence t (asserting asked) o.log o.budget (Unknown r) → IsShown limits t s (found.Reason r) o
-  reason_shown adds forms rules simplex numbers (reasons.Conflicts n) is l h = conflicts_shown n is l.0 h
-  reason_shown adds forms rules simplex numbers (reasons.Overflow x) is l h =
-      (strained (overflow x.wide), (strained_overflow forms rules simplex numbers t (asserting asked) x h, asks_number (strained_number adds t asked x h)), refl, (x, is, refl))
-  reason_shown adds forms rules simplex numbers (reasons.Pivots n) is l h =
-      (out_of_pivots n, (h.spent.1 ∙ l.1, asks_number (number_in adds (asserting asked) h.is.numbers)), refl, is)
+  pub reason_shown : AreOverflows → (r : Reason) → o.answer ≡ Unknown r → HasLimits (limits_of limits) o.budget → HasEvidence t (asserting asked) o.log o.budget (Unknown r) → IsShown limits t s (found.Reason r) o
+  reason_shown overflows (reasons.Conflicts n) is l h = conflicts_shown n is l.0 h
+  reason_shown overflows (reasons.Overflow x) is l h =
+      let es = o.budget.exchanges in
+      let cause = cause_of (asserting asked) es x h in
+      (strained (overflow x.wide) es, (overflows (asserting asked) es (overflow x.wide) cause, cause), refl, (x, is, refl, refl))
+  reason_shown overflows (reasons.Pivots n) is l h =
+      (out_of_pivots n o.budget.exchanges, (h.limit ∙ l.1, h.spent), refl, (is, refl))

@@ -66,8 +66,8 @@ IsEvidence t budget (found.Proof log plan) f =
     IsLogOf t log × Fits t log plan × (f ≡ proof (proof_text (lines_of t.terms (derivation_in t log) plan)))
 IsEvidence t budget (found.Reason (reasons.Conflicts n)) f =
     (d : Derivation) × (f ≡ spent n d (map (map (literal_at t)) budget.learned))
-IsEvidence t budget (found.Reason (reasons.Overflow s)) f = f ≡ strained (overflow s.wide)
-IsEvidence t budget (found.Reason (reasons.Pivots n)) f = f ≡ out_of_pivots n
+IsEvidence t budget (found.Reason (reasons.Overflow s)) f = f ≡ strained (overflow s.wide) budget.exchanges
+IsEvidence t budget (found.Reason (reasons.Pivots n)) f = f ≡ out_of_pivots n budget.exchanges
 
 -- it is evidence of something
 abbrev pub IsSomeEvidence : TableView → Evidence → Type 0
@@ -83,8 +83,9 @@ IsFoundBy t o (proof text) =
 IsFoundBy t o (spent n d learned) =
     (o.answer ≡ Unknown (reasons.Conflicts n)) × (d ≡ derivation_in t o.log)
     × (learned ≡ map (map (literal_at t)) o.budget.learned)
-IsFoundBy t o (strained x) = (s : Strain) × (o.answer ≡ Unknown (reasons.Overflow s)) × (x ≡ overflow s.wide)
-IsFoundBy t o (out_of_pivots n) = o.answer ≡ Unknown (reasons.Pivots n)
+IsFoundBy t o (strained x es) =
+    (s : Strain) × (o.answer ≡ Unknown (reasons.Overflow s)) × (x ≡ overflow s.wide) × (es ≡ o.budget.exchanges)
+IsFoundBy t o (out_of_pivots n es) = (o.answer ≡ Unknown (reasons.Pivots n)) × (es ≡ o.budget.exchanges)
 
 -- it shows what it should of a stack, within limits, and is that of an outcome
 abbrev pub IsShown : Limits → TableView → Stack → Evidence → Outcome → Type 0

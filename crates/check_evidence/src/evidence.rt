@@ -1,6 +1,6 @@
 //! What a check finds, with what shows it.
 
-ghost use Rattle.std.specs.Prelude.{◌≡◌, ℕ, true, List, IfOk, OnErr};
+ghost use Rattle.std.specs.Prelude.{◌≡◌, true, List, IfOk, OnErr};
 ghost use Rattle.spec_sorts.specs.Terms.{Term};
 ghost use Rattle.spec_sorts.specs.Signatures.{symbols_in};
 ghost use Rattle.spec_commands.specs.Stack.{Stack as ScriptStack, signature_of};
@@ -21,16 +21,14 @@ use assertion_stack::laws::stacks_stand_in_grown_tables;
 use proof_log::ProofLog;
 use sat_budget::{Budget, Limits, Reason};
 use solve_core::{Answer, Outcome, decide};
+use spec_causes::laws::causes_are_overflows;
 use spec_commands::{assertions_are_formulas, commands_keep_stacks};
 use spec_derivations::search_laws::whole_clauses_are_over_whole_terms;
-use spec_overflows::laws::{forms_fail_by_overflows, rules_fail_by_overflows};
 use spec_proof_texts::laws::well_sorted_terms_are_printable;
 use spec_readable::laws::{
     assertions_are_readable, linear_terms_with_decimals_are_readable, search_makes_readable_terms,
 };
-use spec_valuations::laws::searches_add_no_numbers;
 use std::alloc::Global;
-use strain_overflows::laws::{numbers_strain_by_overflows, simplex_strains_by_overflows};
 use term_core::TermTable;
 use term_walks::Interp;
 use world_io::NoMemory;
@@ -104,11 +102,7 @@ fn evidence_of(
     assertions_are_readable();
     search_makes_readable_terms();
     linear_terms_with_decimals_are_readable();
-    searches_add_no_numbers();
-    forms_fail_by_overflows();
-    rules_fail_by_overflows();
-    simplex_strains_by_overflows();
-    numbers_strain_by_overflows();
+    causes_are_overflows();
     whole_clauses_are_over_whole_terms();
     well_sorted_terms_are_printable();
     logs_are_over_their_terms();

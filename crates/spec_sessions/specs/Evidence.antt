@@ -1,16 +1,16 @@
 -- What shows that the answer of a check is right. Source: SMT-LIB 2.6, section 4.2.5; what counts as shown is own.
-use Rattle.std.specs.Prelude.{◌≡◌, ℕ, List, [], All, Contains}
+use Rattle.std.specs.Prelude.{◌≡◌, ℕ, List, [], All}
 use Rattle.spec_numbers.specs.Bounds.{Overflow}
 use Rattle.spec_overflows.specs.Overflows.{IsOverflow}
-use Rattle.spec_sorts.specs.Terms.{Number, Term, sort_of}
 use Rattle.spec_sorts.specs.Values.{Interpretation, Interprets}
 use Rattle.spec_sorts.specs.Signatures.{symbols_in}
 use Rattle.spec_sorts.specs.Literals.{Literal}
 use Rattle.spec_commands.specs.Stack.{signature_of}
 use Rattle.spec_commands.specs.Checks.{Check, asked, IsTrueUnder}
-use Rattle.spec_derivations.specs.Problems.{Problem, problem_of, subterms_in}
+use Rattle.spec_derivations.specs.Problems.{Problem, problem_of}
 use Rattle.spec_derivations.specs.Derivations.{Derivation}
 use Rattle.spec_derivations.specs.Spent.{IsConflictBudgetSpent, IsConflict}
+use Rattle.spec_causes.specs.Checks.{IsStrained, ArePivotsSpent}
 use Rattle.spec_sessions.specs.Refutations.{IsProofOf}
 
 -- What a check may spend, and how much a script may name.
@@ -30,10 +30,10 @@ pub data Found : Type 0 where
   proof : List ℕ → Found
   -- that the budget of conflicts is spent: its size, how the clauses that were learned are derived, and these clauses
   spent : ℕ → Derivation → List (List Literal) → Found
-  -- that an operation on fractions leaves the bound: the operation, with its operands
-  strained : Overflow → Found
-  -- that the budget of pivots is spent: its size
-  out_of_pivots : ℕ → Found
+  -- that an operation on fractions leaves the bound: the operation, with its operands, and the exchanges of variables that were made
+  strained : Overflow → List (ℕ × ℕ) → Found
+  -- that the budget of pivots is spent: its size, and the exchanges
+  out_of_pivots : ℕ → List (ℕ × ℕ) → Found
 
 -- A check, with what was found at it.
 pub record Checked : Type 0 where
@@ -60,20 +60,12 @@ pub record IsSpentOn (c : Check) (limit carried : ℕ) (d : Derivation) (learned
   -- and one more would be
   pub conflict : IsConflict (problem c) d learned
 
--- Some subterm of what a check asks about is a number.
-pub record HasNumber (c : Check) : Type 0 where
-  -- the subterm
-  pub term : Term
-  pub there : Contains (subterms_in (problem c)) term
-  -- its sort is Real
-  pub number : sort_of term ≡ Number
-
--- what was found shows this of a check: a model makes true what it asks about, a proof that no interpretation does, and a
--- budget of conflicts is spent on it. The other two causes come where it asks about numbers alone. Of them only this is shown: the
--- operation leaves the bound on its operands; the number is the limit on pivots.
+-- what was found shows this of a check: a model makes true what it asks about; a proof that no interpretation does; a budget of
+-- conflicts is spent on it; an operation leaves the bound where the exchanges lead, or before there are any; or the budget of exchanges
+-- is spent on these, and a further one is needed where they lead
 abbrev pub Justifies : Limits → Check → Found → Type 0
 Justifies limits c (model i) = IsModelOf c i
 Justifies limits c (proof text) = IsProofOf c text
 Justifies limits c (spent n d learned) = IsSpentOn c limits.conflicts n d learned
-Justifies limits c (strained o) = IsOverflow o × HasNumber c
-Justifies limits c (out_of_pivots n) = (n ≡ limits.pivots) × HasNumber c
+Justifies limits c (strained o es) = IsOverflow o × IsStrained (problem c) es o
+Justifies limits c (out_of_pivots n es) = (n ≡ limits.pivots) × ArePivotsSpent (problem c) n es

@@ -224,10 +224,10 @@ unfolding gcd multiplied fits is_small times
 square_leaves_the_bound = refl
 
 -- what is written for a check that was given up for it, and for one whose pivots are spent
-pub square_written : (c : Check) → text_for certify [] true (answered (record { check = c; found = strained square })) ≡ codes "unknown\n(overflow mul 18446744073709551616 18446744073709551616)\n"
+pub square_written : (c : Check) (es : List (ℕ × ℕ)) → text_for certify [] true (answered (record { check = c; found = strained square es })) ≡ codes "unknown\n(overflow mul 18446744073709551616 18446744073709551616)\n"
 unfolding numeral
-square_written c = refl
+square_written c es = refl
 
-pub pivots_written : (c : Check) → text_for certify [] true (answered (record { check = c; found = out_of_pivots limits.pivots })) ≡ codes "unknown\n(pivots 10000000)\n"
+pub pivots_written : (c : Check) (es : List (ℕ × ℕ)) → text_for certify [] true (answered (record { check = c; found = out_of_pivots limits.pivots es })) ≡ codes "unknown\n(pivots 10000000)\n"
 unfolding numeral
-pivots_written c = refl
+pivots_written c es = refl

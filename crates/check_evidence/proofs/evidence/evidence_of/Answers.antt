@@ -63,6 +63,5 @@ pub returns-in-Unknown-clause-shown : goal.returns-in-Unknown-clause-shown
 returns-in-Unknown-clause-shown c = λ limits s kept readable symbols h.
     let t = c.args.table.now in
     let o = c.args.outcome in
-    reason_shown limits t s symbols o c.searches_add_no_numbers.ensures c.forms_fail_by_overflows.ensures.constraints c.rules_fail_by_overflows.ensures.numbers c.simplex_strains_by_overflows.ensures
-    c.numbers_strain_by_overflows.ensures c.in-Unknown.reason c.in-Unknown.is h.limits_are
+    reason_shown limits t s symbols o c.causes_are_overflows.ensures.search c.in-Unknown.reason c.in-Unknown.is h.limits_are
     (subst (HasEvidence t (asserting (terms_asserted (assertions_of s))) o.log o.budget) c.in-Unknown.is h.evidence)
