@@ -9,7 +9,6 @@ pub mod Formulas
 pub mod Speaking
 pub mod Reach
 pub mod Linear
-pub mod Plain
 pub mod Rested
 pub mod Numberless
 pub mod Numbered

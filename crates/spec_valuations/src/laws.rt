@@ -9,7 +9,7 @@ ghost use Rattle.spec_sorts.specs.TermValues.{value_at};
 ghost use Rattle.spec_sorts.specs.Literals.{Literal};
 ghost use Rattle.spec_arithmetic.specs.Numbers.{IsLinear};
 ghost use Rattle.spec_rules.specs.Truths.{Truths, term_true_by};
-ghost use Rattle.spec_derivations.specs.Problems.{Problem, terms_of_problem, subterms_in};
+ghost use Rattle.spec_derivations.specs.Problems.{Problem, terms_of_problem};
 ghost use Rattle.spec_derivations.specs.Orders.{whole_terms};
 ghost use Rattle.spec_derivations.specs.Models.{AreInReach};
 ghost use Rattle.spec_valuations.specs.Tables.{Valuation, IsModelBy, AreListed, IsValuation};
@@ -98,12 +98,6 @@ pub fn functions_in_reach_keep_numbers_apart()
     ensures { (symbols : List Symbol) (p : Problem) → All (IsFormulaOver symbols) (terms_of_problem p)
         → AreInReach (terms_of_problem p) → (s : Symbol) (ts : Terms) → Contains (whole_terms p) (app (Apply s) ts)
         → list_of ts ≢ [] → (s.result ≢ Number) × ((u : Term) → Contains (list_of ts) u → sort_of u ≢ Number) }
-{}
-
-/// States that where no subterm of a check's terms is a number, no term that a search speaks of is one.
-pub fn searches_add_no_numbers()
-    ensures { (p : Problem) → ((t : Term) → Contains (subterms_in p) t → sort_of t ≢ Number)
-        → (t : Term) → Contains (whole_terms p) t → sort_of t ≢ Number }
 {}
 
 /// States that where the terms of a check are linear, so are all that a search over linear arithmetic speaks of.
