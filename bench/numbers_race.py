@@ -37,7 +37,6 @@ and its standard library; Debian's packages of the others are z3 and cvc5.
 import argparse
 import os
 import sys
-import tempfile
 
 sys.dont_write_bytecode = True  # so that the imports below leave no files here
 FOLDER = os.path.dirname(os.path.abspath(__file__))
@@ -47,7 +46,7 @@ from number_families import FAMILIES, QUICK
 from real_scripts import SHORTEST
 from reasons import USUAL
 from runs import status_of
-from search_race import OTHERS, PROGRAMS, Race, head, mean, row
+from search_race import OTHERS, Race, family_cells, mean, race_all, tell_families
 from sessions import judge_certify
 
 LIMIT, QUICK_LIMIT = 20, 5
@@ -87,15 +86,9 @@ class NumberRace(Race):
         return [*cells, "" if self.check_ratio is None else f"{self.check_ratio:.2f}", memory]
 
 
-def tell_family(name, races):
-    """Prints the row of a family."""
-    common = [race for race in races if race.is_by_all]
-    cells = [name, str(len(races)), *(str(sum(bool(race.answer_of(one)) for race in races)) for one in PROGRAMS)]
-    cells.append(str(len(common)))
-    cells += [f"{sum(race.runs[one].seconds for race in common):.2f}" for one in PROGRAMS]
-    cells += [mean([race.ratio(one) for race in common]) for one in OTHERS]
-    cells.append(mean([race.check_ratio for race in races if race.check_ratio is not None]))
-    row([*cells, f"{max(race.runs['solve'].memory for race in races):,}"])
+def cells_of(name, races):
+    """Returns the cells of a family's row but for the memory."""
+    return [*family_cells(name, races), mean([race.check_ratio for race in races if race.check_ratio is not None])]
 
 
 def formulas_of(family, asked):
@@ -106,24 +99,8 @@ def formulas_of(family, asked):
 
 def run_all(asked):
     """Runs the families, and prints the tables; returns what is wrong, as texts."""
-    races, wrong = {}, []
-    if not asked.table:
-        head(["formula", "answer", *PROGRAMS, *["check"] * asked.check, *RATIOS, "KB"])
-    with tempfile.TemporaryDirectory() as folder:
-        for family in asked.families:
-            races[family] = []
-            for formula in formulas_of(family, asked):
-                race = NumberRace(asked, formula, folder)
-                races[family].append(race)
-                wrong += [f"WRONG {race.name}: {what}" for what in race.wrong]
-                if not asked.table:
-                    row(race.cells())
-    print()
-    answered = [f"{name} answers" for name in PROGRAMS]
-    head(["family", "formulas", *answered, "all answer", *(f"{name} s" for name in PROGRAMS), *RATIOS, "KB"])
-    for family, of_family in races.items():
-        tell_family(family, of_family)
-    tell_family("all", [race for of_family in races.values() for race in of_family])
+    races, wrong = race_all(asked, formulas_of, NumberRace, RATIOS)
+    tell_families(races, RATIOS, cells_of)
     return wrong
 
 

@@ -167,14 +167,46 @@ def mean(ratios):
     return f"{math.exp(sum(map(math.log, ratios)) / len(ratios)):.2f}" if ratios else ""
 
 
-def tell_family(name, races):
-    """Prints the row of a family."""
+def family_cells(name, races):
+    """Returns the cells of a family's row up to the ratios to other programs."""
     common = [race for race in races if race.is_by_all]
-    cells = [name, str(len(races)), *(str(sum(map(bool, (race.answer_of(one) for race in races)))) for one in PROGRAMS)]
+    cells = [name, str(len(races)), *(str(sum(bool(race.answer_of(one)) for race in races)) for one in PROGRAMS)]
     cells.append(str(len(common)))
     cells += [f"{sum(race.runs[one].seconds for race in common):.2f}" for one in PROGRAMS]
-    cells += [mean([race.ratio(one) for race in common]) for one in OTHERS]
-    row([*cells, f"{max(race.runs['solve'].memory for race in races):,}"])
+    return cells + [mean([race.ratio(one) for race in common]) for one in OTHERS]
+
+
+def memory_of(races):
+    """Returns the greatest memory of `solve`, as a cell."""
+    return f"{max(race.runs['solve'].memory for race in races):,}"
+
+
+def tell_families(races, ratios, cells_of):
+    """Prints the table by family, of which these are the ratios, and a row is what cells_of gives for a name and its races."""
+    print()
+    answered = [f"{name} answers" for name in PROGRAMS]
+    head(["family", "formulas", *answered, "all answer", *(f"{name} s" for name in PROGRAMS), *ratios, "KB"])
+    for family, of_family in races.items():
+        row([*cells_of(family, of_family), memory_of(of_family)])
+    every = [race for of_family in races.values() for race in of_family]
+    row([*cells_of("all", every), memory_of(every)])
+
+
+def race_all(asked, formulas_of, race_of, ratios):
+    """Runs the families, and prints a row for each formula; returns the races by family, and what is wrong, as texts."""
+    races, wrong = {}, []
+    if not asked.table:
+        head(["formula", "answer", *PROGRAMS, *["check"] * asked.check, *ratios, "KB"])
+    with tempfile.TemporaryDirectory() as folder:
+        for family in asked.families:
+            races[family] = []
+            for formula in formulas_of(family, asked):
+                race = race_of(asked, formula, folder)
+                races[family].append(race)
+                wrong += [f"WRONG {race.name}: {what}" for what in race.wrong]
+                if not asked.table:
+                    row(race.cells())
+    return races, wrong
 
 
 def tell_growth(races):
@@ -195,25 +227,9 @@ def tell_growth(races):
 
 def run_all(asked):
     """Runs the families, and prints the tables; returns what is wrong, as texts."""
-    races, wrong = {}, []
     ratios = [f"solve / {name}" for name in OTHERS]
-    if not asked.table:
-        head(["formula", "answer", *PROGRAMS, *["check"] * asked.check, *ratios, "KB"])
-    with tempfile.TemporaryDirectory() as folder:
-        for family in asked.families:
-            races[family] = []
-            for formula in FAMILIES[family]()[: asked.most]:
-                race = Race(asked, formula, folder)
-                races[family].append(race)
-                wrong += [f"WRONG {race.name}: {what}" for what in race.wrong]
-                if not asked.table:
-                    row(race.cells())
-    print()
-    answered = [f"{name} answers" for name in PROGRAMS]
-    head(["family", "formulas", *answered, "all answer", *(f"{name} s" for name in PROGRAMS), *ratios, "KB"])
-    for family, of_family in races.items():
-        tell_family(family, of_family)
-    tell_family("all", [race for of_family in races.values() for race in of_family])
+    races, wrong = race_all(asked, lambda family, asked: FAMILIES[family]()[: asked.most], Race, ratios)
+    tell_families(races, ratios, family_cells)
     grown = [family for family in LINEAR if family in races]
     if grown:
         print()

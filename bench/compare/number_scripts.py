@@ -9,7 +9,7 @@ that their checks are out of reach.
 import random
 from fractions import Fraction
 
-from function_scripts import listed, negated_by_chance
+from function_scripts import assertion, listed, negated_by_chance
 
 GREATEST = 2**127 - 1
 NUMBERS = [b"x", b"y", b"z", b"|u v|", b"w"]
@@ -257,16 +257,6 @@ def definitions(maker):
         lines.append(b"(declare-fun far (%s) %s)" % (b" ".join(sorts), result))
         maker.symbols[b"far"] = (sorts, result)
     return lines
-
-
-def assertion(maker, formula):
-    """Writes an assertion, with a name for its term in some cases, which later terms may use."""
-    if random.random() < 0.06:
-        maker.count += 1
-        name = b"n%d" % maker.count
-        maker.symbols[name] = ((), b"Bool")
-        return b"(assert (! " + formula + b" :named " + name + b"))"
-    return b"(assert " + formula + b")"
 
 
 def a_number_script():
