@@ -1,6 +1,6 @@
 //! Calls by chance, with marks and going back, on a closure and on a plain one.
 
-ghost use Rattle.std.specs.Prelude.{◌≡◌, ◌≤◌, length};
+ghost use Rattle.std.specs.Prelude.{◌≤◌, length};
 
 use crate::plain_closure::PlainClosure;
 use congruence_closure::{Closure, Conflict, Lit, Node, TermId, Truths};
