@@ -1,7 +1,9 @@
 -- An operation of simplex, or of a search of a problem, comes to the overflow of one operation on fractions.
-use Rattle.std.proofs.Common.{ℕ, Bool, List, subst}
+use Rattle.std.proofs.Common.{ℕ, Bool, List, [], ◌∷◌, inl, inr, subst}
+use Rattle.spec_numbers.specs.Fractions.{one_fraction, opposite}
 use Rattle.spec_numbers.specs.Bounds.{Overflow}
 use Rattle.spec_sorts.specs.Terms.{Term}
+use Rattle.spec_sorts.specs.Literals.{Literal}
 use Rattle.spec_arithmetic.specs.Forms.{difference}
 use Rattle.spec_tableaux.specs.Rows.{Entry}
 use Rattle.spec_tableaux.specs.Numbers.{Number}
@@ -27,24 +29,27 @@ form_overflows ts o w =
     subst IsOverflow w.is (of_fault IsFault (difference w.constraint.atom w.constraint.left w.constraint.right) w.fault
     (difference_fails w.constraint.atom w.constraint.left w.constraint.right) w.fails)
 
-reasons_overflow : (s : Standing) (ranges : Ranges) (up : Bool) (es : List (Entry Number)) (o : Overflow)
-    → StrainsReasons s ranges up es o → IsOverflow o
-reasons_overflow s ranges up es o (weighing e has l stop w) = quotient_overflows _ _ o w
-reasons_overflow s ranges up es o (adding xs are w) = numbers_too_wide (map denial (literals_in xs)) (weights_in xs) o w
+reasons_overflow : (s : Standing) (held : List Literal) (ranges : Ranges) (up : Bool) (es : List (Entry Number)) (o : Overflow)
+    → StrainsReasons s held ranges up es o → IsOverflow o
+reasons_overflow s held ranges up es o (weighing e has l stop w) = quotient_overflows _ _ o w
+reasons_overflow s held ranges up es o (adding xs are w) = numbers_too_wide (map denial (literals_in xs)) (weights_in xs) o w
 
 pub cause_overflows : (ts : List Term) (s : Standing) (o : Overflow) → StrainsAt ts s o → IsOverflow o
 cause_overflows ts s o (forming w) = form_overflows ts o w
 cause_overflows ts s o (bounding f among u k is w) = quotient_overflows _ _ o w
 cause_overflows ts s o (adding_row f among gs are w) = new_overflows (state_in s) gs o w
 cause_overflows ts s o (checking ranges bounds w) = check_overflows ranges (state_in s) o w
-cause_overflows ts s o (explaining ranges bounds up es conflict w) = reasons_overflow s ranges up es o w
-cause_overflows ts s o (finding ranges bounds w) = number_overflows ranges (point_in s.values) o w
-cause_overflows ts s o (evaluating ranges bounds e is w) = value_at_overflows e (point_in s.values) o w
+cause_overflows ts s o (explaining ranges bounds up es conflict w) = reasons_overflow s bounds.literals ranges up es o w
+cause_overflows ts s o (finding ranges bounds within w) = number_overflows ranges (point_in s.values) o w
+cause_overflows ts s o (evaluating ranges bounds within e is w) = value_at_overflows e s o w
 
 among_overflows : (terms : List Term) (o : Overflow) → IsOverflowAmong terms o → IsOverflow o
-among_overflows terms o w = numbers_too_wide w.clause w.weights o w.leaves
+among_overflows terms o w = elim w.leaves [
+  | inl h ↦ numbers_too_wide _ (one_fraction ∷ one_fraction ∷ []) o h
+  | inr h ↦ numbers_too_wide _ (opposite one_fraction ∷ one_fraction ∷ []) o h
+]
 
 pub strain_overflows : (p : Problem) (es : List (ℕ × ℕ)) (o : Overflow) → IsStrained p es o → IsOverflow o
-strain_overflows p es o (problem.forming w) = form_overflows _ o w
-strain_overflows p es o (ordering w) = among_overflows _ o w
+strain_overflows p es o (problem.forming none w) = form_overflows _ o w
+strain_overflows p es o (ordering none w) = among_overflows _ o w
 strain_overflows p es o (reckoning s at w) = cause_overflows _ s o w

@@ -9,6 +9,7 @@ use Rattle.spec_overflows.specs.Overflows.{IsOverflow}
 use Rattle.spec_overflows.proofs.Operations.{difference_overflows, quotient_overflows}
 use Rattle.spec_strains.specs.Points.{Ranges}
 use Rattle.spec_strains.specs.Halves.{StrainsHalf, bases, tilts, quotient, half, StrainsLower, StrainsUpper, StrainsRange, StrainsNumber}
+use Rattle.spec_causes.specs.Standing.{Standing}
 use Rattle.spec_causes.specs.Causes.{StrainsValueAt}
 use Rattle.spec_causes.proofs.DeltaFaults.{delta_value_overflows}
 
@@ -33,5 +34,5 @@ range_overflows r x o (inr w) = upper_overflows r.upper x o w
 pub number_overflows : (ranges : Ranges) (v : ℕ → Pair Number) (o : Overflow) → StrainsNumber ranges v o → IsOverflow o
 number_overflows ranges v o w = range_overflows (ranges w.variable) (v w.variable) o w.strains
 
-pub value_at_overflows : (e : Number) (v : ℕ → Pair Number) (o : Overflow) → StrainsValueAt e v o → IsOverflow o
-value_at_overflows e v o w = delta_value_overflows _ _ o w.1
+pub value_at_overflows : (e : Number) (s : Standing) (o : Overflow) → StrainsValueAt e s o → IsOverflow o
+value_at_overflows e s o w = delta_value_overflows _ _ o w.leaves

@@ -127,12 +127,12 @@ module _ (ts : List Term) (silent : AreSilent ts) where
   pub reaches_nothing : (es : List (ℕ × ℕ)) (s : Standing) → IsReached ts es s → IsEmpty s × (es ≡ [])
   reaches_nothing _ _ beginning = (record { rows = refl; values = λ y. refl }, refl)
   reaches_nothing _ _ (naming es s h f among u k has new) = absurd (no_form f among)
-  reaches_nothing _ _ (summing es s h f among gs are) = absurd (no_form f among)
-  reaches_nothing _ _ (settling es s h ranges bounds n rs vs goes) =
+  reaches_nothing _ _ (summing es s h f among gs are longer) = absurd (no_form f among)
+  reaches_nothing _ _ (settling es s h ranges bounds n rs vs many goes) =
       let before = reaches_nothing es s h in
       let after = settled_alone s ranges (open_ranges s ranges bounds) n (state_in (moved_to s rs vs)) goes before.0 in
       (record { rows = after.0; values = after.1 }, before.1)
-  reaches_nothing _ _ (checking old new s h ranges bounds rs vs ran) =
+  reaches_nothing _ _ (checking old new s h ranges bounds rs vs many ran) =
       let before = reaches_nothing old s h in
       let after = ran_alone s ranges (open_ranges s ranges bounds) (state_in (moved_to s rs vs)) old new ran before.0 before.1 in
       (record { rows = after.0; values = after.1 }, after.2)
@@ -175,9 +175,11 @@ module _ (ts : List Term) (silent : AreSilent ts) where
   no_half_below (Some b) x e is w = cc
 
   epsilon_is_one : (ranges : Ranges) → IsOpen ranges → (v : ℕ → Pair Number) (e : Number) → IsEpsilon ranges v e → e ≡ numbers.one
-  epsilon_is_one ranges none v e (inl is) = is
-  epsilon_is_one ranges none v e (inr (y, inl h)) = absurd (no_half_above (ranges y).lower (v y) e (none y).0 h)
-  epsilon_is_one ranges none v e (inr (y, inr h)) = absurd (no_half_below (ranges y).upper (v y) e (none y).1 h)
+  epsilon_is_one ranges none v e h = elim h.one_of [
+    | inl is ↦ is
+    | inr (y, inl half) ↦ absurd (no_half_above (ranges y).lower (v y) e (none y).0 half)
+    | inr (y, inr half) ↦ absurd (no_half_below (ranges y).upper (v y) e (none y).1 half)
+  ]
 
   -- 0 is 0 where the infinitesimal is 1
   zero_at_one : (o : Overflow) → delta_evaluated (delta_in deltas.origin) (numbers.one).fraction ≡ Err o → ⊥
@@ -192,12 +194,12 @@ module _ (ts : List Term) (silent : AreSilent ts) where
       check_never s (reaches_nothing es s h).0 ranges (open_ranges s ranges bounds) o w
   nothing_strains es s h o (explaining ranges bounds up gs conflict w) =
       conflict_never s (reaches_nothing es s h).0 ranges (open_ranges s ranges bounds) up gs conflict
-  nothing_strains es s h o (finding ranges bounds w) =
+  nothing_strains es s h o (finding ranges bounds within w) =
       find_never ranges (open_ranges s ranges bounds) w.variable (point_in s.values w.variable) o w.strains
-  nothing_strains es s h o (evaluating ranges bounds e is w) =
+  nothing_strains es s h o (evaluating ranges bounds within e is w) =
       let is = epsilon_is_one ranges (open_ranges s ranges bounds) (point_in s.values) e is in
-      zero_at_one o (ap (λ (x : Pair Number). delta_evaluated (delta_in x) (numbers.one).fraction) (sym ((reaches_nothing es s h).0.values w.0))
-      ∙ ap (λ (k : Number). delta_evaluated (delta_in (point_in s.values w.0)) k.fraction) (sym is) ∙ w.1)
+      zero_at_one o (ap (λ (x : Pair Number). delta_evaluated (delta_in x) (numbers.one).fraction) (sym ((reaches_nothing es s h).0.values w.variable))
+      ∙ ap (λ (k : Number). delta_evaluated (delta_in (point_in s.values w.variable)) k.fraction) (sym is) ∙ w.leaves)
 
   pub nothing_is_needed : (es : List (ℕ × ℕ)) (s : Standing) → IsReached ts es s → NeedsMore ts s → ⊥
   nothing_is_needed es s h more =

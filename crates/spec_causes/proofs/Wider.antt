@@ -17,7 +17,7 @@ module _ (ts us : List Term) (more : AreAmong ts us) where
   form_among_more : (f : Form) → IsFormAmong ts f → IsFormAmong us f
   form_among_more f h = record { atom = h.atom; there = more h.atom h.there; constraint = h.constraint; says = h.says; has = h.has }
 
-  bounds_among_more : (s : Standing) (ranges : Ranges) → AreBounds ts s ranges → AreBounds us s ranges
+  abbrev bounds_among_more : (s : Standing) (ranges : Ranges) → AreBounds ts s ranges → AreBounds us s ranges
   bounds_among_more s ranges h = record {
     literals = h.literals;
     atoms = All-weaker (λ (l : Literal). Contains ts l.atom) (λ (l : Literal). Contains us l.atom) (λ l there. more l.atom there) h.literals h.atoms;
@@ -28,11 +28,11 @@ module _ (ts us : List Term) (more : AreAmong ts us) where
   reached_over_more _ _ beginning = beginning
   reached_over_more _ _ (naming es s0 h f among u k has new) =
       naming es s0 (reached_over_more es s0 h) f (form_among_more f among) u k has new
-  reached_over_more _ _ (summing es s0 h f among gs are) = summing es s0 (reached_over_more es s0 h) f (form_among_more f among) gs are
-  reached_over_more _ _ (settling es s0 h ranges bounds n rs vs goes) =
-      settling es s0 (reached_over_more es s0 h) ranges (bounds_among_more s0 ranges bounds) n rs vs goes
-  reached_over_more _ _ (checking old new s0 h ranges bounds rs vs ran) =
-      checking old new s0 (reached_over_more old s0 h) ranges (bounds_among_more s0 ranges bounds) rs vs ran
+  reached_over_more _ _ (summing es s0 h f among gs are longer) = summing es s0 (reached_over_more es s0 h) f (form_among_more f among) gs are longer
+  reached_over_more _ _ (settling es s0 h ranges bounds n rs vs many goes) =
+      settling es s0 (reached_over_more es s0 h) ranges (bounds_among_more s0 ranges bounds) n rs vs many goes
+  reached_over_more _ _ (checking old new s0 h ranges bounds rs vs many ran) =
+      checking old new s0 (reached_over_more old s0 h) ranges (bounds_among_more s0 ranges bounds) rs vs many ran
 
   pub strains_over_more : (s : Standing) (o : Overflow) → StrainsAt ts s o → StrainsAt us s o
   strains_over_more s o (forming w) = forming (record {
@@ -48,8 +48,8 @@ module _ (ts us : List Term) (more : AreAmong ts us) where
   strains_over_more s o (adding_row f among gs are w) = adding_row f (form_among_more f among) gs are w
   strains_over_more s o (causes.checking ranges bounds w) = causes.checking ranges (bounds_among_more s ranges bounds) w
   strains_over_more s o (explaining ranges bounds up es conflict w) = explaining ranges (bounds_among_more s ranges bounds) up es conflict w
-  strains_over_more s o (finding ranges bounds w) = finding ranges (bounds_among_more s ranges bounds) w
-  strains_over_more s o (evaluating ranges bounds e is w) = evaluating ranges (bounds_among_more s ranges bounds) e is w
+  strains_over_more s o (finding ranges bounds within w) = finding ranges (bounds_among_more s ranges bounds) within w
+  strains_over_more s o (evaluating ranges bounds within e is w) = evaluating ranges (bounds_among_more s ranges bounds) within e is w
 
   pub needs_over_more : (s : Standing) → NeedsMore ts s → NeedsMore us s
   needs_over_more s h = record { ranges = h.ranges; bounds = bounds_among_more s h.ranges h.bounds; wants = h.wants }

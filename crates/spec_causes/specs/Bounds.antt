@@ -1,6 +1,6 @@
 -- The bounds of variables that literals of linear arithmetic state.
 -- Source: Dutertre and de Moura, A Fast Linear-Arithmetic Solver for DPLL(T), CAV 2006.
-use Rattle.std.specs.Prelude.{◌≡◌, ℕ, ◌<◌, Bool, true, false, not, List, length, Option, Some, Ok, Contains, All}
+use Rattle.std.specs.Prelude.{◌≡◌, ◌⊎◌, ℕ, ◌<◌, Bool, true, false, not, List, length, Option, Some, None, Ok, Contains, All}
 use Rattle.spec_sorts.specs.Terms.{Term}
 use Rattle.spec_sorts.specs.Literals.{Literal}
 use Rattle.spec_arithmetic.specs.Forms.{Form, variables_value}
@@ -11,7 +11,7 @@ use Rattle.spec_tableaux.specs.Ranges.{Range}
 use Rattle.spec_tableaux.specs.Numbers.{Number, numbers}
 use Rattle.spec_strains.specs.Points.{Ranges}
 use Rattle.spec_simplex.specs.Constraints.{Relation, below, at_most, equals, at_least, above, Constraint, constraint_of, form_of}
-use Rattle.spec_causes.specs.Standing.{Standing, AreOwned}
+use Rattle.spec_causes.specs.Standing.{Standing, owner_in, AreOwned}
 
 -- A side on which a variable is bounded.
 pub data Side : Type 0 where
@@ -35,22 +35,24 @@ IsSideOf equals up side = Unit {0}
 IsSideOf at_least up side = side ≡ side_by (not up)
 IsSideOf above up side = side ≡ side_by (not up)
 
--- 0 itself does not stand so to 0
+-- the relation keeps a form off 0 itself
 abbrev pub is_strict : Relation → Bool
 is_strict below = true
 is_strict above = true
 is_strict r = false
 
--- how many infinitesimals a bound is off the number that it is at, which may be reached or not
+-- the tilt of a bound on a side, by whether it is strict
 abbrev pub tilt_by : Side → Bool → Number
 tilt_by lower true = numbers.one
 tilt_by upper true = numbers.opposite numbers.one
 tilt_by side false = numbers.zero
 
--- Wherever the rows hold, the variables of a form come to the factor, which is not 0, times the variable y.
+-- Wherever the rows hold, the variables of a form come to the factor, which is not 0, times the variable y; if this stands for a row, to it
+-- or to its opposite.
 pub record IsMultiple (s : Standing) (f : Form) (factor : Number) (y : ℕ) : Type 0 where
   pub nonzero : numbers.is_zero factor ≡ false
   pub there : y < length s.owners
+  pub unit : owner_in s.owners y ≡ None → (factor ≡ numbers.one) ⊎ (factor ≡ numbers.opposite numbers.one)
   pub value : (n : Term → Number) (v : ℕ → Number) → AreOwned s.owners n v → Solves (as_space numbers) v s.listed
       → variables_value (λ u. (n u).fraction) f.variables ≡ (numbers.times factor (v y)).fraction
 

@@ -1,21 +1,21 @@
 -- By which operations simplex leaves the bound on fractions where it stands, and where it needs a further exchange.
 -- Source: Dutertre and de Moura, A Fast Linear-Arithmetic Solver for DPLL(T), CAV 2006.
-use Rattle.std.specs.Prelude.{◌≡◌, ◌⊎◌, ℕ, Bool, true, List, [], ◌∷◌, Option, Some, None, Err, Contains}
+use Rattle.std.specs.Prelude.{◌≡◌, ◌⊎◌, ℕ, Bool, true, false, List, [], ◌∷◌, Option, Some, None, Err, Contains}
 use Rattle.spec_numbers.specs.Fractions.{Fraction, opposite}
 use Rattle.spec_numbers.specs.Bounds.{Overflow, divided}
 use Rattle.spec_sorts.specs.Terms.{Term}
 use Rattle.spec_arithmetic.specs.Forms.{Form, Fault}
 use Rattle.spec_tableaux.specs.Spaces.{Pair}
-use Rattle.spec_tableaux.specs.Ranges.{Range}
+use Rattle.spec_tableaux.specs.Ranges.{Range, is_within}
 use Rattle.spec_tableaux.specs.Rows.{Entry}
 use Rattle.spec_tableaux.specs.Numbers.{Number, numbers}
 use Rattle.spec_strains.specs.Deltas.{delta_evaluated}
-use Rattle.spec_strains.specs.Points.{Ranges, point_in, delta_in}
+use Rattle.spec_strains.specs.Points.{deltas, Ranges, point_in, delta_in}
 use Rattle.spec_strains.specs.Strains.{Strains, StrainsNew}
 use Rattle.spec_strains.specs.Runs.{WantsMore}
-use Rattle.spec_strains.specs.Halves.{IsSteeper, halfway, StrainsNumber}
+use Rattle.spec_strains.specs.Halves.{is_less, IsSteeper, halfway, StrainsNumber}
 use Rattle.spec_simplex.specs.Constraints.{Constraint, constraint_of, form_of}
-use Rattle.spec_causes.specs.Standing.{Standing, state_in, AreEntriesOf}
+use Rattle.spec_causes.specs.Standing.{Standing, owner_in, state_in, AreEntriesOf}
 use Rattle.spec_causes.specs.Bounds.{AreBounds}
 use Rattle.spec_causes.specs.Reached.{IsFormAmong}
 use Rattle.spec_causes.specs.Reasons.{Conflicts, StrainsReasons}
@@ -33,12 +33,12 @@ pub record StrainsForm (ts : List Term) (o : Overflow) : Type 0 where
   pub fails : form_of constraint ≡ Err fault
   pub is : fault.overflow ≡ o
 
--- e is half of the number at which a lower bound of the value x comes to it
+-- e is half of the number at which a lower bound of the value x comes to x
 abbrev pub IsHalfAbove : Option (Pair Number) → Pair Number → Number → Type 0
 IsHalfAbove None x e = ⊥
 IsHalfAbove (Some b) x e = IsSteeper b x × (e ≡ halfway b x)
 
--- e is half of the number at which the value x comes to an upper bound of it
+-- e is half of the number at which x comes to an upper bound of x
 abbrev pub IsHalfBelow : Option (Pair Number) → Pair Number → Number → Type 0
 IsHalfBelow None x e = ⊥
 IsHalfBelow (Some b) x e = IsSteeper x b × (e ≡ halfway x b)
@@ -47,13 +47,22 @@ IsHalfBelow (Some b) x e = IsSteeper x b × (e ≡ halfway x b)
 abbrev pub IsHalfIn : Range (Pair Number) → Pair Number → Number → Type 0
 IsHalfIn r x e = IsHalfAbove r.lower x e ⊎ IsHalfBelow r.upper x e
 
--- e may be put for the infinitesimal: it is 1, or half of a number at which a value comes to a bound of it
-abbrev pub IsEpsilon : Ranges → (ℕ → Pair Number) → Number → Type 0
-IsEpsilon ranges v e = (e ≡ numbers.one) ⊎ ((y : ℕ) × IsHalfIn (ranges y) (v y) e)
+-- The number that is put for the infinitesimal: the least of 1 and of each half of a number at which a value comes to a bound of it.
+pub record IsEpsilon (ranges : Ranges) (v : ℕ → Pair Number) (e : Number) : Type 0 where
+  pub one_of : (e ≡ numbers.one) ⊎ ((y : ℕ) × IsHalfIn (ranges y) (v y) e)
+  pub most_one : is_less numbers.one e ≡ false
+  pub most_each : (y : ℕ) (h : Number) → IsHalfIn (ranges y) (v y) h → is_less h e ≡ false
 
--- the value of a variable where the infinitesimal is e comes to the overflow o
-abbrev pub StrainsValueAt : Number → (ℕ → Pair Number) → Overflow → Type 0
-StrainsValueAt e v o = (y : ℕ) × (delta_evaluated (delta_in (v y)) e.fraction ≡ Err o)
+-- the values keep the bounds of each variable
+abbrev pub AreWithin : Ranges → (ℕ → Pair Number) → Type 0
+AreWithin ranges v = (y : ℕ) → is_within deltas ranges v y ≡ true
+
+-- The value of a variable that stands for a term, where the infinitesimal is e, comes to the overflow o.
+pub record StrainsValueAt (e : Number) (s : Standing) (o : Overflow) : Type 0 where
+  pub variable : ℕ
+  pub term : Term
+  pub stands : owner_in s.owners variable ≡ Some term
+  pub leaves : delta_evaluated (delta_in (point_in s.values variable)) e.fraction ≡ Err o
 
 -- An operation of simplex over terms comes to the overflow o where it stands.
 pub data StrainsAt (ts : List Term) (s : Standing) (o : Overflow) : Type 0 where
@@ -68,13 +77,14 @@ pub data StrainsAt (ts : List Term) (s : Standing) (o : Overflow) : Type 0 where
   -- a step of a check
   checking : (ranges : Ranges) → AreBounds ts s ranges → Strains ranges (state_in s) o → StrainsAt ts s o
   -- the reasons for a conflict
-  explaining : (ranges : Ranges) → AreBounds ts s ranges → (up : Bool) (es : List (Entry Number))
-      → Conflicts ranges (state_in s) up es → StrainsReasons s ranges up es o → StrainsAt ts s o
+  explaining : (ranges : Ranges) → (bounds : AreBounds ts s ranges) → (up : Bool) (es : List (Entry Number))
+      → Conflicts ranges (state_in s) up es → StrainsReasons s bounds.literals ranges up es o → StrainsAt ts s o
   -- a number for the infinitesimal
-  finding : (ranges : Ranges) → AreBounds ts s ranges → StrainsNumber ranges (point_in s.values) o → StrainsAt ts s o
+  finding : (ranges : Ranges) → AreBounds ts s ranges → AreWithin ranges (point_in s.values)
+      → StrainsNumber ranges (point_in s.values) o → StrainsAt ts s o
   -- a value where the infinitesimal is such a number
-  evaluating : (ranges : Ranges) → AreBounds ts s ranges → (e : Number) → IsEpsilon ranges (point_in s.values) e
-      → StrainsValueAt e (point_in s.values) o → StrainsAt ts s o
+  evaluating : (ranges : Ranges) → AreBounds ts s ranges → AreWithin ranges (point_in s.values)
+      → (e : Number) → IsEpsilon ranges (point_in s.values) e → StrainsValueAt e s o → StrainsAt ts s o
 
 -- Simplex needs a further exchange over terms where it stands.
 pub record NeedsMore (ts : List Term) (s : Standing) : Type 0 where

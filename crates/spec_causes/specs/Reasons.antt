@@ -42,8 +42,9 @@ pub data Conflicts (ranges : Ranges) (t : BoardState) : Bool → List (Entry Num
 abbrev pub stopping_side : Bool → Number → Side
 stopping_side up c = side_by (cond (is_positive numbers c) up (not up))
 
--- A literal states the bound that stops the variable of an entry.
-pub record IsStop (s : Standing) (ranges : Ranges) (up : Bool) (e : Entry Number) (l : Literal) : Type 0 where
+-- One of the held literals states the bound that stops the variable of an entry.
+pub record IsStop (s : Standing) (held : List Literal) (ranges : Ranges) (up : Bool) (e : Entry Number) (l : Literal) : Type 0 where
+  pub is_held : Contains held l
   -- the bound
   pub bound : Pair Number
   pub there : bound_on (stopping_side up e.coefficient) (ranges e.variable) ≡ Some bound
@@ -55,16 +56,16 @@ weight_by equals q = q.fraction
 weight_by r q = size q.fraction
 
 -- A literal that stops the variable of an entry, with its weight: the coefficient over the factor by which its form bounds it.
-pub record IsReason (s : Standing) (ranges : Ranges) (up : Bool) (e : Entry Number) (x : Literal × Fraction) : Type 0 where
-  pub stop : IsStop s ranges up e x.0
+pub record IsReason (s : Standing) (held : List Literal) (ranges : Ranges) (up : Bool) (e : Entry Number) (x : Literal × Fraction) : Type 0 where
+  pub stop : IsStop s held ranges up e x.0
   pub weight : x.1 ≡ weight_by stop.states.constraint.relation
       (numbers.times (directed up e.coefficient) (numbers.inverse stop.states.factor))
 
 -- there is a reason for each entry, in their order
-abbrev pub AreReasons : Standing → Ranges → Bool → List (Entry Number) → List (Literal × Fraction) → Type 0
-AreReasons s ranges up [] [] = Unit {0}
-AreReasons s ranges up (e ∷ es) (x ∷ xs) = IsReason s ranges up e x × AreReasons s ranges up es xs
-AreReasons s ranges up _ _ = ⊥
+abbrev pub AreReasons : Standing → List Literal → Ranges → Bool → List (Entry Number) → List (Literal × Fraction) → Type 0
+AreReasons s held ranges up [] [] = Unit {0}
+AreReasons s held ranges up (e ∷ es) (x ∷ xs) = IsReason s held ranges up e x × AreReasons s held ranges up es xs
+AreReasons s held ranges up _ _ = ⊥
 
 -- the literals of reasons, in their order
 abbrev pub literals_in : List (Literal × Fraction) → List Literal
@@ -75,10 +76,11 @@ abbrev pub weights_in : List (Literal × Fraction) → List Fraction
 weights_in xs = map (λ (x : Literal × Fraction). x.1) xs
 
 -- The reasons of a conflict come to the overflow o.
-pub data StrainsReasons (s : Standing) (ranges : Ranges) (up : Bool) (es : List (Entry Number)) (o : Overflow) : Type 0 where
+pub data StrainsReasons (s : Standing) (held : List Literal) (ranges : Ranges) (up : Bool) (es : List (Entry Number)) (o : Overflow)
+    : Type 0 where
   -- a weight: the coefficient, with its sign by the direction, over the factor
-  weighing : (e : Entry Number) → Contains es e → (l : Literal) → (stop : IsStop s ranges up e l)
-      → divided (directed up e.coefficient).fraction stop.states.factor.fraction ≡ Err o → StrainsReasons s ranges up es o
+  weighing : (e : Entry Number) → Contains es e → (l : Literal) → (stop : IsStop s held ranges up e l)
+      → divided (directed up e.coefficient).fraction stop.states.factor.fraction ≡ Err o → StrainsReasons s held ranges up es o
   -- the sum of the literals' forms by their weights, as the rule adds it up of the clause that not all of them hold
-  adding : (xs : List (Literal × Fraction)) → AreReasons s ranges up es xs
-      → la_generic (map denial (literals_in xs)) (map given (weights_in xs)) ≡ Err (wide o) → StrainsReasons s ranges up es o
+  adding : (xs : List (Literal × Fraction)) → AreReasons s held ranges up es xs
+      → la_generic (map denial (literals_in xs)) (map given (weights_in xs)) ≡ Err (wide o) → StrainsReasons s held ranges up es o

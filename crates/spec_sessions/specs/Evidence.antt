@@ -1,5 +1,5 @@
 -- What shows that the answer of a check is right. Source: SMT-LIB 2.6, section 4.2.5; what counts as shown is own.
-use Rattle.std.specs.Prelude.{◌≡◌, ℕ, List, [], All}
+use Rattle.std.specs.Prelude.{◌≡◌, ◌≤◌, ℕ, List, [], length, All}
 use Rattle.spec_numbers.specs.Bounds.{Overflow}
 use Rattle.spec_overflows.specs.Overflows.{IsOverflow}
 use Rattle.spec_sorts.specs.Values.{Interpretation, Interprets}
@@ -61,11 +61,11 @@ pub record IsSpentOn (c : Check) (limit carried : ℕ) (d : Derivation) (learned
   pub conflict : IsConflict (problem c) d learned
 
 -- what was found shows this of a check: a model makes true what it asks about; a proof that no interpretation does; a budget of
--- conflicts is spent on it; an operation leaves the bound where the exchanges lead, or before there are any; or the budget of exchanges
--- is spent on these, and a further one is needed where they lead
+-- conflicts is spent on it; an operation leaves the bound where the exchanges lead, which are within their budget, or before there are
+-- any; or this budget is spent on them, and a further one is needed where they lead
 abbrev pub Justifies : Limits → Check → Found → Type 0
 Justifies limits c (model i) = IsModelOf c i
 Justifies limits c (proof text) = IsProofOf c text
 Justifies limits c (spent n d learned) = IsSpentOn c limits.conflicts n d learned
-Justifies limits c (strained o es) = IsOverflow o × IsStrained (problem c) es o
+Justifies limits c (strained o es) = IsOverflow o × (length es ≤ limits.pivots) × IsStrained (problem c) es o
 Justifies limits c (out_of_pivots n es) = (n ≡ limits.pivots) × ArePivotsSpent (problem c) n es
