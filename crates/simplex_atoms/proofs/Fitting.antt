@@ -18,7 +18,7 @@ use Rattle.simplex_atoms.specs.Owners.{owner_at, AreOwned, AreOwnersIn}
 use Rattle.simplex_atoms.specs.Places.{Setting, IsFormOf, IsPlaced, place_in}
 use Rattle.simplex_atoms.specs.Sums.{sign_by, Sum}
 use Rattle.simplex_atoms.specs.Atoms.{AtomsView, Ground, ground_of, setting_of, Grows, IsMultiple, IsSum, AreSums, IsPlaceOf, ArePlaced, AreRight}
-use Rattle.simplex_atoms.proofs.Owning.{owner_kept, owner_below, some_same}
+use Rattle.simplex_atoms.proofs.Owning.{owner_kept, owner_first, owner_below, some_same}
 
 pub solves_first : {A V : Type 0} (s : Space A V) (v : ℕ → V) (rs more : List (Row A)) → Solves s v (rs ++ more) → Solves s v rs
 solves_first s v [] more h = tt
@@ -41,6 +41,7 @@ form_on t g h place f grows is = record {
   factor = is.factor;
   bound = is.bound;
   variable = omega (arith, is.variable, ap (λ (l : List (Option TermId)). length l) grows.owners, length-append g.owners grows.more_owners);
+  unit = λ e. is.unit (owner_first g.owners grows.more_owners place.variable is.variable (subst (λ (l : List (Option TermId)). owner_at l place.variable ≡ None) grows.owners e));
   constant = is.constant;
   value = λ n v o s. is.value n v
       (λ y id e. o y id (subst (λ (l : List (Option TermId)). owner_at l y ≡ Some id) (sym grows.owners) (owner_kept g.owners grows.more_owners y id e)))
@@ -93,6 +94,7 @@ module _ (old new : TableView) (x : Extends old new) (g : Ground) (owners : AreO
     factor = is.factor;
     bound = is.bound;
     variable = is.variable;
+    unit = is.unit;
     constant = is.constant;
     value = λ n v o s. is.value n v (owned_before n v o) s;
   }

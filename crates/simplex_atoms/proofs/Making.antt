@@ -1,11 +1,12 @@
 -- How the place of a form is made.
-use Rattle.std.proofs.Common.{◌≡◌, ℕ, ◌<◌, List, [], ◌∷◌, ◌++◌, length, map, Option, None, Result, Ok, Err, refl, sym, ◌∙◌, ap, subst, arith}
+use Rattle.std.proofs.Common.{◌≡◌, ℕ, ◌<◌, inl, inr, List, [], ◌∷◌, ◌++◌, length, map, Option, Some, None, Result, Ok, Err, refl, sym, ◌∙◌, ap, subst, arith}
 use Rattle.std.specs.Prelude.{IfOk, IfErr, IsErrAnd}
 use Rattle.std.proofs.lemmas.List.{length-append}
 use Rattle.spec_numbers.specs.Fractions.{Fraction, opposite}
 use Rattle.spec_numbers.specs.Bounds.{Overflow, divided}
 use Rattle.spec_arithmetic.specs.Forms.{variables_value}
 use Rattle.spec_causes.specs.Standing.{AreEntriesOf}
+use Rattle.spec_causes.specs.Reached.{IsLonger}
 use Rattle.spec_tableaux.specs.Spaces.{Space, as_space}
 use Rattle.spec_tableaux.specs.Rows.{Entry as RowEntry, Row, Holds, Solves, sum_of}
 use Rattle.spec_tableaux.specs.SolvedForms.{IsOver}
@@ -23,7 +24,7 @@ use Rattle.tableau.specs.declared.entries.Entry.{Entry}
 use Rattle.tableau.specs.declared.stops.RowStop.{RowStop}
 use Rattle.tableau.specs.declared.stops.RowStop.TheVariants as rows
 use Rattle.tableau.specs.Numbers.{number_of}
-use Rattle.tableau.specs.Entries.{entries_of}
+use Rattle.tableau.specs.Entries.{entry_of, entries_of}
 use Rattle.tableau.specs.Views as views
 use Rattle.simplex_check.specs.Boards.{BoardView, board_with_sum, state_of}
 use Rattle.spec_strains.specs.Strains.{StrainsNew}
@@ -33,11 +34,12 @@ use Rattle.simplex_atoms.specs.declared.stop.AtomStop.{AtomStop}
 use Rattle.simplex_atoms.specs.declared.stop.AtomStop.TheVariants as stops
 use Rattle.simplex_atoms.specs.Standings.{owner_meant}
 use Rattle.simplex_atoms.specs.Stops.{of_row}
-use Rattle.simplex_atoms.specs.Places.{IsFormOf}
+use Rattle.simplex_atoms.specs.Owners.{owner_at}
+use Rattle.simplex_atoms.specs.Places.{IsSign, IsFormOf}
 use Rattle.simplex_atoms.specs.Atoms.{Ground, ground_of, setting_of, Grows, IsMultiple}
 use Rattle.simplex_atoms.specs.Watching.{AreNumbered, OnWide, StrainsForm, bound, row}
 use Rattle.simplex_atoms.specs.Made as made
-use Rattle.simplex_atoms.specs.Made.{IsMade, Covers, StrainsEntries}
+use Rattle.simplex_atoms.specs.Made.{IsMade, Covers, IsOnEntry, IsSingle, StrainsEntries}
 use Rattle.simplex_atoms.proofs.Numbered.{numbered_kept, numbered_value, numbered_entries}
 
 -- minus a number, by its fraction
@@ -99,16 +101,49 @@ variable_covers os b es e p count over is y k = record {
       ∙ (λ i. numbers.times (number_of (sym k i)) (v (sym y i)));
 }
 
+-- where no one entry is alone, none is by its meaning
+pub longer_entries : (es : List Entry) → IsSingle es None → IsLonger (entries_of es)
+longer_entries [] none g e z = cc
+longer_entries (x ∷ []) none g e z = none x refl (ap (λ (k : RowEntry Number). numbers.is_zero k.coefficient) (only x g e) ∙ z)
+  where
+    only : (x : Entry) (g : RowEntry Number) → entries_of (x ∷ []) ≡ g ∷ [] → entry_of x ≡ g
+    only x g e = cc
+longer_entries (x ∷ y ∷ es) none g e z = cc
+
+-- a place on a row, by the result of a call
+pub row_on : (es : List Entry) (r : Result Place AtomStop) → IfOk r (λ p. IsSign (number_of p.factor)) → IfOk r (IsOnEntry es)
+row_on es (Ok p) h = inr h
+row_on es (Err s) h = tt
+
+-- an entry that is alone is that of the one variable
+one_of : (os : List (Option TermId)) (e : Entry) (xs : List (TermId × Ratio)) → AreNumbered os (e ∷ []) xs
+    → (x : TermId × Ratio) × (xs ≡ x ∷ []) × (e.coefficient ≡ x.1) × (owner_at os e.variable ≡ Some x.0)
+one_of os e [] h = absurd h
+one_of os e (x ∷ []) h = (x, refl, h.0.coefficient, h.0.owner)
+one_of os e (x ∷ y ∷ xs) h = absurd h.1
+
+-- a variable that stands for no term is not that of an entry
+unit_of : (os : List (Option TermId)) (es : List Entry) (xs : List (TermId × Ratio)) (p : Place) → AreNumbered os es xs → IsOnEntry es p → owner_at os p.variable ≡ None
+    → IsSign (number_of p.factor)
+unit_of os es xs p numbered (inr u) none = u
+unit_of os es xs p numbered (inl (e, is, y)) none =
+    let one = one_of os e xs (subst (λ l. AreNumbered os l xs) is numbered) in
+    absurd (none_some one.0.0 (sym none ∙ ap (owner_at os) y ∙ one.3))
+  where
+    none_some : (id : TermId) → (let o : Option TermId = None in o) ≡ Some id → ⊥
+    none_some id k = cc
+
 -- a place is that of its form
 pub formed : (t : TableView) (os : List (Option TermId)) (b : BoardView) (g : Ground) (f : FormView) (xs : List (TermId × Ratio)) (es : List Entry) (kind : Kind) (constant : Ratio) (p : Place)
-    → map pair_view xs ≡ f.variables → fraction constant ≡ f.constant → AreNumbered os es xs → Grows (ground_of os b) g → IsMade kind constant p → Covers g es p
+    → map pair_view xs ≡ f.variables → fraction constant ≡ f.constant → AreNumbered os es xs → Grows (ground_of os b) g → IsMade kind constant p → Covers g es p → IsOnEntry es p
     → IsFormOf (setting_of t g) p (form_meant t f)
-formed t os b g f xs es kind constant p vs k numbered grows m covers =
+formed t os b g f xs es kind constant p vs k numbered grows m covers on =
     let all : AreNumbered g.owners es xs = subst (λ l. AreNumbered l es xs) (sym grows.owners) (numbered_kept os grows.more_owners es xs numbered) in
     record {
       factor = m.factor;
       bound = m.bound;
       variable = covers.variable;
+      unit = unit_of g.owners es xs p all on;
       constant = sym k ∙ ap fraction (sym m.is_constant);
       value = λ n v o h.
           ap (λ (l : List (TermId × Fraction)). variables_value (λ u. (n u).fraction) (map (pair_meant t) l)) (sym vs)
@@ -124,23 +159,18 @@ form_strains os b g f xs es constant (stops.Wide w) vs k numbered grows (made.ro
     let all : AreNumbered g.owners es xs = subst (λ l. AreNumbered l es xs) (sym grows.owners) (numbered_kept os grows.more_owners es xs numbered) in
     row (entries_of es) (subst (λ (l : List (TermId × Fraction)). AreEntriesOf (map (owner_meant t) g.owners) (entries_of es) (map (pair_meant t) l)) vs (numbered_entries t g.owners es xs all)) h
 form_strains os b g f xs es constant (stops.Wide w) vs k numbered grows (made.bound e is h) = λ t.
-    let one = one_of e xs (subst (λ l. AreNumbered os l xs) is numbered) in
+    let one = one_of os e xs (subst (λ l. AreNumbered os l xs) is numbered) in
     bound (term_at t one.0.0) (fraction e.coefficient)
     (ap (λ (l : List (TermId × Fraction)). map (pair_meant t) l) (sym vs ∙ ap (λ l. map pair_view l) one.1) ∙ (λ i. (term_at t one.0.0, fraction (sym one.2 i)) ∷ []))
     (ap (λ z. divided (opposite z) (fraction e.coefficient)) (sym k) ∙ h)
-  where
-    one_of : (e : Entry) (xs : List (TermId × Ratio)) → AreNumbered os (e ∷ []) xs → (x : TermId × Ratio) × (xs ≡ x ∷ []) × (e.coefficient ≡ x.1)
-    one_of e [] h = absurd h
-    one_of e (x ∷ []) h = (x, refl, h.0.coefficient)
-    one_of e (x ∷ y ∷ xs) h = absurd h.1
 
 -- the same by the result of a call
 
 pub result_formed : (os : List (Option TermId)) (b : BoardView) (g : Ground) (f : FormView) (xs : List (TermId × Ratio)) (es : List Entry) (kind : Kind) (constant : Ratio) (r : Result Place AtomStop)
-    → map pair_view xs ≡ f.variables → fraction constant ≡ f.constant → AreNumbered os es xs → Grows (ground_of os b) g → IfOk r (IsMade kind constant) → IfOk r (Covers g es)
+    → map pair_view xs ≡ f.variables → fraction constant ≡ f.constant → AreNumbered os es xs → Grows (ground_of os b) g → IfOk r (IsMade kind constant) → IfOk r (Covers g es) → IfOk r (IsOnEntry es)
     → IfOk r (λ p. (t : TableView) → IsFormOf (setting_of t g) p (form_meant t f))
-result_formed os b g f xs es kind constant (Ok p) vs k numbered grows m covers = λ t. formed t os b g f xs es kind constant p vs k numbered grows m covers
-result_formed os b g f xs es kind constant (Err s) vs k numbered grows m covers = tt
+result_formed os b g f xs es kind constant (Ok p) vs k numbered grows m covers on = λ t. formed t os b g f xs es kind constant p vs k numbered grows m covers on
+result_formed os b g f xs es kind constant (Err s) vs k numbered grows m covers on = tt
 
 pub result_strains : (os : List (Option TermId)) (b : BoardView) (g : Ground) (f : FormView) (xs : List (TermId × Ratio)) (es : List Entry) (constant : Ratio) (r : Result Place AtomStop)
     → map pair_view xs ≡ f.variables → fraction constant ≡ f.constant → AreNumbered os es xs → Grows (ground_of os b) g

@@ -1,5 +1,5 @@
 -- Sums that are variables, or minus variables, and places on these.
-use Rattle.std.proofs.Common.{◌≡◌, ℕ, ◌<◌, Bool, true, false, not, List, ◌∷◌, length, refl, sym, ◌∙◌, ap, subst}
+use Rattle.std.proofs.Common.{◌≡◌, ℕ, ◌<◌, inl, inr, Bool, true, false, not, List, ◌∷◌, length, refl, sym, ◌∙◌, ap, subst}
 use Rattle.std.specs.Bool.{beq}
 use Rattle.std.specs.Prelude.{Contains, IsPermutation}
 use Rattle.std.proofs.lemmas.List.Elements.{All-cons, All-contains}
@@ -13,6 +13,7 @@ use Rattle.tableau.specs.Entries.{entries_of}
 use Rattle.simplex_atoms.specs.declared.keys.Key.{Key}
 use Rattle.simplex_atoms.specs.declared.place.Place.{Place}
 use Rattle.simplex_atoms.specs.declared.sums.Multiple.{Multiple}
+use Rattle.simplex_atoms.specs.Places.{IsSign}
 use Rattle.simplex_atoms.specs.Sums.{sign_by, key_meant, IsKeyOf, Sum, sum_by}
 use Rattle.simplex_atoms.specs.Atoms.{Ground, IsMultiple, IsSum, AreSums}
 use Rattle.simplex_atoms.specs.Made.{Covers}
@@ -28,6 +29,11 @@ inverse_one : numbers.inverse numbers.one ≡ numbers.one
 inverse_one =
     let l = numbers_are_ordered_field in
     sym (l.product_one (numbers.inverse numbers.one)) ∙ l.product_commutative numbers.one (numbers.inverse numbers.one) ∙ l.product_inverse numbers.one l.one_is_not_zero
+
+-- a sign is 1 or -1
+pub sign_is : (b : Bool) (k : Number) → k ≡ sign_by b → IsSign k
+sign_is false k e = inl e
+sign_is true k e = inr e
 
 -- minus one is its own inverse
 inverse_minus_one : numbers.inverse (numbers.opposite numbers.one) ≡ numbers.opposite numbers.one

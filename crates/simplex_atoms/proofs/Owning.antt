@@ -1,5 +1,6 @@
 -- What variables stand for, as their list grows, and the index of it.
 use Rattle.std.proofs.Common.{◌≡◌, ℕ, zero, suc, ◌<◌, ◌⊎◌, inl, inr, Bool, true, false, List, [], ◌∷◌, ◌++◌, length, cond, Option, Some, None, nat_eq, refl, sym, ◌∙◌, ap, subst, arith}
+use Rattle.std.proofs.Math.ListN.{get_or-append}
 use Rattle.std.proofs.Math.Seq.{get_or-append_seam}
 use Rattle.std.proofs.lemmas.Bool.{eqb-true, eq-eqb}
 use Rattle.term_core.specs.declared.ids.TermId.{TermId}
@@ -19,6 +20,10 @@ pub owner_kept : (os more : List (Option TermId)) (y : ℕ) (id : TermId) → ow
 owner_kept [] more y id h = absurd (none_some id h)
 owner_kept (o ∷ os) more zero id h = h
 owner_kept (o ∷ os) more (suc y) id h = owner_kept os more y id h
+
+-- what stands for a term stood for it when it was there
+pub owner_first : (os more : List (Option TermId)) (y : ℕ) → y < length os → owner_at (os ++ more) y ≡ None → owner_at os y ≡ None
+owner_first os more y lt h = sym (get_or-append os more None y lt) ∙ h
 
 pub owner_last : (os : List (Option TermId)) (o : Option TermId) → owner_at (os ++ o ∷ []) (length os) ≡ o
 owner_last os o = get_or-append_seam os o [] None

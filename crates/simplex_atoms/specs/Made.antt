@@ -1,5 +1,5 @@
 -- Steps by which the place of a form is made.
-use Rattle.std.specs.Prelude.{◌≡◌, false, List, [], ◌∷◌, Option, Some, None, Err}
+use Rattle.std.specs.Prelude.{◌≡◌, ◌⊎◌, false, List, [], ◌∷◌, Option, Some, None, Err}
 use Rattle.spec_numbers.specs.Fractions.{opposite}
 use Rattle.spec_numbers.specs.Bounds.{Overflow, divided}
 use Rattle.spec_tableaux.specs.Numbers.{numbers}
@@ -12,6 +12,7 @@ use Rattle.simplex_check.specs.Boards.{BoardView, state_of}
 use Rattle.spec_strains.specs.Strains.{StrainsNew}
 use Rattle.simplex_atoms.specs.declared.place.Kind.{Kind}
 use Rattle.simplex_atoms.specs.declared.place.Place.{Place}
+use Rattle.simplex_atoms.specs.Places.{IsSign}
 use Rattle.simplex_atoms.specs.Atoms.{Ground, IsMultiple}
 
 -- The place has this kind and constant, and its bound is that of its factor.
@@ -25,6 +26,10 @@ pub record IsMade (kind : Kind) (constant : Ratio) (place : Place) : Type 0 wher
 -- the sum of entries is the place's factor times its variable, wherever the rows hold
 abbrev pub Covers : Ground → List Entry → Place → Type 0
 Covers g es place = IsMultiple g (entries_of es) (number_of place.factor) place.variable
+
+-- the place is on the variable of the one entry, or its factor is 1 or -1
+abbrev pub IsOnEntry : List Entry → Place → Type 0
+IsOnEntry es place = ((e : Entry) × (es ≡ e ∷ []) × (place.variable ≡ e.variable)) ⊎ IsSign (number_of place.factor)
 
 -- the one entry, whose coefficient is not 0, where the entries are such a one
 abbrev pub IsSingle : List Entry → Option Entry → Type 0

@@ -1,6 +1,6 @@
 -- Which variable of a tableau an atom of linear arithmetic bounds: its form is a multiple of the variable, and a
 -- constant.
-use Rattle.std.specs.Prelude.{◌≡◌, ℕ, ◌<◌, Bool, true, false, List, length, nat_eq, Option, Some, None, Ok}
+use Rattle.std.specs.Prelude.{◌≡◌, ◌⊎◌, ℕ, ◌<◌, Bool, true, false, List, length, nat_eq, Option, Some, None, Ok}
 use Rattle.std.specs.Map.{lookup}
 use Rattle.spec_sorts.specs.Terms.{Term}
 use Rattle.spec_arithmetic.specs.Forms.{Form, variables_value}
@@ -15,7 +15,7 @@ use Rattle.tableau.specs.Numbers.{number_of}
 use Rattle.simplex_atoms.specs.declared.place.Kind.{Kind}
 use Rattle.simplex_atoms.specs.declared.place.Kind.TheVariants as kinds
 use Rattle.simplex_atoms.specs.declared.place.Place.{Place}
-use Rattle.simplex_atoms.specs.Owners.{AreOwned}
+use Rattle.simplex_atoms.specs.Owners.{owner_at, AreOwned}
 
 -- What places are read by.
 pub record Setting : Type 0 where
@@ -42,6 +42,10 @@ relation_by kinds.AtMost false = Some above
 relation_by kinds.Equal true = Some equals
 relation_by kinds.Equal false = None
 
+-- the number is 1 or -1
+abbrev pub IsSign : Number → Type 0
+IsSign k = (k ≡ numbers.one) ⊎ (k ≡ numbers.opposite numbers.one)
+
 -- The form is the factor times the variable, plus the constant, wherever the rows hold.
 pub record IsFormOf (s : Setting) (place : Place) (f : Form) : Type 0 where
   -- the factor is not 0
@@ -51,6 +55,8 @@ pub record IsFormOf (s : Setting) (place : Place) (f : Form) : Type 0 where
       ≡ numbers.times (numbers.opposite (number_of place.constant)) (numbers.inverse (number_of place.factor))
   -- the variable is there
   pub variable : place.variable < length s.owners
+  -- where it stands for no term, the factor is 1 or -1
+  pub unit : owner_at s.owners place.variable ≡ None → IsSign (number_of place.factor)
   -- the constant is that of the form
   pub constant : f.constant ≡ fraction place.constant
   -- the form's variables come to the factor times the variable

@@ -9,15 +9,16 @@ ghost use Rattle.spec_tableaux.specs.Numbers.{numbers};
 ghost use Rattle.ratio128.specs.Meant.{fraction, overflow};
 ghost use Rattle.term_core.specs.Tables.{TableView};
 ghost use Rattle.spec_causes.specs.Standing.{AreEntriesOf};
+ghost use Rattle.spec_causes.specs.Reached.{IsLonger};
 ghost use Rattle.linear_form.specs.Meant.{form_meant, AreVariablesOf};
 ghost use Rattle.tableau.specs.Numbers.{number_of};
 ghost use Rattle.tableau.specs.Entries.{entries_of};
 ghost use Rattle.simplex_atoms.specs.Owners.{AreOwnersIn};
 ghost use Rattle.simplex_atoms.specs.Sums.{sign_by};
-ghost use Rattle.simplex_atoms.specs.Places.{IsFormOf};
+ghost use Rattle.simplex_atoms.specs.Places.{IsSign, IsFormOf};
 ghost use Rattle.simplex_atoms.specs.Atoms.{ground_of, setting_of, AreCounted, IsGrounded, Grows, IsMultiple, AreSums};
 ghost use Rattle.simplex_atoms.specs.Watching.{OnWide, StrainsForm};
-ghost use Rattle.simplex_atoms.specs.Made.{IsMade, Covers, IsSingle, StrainsEntries};
+ghost use Rattle.simplex_atoms.specs.Made.{IsMade, Covers, IsOnEntry, IsSingle, StrainsEntries};
 ghost use Rattle.simplex_atoms.specs.Standings.{owner_meant, ButForMemory, Leads, TellsOwners};
 
 use crate::numbering::entries_of;
@@ -87,6 +88,7 @@ fn on_multiple(kind: Kind, constant: Ratio, multiple: Multiple) -> Place
     ensures made { IsMade kind constant result }
     ensures variable { result.variable ≡ multiple.variable }
     ensures factor { number_of result.factor ≡ sign_by multiple.opposite }
+    ensures unit { IsSign (number_of result.factor) }
 {
     Place {
         kind,
@@ -101,6 +103,7 @@ fn on_multiple(kind: Kind, constant: Ratio, multiple: Multiple) -> Place
 fn add_row(owners: &mut Owners, board: &mut Board, entries: &[Entry]) -> Result<u64, AtomStop>
     requires counted { AreCounted (ground_of owners.old.list board.old) }
     requires over { IsOver (λ y. y < board.old.tableau.variables) (entries_of entries.now) }
+    requires longer { IsLonger (entries_of entries.now) }
     ensures counted { AreCounted (ground_of owners.new.list board.new) }
     ensures grows { Grows (ground_of owners.old.list board.old) (ground_of owners.new.list board.new) }
     ensures grounded { IsGrounded (ground_of owners.old.list board.old)
@@ -130,6 +133,7 @@ fn on_row(
     requires counted { AreCounted (ground_of owners.old.list board.old) }
     requires sums { AreSums (ground_of owners.old.list board.old) sums.old }
     requires over { IsOver (λ y. y < board.old.tableau.variables) (entries_of entries.now) }
+    requires longer { IsLonger (entries_of entries.now) }
     ensures counted { AreCounted (ground_of owners.new.list board.new) }
     ensures sums { AreSums (ground_of owners.new.list board.new) sums.new }
     ensures grows { Grows (ground_of owners.old.list board.old) (ground_of owners.new.list board.new) }
@@ -138,6 +142,7 @@ fn on_row(
     ensures there { (t : TableView) → AreOwnersIn t owners.old.list → AreOwnersIn t owners.new.list }
     ensures made { IfOk result (IsMade kind constant) }
     ensures covers { IfOk result (Covers (ground_of owners.new.list board.new) entries.now) }
+    ensures unit { IfOk result (λ p. IsSign (number_of p.factor)) }
     ensures wide { IfErr result (OnWide (StrainsEntries board.new constant entries.now)) }
     ensures came { ButForMemory ((t : TableView) (f : Meant)
         → AreEntriesOf (map (owner_meant t) owners.old.list) (entries_of entries.now) f.variables
@@ -181,6 +186,7 @@ fn place_by(
     ensures there { (t : TableView) → AreOwnersIn t owners.old.list → AreOwnersIn t owners.new.list }
     ensures made { IfOk result (IsMade kind constant) }
     ensures covers { IfOk result (Covers (ground_of owners.new.list board.new) entries.now) }
+    ensures on { IfOk result (IsOnEntry entries.now) }
     ensures wide { IfErr result (OnWide (StrainsEntries board.new constant entries.now)) }
     ensures came { ButForMemory ((t : TableView) (f : Meant)
         → AreEntriesOf (map (owner_meant t) owners.old.list) (entries_of entries.now) f.variables

@@ -42,7 +42,7 @@ returns-clause-is c =
     c.args.kind c.constant.result c.place_by.result
     (variables_as c.deref.result.now c.in_ok-variables.variables.items c.args.form.now c.deref.ensures.value c.in_ok-variables.ensures) c.constant.ensures
     (subst (λ (es : List Entry). AreNumbered c.entries_of.new.owners.list es c.deref.result.now) (sym c.deref-2.ensures.value) c.in_ok-entries.ensures.ok)
-    c.place_by.ensures.grows c.place_by.ensures.made c.place_by.ensures.covers
+    c.place_by.ensures.grows c.place_by.ensures.made c.place_by.ensures.covers c.place_by.ensures.on
 
 pub returns-clause-wide : goal.returns-clause-wide
 returns-clause-wide c =
