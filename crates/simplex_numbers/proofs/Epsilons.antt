@@ -2,13 +2,15 @@
 use Rattle.std.proofs.Common.{◌≡◌, ℕ, ◌⊎◌, inl, inr, Result, Ok, Err, IfOk, sym, ◌∙◌, ap, subst}
 use Rattle.spec_tableaux.specs.Spaces.{Pair}
 use Rattle.spec_tableaux.specs.Ranges.{Range}
-use Rattle.spec_tableaux.specs.Numbers.{Number}
+use Rattle.spec_tableaux.specs.Numbers.{Number, numbers}
 use Rattle.spec_strains.specs.Points.{Ranges}
 use Rattle.spec_strains.specs.Halves.{IsSteeper, halfway}
-use Rattle.spec_causes.specs.Causes.{IsHalfAbove, IsHalfBelow, IsHalfIn, IsEpsilon}
+use Rattle.spec_causes.specs.Causes.{IsHalfAbove, IsHalfBelow, IsHalfIn}
 use Rattle.ratio128.specs.declared.ratio.Ratio.{Ratio}
 use Rattle.ratio128.specs.declared.wide.Wide.{Wide}
 use Rattle.tableau.specs.Numbers.{number_of}
+use Rattle.simplex_numbers.specs.Values.{IsSmaller, IsAboveNone}
+use Rattle.simplex_numbers.proofs.Orders.{not_above}
 
 -- the lesser one is half of the number at which values meet, or the one before
 pub half_or : (e half d : Ratio) (x y : Pair Number) → IsSteeper x y → number_of half ≡ halfway x y → (d ≡ half) ⊎ (d ≡ e) → (d ≡ e) ⊎ (IsSteeper x y × (number_of d ≡ halfway x y))
@@ -24,7 +26,23 @@ half_in (Ok c) e d range x (inl same) (inl h) = inl (h ∙ same)
 half_in (Ok c) e d range x (inr half) (inl h) = inr (inl (subst (λ (b : Ratio). IsHalfAbove range.lower x (number_of b)) (sym h) half))
 
 -- a number stays, or is such a half of a variable more
-pub epsilon_on : (ranges : Ranges) (v : ℕ → Pair Number) (y : ℕ) (e d : Ratio) (r : Range (Pair Number)) (x : Pair Number) → IsEpsilon ranges v (number_of e) → r ≡ ranges y → x ≡ v y
-    → (d ≡ e) ⊎ IsHalfIn r x (number_of d) → IsEpsilon ranges v (number_of d)
-epsilon_on ranges v y e d r x before range value (inl same) = subst (λ (b : Ratio). IsEpsilon ranges v (number_of b)) (sym same) before
-epsilon_on ranges v y e d r x before range value (inr half) = inr (y, subst (λ z. IsHalfIn (ranges y) z (number_of d)) value (subst (λ z. IsHalfIn z x (number_of d)) range half))
+pub one_of_more : (ranges : Ranges) (v : ℕ → Pair Number) (y : ℕ) (e d : Ratio) (r : Range (Pair Number)) (x : Pair Number)
+    → (number_of e ≡ numbers.one) ⊎ ((z : ℕ) × IsHalfIn (ranges z) (v z) (number_of e)) → r ≡ ranges y → x ≡ v y
+    → (d ≡ e) ⊎ IsHalfIn r x (number_of d) → (number_of d ≡ numbers.one) ⊎ ((z : ℕ) × IsHalfIn (ranges z) (v z) (number_of d))
+one_of_more ranges v y e d r x before range value (inl same) =
+    subst (λ (b : Ratio). (number_of b ≡ numbers.one) ⊎ ((z : ℕ) × IsHalfIn (ranges z) (v z) (number_of b))) (sym same) before
+one_of_more ranges v y e d r x before range value (inr half) =
+    inr (y, subst (λ z. IsHalfIn (ranges y) z (number_of d)) value (subst (λ z. IsHalfIn z x (number_of d)) range half))
+
+-- a smaller number is above none of those that a number is above none of
+pub none_smaller : (N : Number → Type 0) (e d : Number) → IsSmaller d e → IsAboveNone N e → IsAboveNone N d
+none_smaller N e d small none h is = not_above h e d (none h is) small.1
+
+-- two steps are above no half by either bound
+pub none_in : (r : Result Ratio Wide) (d : Number) (range : Range (Pair Number)) (x : Pair Number) → IsAboveNone (IsHalfAbove range.lower x) d → IfOk r (λ c. IsSmaller (number_of c) d)
+    → IfOk r (λ c. IsAboveNone (IsHalfBelow range.upper x) (number_of c)) → IfOk r (λ c. IsAboveNone (IsHalfIn range x) (number_of c))
+none_in (Err w) d range x above small below = tt
+none_in (Ok c) d range x above small below = λ h half. elim half [
+  | inl it ↦ none_smaller (IsHalfAbove range.lower x) d (number_of c) small above h it
+  | inr it ↦ below h it
+]

@@ -175,9 +175,13 @@ pub two_not_zero : numbers.is_zero two ≡ false
 unfolding numbers fractions plus gcd
 two_not_zero = refl
 
-pub smaller_smaller : (e d c : Number) → IsSmaller d e → IsSmaller c d → IsSmaller c e
-smaller_smaller e d c first second = (second.0, by (is_less e c) refl)
+-- what is not above a number is not above one that this is not above
+pub not_above : (e d c : Number) → is_less e d ≡ false → is_less d c ≡ false → is_less e c ≡ false
+not_above e d c first second = by (is_less e c) refl
   where
     by : (q : Bool) → is_less e c ≡ q → q ≡ false
-    by true k = absurd (true≢false (sym (not_above_less d e c first.1 k) ∙ second.1))
+    by true k = absurd (true≢false (sym (not_above_less d e c first k) ∙ second))
     by false k = refl
+
+pub smaller_smaller : (e d c : Number) → IsSmaller d e → IsSmaller c d → IsSmaller c e
+smaller_smaller e d c first second = (second.0, not_above e d c first.1 second.1)

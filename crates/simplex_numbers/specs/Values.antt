@@ -15,6 +15,10 @@ use Rattle.spec_strains.specs.Halves.{is_less, at_number}
 abbrev pub IsSmaller : Number → Number → Type 0
 IsSmaller d e = (is_positive numbers d ≡ true) × (is_less e d ≡ false)
 
+-- d is above none of these numbers
+abbrev pub IsAboveNone : (Number → Type 0) → Number → Type 0
+IsAboveNone N d = (h : Number) → N h → is_less h d ≡ false
+
 -- a bound where the infinitesimal is e, if there is one
 abbrev pub bound_at : Number → Option (Pair Number) → Option Number
 bound_at e None = None

@@ -9,8 +9,8 @@ ghost use Rattle.tableau.specs.Numbers.{number_of};
 ghost use Rattle.simplex_bounds.specs.Deltas.{pair_of, pair_in, range_of};
 ghost use Rattle.spec_strains.specs.Points.{deltas};
 ghost use Rattle.simplex_check.specs.Moves.{keeps};
-ghost use Rattle.simplex_numbers.specs.Values.{IsSmaller, StaysLess, StaysAbove, StaysBelow, StaysOff};
-ghost use Rattle.spec_strains.specs.Halves.{two, IsSteeper, halfway, StrainsOrder, StrainsLower, StrainsUpper, StrainsRange};
+ghost use Rattle.simplex_numbers.specs.Values.{IsSmaller, IsAboveNone, StaysLess, StaysAbove, StaysBelow, StaysOff};
+ghost use Rattle.spec_strains.specs.Halves.{two, is_less, IsSteeper, halfway, StrainsOrder, StrainsLower, StrainsUpper, StrainsRange};
 ghost use Rattle.spec_causes.specs.Causes.{IsHalfAbove, IsHalfBelow, IsHalfIn};
 
 use delta_num::Delta;
@@ -48,6 +48,8 @@ fn narrowed(e: Ratio, x: Delta, y: Delta) -> Result<Ratio, Wide>
     ensures less { IfOk result (λ d. StaysLess (number_of d) (pair_of x) (pair_of y)) }
     ensures is { IfOk result (λ d. (d ≡ e)
         ⊎ (IsSteeper (pair_of x) (pair_of y) × (number_of d ≡ halfway (pair_of x) (pair_of y)))) }
+    ensures least { IfOk result (λ d. IsSteeper (pair_of x) (pair_of y)
+        → is_less (halfway (pair_of x) (pair_of y)) (number_of d) ≡ false) }
     ensures wide { IfErr result (λ w. StrainsOrder (pair_of x) (pair_of y) (overflow w)) }
 {
     if !less(y.tilt, x.tilt) {
@@ -60,7 +62,8 @@ fn narrowed(e: Ratio, x: Delta, y: Delta) -> Result<Ratio, Wide>
     Ok(lesser(half, e))
 }
 
-/// Gives a number above 0 that is at most e, at which a value is above its lower bound, if it is at all.
+/// Gives a number above 0 that is at most e, at which a value is above its lower bound, if it is at all. It is at most half of
+/// the number at which the bound comes to the value, if it does.
 ///
 /// The error is the `Wide` of an operation that computes half of the number at which the bound comes to the value.
 #[tactic(auto, using(crate::proofs::Orders::irreflexive))]
@@ -70,6 +73,7 @@ fn narrowed_above(e: Ratio, lower: Option<Delta>, x: Delta) -> Result<Ratio, Wid
     ensures smaller { IfOk result (λ d. IsSmaller (number_of d) (number_of e)) }
     ensures stays { IfOk result (λ d. StaysAbove (number_of d) (pair_in lower) (pair_of x)) }
     ensures is { IfOk result (λ d. (d ≡ e) ⊎ IsHalfAbove (pair_in lower) (pair_of x) (number_of d)) }
+    ensures least { IfOk result (λ d. IsAboveNone (IsHalfAbove (pair_in lower) (pair_of x)) (number_of d)) }
     ensures wide { IfErr result (λ w. StrainsLower (pair_in lower) (pair_of x) (overflow w)) }
 {
     match lower {
@@ -78,7 +82,8 @@ fn narrowed_above(e: Ratio, lower: Option<Delta>, x: Delta) -> Result<Ratio, Wid
     }
 }
 
-/// Gives a number above 0 that is at most e, at which a value is below its upper bound, if it is at all.
+/// Gives a number above 0 that is at most e, at which a value is below its upper bound, if it is at all. It is at most half of
+/// the number at which the value comes to the bound, if it does.
 ///
 /// The error is the `Wide` of an operation that computes half of the number at which the value comes to the bound.
 #[tactic(auto, using(crate::proofs::Orders::irreflexive))]
@@ -88,6 +93,7 @@ fn narrowed_below(e: Ratio, upper: Option<Delta>, x: Delta) -> Result<Ratio, Wid
     ensures smaller { IfOk result (λ d. IsSmaller (number_of d) (number_of e)) }
     ensures stays { IfOk result (λ d. StaysBelow (number_of d) (pair_in upper) (pair_of x)) }
     ensures is { IfOk result (λ d. (d ≡ e) ⊎ IsHalfBelow (pair_in upper) (pair_of x) (number_of d)) }
+    ensures least { IfOk result (λ d. IsAboveNone (IsHalfBelow (pair_in upper) (pair_of x)) (number_of d)) }
     ensures wide { IfErr result (λ w. StrainsUpper (pair_in upper) (pair_of x) (overflow w)) }
 {
     match upper {
@@ -96,7 +102,8 @@ fn narrowed_below(e: Ratio, upper: Option<Delta>, x: Delta) -> Result<Ratio, Wid
     }
 }
 
-/// Gives a number above 0 that is at most e, at which a value within a range is off each bound of it that it is off.
+/// Gives a number above 0 that is at most e, at which a value within a range is off each bound of it that it is off. It is at
+/// most each half of a number at which the value comes to a bound.
 ///
 /// The error is the `Wide` of an operation that computes half of the number at which a bound and the value meet.
 pub(crate) fn narrowed_by(e: Ratio, range: Range, x: Delta) -> Result<Ratio, Wide>
@@ -105,6 +112,7 @@ pub(crate) fn narrowed_by(e: Ratio, range: Range, x: Delta) -> Result<Ratio, Wid
     ensures smaller { IfOk result (λ d. IsSmaller (number_of d) (number_of e)) }
     ensures off { IfOk result (λ d. StaysOff (number_of d) (range_of range) (pair_of x)) }
     ensures is { IfOk result (λ d. (d ≡ e) ⊎ IsHalfIn (range_of range) (pair_of x) (number_of d)) }
+    ensures least { IfOk result (λ d. IsAboveNone (IsHalfIn (range_of range) (pair_of x)) (number_of d)) }
     ensures wide { IfErr result (λ w. StrainsRange (range_of range) (pair_of x) (overflow w)) }
 {
     let small = narrowed_above(e, range.lower, x)?;

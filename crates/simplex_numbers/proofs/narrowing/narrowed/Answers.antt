@@ -1,5 +1,5 @@
 -- Half of the number at which a pair comes to another one keeps it less, and so does each that is not greater.
-use Rattle.std.proofs.Common.{◌≡◌, sym, ◌∙◌, ap}
+use Rattle.std.proofs.Common.{◌≡◌, sym, ◌∙◌, ap, true≢false}
 use Rattle.spec_numbers.specs.Bounds.{divided}
 use Rattle.spec_tableaux.specs.Fields.{is_positive}
 use Rattle.spec_tableaux.specs.Numbers.{Number, numbers}
@@ -17,6 +17,9 @@ returns-then-not-less-clause-smaller c = (c.requires.positive, irreflexive (numb
 
 pub returns-then-not-less-clause-less : goal.returns-then-not-less-clause-less
 returns-then-not-less-clause-less c = level_stays (pair_of c.args.x) (pair_of c.args.y) (number_of c.args.e) c.requires.positive (sym c.less.ensures ∙ c.if-not-less.true)
+
+pub returns-then-not-less-clause-least : goal.returns-then-not-less-clause-least
+returns-then-not-less-clause-least c = λ steep. absurd (true≢false (sym steep ∙ sym c.less.ensures ∙ c.if-not-less.true))
 
 pub quotient-requires : goal.quotient-requires
 quotient-requires c = ap numbers.is_zero c.in_ok-steepness.ensures.ok ∙ rises_not_zero (pair_of c.args.x) (pair_of c.args.y) (sym c.less.ensures ∙ c.if-not-less.false)
@@ -58,3 +61,11 @@ returns-clause-is c =
     let is : number_of c.in_ok-half.half ≡ halfway x y = c.in_ok-half.ensures.ok ∙ (λ i. numbers.times ((c.in_ok-meeting.ensures.ok
     ∙ (λ j. numbers.times (c.in_ok-gap.ensures.ok j) (numbers.inverse (c.in_ok-steepness.ensures.ok j)))) i) (numbers.inverse (c.two.ensures i))) in
     half_or c.args.e c.in_ok-half.half c.lesser.result x y (sym c.less.ensures ∙ c.if-not-less.false) is c.lesser.ensures.either
+
+pub returns-clause-least : goal.returns-clause-least
+returns-clause-least c = λ steep.
+    let x = pair_of c.args.x in
+    let y = pair_of c.args.y in
+    let is : number_of c.in_ok-half.half ≡ halfway x y = c.in_ok-half.ensures.ok ∙ (λ i. numbers.times ((c.in_ok-meeting.ensures.ok
+    ∙ (λ j. numbers.times (c.in_ok-gap.ensures.ok j) (numbers.inverse (c.in_ok-steepness.ensures.ok j)))) i) (numbers.inverse (c.two.ensures i))) in
+    ap (λ (n : Number). is_less n (number_of c.lesser.result)) (sym is) ∙ c.lesser.ensures.first.1

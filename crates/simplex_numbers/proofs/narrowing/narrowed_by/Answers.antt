@@ -2,7 +2,7 @@
 use Rattle.tableau.specs.Numbers.{number_of}
 use Rattle.simplex_bounds.specs.Deltas.{pair_of, range_of}
 use Rattle.simplex_numbers.proofs.Keeping.{smaller_again, off_both}
-use Rattle.simplex_numbers.proofs.Epsilons.{half_in}
+use Rattle.simplex_numbers.proofs.Epsilons.{half_in, none_in}
 use Rattle.simplex_numbers.proofs.narrowing.narrowed_by.Goals as goal
 
 pub returns-clause-smaller : goal.returns-clause-smaller
@@ -15,3 +15,8 @@ returns-clause-off c =
 
 pub returns-clause-is : goal.returns-clause-is
 returns-clause-is c = half_in c.narrowed_below.result c.args.e c.in_ok-small.small (range_of c.args.range) (pair_of c.args.x) c.in_ok-small.ensures.is c.narrowed_below.ensures.is
+
+pub returns-clause-least : goal.returns-clause-least
+returns-clause-least c =
+    none_in c.narrowed_below.result (number_of c.in_ok-small.small) (range_of c.args.range) (pair_of c.args.x) c.in_ok-small.ensures.least
+    c.narrowed_below.ensures.smaller c.narrowed_below.ensures.least
