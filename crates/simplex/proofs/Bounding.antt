@@ -25,7 +25,7 @@ use Rattle.simplex_bounds.specs.Deltas.{pair_of}
 use Rattle.simplex_bounds.specs.Held.{strongest, value_in, ranges_in}
 use Rattle.simplex_bounds.proofs.Keeping.{strongest_is_held}
 use Rattle.simplex_atoms.specs.declared.place.Place.{Place}
-use Rattle.simplex_atoms.specs.Owners.{AreOwned}
+use Rattle.simplex_atoms.specs.Owners.{owner_at, AreOwned}
 use Rattle.simplex_atoms.specs.Places.{IsFormOf, place_in, relation_by}
 use Rattle.simplex_atoms.specs.Atoms.{ground_of, setting_of}
 use Rattle.simplex_atoms.specs.Limits.{Limit, limit_of, limit_on, limits_where, limits_by}
@@ -42,6 +42,11 @@ use Rattle.simplex.specs.Coming.{standing_of}
 -- values of the terms of owners are values of the owners
 owned_terms : (t : TableView) (os : List (Option TermId)) (n : Term → Number) (v : ℕ → Number) → terms.AreOwned (map (owner_meant t) os) n v → AreOwned t os n v
 owned_terms t os n v h y id e = h y (term_at t id) (owner_mapped t os y ∙ ap (owner_meant t) e)
+
+-- what means no term stands for none
+none_meant : (t : TableView) (o : Option TermId) → owner_meant t o ≡ None → o ≡ None
+none_meant t None e = refl
+none_meant t (Some id) e = absurd (cc)
 
 -- sides
 
@@ -104,6 +109,7 @@ module _ (t : TableView) (v : SimplexView) (is : IsOf v t) where
   multiple place f m = record {
     nonzero = m.factor;
     there = subst (λ n. place.variable < n) (sym (length-map v.atoms.owners (owner_meant t))) m.variable;
+    unit = λ e. m.unit (none_meant t (owner_at v.atoms.owners place.variable) (sym (owner_mapped t v.atoms.owners place.variable) ∙ e));
     value = λ n x o h. m.value n x (owned_terms t v.atoms.owners n x o) h;
   }
 
@@ -148,6 +154,12 @@ module _ (t : TableView) (v : SimplexView) (is : IsOf v t) where
         subst (λ z. States b.literal place z (side_in side) (pair_of b.value)) h.2
         (subst (λ z. States b.literal place b.variable (side_in z) (pair_of b.value)) h.1 (states_bound b h.0 place there))
 
+    -- the literal of the strongest bound is held
+    pub strongest_by_held : (side : CodeSide) (y : ℕ) (b : Bound) → strongest side y v.bounds.held ≡ Some b → Contains (literals_held t v.theory) (literal_at t b.literal)
+    strongest_by_held side y b e =
+        to_image (literal_at t) v.theory.held b.literal
+        (held_literal v.atoms.placed v.theory.held v.bounds.held fits.bounds_are b (strongest_is_held side y v.bounds.held b e).0)
+
     -- a literal states the bound on a side
     on_a_side : (side : CodeSide) (y : ℕ) (b : Pair Number) → value_in (strongest side y v.bounds.held) ≡ Some b
         → (l : Literal) × Contains (literals_held t v.theory) l × IsBound s l y (side_in side) b
@@ -159,18 +171,19 @@ module _ (t : TableView) (v : SimplexView) (is : IsOf v t) where
             let h = strongest_is_held side y v.bounds.held x f in
             let stated = All-contains (IsStated v.atoms.placed) v.bounds.held x (bounds_stated v.atoms.placed v.theory.held v.bounds.held fits.bounds_are) h.0 in (
               literal_at t x.literal,
-              to_image (literal_at t) v.theory.held x.literal (held_literal v.atoms.placed v.theory.held v.bounds.held fits.bounds_are x h.0),
+              strongest_by_held side y x f,
               subst (IsBound s (literal_at t x.literal) y (side_in side)) (some_same (pair_of x.value) b g) (states_strongest side y x f stated.place stated.there).0,
             )
 
+    -- on each side
+    pub stated_by_held : (y : ℕ) (side : Side) (b : Pair Number) → bound_on side (ranges_in v.bounds.held y) ≡ Some b → (l : Literal) × Contains (literals_held t v.theory) l × IsBound s l y side b
+    stated_by_held y lower b e = on_a_side Lower y b e
+    stated_by_held y upper b e = on_a_side Upper y b e
+
     -- the bounds that are held are those of held literals
-    pub are_bounds : (ts : List Term) → All (λ (l : Lit). Contains ts (term_at t l.term)) v.theory.held → AreBounds ts s (ranges_in v.bounds.held)
+    abbrev pub are_bounds : (ts : List Term) → All (λ (l : Lit). Contains ts (term_at t l.term)) v.theory.held → AreBounds ts s (ranges_in v.bounds.held)
     are_bounds ts atoms = record {
       literals = literals_held t v.theory;
       atoms = All-map (λ (l : Literal). Contains ts l.atom) (literal_at t) v.theory.held atoms;
-      stated = stated;
+      stated = stated_by_held;
     }
-      where
-        stated : (y : ℕ) (side : Side) (b : Pair Number) → bound_on side (ranges_in v.bounds.held y) ≡ Some b → (l : Literal) × Contains (literals_held t v.theory) l × IsBound s l y side b
-        stated y lower b e = on_a_side Lower y b e
-        stated y upper b e = on_a_side Upper y b e

@@ -1,5 +1,5 @@
 -- How simplex came to where it stands, as literals are held, terms are watched, and a check runs.
-use Rattle.std.proofs.Common.{◌≡◌, ℕ, zero, suc, List, map, All, Contains, Result, Ok, Err, inl, inr, sym, ap, subst}
+use Rattle.std.proofs.Common.{◌≡◌, ℕ, zero, suc, List, length, map, All, Contains, Result, Ok, Err, inl, inr, sym, ap, subst}
 use Rattle.std.specs.Prelude.{MatchResult}
 use Rattle.std.proofs.lemmas.List.Elements.{All-weaker, All-contains, All-take, All-push}
 use Rattle.spec_text.proofs.Members.{to_image, from_image}
@@ -111,9 +111,13 @@ module _ (t : TableView) (ts : List Term) where
   atoms_among v over among = all_from (λ (l : Lit). Contains ts (term_at t l.term)) v.held (λ l has.
       among (term_at t l.term) (to_image (term_at t) v.watched l.term (All-contains (λ (l : Lit). Contains v.watched l.term) v.held l over has)))
 
+-- held literals are of watched terms
+pub watched_atoms : (t : TableView) (v : SimplexView) → AreOver v.theory.held v.theory.watched → All (λ (l : Lit). Contains (terms_watched t v.theory) (term_at t l.term)) v.theory.held
+watched_atoms t v over = atoms_among t (terms_watched t v.theory) v.theory over (λ u has. has)
+
 -- the bounds that are held are of watched terms
 pub watched_bounds : (t : TableView) (v : SimplexView) → IsOf v t → Fits v → AreOver v.theory.held v.theory.watched → AreBounds (terms_watched t v.theory) (standing_of t v) (ranges_in v.bounds.held)
-watched_bounds t v is fits over = are_bounds t v is fits (terms_watched t v.theory) (atoms_among t (terms_watched t v.theory) v.theory over (λ u has. has))
+watched_bounds t v is fits over = are_bounds t v is fits (terms_watched t v.theory) (watched_atoms t v over)
 
 -- what goes with a table where terms are watched
 pub suits_over : (t : TableView) (v : SimplexView) → IsOf v t → IsOver t v.theory → AreOver v.theory.held v.theory.watched → Suits v t
@@ -131,7 +135,8 @@ fits_on v c f = record { bounds_are = f.bounds_are; starts_are = f.starts_are; r
 
 -- a check runs
 
-module _ (t : TableView) (ts : List Term) (v : SimplexView) (c : BoardView) (is : IsOf v t) (fits : Fits v) (listed : c.tableau.listed ≡ v.board.tableau.listed) where
+module _ (t : TableView) (ts : List Term) (v : SimplexView) (c : BoardView) (is : IsOf v t) (fits : Fits v) (listed : c.tableau.listed ≡ v.board.tableau.listed)
+    (lengths : length c.values ≡ length v.board.values) where
   abbrev after : SimplexView
   after = record { theory = v.theory; atoms = v.atoms; board = c; bounds = v.bounds; starts = v.starts }
 
@@ -145,14 +150,14 @@ module _ (t : TableView) (ts : List Term) (v : SimplexView) (c : BoardView) (is 
   ran_on old new came ran = record {
     watched = came.watched;
     held = came.held;
-    reached = moved new (reached.checking old new (standing_of t v) came.reached ranges (are_bounds t v is fits ts came.held) c.tableau.rows c.values ran);
+    reached = moved new (reached.checking old new (standing_of t v) came.reached ranges (are_bounds t v is fits ts came.held) c.tableau.rows c.values lengths ran);
   }
 
   settled_on : (old : List (ℕ × ℕ)) (n : ℕ) → CameBy t ts old v → SettlesBelow ranges n (state_of v.board) (state_of c) → CameBy t ts old after
   settled_on old n came settles = record {
     watched = came.watched;
     held = came.held;
-    reached = moved old (reached.settling old (standing_of t v) came.reached ranges (are_bounds t v is fits ts came.held) n c.tableau.rows c.values settles);
+    reached = moved old (reached.settling old (standing_of t v) came.reached ranges (are_bounds t v is fits ts came.held) n c.tableau.rows c.values lengths settles);
   }
 
   stopped_on : (old new : List (ℕ × ℕ)) → CameBy t ts old v → Stopped ranges (state_of v.board) (state_of c) old new → IsAtLast (λ es. CameBy t ts es after) new

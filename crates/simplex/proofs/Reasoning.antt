@@ -1,5 +1,6 @@
 -- Reasons by the code's words are reasons of simplex where it stands, and so are their overflows.
 use Rattle.std.proofs.Common.{◌≡◌, Bool, true, not, cond, List, [], ◌∷◌, map, Option, Some, Err, refl, sym, ◌∙◌, ap, subst}
+use Rattle.std.specs.Prelude.{All, Contains}
 use Rattle.std.proofs.lemmas.Simd.{map-map}
 use Rattle.spec_numbers.specs.Fractions.{Fraction}
 use Rattle.spec_numbers.specs.Bounds.{Overflow, divided}
@@ -13,12 +14,13 @@ use Rattle.spec_simplex.specs.Constraints.{Relation, below, at_most, equals, at_
 use Rattle.spec_simplex.specs.Weights.{denial}
 use Rattle.spec_strains.specs.Points.{Ranges}
 use Rattle.spec_causes.specs.Standing.{Standing}
-use Rattle.spec_causes.specs.Bounds.{bound_on, side_by, AreBounds}
+use Rattle.spec_causes.specs.Bounds.{bound_on, AreBounds}
 use Rattle.spec_causes.specs.Reasons.{directed, IsStop, weight_by, IsReason, AreReasons, literals_in, weights_in, crossing, sticking, StrainsReasons, weighing, adding}
 use Rattle.spec_causes.specs.Causes.{StrainsAt, explaining}
 use Rattle.ratio128.specs.Meant.{fraction}
 use Rattle.term_core.specs.declared.ids.Lit.{Lit}
-use Rattle.term_core.specs.Tables.{TableView, literal_at}
+use Rattle.term_core.specs.Tables.{TableView, term_at, literal_at}
+use Rattle.proof_log.specs.Theories.{literals_held}
 use Rattle.tableau.specs.Numbers.{number_of}
 use Rattle.simplex_bounds.specs.declared.bounds.Bound.{Bound}
 use Rattle.simplex_bounds.specs.Deltas.{pair_of}
@@ -38,7 +40,7 @@ use Rattle.simplex_reasons.specs.Reasons as code
 use Rattle.simplex.specs.Views.{SimplexView, Fits, IsOf}
 use Rattle.simplex.specs.Checks.{Found, StrainsFound, AreReasonsOf}
 use Rattle.simplex.specs.Coming.{standing_of}
-use Rattle.simplex.proofs.Bounding.{side_same, bound_same, States, states_strongest}
+use Rattle.simplex.proofs.Bounding.{side_same, bound_same, States, states_strongest, strongest_by_held, are_bounds}
 
 -- a literal with its weight, as a table means them
 abbrev pub reason_meant : TableView → Weighted → Literal × Fraction
@@ -68,10 +70,13 @@ module _ (t : TableView) (v : SimplexView) (is : IsOf v t) (fits : Fits v) where
   abbrev ranges : Ranges
   ranges = ranges_in v.bounds.held
 
+  abbrev held : List Literal
+  held = literals_held t v.theory
+
   -- A literal whose atom has this place stops the variable of an entry, by the factor of the place.
   abbrev Stops : Bool → Entry Number → Lit → Place → Type 0
   Stops up e l place =
-      (x : IsStop s ranges up e (literal_at t l)) × (x.states.factor ≡ number_of place.factor) × (relation_by place.kind l.positive ≡ Some x.states.constraint.relation)
+      (x : IsStop s held ranges up e (literal_at t l)) × (x.states.factor ≡ number_of place.factor) × (relation_by place.kind l.positive ≡ Some x.states.constraint.relation)
 
   stops : (up : Bool) (e : Entry Number) (b : Bound) → stop_of v.bounds.held up e ≡ Some b → (place : Place) → place_in v.atoms.placed b.literal.term ≡ Some place
       → Stops up e b.literal place
@@ -80,6 +85,7 @@ module _ (t : TableView) (v : SimplexView) (is : IsOf v t) (fits : Fits v) where
       let states = subst (λ side. States t v is b.literal place e.variable side (pair_of b.value)) (side_same q)
       (states_strongest t v is fits (limits.side_by q) e.variable b stop place there) in (
         record {
+          is_held = strongest_by_held t v is fits (limits.side_by q) e.variable b stop;
           bound = pair_of b.value;
           there = subst (λ side. bound_on side (ranges e.variable) ≡ Some (pair_of b.value)) (side_same q) (bound_same (limits.side_by q) v.bounds.held e.variable ∙ ap value_in stop);
           states = states.0;
@@ -88,7 +94,7 @@ module _ (t : TableView) (v : SimplexView) (is : IsOf v t) (fits : Fits v) where
         states.2,
       )
 
-  reason_is : (up : Bool) (e : Entry Number) (w : Weighted) → code.IsReason (footing v.atoms v.bounds) up e w → IsReason s ranges up e (reason_meant t w)
+  reason_is : (up : Bool) (e : Entry Number) (w : Weighted) → code.IsReason (footing v.atoms v.bounds) up e w → IsReason s held ranges up e (reason_meant t w)
   reason_is up e w r =
       let x = subst (λ l. Stops up e l r.place) (sym r.literal) (stops up e r.bound r.stops r.place r.there) in
       record {
@@ -99,26 +105,29 @@ module _ (t : TableView) (v : SimplexView) (is : IsOf v t) (fits : Fits v) where
             ∙ ap (λ k. weight_by x.0.states.constraint.relation (numbers.times (directed up e.coefficient) (numbers.inverse k))) (sym x.1);
       }
 
-  reasons_are : (up : Bool) (es : List (Entry Number)) (ws : List Weighted) → AreReasonsFor (footing v.atoms v.bounds) up es ws → AreReasons s ranges up es (map (reason_meant t) ws)
+  reasons_are : (up : Bool) (es : List (Entry Number)) (ws : List Weighted) → AreReasonsFor (footing v.atoms v.bounds) up es ws → AreReasons s held ranges up es (map (reason_meant t) ws)
   reasons_are up [] [] h = tt
   reasons_are up (e ∷ es) (w ∷ ws) h = (reason_is up e w h.0, reasons_are up es ws h.1)
   reasons_are up [] (w ∷ ws) h = h
   reasons_are up (e ∷ es) [] h = h
 
   -- a weight of them
-  weight_strains : (up : Bool) (es : List (Entry Number)) (o : Overflow) → code.StrainsReasons (footing v.atoms v.bounds) up es o → StrainsReasons s ranges up es o
+  weight_strains : (up : Bool) (es : List (Entry Number)) (o : Overflow) → code.StrainsReasons (footing v.atoms v.bounds) up es o → StrainsReasons s held ranges up es o
   weight_strains up es o (e, has, r) =
       let x = stops up e r.bound r.stops r.place r.there in
       weighing e has (literal_at t r.bound.literal) x.0 (ap (λ (k : Number). divided (directed up e.coefficient).fraction k.fraction) x.1 ∙ r.quotient)
 
   -- their sum
   sum_strains : (up : Bool) (es : List (Entry Number)) (ws : List Weighted) (o : Overflow) → AreReasonsFor (footing v.atoms v.bounds) up es ws → judged t ws ≡ Err (wide o)
-      → StrainsReasons s ranges up es o
+      → StrainsReasons s held ranges up es o
   sum_strains up es ws o are e =
       adding (map (reason_meant t) ws) (reasons_are up es ws are)
       ((λ i. la_generic (map denial (literals_same t ws i)) (map given (weights_same t ws i))) ∙ e)
 
-  module _ (ts : List Term) (bounds : AreBounds ts s ranges) where
+  module _ (ts : List Term) (atoms : All (λ (l : Lit). Contains ts (term_at t l.term)) v.theory.held) where
+    abbrev bounds : AreBounds ts s ranges
+    bounds = are_bounds t v is fits ts atoms
+
     -- a weight of the reasons for what was found
     pub found_weighs : (outcome : Outcome) (o : Overflow) → Found v outcome → StrainsFound v outcome o → StrainsAt ts s o
     found_weighs Fine o found h = absurd found

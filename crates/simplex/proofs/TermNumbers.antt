@@ -1,5 +1,6 @@
 -- Numbers of terms are those of the variables that stand for them.
-use Rattle.std.proofs.Common.{◌≡◌, ◌+◌, ◌<◌, ◌≤◌, ℕ, [], ◌∷◌, ◌++◌, List, length, map, take, get_or, All, Option, Some, None, sym, ◌∙◌, ap}
+use Rattle.std.proofs.Common.{◌≡◌, ◌+◌, ◌<◌, ◌≤◌, ℕ, [], ◌∷◌, ◌++◌, List, length, map, take, get_or, All, Option, Some, None, Result, Ok, Err, sym, ◌∙◌, ap}
+use Rattle.std.specs.Prelude.{IfErr}
 use Rattle.std.proofs.lemmas.List.{map-append, take_more, take_all}
 use Rattle.std.proofs.lemmas.Simd.{map-map}
 use Rattle.std.proofs.lemmas.List.Elements.{All-weaker}
@@ -9,19 +10,28 @@ use Rattle.spec_sorts.specs.WellSorted.{IsWellSorted}
 use Rattle.spec_tableaux.specs.Spaces.{Pair}
 use Rattle.spec_tableaux.specs.Numbers.{Number}
 use Rattle.ratio128.specs.declared.ratio.Ratio.{Ratio}
-use Rattle.ratio128.specs.Meant.{fraction}
+use Rattle.ratio128.specs.declared.wide.Wide.{Wide}
+use Rattle.ratio128.specs.Meant.{fraction, overflow}
+use Rattle.delta_num.specs.declared.delta.Delta.{Delta}
+use Rattle.delta_num.specs.Meant.{delta}
 use Rattle.term_core.specs.declared.ids.TermId.{TermId}
 use Rattle.term_core.specs.declared.ids.Lit.{Lit}
 use Rattle.term_core.specs.Tables.{TableView, term_at, clause_at, IsIn, AreDifferent}
 use Rattle.tableau.specs.Numbers.{number_of}
 use Rattle.proof_log.specs.Theories.{IsAtomIn, IsOver}
-use Rattle.spec_strains.specs.Points.{point_in}
+use Rattle.spec_strains.specs.Deltas.{delta_evaluated}
+use Rattle.spec_strains.specs.Points.{point_in, delta_in}
+use Rattle.spec_causes.specs.Causes.{StrainsValueAt}
+use Rattle.simplex_bounds.specs.Deltas.{pair_of}
 use Rattle.simplex_atoms.specs.Owners.{owner_at, IsNumberOf, AreOwned}
+use Rattle.simplex_atoms.specs.Standings.{owner_meant}
+use Rattle.simplex_atoms.proofs.Numbered.{owner_mapped}
 use Rattle.simplex_held.proofs.Owners.{point_of, owned, absent}
 use Rattle.simplex_numbers.specs.Values.{flat}
 use Rattle.spec_strains.specs.Halves.{at_number}
 use Rattle.simplex.specs.Views.{SimplexView, IsOf}
 use Rattle.simplex.specs.Numbers.{number_by, IsNumberAt}
+use Rattle.simplex.specs.Coming.{standing_of}
 
 -- the number of a term where the infinitesimal is e
 abbrev pub number_in : TableView → SimplexView → Number → Term → Number
@@ -49,6 +59,17 @@ module _ (t : TableView) (v : SimplexView) (e : Number) (unique : AreDifferent t
   -- a number of a term is the number that it has
   pub number_is_in : (id : TermId) (q : Number) → IsIn t id → IsNumberAt e v id q → q ≡ number_in t v e (term_at t id)
   number_is_in id q there n = n.is ∙ by_variable id there n.variable n.stands
+
+-- an overflow of the value of a variable that stands for a term
+pub value_strains : (v : SimplexView) (e : Ratio) (id : TermId) (y : ℕ) (a : Delta) (r : Result Ratio Wide) → IsNumberOf v.atoms.owners id (Some y) → pair_of a ≡ point_in v.board.values y
+    → IfErr r (λ w. delta_evaluated (delta a) (fraction e) ≡ Err (overflow w)) → IfErr r (λ w. (t : TableView) → StrainsValueAt (number_of e) (standing_of t v) (overflow w))
+value_strains v e id y a (Ok q) stands is h = tt
+value_strains v e id y a (Err w) stands is h = λ t. record {
+  variable = y;
+  term = term_at t id;
+  stands = owner_mapped t v.atoms.owners y ∙ ap (owner_meant t) stands;
+  leaves = ap (λ (p : Pair Number). delta_evaluated (delta_in p) (fraction e)) (sym is) ∙ h;
+}
 
 -- one term more
 pub next_number : (t : TableView) (n : Term → Number) (xs ys : List Ratio) (x : Ratio) (ids : List TermId) (i : ℕ) (d : TermId) → i < length ids

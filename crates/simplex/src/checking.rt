@@ -136,11 +136,16 @@ impl Simplex {
             (AreSpent (NeedsMore (terms_watched table.old self.old.theory) (standing_of table.new self.new)) budget.new)) }
     {
         self.literals.are_of_watched_terms();
+        self.board.values_solve_the_rows();
         table.ids_are_unique();
         let outcome = match self.board.check(&self.bounds, budget) {
             Ok(outcome) => outcome,
-            Err(stop) => return Err(stop),
+            Err(stop) => {
+                self.board.values_solve_the_rows();
+                return Err(stop);
+            }
         };
+        self.board.values_solve_the_rows();
         if let Outcome::Fine = outcome {
             self.board.tableau().rows_are_in_solved_form();
             return Ok(Verdict::Fine);

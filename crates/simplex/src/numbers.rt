@@ -1,17 +1,16 @@
 //! Numbers of terms by which the literals that simplex holds hold.
 
 ghost use Rattle.std.specs.Prelude.{map, IfOk, IfErr};
-ghost use Rattle.spec_strains.specs.Points.{point_in};
 ghost use Rattle.spec_causes.specs.Causes.{StrainsValueAt};
 ghost use Rattle.ratio128.specs.Meant.{fraction, overflow};
-ghost use Rattle.term_core.specs.Tables.{AreIn, clause_at};
+ghost use Rattle.term_core.specs.Tables.{TableView, AreIn, clause_at};
 ghost use Rattle.sat_budget.specs.Budgets.{StopsBy};
 ghost use Rattle.proof_log.specs.Theories.{IsOver, terms_watched};
 ghost use Rattle.tableau.specs.Numbers.{number_of};
 ghost use Rattle.simplex.specs.Views.{IsOf};
 ghost use Rattle.simplex.specs.Checks.{KeepsBounds};
 ghost use Rattle.simplex.specs.Numbers.{IsNumberAt, HoldBy};
-ghost use Rattle.simplex.specs.Coming.{IsStrainAt};
+ghost use Rattle.simplex.specs.Coming.{standing_of, IsStrainAt};
 
 use crate::simplex::Simplex;
 use ratio128::{Ratio, Wide};
@@ -27,7 +26,8 @@ impl Simplex {
     /// `Wide` comes where the tilt of the variable's value times e, or the base plus this product, leaves 128 bits.
     fn number_at(&self, e: Ratio, id: TermId) -> Result<Ratio, Wide>
         ensures number { IfOk result (λ q. IsNumberAt (number_of e) self.now id (number_of q)) }
-        ensures wide { IfErr result (λ w. StrainsValueAt (number_of e) (point_in self.now.board.values) (overflow w)) }
+        ensures wide { IfErr result (λ w. (t : TableView)
+            → StrainsValueAt (number_of e) (standing_of t self.now) (overflow w)) }
     {
         match self.atoms.var(id) {
             None => Ok(zero()),

@@ -45,7 +45,8 @@ returns-in-Err-clause-came c ts came =
     let is : IsOf old t = subst (λ (v : SimplexView). IsOf v t) (sym c.self.view_is) c.requires.with in
     let came : CameBy t ts c.args.budget.now.exchanges old = subst (CameBy t ts c.args.budget.now.exchanges) (sym c.self.view_is) came in
     other_result Outcome Verdict (λ es. CameBy t ts es v) c.check.new.budget.exchanges c.in-Err.stop
-    (checked t ts old c.check.new.self is c.self.invariant.0 c.check.ensures.listed c.args.budget.now c.check.new.budget (Err c.in-Err.stop) came c.in-Err.ensures.ends)
+    (checked t ts old c.check.new.self is c.self.invariant.0 c.check.ensures.listed
+    (c.values_solve_the_rows-in-Err.ensures.lengths ∙ c.check.ensures.variables ∙ sym c.values_solve_the_rows.ensures.lengths) c.args.budget.now c.check.new.budget (Err c.in-Err.stop) came c.in-Err.ensures.ends)
 
 pub returns-in-Err-clause-stops : goal.returns-in-Err-clause-stops
 returns-in-Err-clause-stops c =
@@ -66,7 +67,8 @@ returns-in-Fine-clause-came c ts came =
     let v : SimplexView = record { theory = s.literals; atoms = s.atoms; board = c.check.new.self; bounds = s.bounds; starts = s.starts.items } in
     let is : IsOf old t = subst (λ (v : SimplexView). IsOf v t) (sym c.self.view_is) c.requires.with in
     let came : CameBy t ts c.args.budget.now.exchanges old = subst (CameBy t ts c.args.budget.now.exchanges) (sym c.self.view_is) came in
-    checked t ts old c.check.new.self is c.self.invariant.0 c.check.ensures.listed c.args.budget.now c.check.new.budget (Ok c.in-Ok.outcome) came c.in-Ok.ensures.ends
+    checked t ts old c.check.new.self is c.self.invariant.0 c.check.ensures.listed
+    (c.values_solve_the_rows-2.ensures.lengths ∙ c.check.ensures.variables ∙ sym c.values_solve_the_rows.ensures.lengths) c.args.budget.now c.check.new.budget (Ok c.in-Ok.outcome) came c.in-Ok.ensures.ends
 
 pub returns-in-Fine-clause-with : goal.returns-in-Fine-clause-with
 returns-in-Fine-clause-with c =
@@ -136,7 +138,8 @@ returns-in-Ok-clash-clause-came c ts came =
     let is : IsOf old t = subst (λ (v : SimplexView). IsOf v t) (sym c.self.view_is) c.requires.with in
     let came : CameBy t ts c.args.budget.now.exchanges old = subst (CameBy t ts c.args.budget.now.exchanges) (sym c.self.view_is) came in
     let on : CameBy t ts c.check.new.budget.exchanges v =
-    checked t ts old c.check.new.self is c.self.invariant.0 c.check.ensures.listed c.args.budget.now c.check.new.budget (Ok c.in-Ok.outcome) came c.in-Ok.ensures.ends in
+    checked t ts old c.check.new.self is c.self.invariant.0 c.check.ensures.listed
+    (c.values_solve_the_rows-2.ensures.lengths ∙ c.check.ensures.variables ∙ sym c.values_solve_the_rows.ensures.lengths) c.args.budget.now c.check.new.budget (Ok c.in-Ok.outcome) came c.in-Ok.ensures.ends in
     let over = subst (λ (w : SimplexView). IsOver t w.theory) (sym c.self.view_is) c.requires.over in
     let with : IsOf v t = board_fits t old c.check.new.self c.check.ensures.variables c.check.ensures.listed is in
     came_over_more v t c.clash.new.table c.in-Ok-clash.ensures.derives.table (suits_over t v with over c.are_of_watched_terms.ensures.over) ts c.check.new.budget.exchanges on
@@ -169,7 +172,8 @@ returns-in-Err-clash-clause-came c ts came =
     let is : IsOf old t = subst (λ (v : SimplexView). IsOf v t) (sym c.self.view_is) c.requires.with in
     let came : CameBy t ts c.args.budget.now.exchanges old = subst (CameBy t ts c.args.budget.now.exchanges) (sym c.self.view_is) came in
     let on : CameBy t ts c.check.new.budget.exchanges v =
-    checked t ts old c.check.new.self is c.self.invariant.0 c.check.ensures.listed c.args.budget.now c.check.new.budget (Ok c.in-Ok.outcome) came c.in-Ok.ensures.ends in
+    checked t ts old c.check.new.self is c.self.invariant.0 c.check.ensures.listed
+    (c.values_solve_the_rows-2.ensures.lengths ∙ c.check.ensures.variables ∙ sym c.values_solve_the_rows.ensures.lengths) c.args.budget.now c.check.new.budget (Ok c.in-Ok.outcome) came c.in-Ok.ensures.ends in
     stops_there Verdict (λ es. CameBy c.clash.new.table ts es v) c.check.new.budget.exchanges c.in-Err-clash.stop
     (subst (λ (u : TableView). CameBy u ts c.check.new.budget.exchanges v) (sym c.in-Err-clash.ensures.same.0) on)
 

@@ -16,7 +16,7 @@ use Rattle.simplex.specs.Views.{SimplexView, Fits}
 use Rattle.simplex.specs.Checks.{Case, StrainsFound}
 use Rattle.simplex.proofs.Judging.{AreRefuted, strained, refuted}
 use Rattle.simplex.proofs.Reasoning.{found_weighs, found_adds}
-use Rattle.simplex.proofs.Coming.{watched_bounds}
+use Rattle.simplex.proofs.Coming.{watched_atoms}
 use Rattle.simplex.proofs.simplex.Simplex.clash.Goals as goal
 
 pub returns-in-Err-Wide-clause-stops : goal.returns-in-Err-Wide-clause-stops
@@ -27,7 +27,7 @@ returns-in-Err-Wide-clause-stops g c =
     let fits = subst Fits c.self.view_is c.self.invariant.0 in
     let over = subst (λ (w : SimplexView). AreOver w.theory.held w.theory.watched) c.self.view_is c.are_of_watched_terms.ensures.over in
     strained t (terms_watched t v.theory) v c.in-Err-Wide.wide c.stop_of.result
-    (found_weighs t v is fits (terms_watched t v.theory) (watched_bounds t v is fits over) c.args.outcome (overflow c.in-Err-Wide.wide) c.requires.1.1.1.1 (subst (OnWide (StrainsFound v c.args.outcome)) c.in-Err-Wide.field-0-is c.in-Err-Wide.ensures.wide))
+    (found_weighs t v is fits (terms_watched t v.theory) (watched_atoms t v over) c.args.outcome (overflow c.in-Err-Wide.wide) c.requires.1.1.1.1 (subst (OnWide (StrainsFound v c.args.outcome)) c.in-Err-Wide.field-0-is c.in-Err-Wide.ensures.wide))
     (subst (λ (w : Wide). StopsBy (λ s. (s.wide ≡ w) × IsBasisOf v.board s.basis) (λ _. ⊥) c.stop_of.result) c.in-Err-Wide.wide-is c.stop_of.ensures)
 
 pub explain-requires : goal.explain-requires
@@ -76,5 +76,5 @@ returns-in-Err-Wide-explain-clause-stops g c =
     let fits = subst Fits c.self.view_is c.self.invariant.0 in
     let over = subst (λ (w : SimplexView). AreOver w.theory.held w.theory.watched) c.self.view_is c.are_of_watched_terms.ensures.over in
     strained t (terms_watched t v.theory) v c.in-Err-Wide-explain.wide c.stop_of-in-Err-Wide-explain.result
-    (found_adds t v own fits (terms_watched t v.theory) (watched_bounds t v own fits over) c.args.outcome rs (overflow c.in-Err-Wide-explain.wide) c.requires.1.1.1.1 c.in-Ok.ensures.reasons (subst (λ (ws : List Weighted). judged t ws ≡ Err (wide (overflow c.in-Err-Wide-explain.wide))) c.deref.ensures.value cause))
+    (found_adds t v own fits (terms_watched t v.theory) (watched_atoms t v over) c.args.outcome rs (overflow c.in-Err-Wide-explain.wide) c.requires.1.1.1.1 c.in-Ok.ensures.reasons (subst (λ (ws : List Weighted). judged t ws ≡ Err (wide (overflow c.in-Err-Wide-explain.wide))) c.deref.ensures.value cause))
     (subst (λ (w : Wide). StopsBy (λ s. (s.wide ≡ w) × IsBasisOf v.board s.basis) (λ _. ⊥) c.stop_of-in-Err-Wide-explain.result) c.in-Err-Wide-explain.wide-is c.stop_of-in-Err-Wide-explain.ensures)

@@ -26,7 +26,7 @@ returns-in-Err-clause-stops c =
     let over = subst (λ (w : SimplexView). AreOver w.theory.held w.theory.watched) c.self.view_is c.are_of_watched_terms.ensures.over in
     let bounds = watched_bounds t v c.requires.with fits over in
     strained t (terms_watched t v.theory) v c.in-Err.wide c.stop_of.result
-    (finding (ranges_in v.bounds.held) bounds
+    (finding (ranges_in v.bounds.held) bounds c.requires.fine.within
     (subst (λ (v : SimplexView). StrainsNumber (ranges_in v.bounds.held) (point_in v.board.values) (overflow c.in-Err.wide)) c.self.view_is c.in-Err.ensures.wide)) c.stop_of.ensures
 
 pub returns-in-Err-number_at-clause-stops : goal.returns-in-Err-number_at-clause-stops
@@ -39,7 +39,7 @@ returns-in-Err-number_at-clause-stops c =
     let e = number_of c.in-Ok.small in
     let is = subst (λ (v : SimplexView). IsEpsilon (ranges_in v.bounds.held) (point_in v.board.values) e) c.self.view_is c.in-Ok.ensures.is in
     strained t (terms_watched t v.theory) v c.in-Err-number_at.wide c.stop_of-in-Err-number_at.result
-    (evaluating (ranges_in v.bounds.held) bounds e is c.in-Err-number_at.ensures.wide) c.stop_of-in-Err-number_at.ensures
+    (evaluating (ranges_in v.bounds.held) bounds c.requires.fine.within e is (c.in-Err-number_at.ensures.wide t)) c.stop_of-in-Err-number_at.ensures
 
 pub terms-preserved : goal.terms-preserved
 terms-preserved c =
