@@ -77,7 +77,7 @@ returns-in_err-state_order-clause-wide c =
     let w = c.one-weight.result in
     let same = clause_kept t u (first_wide (goal.at.returns-in_err-state_order-clause-wide c).After-state_fact) id x.left x.right c.requires.there.0 is.left is.right in
     passed_on (λ o. la_generic (order_clause u id x.left x.right) (arguments_by w) ≡ Err (wide o)) (IsOverflowAmong (term_at t id ∷ [])) c.from_residual-in_err-state_order.result c.in_err-state_order.field-0.0 c.from_residual-in_err-state_order.ensures.1
-    (λ o e. forth_leaves t id x c.requires.there is w o (subst (λ (ls : Clause). la_generic ls (arguments_by w) ≡ Err (wide o)) same e)) c.in_err-state_order.ensures.wide
+    (λ o e. forth_leaves t id x is w c.one-weight.ensures o (subst (λ (ls : Clause). la_generic ls (arguments_by w) ≡ Err (wide o)) same e)) c.in_err-state_order.ensures.wide
 
 -- and the other
 pub state_order-requires-2-clause-there : goal.state_order-requires-2-clause-there
@@ -150,4 +150,4 @@ returns-clause-wide c =
     let w = c.neg.result in
     let same = clause_kept t v (second_wide (goal.at.returns-clause-wide c).After-state_order) id x.right x.left c.requires.there.0 is.right is.left in
     wide_weaker c.state_order-2.result (λ o. la_generic (order_clause v id x.right x.left) (arguments_by w) ≡ Err (wide o)) (IsOverflowAmong (term_at t id ∷ []))
-    (λ o e. back_leaves t id x c.requires.there is w o (subst (λ (ls : Clause). la_generic ls (arguments_by w) ≡ Err (wide o)) same e)) c.state_order-2.ensures.wide
+    (λ o e. back_leaves t id x is w (c.neg.ensures ∙ ap opposite c.one-weight.ensures) o (subst (λ (ls : Clause). la_generic ls (arguments_by w) ≡ Err (wide o)) same e)) c.state_order-2.ensures.wide
