@@ -13,6 +13,6 @@ abbrev pub AreOverflows : Type 0
 AreOverflows = (p : Problem) (es : List (ℕ × ℕ)) (o : Overflow) → causes.IsStrained p es o → IsOverflow o
 
 pub cause_of : (p : Problem) (es : List (ℕ × ℕ)) (s : Strain) → IsStrained p es s → causes.IsStrained p es (overflow s.wide)
-cause_of p es s (forming f basis) = causes.forming f
-cause_of p es s (ordering o basis) = causes.ordering o
+cause_of p es s (forming none f basis) = causes.forming none f
+cause_of p es s (ordering none o basis) = causes.ordering none o
 cause_of p es s (reckoning x at strains basis) = causes.reckoning x at strains

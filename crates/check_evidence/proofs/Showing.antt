@@ -1,5 +1,5 @@
 -- That what an outcome shows, what was found shows.
-use Rattle.std.proofs.Common.{◌≡◌, ℕ, true, List, [], map, All, refl, sym, ap, ◌∙◌, subst, arith}
+use Rattle.std.proofs.Common.{◌≡◌, ◌≤◌, ℕ, true, List, [], length, map, All, refl, sym, ap, ◌∙◌, subst, arith}
 use Rattle.std.proofs.lemmas.List.{append-nil, length-map, get_or-map}
 use Rattle.spec_sorts.specs.Terms.{Term}
 use Rattle.spec_sorts.specs.Values.{Interpretation, Interprets, truth}
@@ -62,11 +62,13 @@ module _ (limits : Limits) (t : TableView) (s : Stack) (symbols : symbols_in (si
         (is, refl, refl),
       )
 
-  pub reason_shown : AreOverflows → (r : Reason) → o.answer ≡ Unknown r → HasLimits (limits_of limits) o.budget → HasEvidence t (asserting asked) o.log o.budget (Unknown r) → IsShown limits t s (found.Reason r) o
-  reason_shown overflows (reasons.Conflicts n) is l h = conflicts_shown n is l.0 h
-  reason_shown overflows (reasons.Overflow x) is l h =
+  pub reason_shown : AreOverflows → (r : Reason) → o.answer ≡ Unknown r → HasLimits (limits_of limits) o.budget → length o.budget.exchanges ≤ o.budget.pivots
+      → HasEvidence t (asserting asked) o.log o.budget (Unknown r) → IsShown limits t s (found.Reason r) o
+  reason_shown overflows (reasons.Conflicts n) is l within h = conflicts_shown n is l.0 h
+  reason_shown overflows (reasons.Overflow x) is l within h =
       let es = o.budget.exchanges in
       let cause = cause_of (asserting asked) es x h in
-      (strained (overflow x.wide) es, (overflows (asserting asked) es (overflow x.wide) cause, cause), refl, (x, is, refl, refl))
-  reason_shown overflows (reasons.Pivots n) is l h =
+      let few = subst (λ (n : ℕ). length es ≤ n) l.1 within in
+      (strained (overflow x.wide) es, (overflows (asserting asked) es (overflow x.wide) cause, few, cause), refl, (x, is, refl, refl))
+  reason_shown overflows (reasons.Pivots n) is l within h =
       (out_of_pivots n o.budget.exchanges, (h.limit ∙ l.1, h.spent), refl, (is, refl))

@@ -1,5 +1,5 @@
 -- What a decision shows.
-use Rattle.std.specs.Prelude.{◌≡◌, List, []}
+use Rattle.std.specs.Prelude.{◌≡◌, ◌≤◌, List, [], length}
 use Rattle.spec_derivations.specs.Problems.{Problem}
 use Rattle.term_core.specs.Tables.{TableView}
 use Rattle.proof_log.specs.Logs.{Logged, IsLogOf}
@@ -20,6 +20,8 @@ pub record IsJustified (t : TableView) (p : Problem) (limits : Limits) (d : Outc
   pub log_right : IsLogOf t d.log
   -- the budget has the limits
   pub limits_are : HasLimits limits d.budget
+  -- no more exchanges were made than it allows
+  pub within : length d.budget.exchanges ≤ d.budget.pivots
   -- the answer shows what it should
   pub evidence : HasEvidence t p d.log d.budget d.answer
   -- and so do the log and what was learned

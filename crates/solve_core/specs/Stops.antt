@@ -30,9 +30,9 @@ IsNoBasis b = (b.variables.items ≡ []) × (b.values.items ≡ [])
 -- basis and the values where it was asked for.
 pub data IsStrained (p : Problem) (es : List (ℕ × ℕ)) (s : Strain) : Type 0 where
   -- the form of an atom, before all else
-  forming : StrainsForm (subterms_in p) (overflow s.wide) → IsNoBasis s.basis → IsStrained p es s
+  forming : es ≡ [] → StrainsForm (subterms_in p) (overflow s.wide) → IsNoBasis s.basis → IsStrained p es s
   -- a clause of the orders of an equality, before there is a basis
-  ordering : IsOverflowAmong (whole_terms p) (overflow s.wide) → IsNoBasis s.basis → IsStrained p es s
+  ordering : es ≡ [] → IsOverflowAmong (whole_terms p) (overflow s.wide) → IsNoBasis s.basis → IsStrained p es s
   -- an operation of simplex, where the exchanges lead, or all but the last
   reckoning : (x : Standing) → IsAtLast (λ made. IsReached (whole_terms p) made x) es
       → StrainsAt (whole_terms p) x (overflow s.wide) → IsBasisAt x s.basis → IsStrained p es s

@@ -98,6 +98,7 @@ fn decided(
     };
     let answer = search.answer(table)?;
     let Search { log, budget, .. } = search;
+    budget.is_within();
     Ok(Outcome {
         answer,
         log,

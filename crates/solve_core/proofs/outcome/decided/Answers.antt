@@ -36,4 +36,10 @@ returns-clause-decided c =
     let begun = rw c.in-Ok.is at c.begin.ensures.begins in
     let answered = c.in_ok-answer.ensures.answered in
     let shown = answered.shows (asserting (clause_at c.args.table.now c.args.roots.now)) begun.search in
-    record { log_right = answered.right; limits_are = (answered.limits.0 ∙ begun.limits_are.0, answered.limits.1 ∙ begun.limits_are.1); evidence = shown.0; learning = shown.1 }
+    record {
+      log_right = answered.right;
+      limits_are = (answered.limits.0 ∙ begun.limits_are.0, answered.limits.1 ∙ begun.limits_are.1);
+      within = c.is_within.ensures.exchanges;
+      evidence = shown.0;
+      learning = shown.1;
+    }
