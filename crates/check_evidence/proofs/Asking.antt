@@ -15,7 +15,7 @@ use Rattle.term_core.specs.Tables.{TableView, term_at, clause_at}
 use Rattle.proof_log.specs.Logs.{AreFormulasIn}
 use Rattle.assertion_stack.specs.declared.stack.Stack.{Stack as CodeStack}
 use Rattle.assertion_stack.specs.Stacks.{standing, IsStack}
-use Rattle.solve_core.specs.Reach.{AreAnswered}
+use Rattle.search_loop.specs.Reach.{AreAnswered}
 
 -- the search reaches the term
 abbrev IsReached : Term → Type 0

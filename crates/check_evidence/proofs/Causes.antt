@@ -6,7 +6,7 @@ use Rattle.spec_overflows.specs.Overflows.{IsOverflow}
 use Rattle.spec_causes.specs.Checks as causes
 use Rattle.ratio128.specs.Meant.{overflow}
 use Rattle.sat_budget.specs.declared.limits.Strain.{Strain}
-use Rattle.solve_core.specs.Stops.{IsStrained, forming, ordering, reckoning}
+use Rattle.search_loop.specs.Stops.{IsStrained, forming, ordering, reckoning}
 
 -- what a search comes to is an operation that leaves the bound
 abbrev pub AreOverflows : Type 0

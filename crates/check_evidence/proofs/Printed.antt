@@ -16,7 +16,7 @@ use Rattle.spec_derivations.specs.Spent.{IsAtomOf, IsOverAtoms}
 use Rattle.spec_proof_texts.specs.Plans.{IsPrinted, in_clause, as_argument}
 use Rattle.spec_arithmetic.specs.Numbers.{IsLinear, AreLinear}
 use Rattle.spec_readable.specs.Readable.{HasDecimals, HaveDecimals, IsReadableWhole}
-use Rattle.solve_core.specs.Rounds.{AreSteps, nothing, lemmas, learning, HasSteps}
+use Rattle.search_loop.specs.Rounds.{AreSteps, nothing, lemmas, learning, HasSteps}
 
 -- a term can be read where what it negates can
 bare_readable : (t : Term) → IsReadableWhole (literal_of t).atom → IsReadableWhole t

@@ -14,10 +14,10 @@ use Rattle.term_walks.specs.declared.values.Interp.{Interp}
 use Rattle.proof_log.specs.Logs.{derivation_in}
 use Rattle.sat_budget.specs.declared.limits.Reason.{Reason}
 use Rattle.sat_budget.specs.declared.limits.Reason.TheVariants as reasons
-use Rattle.solve_core.specs.declared.cdcl.Answer.TheVariants.{Sat, Unknown}
+use Rattle.search_loop.specs.declared.cdcl.Answer.TheVariants.{Sat, Unknown}
 use Rattle.solve_core.specs.declared.outcome.Outcome.{Outcome}
 use Rattle.ratio128.specs.Meant.{overflow}
-use Rattle.solve_core.specs.Rounds.{HasLimits, HasEvidence}
+use Rattle.search_loop.specs.Rounds.{HasLimits, HasEvidence}
 use Rattle.spec_derivations.specs.Examples.{asserting}
 use Rattle.check_evidence.specs.declared.evidence.Evidence.TheVariants as found
 use Rattle.check_evidence.specs.Evidence.{limits_of, check_on, IsShown}

@@ -10,7 +10,7 @@ ghost use Rattle.spec_sessions.specs.Evidence.{Limits as SpokenLimits};
 ghost use Rattle.spec_sessions.specs.Meaning.{IsKeptCheck};
 ghost use Rattle.sat_budget.specs.declared.limits.Limits.{Limits as CodeLimits};
 ghost use Rattle.assertion_stack.specs.Stacks.{standing};
-ghost use Rattle.solve_core.specs.Rounds.{HasLimits};
+ghost use Rattle.search_loop.specs.Rounds.{HasLimits};
 ghost use Rattle.solve_core.specs.Decisions.{IsJustified};
 ghost use Rattle.check_evidence.specs.Evidence.{limits_meant, check_on, IsHeld, HoldsSome, Decides, IsShown, Checks};
 

@@ -4,7 +4,7 @@ ghost use Rattle.std.specs.Prelude.{◌≡◌, ◌≤◌, [], IfOk, OnErr, IsErr
 ghost use Rattle.world_io.specs.Outside.{Rose};
 ghost use Rattle.spec_commands.specs.Stack.{Stack as ScriptStack, empty_stack};
 ghost use Rattle.assertion_stack.specs.Stacks.{standing};
-ghost use Rattle.solve_core.specs.Rounds.{HasLimits};
+ghost use Rattle.search_loop.specs.Rounds.{HasLimits};
 ghost use Rattle.check_evidence.specs.Evidence.{limits_meant, IsHeld, HoldsSome};
 ghost use Rattle.smt_session.specs.Sessions.{IsSession, Takes, KeepsBudget, Rejects, Stepped};
 
@@ -73,7 +73,7 @@ impl Model for Session {
     ghost use Rattle.std.specs.Coded.{codes};
     ghost use Rattle.term_core.specs.Tables.{table_code};
     ghost use Rattle.assertion_stack.specs.Stacks.{standing};
-    ghost use Rattle.solve_core.specs.Rounds.{HasLimits};
+    ghost use Rattle.search_loop.specs.Rounds.{HasLimits};
     ghost use Rattle.check_evidence.specs.Evidence.{HoldsSome};
     ghost use Rattle.smt_session.specs.Sessions.{SessionView};
 

@@ -1,26 +1,6 @@
--- Lemmas on the parts of the search.
-pub mod SearchLists
-pub mod SearchValues
-pub mod SearchReasons
-pub mod SearchWaiting
-pub mod SearchLevels
-pub mod SearchStored
-pub mod SearchDecisions
-pub mod SearchReady
-pub mod SearchNew
-pub mod SearchLogs
-pub mod SearchAtoms
+-- Lemmas on what a search shows with its theories.
 pub mod SearchForms
-pub mod SearchGrown
-pub mod SearchTheories
-pub mod SearchConflicts
-pub mod SearchShows
-pub mod SearchBegins
-pub mod SearchRounds
-pub mod SearchSpends
-pub mod SearchLooks
 pub mod SearchTruths
-pub mod SearchChosen
 pub mod SearchNumbers
 pub mod SearchStops
 pub mod SearchModelled

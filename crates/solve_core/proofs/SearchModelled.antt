@@ -18,7 +18,7 @@ use Rattle.spec_simplex.specs.Numbers.{HoldsAt}
 use Rattle.spec_congruence.specs.Congruence.{signed, IsCongruent, IsFine}
 use Rattle.spec_derivations.specs.Problems.{Problem, terms_of_problem}
 use Rattle.spec_derivations.specs.Orders.{whole_terms, whole_clauses}
-use Rattle.solve_core.specs.Reach.{AreAnswered}
+use Rattle.search_loop.specs.Reach.{AreAnswered}
 use Rattle.spec_derivations.specs.Models.{AreInReach}
 use Rattle.spec_valuations.specs.Classes.{class_in}
 use Rattle.spec_valuations.specs.Resting.{TheoryValues, values_of, RestsOnNumbers}
@@ -33,10 +33,10 @@ use Rattle.term_walks.specs.declared.values.Interp.{Interp}
 use Rattle.term_walks.specs.Valuations.{Stands}
 use Rattle.spec_valuations.specs.Tables.{IsModelBy}
 use Rattle.search_model.specs.Models.{truths_of, IsModelOf, IsModel}
-use Rattle.solve_core.specs.declared.search.Search.{Search}
-use Rattle.solve_core.specs.Rounds.{IsSearch}
-use Rattle.solve_core.specs.Asking.{HasRested}
-use Rattle.solve_core.proofs.SearchReady.{clauses_in, held_in}
+use Rattle.search_loop.specs.declared.search.Search.{Search}
+use Rattle.search_loop.specs.Rounds.{IsSearch}
+use Rattle.search_loop.specs.Asking.{HasRested}
+use Rattle.search_loop.proofs.SearchReady.{clauses_in, held_in}
 use Rattle.solve_core.proofs.SearchTruths.{truth_is, clause_met}
 
 module _ (t : TableView) (differ : AreDifferent t.terms) (x : Search) (v : TheoryView) (agreed : Type 0) (h : HasRested t x v agreed) (consistent : IsConsistent x.trail.literals)

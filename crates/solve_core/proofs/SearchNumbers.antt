@@ -18,10 +18,11 @@ use Rattle.term_core.specs.declared.ids.Lit.{Lit}
 use Rattle.term_core.specs.Tables.{TableView, Extends, clause_at, literal_at, term_at}
 use Rattle.term_core.proofs.TermsExtend.{clause_at-kept}
 use Rattle.proof_log.specs.Theories.{TheoryView, IsTermIn, IsAtomIn, IsOver, literals_held}
-use Rattle.solve_core.specs.declared.search.Search.{Search}
-use Rattle.solve_core.specs.Search.{IsReady}
-use Rattle.solve_core.specs.Asking.{HasRested, HoldByNumbers}
-use Rattle.solve_core.proofs.SearchReady.{Ids, atom_in, all_of_atoms}
+use Rattle.search_loop.specs.declared.search.Search.{Search}
+use Rattle.search_loop.specs.Search.{IsReady}
+use Rattle.search_loop.specs.Asking.{HasRested}
+use Rattle.search_loop.proofs.SearchReady.{Ids, atom_in, all_of_atoms}
+use Rattle.solve_core.specs.Answering.{HoldByNumbers}
 
 -- The left side of what an atom says: an argument, and a number.
 pub record IsLeft (u : Term) (c : Constraint) : Type 0 where

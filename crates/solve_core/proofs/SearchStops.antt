@@ -23,15 +23,16 @@ use Rattle.proof_log.specs.Theories.{TheoryView, terms_watched, CameTo}
 use Rattle.simplex.specs.Views.{SimplexView}
 use Rattle.simplex.specs.Coming.{standing_of, CameBy, IsStrainAt}
 use Rattle.simplex.proofs.Coming.{came_onward}
-use Rattle.solve_core.specs.declared.search.Search.{Search}
-use Rattle.solve_core.specs.declared.cdcl.Answer.{Answer}
-use Rattle.solve_core.specs.declared.cdcl.Answer.TheVariants.{Unknown}
-use Rattle.solve_core.specs.Stops.{IsStrained, reckoning, ArePivotsSpent}
-use Rattle.solve_core.specs.Rounds.{IsSearch, Continues, Shows}
-use Rattle.solve_core.specs.Asking.{HasRested, HasStopped, OnStop, HasCome, state, IsAnswered, IsStoppedBy, Answers}
-use Rattle.solve_core.proofs.SearchGrown.{spoken}
-use Rattle.solve_core.proofs.SearchRounds.{shows_on}
-use Rattle.solve_core.proofs.SearchShows.{learning_shows}
+use Rattle.search_loop.specs.declared.search.Search.{Search}
+use Rattle.search_loop.specs.declared.cdcl.Answer.{Answer}
+use Rattle.search_loop.specs.declared.cdcl.Answer.TheVariants.{Unknown}
+use Rattle.search_loop.specs.Stops.{IsStrained, reckoning, ArePivotsSpent}
+use Rattle.search_loop.specs.Rounds.{IsSearch, Continues, Shows}
+use Rattle.search_loop.specs.Asking.{HasRested, HasStopped, OnStop, state}
+use Rattle.search_loop.proofs.SearchGrown.{spoken}
+use Rattle.search_loop.proofs.SearchRounds.{shows_on}
+use Rattle.search_loop.proofs.SearchShows.{learning_shows}
+use Rattle.solve_core.specs.Answering.{HasCome, IsAnswered, IsStoppedBy, Answers}
 
 -- what is in the front of a list is in it
 take_among : (m : ℕ) (ids : List TermId) (id : TermId) → Contains (take m ids) id → Contains ids id

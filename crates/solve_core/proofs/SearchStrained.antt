@@ -15,11 +15,11 @@ use Rattle.sat_budget.specs.declared.limits.Strain.{Strain}
 use Rattle.sat_budget.specs.declared.limits.Reason.TheVariants.{Overflow}
 use Rattle.sat_budget.specs.Budgets.{BudgetView}
 use Rattle.proof_log.specs.Logs.{Logged, inference_of, derivation_in, IsLogOf}
-use Rattle.solve_core.specs.declared.cdcl.Answer.{Answer}
-use Rattle.solve_core.specs.declared.cdcl.Answer.TheVariants.{Unknown}
+use Rattle.search_loop.specs.declared.cdcl.Answer.{Answer}
+use Rattle.search_loop.specs.declared.cdcl.Answer.TheVariants.{Unknown}
+use Rattle.search_loop.specs.Stops.{IsStrained, forming, ordering}
+use Rattle.search_loop.specs.Rounds.{HasEvidence, IsLearning}
 use Rattle.solve_core.specs.declared.outcome.Outcome.{Outcome}
-use Rattle.solve_core.specs.Stops.{IsStrained, forming, ordering}
-use Rattle.solve_core.specs.Rounds.{HasEvidence, IsLearning}
 use Rattle.solve_core.specs.Decisions.{IsJustified, IsStrainedBy}
 
 module _ (t : TableView) (p : Problem) (limits : Limits) (empty : IsLogOf t []) where

@@ -8,11 +8,11 @@ use Rattle.sat_budget.specs.declared.limits.Limits.{Limits}
 use Rattle.sat_budget.specs.declared.limits.Strain.{Strain}
 use Rattle.sat_budget.specs.declared.limits.Reason.TheVariants.{Overflow}
 use Rattle.sat_budget.specs.Budgets.{BudgetView}
-use Rattle.solve_core.specs.declared.cdcl.Answer.{Answer}
-use Rattle.solve_core.specs.declared.cdcl.Answer.TheVariants.{Unknown}
+use Rattle.search_loop.specs.declared.cdcl.Answer.{Answer}
+use Rattle.search_loop.specs.declared.cdcl.Answer.TheVariants.{Unknown}
+use Rattle.search_loop.specs.Stops.{IsNoBasis}
+use Rattle.search_loop.specs.Rounds.{HasLimits, HasEvidence, IsLearning}
 use Rattle.solve_core.specs.declared.outcome.Outcome.{Outcome}
-use Rattle.solve_core.specs.Stops.{IsNoBasis}
-use Rattle.solve_core.specs.Rounds.{HasLimits, HasEvidence, IsLearning}
 
 -- The answer has its evidence, in a log that is right and within a budget of these limits.
 pub record IsJustified (t : TableView) (p : Problem) (limits : Limits) (d : Outcome) : Type 0 where

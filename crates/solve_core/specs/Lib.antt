@@ -1,9 +1,4 @@
--- The definitions that contracts cite: what is decided, what an answer shows, and what the parts of the search keep.
-pub mod Reach
-pub mod Waiting
-pub mod Search
-pub mod Stops
+-- The definitions that contracts cite: what is decided, and what is shown from the beginning to an answer.
 pub mod Forms
-pub mod Rounds
+pub mod Answering
 pub mod Decisions
-pub mod Asking

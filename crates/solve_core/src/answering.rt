@@ -12,19 +12,18 @@ ghost use Rattle.congruence_relation.specs.Relation.{AreOf};
 ghost use Rattle.congruence.specs.Views.{theory_of};
 ghost use Rattle.simplex.specs.Checks.{Suits};
 ghost use Rattle.simplex.specs.Coming.{CameBy};
-ghost use Rattle.solve_core.specs.declared.cdcl.Answer.TheVariants.{Unknown};
-ghost use Rattle.solve_core.specs.Stops.{HasNumber};
-ghost use Rattle.solve_core.specs.Rounds.{Begins, Shows};
-ghost use Rattle.solve_core.specs.Asking.{AgreeBoth, HasRested, HasCome, IsAnswered, IsStoppedBy, state, Answers};
+ghost use Rattle.search_loop.specs.declared.cdcl.Answer.TheVariants.{Unknown};
+ghost use Rattle.search_loop.specs.Rounds.{Begins, Shows};
+ghost use Rattle.search_loop.specs.Asking.{HasRested, state};
+ghost use Rattle.solve_core.specs.Answering.{HasNumber, AgreeBoth, HasCome, IsAnswered, IsStoppedBy, Answers};
 
-use crate::cdcl::{Answer, End};
-use crate::modelling::zeros;
-use crate::search::Search;
-use crate::watching::{truth_values, watch_all};
+use crate::modelling::{model, zeros};
+use crate::truths::truth_values;
 use combined::Combined;
 use congruence::Congruence;
 use proof_log::laws::logs_stand_in_grown_tables;
 use sat_budget::{Reason, Stop};
+use search_loop::{Answer, End, Search, watch_all};
 use term_core::{Sort, TermId, TermTable};
 use world_io::NoMemory;
 
@@ -61,112 +60,114 @@ fn have_numbers(table: &TermTable, terms: &[TermId]) -> bool
     false
 }
 
-impl Search {
-    /// Searches with the theory of equality and functions, and with that of linear arithmetic beside it where some term is a number, from
-    /// the beginning to an answer.
-    pub(crate) fn answer(&mut self, table: &mut TermTable) -> Result<Answer, NoMemory>
-        requires begins { (p : Problem) × (limits : Limits) × Begins table.old p limits self.old }
-        ensures grown { Extends table.old table.new }
-        ensures declared { declared_in table.new ≡ declared_in table.old }
-        ensures answered { IfOk result (IsAnswered (state table.old self.old) (state table.new self.new)) }
-    {
-        if have_numbers(table, &self.terms) {
-            return self.answer_numbers(table);
-        }
-        self.answer_classes(table)
+/// Searches with the theory of equality and functions, and with that of linear arithmetic beside it where some term is a number, from
+/// the beginning to an answer.
+pub(crate) fn answer(search: &mut Search, table: &mut TermTable) -> Result<Answer, NoMemory>
+    requires begins { (p : Problem) × (limits : Limits) × Begins table.old p limits search.old }
+    ensures grown { Extends table.old table.new }
+    ensures declared { declared_in table.new ≡ declared_in table.old }
+    ensures answered { IfOk result (IsAnswered (state table.old search.old) (state table.new search.new)) }
+{
+    if have_numbers(table, &search.terms) {
+        return answer_numbers(search, table);
     }
+    answer_classes(search, table)
+}
 
-    /// Searches with the theory of equality and functions alone, where no term is a number.
-    fn answer_classes(&mut self, table: &mut TermTable) -> Result<Answer, NoMemory>
-        requires begins { (p : Problem) × (limits : Limits) × Begins table.old p limits self.old }
-        requires plain { (u : Term) → Contains (clause_at table.old self.old.terms.items) u → sort_of u ≢ Number }
-        ensures grown { Extends table.old table.new }
-        ensures declared { declared_in table.new ≡ declared_in table.old }
-        ensures answered { IfOk result (IsAnswered (state table.old self.old) (state table.new self.new)) }
-    {
-        logs_stand_in_grown_tables();
-        let truths = truth_values(self.alloc, table)?;
-        let mut theory = Congruence::new(self.alloc, table, truths)?;
-        // This theory stops for memory alone, as it computes with no numbers.
-        let Ok(()) = watch_all(&mut theory, table, &self.terms) else {
-            return Err(NoMemory);
-        };
-        // So it does in a check.
-        let Ok(end) = self.run(table, &mut theory) else {
-            return Err(NoMemory);
-        };
-        match end {
-            End::Rests => {
-                let numbers = zeros(self.alloc, self.terms.len())?;
-                let model = self.model(table, &theory, &numbers)?;
-                Ok(Answer::Sat(model))
-            }
-            End::Refuted(step) => Ok(Answer::Unsat(step)),
-            End::Stopped(reason) => Ok(Answer::Unknown(reason)),
+/// Searches with the theory of equality and functions alone, where no term is a number.
+fn answer_classes(search: &mut Search, table: &mut TermTable) -> Result<Answer, NoMemory>
+    requires begins { (p : Problem) × (limits : Limits) × Begins table.old p limits search.old }
+    requires plain { (u : Term) → Contains (clause_at table.old search.old.terms.items) u → sort_of u ≢ Number }
+    ensures grown { Extends table.old table.new }
+    ensures declared { declared_in table.new ≡ declared_in table.old }
+    ensures answered { IfOk result (IsAnswered (state table.old search.old) (state table.new search.new)) }
+{
+    logs_stand_in_grown_tables();
+    let truths = truth_values(search.alloc, table)?;
+    let mut theory = Congruence::new(search.alloc, table, truths)?;
+    // This theory stops for memory alone, as it computes with no numbers.
+    let Ok(()) = watch_all(&mut theory, table, &search.terms) else {
+        return Err(NoMemory);
+    };
+    // So it does in a check.
+    let Ok(end) = search.run(table, &mut theory) else {
+        return Err(NoMemory);
+    };
+    match end {
+        End::Rests => {
+            let numbers = zeros(search.alloc, search.terms.len())?;
+            let model = model(search, table, &theory, &numbers)?;
+            Ok(Answer::Sat(model))
         }
+        End::Refuted(step) => Ok(Answer::Unsat(step)),
+        End::Stopped(reason) => Ok(Answer::Unknown(reason)),
     }
+}
 
-    /// Searches with both theories, where some term is a number.
-    fn answer_numbers(&mut self, table: &mut TermTable) -> Result<Answer, NoMemory>
-        requires begins { (p : Problem) × (limits : Limits) × Begins table.old p limits self.old }
-        ensures grown { Extends table.old table.new }
-        ensures declared { declared_in table.new ≡ declared_in table.old }
-        ensures answered { IfOk result (IsAnswered (state table.old self.old) (state table.new self.new)) }
-    {
-        logs_stand_in_grown_tables();
-        let truths = truth_values(self.alloc, table)?;
-        let mut theory = Combined::new(self.alloc, table, truths)?;
-        match self.search_with(table, &mut theory) {
-            Ok(answer) => Ok(answer),
-            Err(stop) => answer_to(stop),
-        }
+/// Searches with both theories, where some term is a number.
+fn answer_numbers(search: &mut Search, table: &mut TermTable) -> Result<Answer, NoMemory>
+    requires begins { (p : Problem) × (limits : Limits) × Begins table.old p limits search.old }
+    ensures grown { Extends table.old table.new }
+    ensures declared { declared_in table.new ≡ declared_in table.old }
+    ensures answered { IfOk result (IsAnswered (state table.old search.old) (state table.new search.new)) }
+{
+    logs_stand_in_grown_tables();
+    let truths = truth_values(search.alloc, table)?;
+    let mut theory = Combined::new(search.alloc, table, truths)?;
+    match search_with(search, table, &mut theory) {
+        Ok(answer) => Ok(answer),
+        Err(stop) => answer_to(stop),
     }
+}
 
-    /// Searches with both theories, which hold and watch nothing yet.
-    ///
-    /// `Memory` comes where memory ran out, here or in a theory. The other stops are those of linear arithmetic.
-    fn search_with(&mut self, table: &mut TermTable, theory: &mut Combined) -> Result<Answer, Stop>
-        requires begins { (p : Problem) × (limits : Limits) × Begins table.old p limits self.old }
-        requires empty { theory_of theory.old.congruence ≡ record { held = []; watched = []; marks = [] } }
-        requires congruence { AreOf table.old theory.old.congruence.now.facts }
-        requires simplex { Suits theory.old.simplex table.old }
-        requires came { (ts : List Term) → CameBy table.old ts [] theory.old.simplex }
-        ensures grown { Extends table.old table.new }
-        ensures declared { declared_in table.new ≡ declared_in table.old }
-        ensures answered { IfOk result (IsAnswered (state table.old self.old) (state table.new self.new)) }
-        ensures stopped { IfErr result (IsStoppedBy (state table.old self.old) (state table.new self.new)) }
-    {
-        if let Err(stop) = watch_all(theory, table, &self.terms) {
-            theory.parts_hold_the_same();
-            return Err(stop);
-        }
-        let ended = self.run(table, theory);
+/// Searches with both theories, which hold and watch nothing yet.
+///
+/// `Memory` comes where memory ran out, here or in a theory. The other stops are those of linear arithmetic.
+fn search_with(
+    search: &mut Search,
+    table: &mut TermTable,
+    theory: &mut Combined,
+) -> Result<Answer, Stop>
+    requires begins { (p : Problem) × (limits : Limits) × Begins table.old p limits search.old }
+    requires empty { theory_of theory.old.congruence ≡ record { held = []; watched = []; marks = [] } }
+    requires congruence { AreOf table.old theory.old.congruence.now.facts }
+    requires simplex { Suits theory.old.simplex table.old }
+    requires came { (ts : List Term) → CameBy table.old ts [] theory.old.simplex }
+    ensures grown { Extends table.old table.new }
+    ensures declared { declared_in table.new ≡ declared_in table.old }
+    ensures answered { IfOk result (IsAnswered (state table.old search.old) (state table.new search.new)) }
+    ensures stopped { IfErr result (IsStoppedBy (state table.old search.old) (state table.new search.new)) }
+{
+    if let Err(stop) = watch_all(theory, table, &search.terms) {
         theory.parts_hold_the_same();
-        match ended {
-            Ok(End::Rests) => self.answer_rested(table, theory),
-            Ok(End::Refuted(step)) => Ok(Answer::Unsat(step)),
-            Ok(End::Stopped(reason)) => Ok(Answer::Unknown(reason)),
-            Err(stop) => Err(stop),
-        }
+        return Err(stop);
     }
+    let ended = search.run(table, theory);
+    theory.parts_hold_the_same();
+    match ended {
+        Ok(End::Rests) => answer_rested(search, table, theory),
+        Ok(End::Refuted(step)) => Ok(Answer::Unsat(step)),
+        Ok(End::Stopped(reason)) => Ok(Answer::Unknown(reason)),
+        Err(stop) => Err(stop),
+    }
+}
 
-    /// Makes the model of a search that rests with both theories.
-    ///
-    /// `Memory` comes where memory runs out, `Strained` where an operation leaves 128 bits that computes a number, and `Pivots` never.
-    fn answer_rested(&self, table: &TermTable, theory: &Combined) -> Result<Answer, Stop>
-        requires rested { HasRested table.now self.now (theory_of theory.now.congruence)
-            (AgreeBoth (terms_watched table.now (theory_of theory.now.congruence))
-            (literals_held table.now (theory_of theory.now.congruence)) theory.now) }
-        requires congruence { AreOf table.now theory.now.congruence.now.facts }
-        requires simplex { Suits theory.now.simplex table.now }
-        requires came { HasCome table.now self.now theory.now.simplex }
-        ensures answered { IfOk result (Shows table.now table.now self.now self.now) }
-        ensures strained { IfErr result (StopsBy (λ s. Shows table.now table.now self.now self.now
-            (Unknown (Overflow s))) (λ _. ⊥)) }
-    {
-        theory.parts_hold_the_same();
-        let numbers = theory.simplex().numbers(table, &self.terms)?;
-        let model = self.model(table, theory.congruence(), &numbers)?;
-        Ok(Answer::Sat(model))
-    }
+/// Makes the model of a search that rests with both theories.
+///
+/// `Memory` comes where memory runs out, `Strained` where an operation leaves 128 bits that computes a number, and `Pivots` never.
+fn answer_rested(search: &Search, table: &TermTable, theory: &Combined) -> Result<Answer, Stop>
+    requires rested { HasRested table.now search.now (theory_of theory.now.congruence)
+        (AgreeBoth (terms_watched table.now (theory_of theory.now.congruence))
+        (literals_held table.now (theory_of theory.now.congruence)) theory.now) }
+    requires congruence { AreOf table.now theory.now.congruence.now.facts }
+    requires simplex { Suits theory.now.simplex table.now }
+    requires came { HasCome table.now search.now theory.now.simplex }
+    ensures answered { IfOk result (Shows table.now table.now search.now search.now) }
+    ensures strained { IfErr result (StopsBy (λ s. Shows table.now table.now search.now search.now
+        (Unknown (Overflow s))) (λ _. ⊥)) }
+{
+    theory.parts_hold_the_same();
+    let numbers = theory.simplex().numbers(table, &search.terms)?;
+    let model = model(search, table, theory.congruence(), &numbers)?;
+    Ok(Answer::Sat(model))
 }

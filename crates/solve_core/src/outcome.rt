@@ -2,20 +2,20 @@
 
 ghost use Rattle.std.specs.Prelude.{◌≡◌, IfOk, OnErr};
 ghost use Rattle.spec_derivations.specs.Examples.{asserting};
-ghost use Rattle.solve_core.specs.Reach.{AreAnswered};
+ghost use Rattle.search_loop.specs.Reach.{AreAnswered};
 ghost use Rattle.term_core.specs.Tables.{declared_in, Extends, clause_at};
 ghost use Rattle.proof_log.specs.Logs.{AreFormulasIn};
 ghost use Rattle.solve_core.specs.Decisions.{IsJustified, IsStrainedBy};
 
-use crate::begin::begin;
-use crate::cdcl::Answer;
+use crate::answering::answer;
 use crate::forms::first_overflow;
-use crate::search::Search;
 use clausify::ClauseStop;
 use proof_log::ProofLog;
 use proof_log::laws::empty_logs_are_right;
 use ratio128::Wide;
 use sat_budget::{Basis, Budget, Limits, Reason, Strain};
+use search_loop::begin::begin;
+use search_loop::{Answer, Search};
 use std::alloc::Global;
 use term_core::{TermId, TermTable};
 use world_io::NoMemory;
@@ -96,7 +96,7 @@ fn decided(
         Err(ClauseStop::Wide(wide)) => return strained(alloc, wide, limits),
         Err(ClauseStop::Memory) => return Err(NoMemory),
     };
-    let answer = search.answer(table)?;
+    let answer = answer(&mut search, table)?;
     let Search { log, budget, .. } = search;
     budget.is_within();
     Ok(Outcome {

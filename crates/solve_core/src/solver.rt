@@ -2,15 +2,15 @@
 
 ghost use Rattle.std.specs.Prelude.{◌≡◌, [], IfOk, OnErr, MatchResult};
 ghost use Rattle.spec_derivations.specs.Examples.{asserting};
-ghost use Rattle.solve_core.specs.Reach.{AreAnswered};
+ghost use Rattle.search_loop.specs.Reach.{AreAnswered};
 ghost use Rattle.term_core.specs.Tables.{declared_in, Extends, clause_at};
 ghost use Rattle.proof_log.specs.Logs.{AreFormulasIn};
 ghost use Rattle.solve_core.specs.Decisions.{SolverView, IsShownBy};
 
-use crate::cdcl::Answer;
 use crate::outcome::{Outcome, decide};
 use proof_log::ProofLog;
 use sat_budget::{Budget, Limits};
+use search_loop::Answer;
 use std::alloc::Global;
 use std::marker::Model;
 use term_core::{TermId, TermTable};

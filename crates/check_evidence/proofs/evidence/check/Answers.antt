@@ -5,7 +5,7 @@ use Rattle.term_core.specs.Tables.{clause_at}
 use Rattle.proof_log.specs.Logs.{AreFormulasIn}
 use Rattle.assertion_stack.specs.Stacks.{standing}
 use Rattle.assertion_stack.proofs.Back.{table_back}
-use Rattle.solve_core.specs.Reach.{AreAnswered}
+use Rattle.search_loop.specs.Reach.{AreAnswered}
 use Rattle.solve_core.specs.Decisions.{IsJustified}
 use Rattle.check_evidence.specs.Evidence.{limits_meant, IsHeld}
 use Rattle.check_evidence.proofs.Asking.{formulas_asked, answered_asked}

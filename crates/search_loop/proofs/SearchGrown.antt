@@ -1,0 +1,165 @@
+-- That a search stays one for the same terms where the table grows and lemmas come into the log.
+use Rattle.std.proofs.Common.{◌≡◌, ℕ, List, [], ◌++◌, length, get_or, map, All, refl, sym, ap, ◌∙◌, subst, arith}
+use Rattle.std.proofs.lemmas.List.{append-nil, length-map, map-append}
+use Rattle.std.proofs.lemmas.List.Elements.{All-map, All-contains, Contains-get_or}
+use Rattle.spec_sorts.specs.Terms.{Symbol, Term}
+use Rattle.spec_sorts.specs.Subsets.{AreAmong, IsClosed}
+use Rattle.spec_sorts.specs.WellSorted.{IsWellSorted, IsFormulaOver}
+use Rattle.spec_sorts.specs.Literals.{Literal, literal_of}
+use Rattle.spec_derivations.specs.Problems.{Problem}
+use Rattle.spec_derivations.specs.Examples.{asserting}
+use Rattle.search_loop.specs.Reach.{AreAnswered}
+use Rattle.spec_derivations.specs.Orders.{whole_terms}
+use Rattle.spec_derivations.specs.Derivations.{Inference, «assumption», by_rule, Derivation, IsDerivation}
+use Rattle.spec_derivations.specs.Lemmas.{IsMadeOf, given, is_true, is_false, is_equality, is_negation, IsLemma}
+use Rattle.term_core.specs.declared.ids.TermId.{TermId}
+use Rattle.term_core.specs.Tables.{TableView, declared_in, Extends, term_at, IsIn, AreIn, clause_at, positive_literal}
+use Rattle.term_core.specs.Symbols.{SymbolsView}
+use Rattle.term_core.proofs.TermsExtend.{IsIn-kept, term_at-kept, clause_at-kept}
+use Rattle.term_clauses.proofs.Parts.{formula_kept}
+use Rattle.clausify.specs.SearchTerms.{AreSearchTerms}
+use Rattle.sat_budget.specs.declared.limits.Limits.{Limits}
+use Rattle.proof_log.specs.Logs.{Logged, inference_of, derivation_in, IsLogOf}
+use Rattle.proof_log.specs.Theories.{IsTermIn, IsAtomIn}
+use Rattle.search_loop.specs.declared.search.Search.{Search}
+use Rattle.search_loop.specs.Search.{images, AreAllOf, AreAtomsOf, IsReady}
+use Rattle.search_loop.specs.Rounds.{HasDerived, IsSearch, Begins, Continues}
+use Rattle.search_loop.proofs.SearchLists.{of_kept, images_kept}
+use Rattle.search_loop.proofs.SearchLogs.{derived_lemmas}
+use Rattle.search_loop.proofs.SearchReady.{clauses_in}
+use Rattle.search_loop.proofs.SearchStored.{derives_on}
+
+-- terms that are made of some are made of more
+pub made_more : (ts us : List Term) → AreAmong ts us → (u : Term) → IsMadeOf ts u → IsMadeOf us u
+made_more ts us among _ (given t i) = given t (among t i)
+made_more ts us among _ is_true = is_true
+made_more ts us among _ is_false = is_false
+made_more ts us among _ (is_equality t u a b) = is_equality t u (made_more ts us among t a) (made_more ts us among u b)
+made_more ts us among _ (is_negation t a) = is_negation t (made_more ts us among t a)
+
+-- so lemmas over some are lemmas over more
+pub lemma_more : (ts us : List Term) → AreAmong ts us → (n : ℕ) (x : Inference) → IsLemma ts n x → IsLemma us n x
+lemma_more ts us among n («assumption» t) i = absurd i
+lemma_more ts us among n (by_rule r ps arguments c) i = (i.0, λ k d lt. made_more ts us among (get_or c k d) (i.1 k d lt))
+
+-- the terms of a search are those that it speaks of
+pub spoken : (t : TableView) (x : Search) (problem : Problem) → IsSearch t problem x → AreAmong (clause_at t x.terms.items) (whole_terms problem)
+spoken t x problem s = subst (λ (p : Problem). AreAmong (clause_at t x.terms.items) (whole_terms p)) s.meant s.listed.only
+
+module _ (t u : TableView) (g : Extends t u) (declared : declared_in u ≡ declared_in t) where
+  symbols : u.symbols ≡ t.symbols
+  symbols = ap (λ (d : SymbolsView). d.symbols) declared
+
+  -- terms and atoms are such there
+  pub term_kept : (id : TermId) → IsTermIn t id → IsTermIn u id
+  term_kept id h = (
+    IsIn-kept t u g id h.0,
+    subst (λ (ss : List Symbol). IsWellSorted ss [] (term_at u id)) (sym symbols) (subst (IsWellSorted t.symbols []) (sym (term_at-kept t u g id h.0)) h.1),
+  )
+
+  atom_kept : (id : TermId) → IsAtomIn t id → IsAtomIn u id
+  atom_kept id h =
+      let same : term_at t id ≡ term_at u id = sym (term_at-kept t u g id h.0.0) in (
+        formula_kept t u (record { terms = g; declared = declared }) id h.0,
+        subst (λ (x : Term). literal_of x ≡ positive_literal x) same h.1,
+      )
+
+  atom_back : (id : TermId) → IsIn t id → IsAtomIn u id → IsAtomIn t id
+  atom_back id there h =
+      let same : term_at u id ≡ term_at t id = term_at-kept t u g id there in (
+        (there, subst (λ (ss : List Symbol). IsFormulaOver ss (term_at t id)) symbols (subst (IsFormulaOver u.symbols) same h.0.1)),
+        subst (λ (x : Term). literal_of x ≡ positive_literal x) same h.1,
+      )
+
+  numbers_in : (ids : List TermId) → All (IsTermIn t) ids → AreIn t ids
+  numbers_in ids h k d lt = (h k d lt).0
+
+  pub atoms_kept : (terms atoms : List TermId) → AreAtomsOf t terms atoms → AreAtomsOf u terms atoms
+  atoms_kept terms atoms h = record {
+    there = λ k d lt. term_kept (get_or terms k d) (h.there k d lt);
+    closed = subst IsClosed (sym (clause_at-kept t u g terms (numbers_in terms h.there))) h.closed;
+    rising = h.rising;
+    chosen = record {
+      each = λ id i a. h.chosen.each id i (atom_back id (All-contains (IsTermIn t) terms id h.there i).0 a);
+      among = h.chosen.among;
+      only = λ k d lt. atom_kept (get_or atoms k d) (h.chosen.only k d lt);
+    };
+  }
+
+  pub listed_kept : (asked : List Term) (ids : List TermId) → AreSearchTerms t asked ids → AreSearchTerms u asked ids
+  listed_kept asked ids h =
+      let same : clause_at t ids ≡ clause_at u ids = sym (clause_at-kept t u g ids (numbers_in ids h.there)) in
+      record {
+        there = λ k d lt. term_kept (get_or ids k d) (h.there k d lt);
+        each = subst (AreAmong (whole_terms (asserting asked))) same h.each;
+        only = subst (λ (ts : List Term). AreAmong ts (whole_terms (asserting asked))) same h.only;
+        rising = h.rising;
+      }
+
+  -- with lemmas in the log, and so many literals held by the theory
+  module _ (x : Search) (n : ℕ) (log more : List Logged) (last : log ≡ x.log ++ more) (right : IsLogOf u log) (same : derivation_in u x.log ≡ derivation_in t x.log) (r : IsReady t x) where
+    pub ready_grown : IsReady u (record x { log = log; fed = n })
+    ready_grown = record {
+      right = right;
+      derives = derives_on t u g x.log log more last x.store r.right r.derives;
+      known = r.known;
+      seen = r.seen;
+      implied = r.implied;
+      decided = r.decided;
+      atoms_are = atoms_kept x.terms.items x.atoms.items r.atoms_are;
+      variables = r.variables;
+      covered = r.covered;
+      waiting = r.waiting;
+      sized = r.sized;
+      learned = λ k e lt. of_kept t u g (get_or x.budget.learned k e) (r.learned k e lt);
+    }
+
+    stored_in : AreAllOf t x.store.clauses
+    stored_in k e lt j z small = clauses_in t x r (get_or x.store.clauses k e) (get_or (get_or x.store.clauses k e) j z) (Contains-get_or x.store.clauses k e lt) (Contains-get_or (get_or x.store.clauses k e) j z small)
+
+    is : derivation_in u log ≡ derivation_in t x.log ++ map (inference_of u) more
+    is = ap (derivation_in u) last ∙ map-append (inference_of u) x.log more ∙ ap (λ (d : Derivation). d ++ map (inference_of u) more) same
+
+    module _ (lemmas : All (λ (l : Logged). IsLemma (clause_at t x.terms.items) (length x.log) (inference_of u l)) more) (problem : Problem) (s : IsSearch t problem x) where
+      lemmas_of : All (IsLemma (whole_terms problem) (length (derivation_in t x.log))) (map (inference_of u) more)
+      lemmas_of = subst (λ (n : ℕ). All (IsLemma (whole_terms problem) n) (map (inference_of u) more)) (sym (length-map x.log (inference_of t)))
+          (All-map (IsLemma (whole_terms problem) (length x.log)) (inference_of u) more (λ k d lt. lemma_more (clause_at t x.terms.items) (whole_terms problem) (spoken t x problem s) (length x.log) (inference_of u (get_or more k d)) (lemmas k d lt)))
+
+      derived : HasDerived problem (derivation_in t x.log ++ map (inference_of u) more) (images t x.store.clauses) (images t x.budget.learned)
+      derived = derived_lemmas problem (derivation_in t x.log) (images t x.store.clauses) (images t x.budget.learned) s.derived (map (inference_of u) more) (subst IsDerivation is right.right) lemmas_of
+
+      pub search_grown : IsSearch u problem (record x { log = log; fed = n })
+      search_grown =
+          let meant : clause_at u s.roots ≡ clause_at t s.roots = clause_at-kept t u g s.roots (λ k e lt. (s.roots_in k e lt).0) in
+          record {
+            roots = s.roots;
+            roots_in = λ k e lt. formula_kept t u (record { terms = g; declared = declared }) (get_or s.roots k e) (s.roots_in k e lt);
+            reached = subst AreAnswered (sym meant) s.reached;
+            meant = ap asserting meant ∙ s.meant;
+            listed = subst (λ (ts : List Term). AreSearchTerms u ts x.terms.items) (sym meant) (listed_kept (clause_at t s.roots) x.terms.items s.listed);
+            derived = subst (λ (e : Derivation). HasDerived problem e (images u x.store.clauses) (images u x.budget.learned)) (sym is)
+                (subst (λ (cs : List (List Literal)). HasDerived problem (derivation_in t x.log ++ map (inference_of u) more) cs (images u x.budget.learned)) (sym (images_kept t u g x.store.clauses stored_in))
+                (subst (λ (ls : List (List Literal)). HasDerived problem (derivation_in t x.log ++ map (inference_of u) more) (images t x.store.clauses) ls) (sym (images_kept t u g x.budget.learned r.learned)) derived));
+          }
+
+    pub continues_grown : All (λ (l : Logged). IsLemma (clause_at t x.terms.items) (length x.log) (inference_of u l)) more → Continues t u x (record x { log = log; fed = n })
+    continues_grown lemmas = record { table = g; declared = declared; limits = (refl, refl); vars = refl; terms = refl; search = search_grown lemmas }
+
+  -- with terms alone
+  module _ (x : Search) (right : IsLogOf u x.log) (same : derivation_in u x.log ≡ derivation_in t x.log) (r : IsReady t x) where
+    pub ready_wider : IsReady u x
+    ready_wider = ready_grown x x.fed x.log [] (sym (append-nil x.log)) right same r
+
+    pub continues_wider : Continues t u x x
+    continues_wider = continues_grown x x.fed x.log [] (sym (append-nil x.log)) right same r (λ k e lt. absurd (omega (arith, lt)))
+
+    pub begins_wider : (problem : Problem) (limits : Limits) → Begins t problem limits x → Begins u problem limits x
+    begins_wider problem limits b = record {
+      ready = ready_wider;
+      empty = b.empty;
+      level = b.level;
+      fed = b.fed;
+      search = continues_wider.search problem b.search;
+      limits_are = b.limits_are;
+      unspent = b.unspent;
+    }

@@ -1,0 +1,85 @@
+-- One round of a search after another, and that the rounds end.
+use Rattle.std.proofs.Common.{◌≡◌, ℕ, ◌+◌, ◌-◌, ◌*◌, ◌<◌, ◌≤◌, Bool, List, refl, sym, ap, ◌∙◌, subst, arith}
+use Rattle.std.specs.Prelude.{Option, Some}
+use Rattle.term_core.specs.declared.ids.Lit.{Lit}
+use Rattle.term_core.specs.Tables.{TableView, clause_at}
+use Rattle.clausify.specs.SearchTerms.{AreSearchTerms}
+use Rattle.term_core.proofs.TermsExtend.{Extends-self, Extends-trans}
+use Rattle.proof_log.specs.Logs.{Logged, derivation_in}
+use Rattle.sat_budget.specs.Budgets.{BudgetView}
+use Rattle.sat_trail.specs.Trails.{TrailView, IsPushed}
+use Rattle.clause_store.specs.Stores.{StoreView, HasSameClauses}
+use Rattle.clause_store.specs.Propagating.{Adds}
+use Rattle.search_loop.specs.declared.search.Search.{Search}
+use Rattle.search_loop.specs.declared.cdcl.Answer.{Answer}
+use Rattle.search_loop.specs.declared.cdcl.Answer.TheVariants.{Unsat, Unknown}
+use Rattle.search_loop.specs.declared.cdcl.End.{End}
+use Rattle.search_loop.specs.declared.cdcl.End.TheVariants.{Rests, Refuted, Stopped}
+use Rattle.search_loop.specs.Asking.{state, Settles, Ends}
+use Rattle.proof_log.specs.Theories.{TheoryView}
+use Rattle.search_loop.specs.Search.{images}
+use Rattle.search_loop.specs.Rounds.{HasDerived, Continues, Shows}
+use Rattle.search_loop.proofs.SearchReady.{Ids}
+
+-- the log, the clauses and what was learned are the same
+pub continues_same : (t : TableView) (x y : Search) → y.log ≡ x.log → y.store.clauses ≡ x.store.clauses → y.budget ≡ x.budget → y.trail.vars ≡ x.trail.vars → y.terms ≡ x.terms → Continues t t x y
+continues_same t x y log clauses budget vars terms = record {
+  table = Extends-self t;
+  declared = refl;
+  limits = (ap (λ (b : BudgetView). b.limit) budget, ap (λ (b : BudgetView). b.pivots) budget);
+  vars = vars;
+  terms = terms;
+  search = λ problem s. record {
+    roots = s.roots;
+    roots_in = s.roots_in;
+    reached = s.reached;
+    meant = s.meant;
+    listed = subst (λ (ids : Ids). AreSearchTerms t (clause_at t s.roots) ids.items) (sym terms) s.listed;
+    derived = subst (λ (l : List Logged). HasDerived problem (derivation_in t l) (images t y.store.clauses) (images t y.budget.learned)) (sym log)
+        (subst (λ (cs : List (List Lit)). HasDerived problem (derivation_in t x.log) (images t cs) (images t y.budget.learned)) (sym clauses)
+        (subst (λ (b : BudgetView). HasDerived problem (derivation_in t x.log) (images t x.store.clauses) (images t b.learned)) (sym budget) s.derived));
+  };
+}
+
+-- one after the other
+pub continues_on : (s t u : TableView) (a b c : Search) → Continues s t a b → Continues t u b c → Continues s u a c
+continues_on s t u a b c h k = record {
+  table = Extends-trans s t u h.table k.table;
+  declared = k.declared ∙ h.declared;
+  limits = (k.limits.0 ∙ h.limits.0, k.limits.1 ∙ h.limits.1);
+  vars = k.vars ∙ h.vars;
+  terms = k.terms ∙ h.terms;
+  search = λ problem x. k.search problem (h.search problem x);
+}
+
+-- propagation went on, and it was looked for a decision
+abbrev pub propagated : Search → StoreView → TrailView → List Bool → Search
+propagated x s v ws = record x { store = s; trail = v; decider = ws }
+
+module _ (t u : TableView) (a x : Search) (s : StoreView) (v : TrailView) (h : Continues t u a x) (same : HasSameClauses x.store s) (adds : Adds x.store x.trail v) where
+  pub propagated_on : (ws : List Bool) → Continues t u a (propagated x s v ws)
+  propagated_on ws = continues_on t u u a x (propagated x s v ws) h (continues_same u x (propagated x s v ws) refl same.clauses refl adds.vars refl)
+
+  pub decided_on : (l : Lit) (r : Option ℕ) (n : ℕ) (w : TrailView) (ws : List Bool) → IsPushed v l r n w → Continues t u a (propagated x s w ws)
+  decided_on l r n w ws p = continues_on t u u a (propagated x s v ws) (propagated x s w ws) (propagated_on ws) (continues_same u (propagated x s v ws) (propagated x s w ws) refl refl refl p.vars refl)
+
+-- what an answer shows later on, it shows of the beginning
+pub shows_on : (s t u : TableView) (a b c : Search) (x : Answer) → Continues s t a b → Shows t u b c x → Shows s u a c x
+shows_on s t u a b c x h shows problem z = shows problem (h.search problem z)
+
+-- so it is with what comes of a conflict that ends the search
+pub ends_on : (s t u : TableView) (a b c : Search) (v : TheoryView) (rested : Type 0) (end : End) → Continues s t a b → Settles (state t b) (state u c) v (Some end) → Ends (state s a) (state u c) rested end
+ends_on s t u a b c v rested Rests h settles = absurd settles
+ends_on s t u a b c v rested (Refuted step) h settles = shows_on s t u a b c (Unsat step) h settles
+ends_on s t u a b c v rested (Stopped reason) h settles = shows_on s t u a b c (Unknown reason) h settles
+
+-- a round that learns a clause leaves less
+pub less_learned : (limit later_limit n vars len later before after : ℕ) → later_limit ≡ limit → vars ≡ n → len < limit → later ≡ len + 1 → after ≤ n
+    → (later_limit - later) * (vars + 1) + after < (limit - len) * (n + 1) + before
+less_learned limit later_limit n vars len later before after same size lt e le =
+    let left : limit - len ≡ (limit - later) + 1 = omega (arith, lt, e) in
+    rw (same, size, left) (omega (arith, le))
+
+-- and so does one that assigns a variable more
+pub less_assigned : (left n vars before after : ℕ) → vars ≡ n → before < after → after ≤ vars → left * (vars + 1) + (vars - after) < left * (n + 1) + (n - before)
+less_assigned left n vars before after size lt le = rw size (omega (arith, lt, le, size))

@@ -1,0 +1,200 @@
+-- That answers show what they should of the problem that the search is asked.
+use Rattle.std.proofs.Common.{◌≡◌, ℕ, List, [], ◌∷◌, ◌++◌, length, get_or, map, All, Contains, refl, sym, ap, ◌∙◌, subst, arith}
+use Rattle.std.proofs.lemmas.List.{length-map, map-append}
+use Rattle.std.proofs.lemmas.List.Elements.{All-map, Contains-get_or}
+use Rattle.spec_text.specs.Trees.{none as no_texts}
+use Rattle.spec_text.proofs.Members.{to_image}
+use Rattle.spec_sorts.specs.Terms.{Term}
+use Rattle.spec_sorts.specs.Literals.{Clause, Literal, literals_of}
+use Rattle.spec_proofs.specs.declared.Rule.TheVariants.{Resolution}
+use Rattle.spec_derivations.specs.Problems.{Problem, terms_of_problem}
+use Rattle.spec_derivations.specs.Examples.{asserting}
+use Rattle.spec_derivations.specs.Derivations.{Inference, Derivation, by_rule, conclusion_at, IsDerivation, AssumesAmong, IsDerivedFrom}
+use Rattle.spec_derivations.specs.Base.{base_clauses}
+use Rattle.spec_derivations.specs.Orders.{whole_terms}
+use Rattle.search_loop.specs.Reach.{AreAnswered}
+use Rattle.spec_derivations.specs.Learned.{IsNew}
+use Rattle.spec_derivations.specs.Spent.{IsConflict, IsAtomOf, IsOverAtoms, IsLearnedFrom, AreLearned}
+use Rattle.term_core.specs.declared.ids.TermId.{TermId}
+use Rattle.term_core.specs.declared.ids.Lit.{Lit}
+use Rattle.term_core.specs.Tables.{TableView, declared_in, AreDifferent, term_at, literal_at, clause_at, Extends}
+use Rattle.term_core.proofs.TermsExtend.{clause_at-kept}
+use Rattle.clause_literals.specs.Literals.{IsConsistent, AreOf}
+use Rattle.proof_log.specs.declared.premises.StepId.{StepId}
+use Rattle.proof_log.specs.Logs.{Logged, stepped, numbers_of, inference_of, derivation_in, IsLogOf}
+use Rattle.term_clauses.proofs.Parts.{formula_kept}
+use Rattle.clausify.specs.SearchTerms.{AreSearchTerms}
+use Rattle.sat_budget.specs.declared.limits.Reason.TheVariants.{Conflicts}
+use Rattle.sat_trail.specs.Trails.{AreApart, IsLeveled}
+use Rattle.clause_store.specs.Stores.{IsAdded}
+use Rattle.conflict_learn.specs.Learned.{IsLogged, IsLearned}
+use Rattle.conflict_learn.specs.declared.learned.Learned.{Learned}
+use Rattle.search_loop.specs.declared.search.Search.{Search}
+use Rattle.search_loop.specs.declared.cdcl.Answer.{Answer}
+use Rattle.search_loop.specs.declared.cdcl.Answer.TheVariants.{Unsat, Unknown}
+use Rattle.search_loop.specs.Search.{images, IsReady, conflict_of}
+use Rattle.search_loop.specs.Rounds.{HasDerived, HasSteps, IsSearch, HasEvidence, HasLogged, IsLearning, IsNoted, Shows}
+use Rattle.search_loop.proofs.SearchLists.{lits_kept, images_kept}
+use Rattle.search_loop.proofs.SearchReady.{Ids, atom_in, clauses_in, false_at, atom_of, clause_is}
+use Rattle.search_loop.proofs.SearchLogs.{all_back, steps_more, among_more, last_derived, last_concludes, derived_kept, derived_more}
+use Rattle.search_loop.proofs.SearchConflicts.{atom_of as atom_there, one_is_new}
+use Rattle.search_loop.proofs.SearchGrown.{listed_kept, continues_wider}
+
+-- what was learned may be learned, where the log stays as it is
+pub learning_shows : (t : TableView) (problem : Problem) (x : Search) (a : Answer) → (HasSteps problem (derivation_in t x.log) (images t x.budget.learned) → HasLogged problem (derivation_in t x.log) a (images t x.budget.learned)) → IsLogOf t x.log → IsSearch t problem x → IsLearning t problem x.log a x.budget.learned
+learning_shows t problem x a steps right s = record {
+  assumes = all_back (inference_of t) (AssumesAmong (terms_of_problem problem)) x.log s.derived.assumes;
+  learns = record { right = right.right; derived = s.derived.derived; atoms = s.derived.atoms; new = s.derived.new };
+  logged = steps s.derived.steps_made;
+}
+
+-- where the budget is spent at a further conflict, the answer shows it
+pub unknown_shows : (t : TableView) (problem : Problem) (x : Search) (n : ℕ) → IsLogOf t x.log → IsSearch t problem x → length x.budget.learned ≡ x.budget.limit → n ≡ x.budget.limit → IsConflict problem (derivation_in t x.log) (images t x.budget.learned)
+    → HasEvidence t problem x.log x.budget (Unknown (Conflicts n)) × IsLearning t problem x.log (Unknown (Conflicts n)) x.budget.learned
+unknown_shows t problem x n right s full carries conflict =
+    let learning = learning_shows t problem x (Unknown (Conflicts n)) (λ h. h) right s in
+    ((record { full = rw length-map full; carries = carries; learns = learning.learns }, conflict), learning)
+
+-- a clause of no literals has no terms
+none_of : (c : Clause) → [] ≡ literals_of c → c ≡ []
+none_of [] e = refl
+none_of (u ∷ us) e = absurd (omega (arith, ap length e))
+
+-- with a step that was logged
+module _ (t u : TableView) (log new : List Logged) (same : derivation_in u log ≡ derivation_in t log) (ps : List StepId) (ids : List TermId) (last : new ≡ log ++ stepped Resolution ps [] ids ∷ []) where
+  pub derivation_is : derivation_in u new ≡ derivation_in t log ++ by_rule Resolution (numbers_of ps) no_texts (clause_at u ids) ∷ []
+  derivation_is = ap (derivation_in u) last ∙ map-append (inference_of u) log (stepped Resolution ps [] ids ∷ []) ∙ ap (λ (d : Derivation). d ++ by_rule Resolution (numbers_of ps) no_texts (clause_at u ids) ∷ []) same
+
+-- where the clause has no literals, it refutes the terms
+pub unsat_shows : (t : TableView) (x y : Search) (clash id : StepId) → y.budget ≡ x.budget → IsLogged (conflict_of t x clash) t y.log [] id → Shows t t x y (Unsat id)
+unsat_shows t x y clash id budget l problem s =
+    let c : Clause = clause_at t l.terms in
+    let ps = numbers_of l.premises in
+    let d = derivation_in t x.log in
+    let ls = images t x.budget.learned in
+    let empty : c ≡ [] = none_of c l.means.same in
+    let is : derivation_in t y.log ≡ d ++ by_rule Resolution ps no_texts c ∷ [] = derivation_is t t x.log y.log refl l.premises l.terms l.last in
+    let right : IsDerivation (d ++ by_rule Resolution ps no_texts c ∷ []) = subst IsDerivation is l.right.right in
+    let cs = images t x.store.clauses in
+    let number : id.0 ≡ length d = rw length-map l.number in
+    let h = s.derived in
+    let learned : images t y.budget.learned ≡ ls = ap (λ b. images t b.learned) budget in (
+      (
+        (λ i. conclusion_at (is i) (number i)) ∙ last_concludes problem d cs ls h ps c right ∙ empty,
+        subst (λ e. IsDerivedFrom (terms_of_problem problem) e id.0) (sym is) (subst (λ n. IsDerivedFrom (terms_of_problem problem) (d ++ by_rule Resolution ps no_texts c ∷ []) n) (sym number) (last_derived problem d cs ls h ps c right)),
+      ),
+      record {
+        assumes = all_back (inference_of t) (AssumesAmong (terms_of_problem problem)) y.log (subst (All (AssumesAmong (terms_of_problem problem))) (sym is) (among_more problem d cs ls h ps c right));
+        learns = subst (λ k. AreLearned problem (derivation_in t y.log) k) (sym learned) (record {
+          right = l.right.right;
+          derived = subst (λ e. All (IsLearnedFrom problem e) ls) (sym is) (derived_kept problem d cs ls h ps c right);
+          atoms = h.atoms;
+          new = h.new;
+        });
+        logged = subst (λ k. HasSteps problem (derivation_in t y.log) (k ++ [] ∷ [])) (sym learned)
+            (subst (λ e. HasSteps problem e (ls ++ [] ∷ [])) (sym is)
+            (subst (λ (k : List Literal). HasSteps problem (d ++ by_rule Resolution ps no_texts c ∷ []) (ls ++ k ∷ [])) (ap literals_of empty) (steps_more problem d ls ps c h.steps_made)));
+      },
+    )
+
+-- what is learned from a conflict
+module _ (t u : TableView) (g : Extends t u) (differ : AreDifferent t.terms) (declared : declared_in u ≡ declared_in t)
+    (x : Search) (r : IsReady t x) (once : AreApart x.trail.literals) (leveled : IsLeveled x.trail) (consistent : IsConsistent x.trail.literals) (same : derivation_in u x.log ≡ derivation_in t x.log)
+    (clash : StepId) (log : List Logged) (d : Learned) (l : IsLearned (conflict_of t x clash) u log d) where
+  clause_in : AreOf t d.clause
+  clause_in k e lt = (atom_in t x r (get_or d.clause k e).term (atom_of t u x r clash log d l (get_or d.clause k e) (Contains-get_or d.clause k e lt))).0.0
+
+  abbrev clause : Clause
+  clause = clause_at u l.logged.terms
+
+  abbrev inference : Inference
+  inference = by_rule Resolution (numbers_of l.logged.premises) no_texts clause
+
+  literals_are : literals_of (clause_at u l.logged.terms) ≡ map (literal_at t) d.clause
+  literals_are = sym l.logged.means.same ∙ lits_kept t u g d.clause clause_in
+
+  is : derivation_in u log ≡ derivation_in t x.log ++ inference ∷ []
+  is = derivation_is t u x.log log same l.logged.premises l.logged.terms l.logged.last
+
+  module _ (problem : Problem) (s : IsSearch t problem x) where
+    h : HasDerived problem (derivation_in t x.log) (images t x.store.clauses) (images t x.budget.learned)
+    h = s.derived
+
+    -- what the atoms are, is a term that the search speaks of
+    spoken : (id : TermId) → Contains x.atoms.items id → Contains (whole_terms problem) (term_at t id)
+    spoken id i = subst (λ (p : Problem). Contains (whole_terms p) (term_at t id)) s.meant
+        (s.listed.only (term_at t id) (to_image (term_at t) x.terms.items id (r.atoms_are.chosen.among id i)))
+
+    atoms : All (λ (z : Literal). IsAtomOf problem z.atom) (map (literal_at t) d.clause)
+    atoms = All-map (λ (z : Literal). IsAtomOf problem z.atom) (literal_at t) d.clause (λ k e lt.
+        let f = false_at t u x r clash log d l (get_or d.clause k e) (Contains-get_or d.clause k e lt) in
+        atom_there t differ x r once leveled consistent problem (derivation_in t x.log) (images t x.budget.learned) h (get_or d.clause k e) f.0 f.1 spoken f.2)
+
+    right : IsDerivation (derivation_in t x.log ++ inference ∷ [])
+    right = subst IsDerivation is l.logged.right.right
+
+    is_new : IsNew (map literals_of (base_clauses problem) ++ images t x.budget.learned) (literals_of clause)
+    is_new = subst (IsNew (map literals_of (base_clauses problem) ++ images t x.budget.learned)) (sym literals_are)
+        (one_is_new t differ x r once leveled consistent problem (derivation_in t x.log) (images t x.budget.learned) h d.clause l.level d.level l.one l.above)
+
+    over_atoms : IsOverAtoms problem (literals_of clause)
+    over_atoms = subst (IsOverAtoms problem) (sym literals_are) atoms
+
+    more : HasDerived problem (derivation_in t x.log ++ inference ∷ []) (images t x.store.clauses ++ literals_of clause ∷ []) (images t x.budget.learned ++ literals_of clause ∷ [])
+    more = derived_more problem (derivation_in t x.log) (images t x.store.clauses) (images t x.budget.learned) h (numbers_of l.logged.premises) clause right is_new over_atoms
+
+    -- so one clause more could be learned
+    pub is_conflict : IsConflict problem (derivation_in t x.log) (images t x.budget.learned)
+    is_conflict =
+        let ps = numbers_of l.logged.premises in
+        let d = derivation_in t x.log in
+        let cs = images t x.store.clauses in
+        let ls = images t x.budget.learned in
+        record {
+          clause = literals_of clause;
+          more = inference ∷ [];
+          right = right;
+          derived = record { number = length d; derived = last_derived problem d cs ls h ps clause right; same = ap literals_of (last_concludes problem d cs ls h ps clause right) };
+          atoms = over_atoms;
+          new = is_new;
+        }
+
+  -- which shows that the budget is spent at a further conflict
+  pub forgone_shows : IsLogOf u x.log → (n : ℕ) → length x.budget.learned ≡ x.budget.limit → n ≡ x.budget.limit → Shows t u x x (Unknown (Conflicts n))
+  forgone_shows kept n full carries problem s =
+      let on = (continues_wider t u g declared x kept same r).search problem s in
+      unknown_shows u problem x n kept on full carries
+      (subst (λ (e : Derivation). IsConflict problem e (images u x.budget.learned)) (sym same)
+      (subst (IsConflict problem (derivation_in t x.log)) (sym (images_kept t u g x.budget.learned r.learned)) (is_conflict problem s)))
+
+-- where it came into the store, what is in hand is still that of a search for the terms
+module _ (t u : TableView) (g : Extends t u) (differ : AreDifferent t.terms) (differ_then : AreDifferent u.terms) (declared : declared_in u ≡ declared_in t)
+    (x y : Search) (r : IsReady t x) (once : AreApart x.trail.literals) (leveled : IsLeveled x.trail) (consistent : IsConsistent x.trail.literals) (same : derivation_in u x.log ≡ derivation_in t x.log)
+    (clash : StepId) (d : Learned) (l : IsLearned (conflict_of t x clash) u y.log d) (noted : IsNoted d.clause x.budget y.budget) (a : IsAdded u y.log d.step x.store y.store) (terms : y.terms ≡ x.terms) where
+  abbrev learned_clause : Clause
+  learned_clause = clause_at u l.logged.terms
+
+  stored_in : All (AreOf t) x.store.clauses
+  stored_in k e lt j z small = clauses_in t x r (get_or x.store.clauses k e) (get_or (get_or x.store.clauses k e) j z) (Contains-get_or x.store.clauses k e lt) (Contains-get_or (get_or x.store.clauses k e) j z small)
+
+  -- a list with the clause last
+  last_image : (old new : List (List Lit)) → All (AreOf t) old → new ≡ old ++ d.clause ∷ [] → images u new ≡ images t old ++ literals_of (clause_at u l.logged.terms) ∷ []
+  last_image old new there is = ap (images u) is ∙ map-append (map (literal_at u)) old (d.clause ∷ []) ∙ (λ i. images_kept t u g old there i ++ l.logged.means.same i ∷ [])
+
+  pub search_learned : (problem : Problem) → IsSearch t problem x → IsSearch u problem y
+  search_learned problem s =
+      let meant : clause_at u s.roots ≡ clause_at t s.roots = clause_at-kept t u g s.roots (λ k e lt. (s.roots_in k e lt).0) in
+      let e = derivation_in t x.log ++ by_rule Resolution (numbers_of l.logged.premises) no_texts learned_clause ∷ [] in
+      record {
+        roots = s.roots;
+        roots_in = λ k e lt. formula_kept t u (record { terms = g; declared = declared }) (get_or s.roots k e) (s.roots_in k e lt);
+        reached = subst AreAnswered (sym meant) s.reached;
+        meant = ap asserting meant ∙ s.meant;
+        listed = subst (λ (ids : Ids). AreSearchTerms u (clause_at u s.roots) ids.items) (sym terms)
+            (subst (λ (ts : List Term). AreSearchTerms u ts x.terms.items) (sym meant) (listed_kept t u g declared (clause_at t s.roots) x.terms.items s.listed));
+        derived = subst (λ (f : Derivation). HasDerived problem f (images u y.store.clauses) (images u y.budget.learned)) (sym (is t u g differ declared x r once leveled consistent same clash y.log d l))
+            (subst (λ (cs : List (List Literal)). HasDerived problem e cs (images u y.budget.learned))
+            (sym (last_image x.store.clauses y.store.clauses stored_in (a.clauses ∙ ap (λ (c : List Lit). x.store.clauses ++ c ∷ []) (clause_is t u g differ_then x y r clash d l noted a))))
+            (subst (λ (ls : List (List Literal)). HasDerived problem e (images t x.store.clauses ++ literals_of learned_clause ∷ []) ls)
+            (sym (last_image x.budget.learned y.budget.learned r.learned (ap (λ b. b.learned) noted))) (more t u g differ declared x r once leveled consistent same clash y.log d l problem s)));
+      }

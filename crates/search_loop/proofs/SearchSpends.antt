@@ -1,0 +1,80 @@
+-- That a search is the same where a theory made exchanges of its budget, and what is shown of a theory's stop.
+use Rattle.std.specs.Prelude.{◌≡◌, Result, Ok, Err, IfErr, IsErrAnd}
+use Rattle.std.proofs.Common.{ℕ, List, [], refl, sym, ap, subst}
+use Rattle.std.proofs.lemmas.List.{append-nil}
+use Rattle.term_core.specs.declared.ids.Lit.{Lit}
+use Rattle.term_core.specs.Tables.{TableView}
+use Rattle.term_core.proofs.TermsExtend.{Extends-self}
+use Rattle.sat_budget.specs.declared.limits.Stop.{Stop}
+use Rattle.sat_budget.specs.declared.limits.Stop.TheVariants.{Strained, Pivots, Memory}
+use Rattle.search_loop.specs.Asking.{OnStop}
+use Rattle.sat_budget.specs.Budgets.{BudgetView, Spends}
+use Rattle.proof_log.specs.Logs.{derivation_in}
+use Rattle.proof_log.specs.Theories.{CameTo}
+use Rattle.simplex.proofs.Coming.{other_result}
+use Rattle.search_loop.specs.declared.search.Search.{Search}
+use Rattle.search_loop.specs.Search.{images, AreAllOf, IsReady}
+use Rattle.search_loop.specs.Rounds.{HasDerived, Continues}
+
+-- where none were made
+pub spends_nothing : (b : BudgetView) → Spends b b
+spends_nothing b = ([], ap (λ (xs : List (ℕ × ℕ)). record b { exchanges = xs }) (sym (append-nil b.exchanges)))
+
+module _ (t : TableView) (x : Search) (b : BudgetView) (spends : Spends x.budget b) where
+  -- it fits together
+  pub ready_spent : IsReady t x → IsReady t (record x { budget = b })
+  ready_spent r = record {
+    right = r.right;
+    derives = r.derives;
+    known = r.known;
+    seen = r.seen;
+    implied = r.implied;
+    decided = r.decided;
+    atoms_are = r.atoms_are;
+    variables = r.variables;
+    covered = r.covered;
+    waiting = r.waiting;
+    sized = r.sized;
+    learned = subst (AreAllOf t) (sym (ap (λ (y : BudgetView). y.learned) spends.1)) r.learned;
+  }
+
+  -- and is for the same terms
+  pub continues_spent : Continues t t x (record x { budget = b })
+  continues_spent = record {
+    table = Extends-self t;
+    declared = refl;
+    limits = (ap (λ (y : BudgetView). y.limit) spends.1, ap (λ (y : BudgetView). y.pivots) spends.1);
+    vars = refl;
+    terms = refl;
+    search = λ problem s. record {
+      roots = s.roots;
+      roots_in = s.roots_in;
+      reached = s.reached;
+      meant = s.meant;
+      listed = s.listed;
+      derived = subst (λ (ls : List (List Lit)). HasDerived problem (derivation_in t x.log) (images t x.store.clauses) (images t ls))
+          (sym (ap (λ (y : BudgetView). y.learned) spends.1)) s.derived;
+    };
+  }
+
+-- what is shown of a stop is shown of a result that hands it on
+pub handed_on : {A : Type 0} (P : Stop → Type 0) (r : Result A Stop) (e : Stop) → IsErrAnd r (λ s. s ≡ e) → P e → IfErr r P
+handed_on P (Ok x) e is h = absurd is
+handed_on P (Err s) e is h = subst P (sym is) h
+
+-- so is what it came to
+pub came_handed_on : (A B : Type 0) (P : List (ℕ × ℕ) → Type 0) (es : List (ℕ × ℕ)) (r : Result B Stop) (e : Stop) → IsErrAnd r (λ s. s ≡ e) → CameTo (let q : Result A Stop = Err e in q) P es → CameTo r P es
+came_handed_on A B P es (Ok x) e is h = absurd is
+came_handed_on A B P es (Err s) e is h = subst (λ (stop : Stop). CameTo (let q : Result B Stop = Err stop in q) P es) (sym is) (other_result A B P es e h)
+
+-- what is so is so where a theory stopped
+pub on_stop : (P : Type 0) → P → (stop : Stop) → OnStop P stop
+on_stop P h (Strained s) = h
+on_stop P h (Pivots n) = h
+on_stop P h Memory = tt
+
+-- what follows of it follows there
+pub on_stop_weaker : (P Q : Type 0) → (P → Q) → (stop : Stop) → OnStop P stop → OnStop Q stop
+on_stop_weaker P Q f (Strained s) h = f h
+on_stop_weaker P Q f (Pivots n) h = f h
+on_stop_weaker P Q f Memory h = tt

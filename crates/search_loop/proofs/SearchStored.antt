@@ -1,0 +1,118 @@
+-- What a store has of the log: with the same clauses, and with one more over a table that grew.
+use Rattle.std.proofs.Common.{◌≡◌, ℕ, ◌+◌, ◌<◌, ◌≤◌, List, [], ◌∷◌, ◌++◌, length, get_or, take, Contains, inl, inr, sym, ap, ◌∙◌, subst, arith}
+use Rattle.std.specs.Prelude.{Some}
+use Rattle.std.proofs.lemmas.Bool.{cases_lt}
+use Rattle.std.proofs.lemmas.List.{length-append, get_or_append_left}
+use Rattle.std.proofs.Math.Seq.{get_or-append_seam, take-append_seam}
+use Rattle.spec_sorts.specs.Literals.{literals_of}
+use Rattle.term_core.specs.declared.ids.TermId.{TermId}
+use Rattle.term_core.specs.declared.ids.Lit.{Lit}
+use Rattle.term_core.specs.Tables.{TableView, AreIn, Extends, clause_at}
+use Rattle.term_core.proofs.TermsExtend.{clause_at-kept}
+use Rattle.clause_literals.specs.Statuses.{IsFalsified}
+use Rattle.clause_literals.specs.Literals.{Means}
+use Rattle.proof_log.specs.declared.premises.StepId.{StepId}
+use Rattle.proof_log.specs.Logs.{Logged, named, logged_at, no_logged, IsLogOf}
+use Rattle.clause_store.specs.Stores.{StoreView, no_step, HasSameClauses, IsAdded}
+use Rattle.clause_store.specs.Propagating.{AreImplied, IsClash}
+use Rattle.sat_trail.specs.Trails.{TrailView, no_lit}
+use Rattle.search_loop.specs.Search.{Derives}
+use Rattle.search_loop.proofs.SearchLists.{of_kept, lits_kept}
+
+-- the clauses are the same
+module _ (a b : StoreView) (e : HasSameClauses a b) where
+  pub derives_same : (t : TableView) (log : List Logged) → Derives t log a → Derives t log b
+  derives_same t log h = record {
+    paired = ap length e.steps ∙ h.paired ∙ sym (ap length e.clauses);
+    there = λ k lt. subst (λ (ss : List StepId). (get_or ss k no_step).0 < length log) (sym e.steps) (h.there k (omega (arith, lt, ap length e.clauses)));
+    same = λ k lt. subst (λ (ss : List StepId). Means t (get_or b.clauses k []) (clause_at t (named (logged_at log (get_or ss k no_step))))) (sym e.steps)
+        (subst (λ (cs : List (List Lit)). Means t (get_or cs k []) (clause_at t (named (logged_at log (get_or a.steps k no_step))))) (sym e.clauses) (h.same k (omega (arith, lt, ap length e.clauses))));
+  }
+
+  pub implied_same : (v : TrailView) → AreImplied a v → AreImplied b v
+  implied_same v h = record {
+    paired = h.paired;
+    implied = λ k r lt f.
+        let i = h.implied k r lt f in
+        record {
+          number = i.number;
+          there = omega (arith, i.there, ap length e.clauses);
+          reason_is = i.reason_is ∙ ap (λ (ss : List StepId). Some (get_or ss i.number no_step).0) (sym e.steps);
+          has_it = subst (λ (cs : List (List Lit)). Contains (get_or cs i.number []) (get_or v.literals k no_lit)) (sym e.clauses) i.has_it;
+          others_false = λ m j d. i.others_false m (subst (λ (cs : List (List Lit)). Contains (get_or cs i.number []) m) e.clauses j) d;
+        };
+  }
+
+  pub clash_same : (held : List Lit) (step : StepId) → IsClash a held step → IsClash b held step
+  clash_same held step c = record {
+    number = c.number;
+    there = omega (arith, c.there, ap length e.clauses);
+    step_is = c.step_is ∙ ap (λ (ss : List StepId). get_or ss c.number no_step) (sym e.steps);
+    fails = subst (λ (cs : List (List Lit)). IsFalsified held (get_or cs c.number [])) (sym e.clauses) c.fails;
+  }
+
+-- what a list of terms means, over a table that grew
+pub means_kept : (t u : TableView) → Extends t u → (c : List Lit) (ids : List TermId) → AreIn t ids → Means t c (clause_at t ids) → Means u c (clause_at u ids)
+means_kept t u g c ids there m = record {
+  same = lits_kept t u g c m.there ∙ m.same ∙ ap literals_of (sym (clause_at-kept t u g ids there));
+  there = of_kept t u g c m.there;
+}
+
+-- a clause more
+module _ (t : TableView) (log : List Logged) (id : StepId) (a b : StoreView) (h : Derives t log a) (y : IsAdded t log id a b) (in_log : id.0 < length log) where
+  is_last : (k : ℕ) → length a.clauses ≤ k → k < length b.clauses → k ≡ length a.clauses
+  is_last k from lt = omega (arith, from, lt, ap length y.clauses, length-append a.clauses (y.clause ∷ []))
+
+  step : (k : ℕ) → k < length a.clauses → get_or a.steps k no_step ≡ get_or b.steps k no_step
+  step k early = sym (get_or_append_left a.steps (id ∷ []) no_step k (omega (arith, early, h.paired))) ∙ ap (λ (ss : List StepId). get_or ss k no_step) (sym y.steps)
+
+  clause : (k : ℕ) → k < length a.clauses → get_or a.clauses k [] ≡ get_or b.clauses k []
+  clause k early = sym (get_or_append_left a.clauses (y.clause ∷ []) [] k early) ∙ ap (λ (cs : List (List Lit)). get_or cs k []) (sym y.clauses)
+
+  last_step : (k : ℕ) → k ≡ length a.clauses → id ≡ get_or b.steps k no_step
+  last_step k e = sym (get_or-append_seam a.steps id [] no_step) ∙ (λ i. get_or (sym y.steps i) (sym (e ∙ sym h.paired) i) no_step)
+
+  last_clause : (k : ℕ) → k ≡ length a.clauses → y.clause ≡ get_or b.clauses k []
+  last_clause k e = sym (get_or-append_seam a.clauses y.clause [] []) ∙ (λ i. get_or (sym y.clauses i) (sym e i) [])
+
+  pub derives_with : Derives t log b
+  derives_with = record {
+    paired = omega (arith, ap length y.steps, ap length y.clauses, h.paired, length-append a.steps (id ∷ []), length-append a.clauses (y.clause ∷ []));
+    there = λ k lt. elim (cases_lt k (length a.clauses)) [
+      | inl early ↦ subst (λ (s : StepId). s.0 < length log) (step k early) (h.there k early)
+      | inr from ↦ subst (λ (s : StepId). s.0 < length log) (last_step k (is_last k from lt)) in_log
+    ];
+    same = λ k lt. elim (cases_lt k (length a.clauses)) [
+      | inl early ↦
+          subst (λ (z : StepId). Means t (get_or b.clauses k []) (clause_at t (named (logged_at log z)))) (step k early)
+          (subst (λ (c : List Lit). Means t c (clause_at t (named (logged_at log (get_or a.steps k no_step))))) (clause k early) (h.same k early))
+      | inr from ↦
+          subst (λ (z : StepId). Means t (get_or b.clauses k []) (clause_at t (named (logged_at log z)))) (last_step k (is_last k from lt))
+          (subst (λ (c : List Lit). Means t c (clause_at t (named (logged_at log id)))) (last_clause k (is_last k from lt)) y.means)
+    ];
+  }
+
+-- steps more, over a table that grew
+pub derives_on : (t u : TableView) (g : Extends t u) (log new more : List Logged) → new ≡ log ++ more → (a : StoreView) → IsLogOf t log → Derives t log a → Derives u new a
+derives_on t u g log new more last a right h = record {
+  paired = h.paired;
+  there = λ k lt. let was = h.there k lt in omega (arith, was, ap length last, length-append log more);
+  same = λ k lt.
+      let s = get_or a.steps k no_step in
+      let small = h.there k lt in
+      let early : logged_at new s ≡ logged_at log s = ap (λ (xs : List Logged). get_or xs s.0 no_logged) last ∙ get_or_append_left log more no_logged s.0 small in
+      subst (λ (l : Logged). Means u (get_or a.clauses k []) (clause_at u (named l))) (sym early)
+      (means_kept t u g (get_or a.clauses k []) (named (logged_at log s)) (λ j e lt_j. (right.formulas s.0 no_logged small j e lt_j).0) (h.same k lt));
+}
+
+-- with a step more the last is this
+module _ (log new : List Logged) (x : Logged) (last : new ≡ log ++ x ∷ []) where
+  pub last_is : (id : StepId) → id.0 ≡ length log → logged_at new id ≡ x
+  last_is id number = (λ i. get_or (last i) (number i) no_logged) ∙ get_or-append_seam log x [] no_logged
+
+  pub longer : length new ≡ length log + 1
+  longer = ap length last ∙ length-append log (x ∷ [])
+
+-- a step that was put last is taken off
+pub log_back : (log new : List Logged) (x : Logged) (n : ℕ) → new ≡ log ++ x ∷ [] → n ≡ length log → (after : List Logged) → after ≡ take n new → after ≡ log
+log_back log new x n last is after e = e ∙ (λ i. take (is i) (last i)) ∙ take-append_seam log (x ∷ [])

@@ -1,0 +1,140 @@
+-- That propagation and the theory's check leave all as it should be.
+use Rattle.std.specs.Prelude.{Ok}
+use Rattle.std.proofs.Common.{◌∙◌, List, sym, ap, subst}
+use Rattle.spec_sorts.specs.Terms.{Term}
+use Rattle.spec_sorts.specs.Literals.{Literal}
+use Rattle.term_core.specs.Tables.{TableView, Extends}
+use Rattle.term_core.proofs.TermsExtend.{Extends-self}
+use Rattle.sat_budget.specs.declared.limits.Stop.{Stop}
+use Rattle.sat_budget.specs.declared.limits.Strain.{Strain}
+use Rattle.sat_budget.specs.Budgets.{StopsBy, AreSpent}
+use Rattle.proof_log.specs.declared.theory.Verdict.{Verdict}
+use Rattle.proof_log.specs.Theories.{TheoryView, Derived, IsOver, terms_watched, literals_held, Checks}
+use Rattle.search_loop.proofs.SearchReasons.{clash_is}
+use Rattle.search_loop.proofs.SearchTheories.{fed}
+use Rattle.search_loop.specs.Asking.{HasStopped, OnStop, state}
+use Rattle.search_loop.proofs.SearchRounds.{propagated}
+use Rattle.search_loop.proofs.SearchSpends.{handed_on, came_handed_on, on_stop}
+use Rattle.search_loop.proofs.SearchLooks.{looked_after, fed_within, front_held, watches_held, is_over, stopped_checked, looks}
+use Rattle.search_loop.proofs.search.Search.look.Goals as goal
+
+pub returns-in_err-step-clause-grown : goal.returns-in_err-step-clause-grown
+returns-in_err-step-clause-grown g c = Extends-self c.args.table.now
+
+pub returns-in-Clash-clause-grown : goal.returns-in-Clash-clause-grown
+returns-in-Clash-clause-grown g c = Extends-self c.args.table.now
+
+pub returns-in-Clash-clause-looks : goal.returns-in-Clash-clause-looks
+returns-in-Clash-clause-looks g c =
+    let t = c.args.table.now in
+    let x = c.args.self.now in
+    let v = g.T.Theory.view c.args.theory.now in
+    let p = c.propagate.ensures in
+    let s = c.propagate.new.self in
+    let w = c.propagate.new.trail in
+    let r = c.requires.ready in
+    let implied = c.reasons_stay_right.ensures.propagated x.store x.trail w r.implied p.adds in
+    let ends = rw c.in-Clash.is at c.in_ok-step.ensures.ends in (
+      looked_after t x r v c.requires.asked c.is_sound.ensures.leveled.levels_paired s w p.same p.seen implied p.adds,
+      clash_is t c.ids_are_unique.ensures x.log x.store r.derives w.literals c.in-Clash.step ends,
+    )
+
+pub feed-requires-clause-from : goal.feed-requires-clause-from
+feed-requires-clause-from g c =
+    let x = c.args.self.now in
+    let p = c.propagate.ensures in
+    fed_within c.args.table.now x c.requires.ready (g.T.Theory.view c.args.theory.now) c.requires.asked c.is_sound.ensures.leveled.levels_paired c.propagate.new.self c.propagate.new.trail p.same p.seen
+    (c.reasons_stay_right.ensures.propagated x.store x.trail c.propagate.new.trail c.requires.ready.implied p.adds) p.adds
+
+pub feed-requires-clause-front : goal.feed-requires-clause-front
+feed-requires-clause-front g c =
+    let x = c.args.self.now in
+    let p = c.propagate.ensures in
+    front_held c.args.table.now x c.requires.ready (g.T.Theory.view c.args.theory.now) c.requires.asked c.is_sound.ensures.leveled.levels_paired c.propagate.new.self c.propagate.new.trail p.same p.seen
+    (c.reasons_stay_right.ensures.propagated x.store x.trail c.propagate.new.trail c.requires.ready.implied p.adds) p.adds
+
+pub feed-requires-clause-watched : goal.feed-requires-clause-watched
+feed-requires-clause-watched g c =
+    let x = c.args.self.now in
+    let p = c.propagate.ensures in
+    watches_held c.args.table.now x c.requires.ready (g.T.Theory.view c.args.theory.now) c.requires.asked c.is_sound.ensures.leveled.levels_paired c.propagate.new.self c.propagate.new.trail p.same p.seen
+    (c.reasons_stay_right.ensures.propagated x.store x.trail c.propagate.new.trail c.requires.ready.implied p.adds) p.adds
+
+pub check-requires-clause-over : goal.check-requires-clause-over
+check-requires-clause-over g c =
+    let x = c.args.self.now in
+    let p = c.propagate.ensures in
+    subst (IsOver c.args.table.now) (sym c.feed.ensures.holds)
+    (is_over c.args.table.now x c.requires.ready (g.T.Theory.view c.args.theory.now) c.requires.asked c.is_sound.ensures.leveled.levels_paired c.propagate.new.self c.propagate.new.trail p.same p.seen
+    (c.reasons_stay_right.ensures.propagated x.store x.trail c.propagate.new.trail c.requires.ready.implied p.adds) p.adds)
+
+pub returns-clause-looks : goal.returns-clause-looks
+returns-clause-looks g c =
+    let t = c.args.table.now in
+    let x = c.args.self.now in
+    let v = g.T.Theory.view c.args.theory.now in
+    let p = c.propagate.ensures in
+    let s = c.propagate.new.self in
+    let w = c.propagate.new.trail in
+    let r = c.requires.ready in
+    let u = c.check.new.table in
+    let log = c.check.new.log in
+    let ends = rw c.in_default.is at c.in_ok-step.ensures.ends in
+    let agrees : List Term → List Literal → Type 0 = g.T.Theory.agrees c.check.new.self in
+    let refuses : List Term → List Literal → Type 0 = g.T.Theory.refuses c.feed.new.theory in
+    let implied = c.reasons_stay_right.ensures.propagated x.store x.trail w r.implied p.adds in
+    let checks = subst (λ (z : TheoryView). Checks (agrees (terms_watched t z) (literals_held t z)) (refuses (terms_watched t z) (literals_held t z)) z (record { table = t; log = x.log }) (Ok c.in_ok-verdict.verdict) (record { table = u; log = log }))
+    c.feed.ensures.holds c.in_ok-verdict.ensures.checks in
+    looks t x r v c.requires.asked c.is_sound.ensures.leveled.levels_paired s w p.same p.seen implied p.adds u log c.check.new.budget c.check.ensures.budget
+    (λ grown. c.logs_stand_in_grown_tables.ensures.same t u x.log r.right grown) agrees (refuses (terms_watched t (fed v w.literals)) (literals_held t (fed v w.literals))) ends c.len-self.result c.len-self.ensures
+    (g.T.Theory.view c.check.new.self) (c.check.ensures.same ∙ c.feed.ensures.holds) c.in_ok-verdict.verdict checks
+
+pub returns-in_err-verdict-clause-grown : goal.returns-in_err-verdict-clause-grown
+returns-in_err-verdict-clause-grown g c =
+    subst (λ (u : TableView). Extends c.args.table.now u) (sym (ap (λ (d : Derived). d.table) c.in_err-verdict.ensures.checks)) (Extends-self c.args.table.now)
+
+pub returns-in-Clash-clause-came : goal.returns-in-Clash-clause-came
+returns-in-Clash-clause-came g c ts h = h
+
+pub returns-clause-came : goal.returns-clause-came
+returns-clause-came g c ts h = c.in_ok-verdict.ensures.came ts (c.feed.ensures.came c.args.table.now ts c.args.self.now.budget.exchanges h)
+
+pub returns-in_err-verdict-clause-came : goal.returns-in_err-verdict-clause-came
+returns-in_err-verdict-clause-came g c ts h =
+    came_handed_on Verdict Verdict (g.T.Theory.came_by c.check.new.self c.check.new.table ts) c.check.new.budget.exchanges c.from_residual-in_err-verdict.result c.in_err-verdict.field-0.0 c.from_residual-in_err-verdict.ensures.1
+    (c.in_err-verdict.ensures.came ts (c.feed.ensures.came c.args.table.now ts c.args.self.now.budget.exchanges h))
+
+pub returns-in_err-verdict-clause-stops : goal.returns-in_err-verdict-clause-stops
+returns-in_err-verdict-clause-stops g c =
+    let b = c.check.new.budget in
+    let w = c.check.new.table in
+    let strains : List Term → Strain → Type 0 = g.T.Theory.strains c.check.new.self w in
+    let needs_more : List Term → Type 0 = g.T.Theory.needs_more c.check.new.self w in
+    let shown : TableView → TheoryView → Stop → Type 0 = λ u v stop. StopsBy (strains (terms_watched u v)) (AreSpent (needs_more (terms_watched u v)) b) stop in
+    let stop = c.in_err-verdict.field-0.0 in
+    handed_on (shown c.check.new.table (g.T.Theory.view c.check.new.self)) c.from_residual-in_err-verdict.result stop c.from_residual-in_err-verdict.ensures.1
+    (subst (λ (v : TheoryView). shown c.check.new.table v stop) (sym c.check.ensures.same)
+    (subst (λ (u : TableView). shown u (g.T.Theory.view c.feed.new.theory) stop) (sym (ap (λ (d : Derived). d.table) c.in_err-verdict.ensures.checks)) c.in_err-verdict.ensures.stops))
+
+pub returns-in_err-verdict-clause-stopped : goal.returns-in_err-verdict-clause-stopped
+returns-in_err-verdict-clause-stopped g c =
+    let t = c.args.table.now in
+    let x = c.args.self.now in
+    let v = g.T.Theory.view c.args.theory.now in
+    let p = c.propagate.ensures in
+    let s = c.propagate.new.self in
+    let w = c.propagate.new.trail in
+    let b = c.check.new.budget in
+    let n = c.len-self.result in
+    let u = c.check.new.table in
+    let log = c.check.new.log in
+    let v2 = g.T.Theory.view c.check.new.self in
+    let implied = c.reasons_stay_right.ensures.propagated x.store x.trail w c.requires.ready.implied p.adds in
+    let there : HasStopped (state t x) (state t (record (propagated x s w x.decider) { log = x.log; fed = n; budget = b })) (fed v w.literals) =
+    stopped_checked t x c.requires.ready v c.requires.asked c.is_sound.ensures.leveled.levels_paired s w p.same p.seen implied p.adds b c.check.ensures.budget n in
+    let moved : HasStopped (state t x) (state u (record (propagated x s w x.decider) { log = log; fed = n; budget = b })) v2 =
+    subst (HasStopped (state t x) (state u (record (propagated x s w x.decider) { log = log; fed = n; budget = b }))) (sym (c.check.ensures.same ∙ c.feed.ensures.holds))
+    (subst (λ (d : Derived). HasStopped (state t x) (state d.table (record (propagated x s w x.decider) { log = d.log; fed = n; budget = b })) (fed v w.literals)) (sym c.in_err-verdict.ensures.checks) there) in
+    let P : Type 0 = g.T.Theory.goes_with c.check.new.self u × HasStopped (state t x) (state u (record (propagated x s w x.decider) { log = log; fed = n; budget = b })) v2 in
+    let stop = c.in_err-verdict.field-0.0 in
+    handed_on (OnStop P) c.from_residual-in_err-verdict.result stop c.from_residual-in_err-verdict.ensures.1 (on_stop P (c.check.ensures.with, moved) stop)

@@ -1,0 +1,165 @@
+-- That the rounds end in an answer with its evidence.
+use Rattle.std.proofs.Common.{◌≡◌, ◌<◌, ◌-◌, ◌∙◌, ◌∷◌, [], length, ap, ◌+◌, refl, sym, subst, arith}
+use Rattle.std.specs.Prelude.{None}
+use Rattle.std.proofs.lemmas.List.{length-append}
+use Rattle.sat_budget.specs.declared.limits.Strain.{Strain}
+use Rattle.sat_budget.specs.Budgets.{BudgetView, StopsBy, AreSpent}
+use Rattle.proof_log.specs.declared.theory.Verdict.{Verdict}
+use Rattle.proof_log.specs.Theories.{TheoryView, terms_watched}
+use Rattle.search_loop.specs.declared.cdcl.End.{End}
+use Rattle.search_loop.specs.Asking.{KeepsUp, HasStopped, OnStop, state}
+use Rattle.search_loop.proofs.SearchSpends.{handed_on, came_handed_on, on_stop_weaker}
+use Rattle.search_loop.proofs.SearchLooks.{stopped_on}
+use Rattle.search_loop.proofs.SearchReady.{ready_waiting, ready_decided}
+use Rattle.term_core.proofs.TermsExtend.{Extends-trans}
+use Rattle.search_loop.proofs.SearchRounds.{continues_same, continues_on, ends_on, less_learned, less_assigned}
+use Rattle.search_loop.proofs.SearchTheories.{keeps_decided}
+use Rattle.search_loop.proofs.SearchWaiting.{satisfied_by}
+use Rattle.search_loop.proofs.search.Search.run.Goals as goal
+
+pub rounds-init : goal.rounds-init
+rounds-init g c = record {
+  ready = c.requires.ready;
+  asked = c.requires.asked;
+  with = c.requires.with;
+  came = λ ts h. h;
+  continues = continues_same c.args.table.now c.args.self.now c.args.self.now refl refl refl refl refl;
+}
+
+pub returns-in_default-clause-ends : goal.returns-in_default-clause-ends
+returns-in_default-clause-ends g c =
+    let u = c.look.new.table in
+    let y = c.look.new.self in
+    let looks = rw c.in-Fine.is at c.in_ok-look.ensures.looks in
+    let l = looks.0 in
+    let chosen = rw c.in_default.is at c.next.ensures.choice y.atoms.items l.ready.waiting in
+    let z = record y { decider = c.next.new.self } in (
+      record {
+        ready = ready_waiting u y c.next.new.self l.ready chosen.1 c.next.ensures.size;
+        held = looks.2;
+        terms = l.asked.terms;
+        assigned = chosen.0;
+        satisfied = satisfied_by y.atoms.items y.store.clauses y.trail.literals l.ready.covered looks.1 chosen.0;
+        agrees = looks.3;
+      },
+      continues_on c.args.table.now u u c.args.self.now y z (continues_on c.args.table.now c.rounds.table u c.args.self.now c.rounds.self y c.rounds.invariant.continues l.continues)
+          (continues_same u y z refl refl refl refl refl),
+    )
+
+pub rounds-preserved-in-Fine : goal.rounds-preserved-in-Fine
+rounds-preserved-in-Fine g c =
+    let u = c.look.new.table in
+    let y = c.look.new.self in
+    let looks = rw c.in-Fine.is at c.in_ok-look.ensures.looks in
+    let l = looks.0 in
+    let d = c.in-Some.l in
+    let ws = c.next.new.self in
+    let w = c.decide.new.self in
+    let pushed = c.decide.ensures in
+    let chosen = rw c.in-Some.is at c.next.ensures.choice y.atoms.items l.ready.waiting in
+    let n = y.trail.level + 1 in
+    let z = record y { trail = w; decider = ws } in
+    record {
+      ready = ready_decided u y w ws d n l.ready pushed
+          (c.what_is_marked_was_seen.ensures.pushed y.store y.trail w d None n c.is_sound.ensures.propagated l.ready.seen pushed)
+          (c.reasons_stay_right.ensures.decided y.store y.trail w d n l.ready.implied pushed) looks.1 chosen.0 chosen.1 c.next.ensures.size;
+      asked = record {
+        keeps = subst (λ (v : TheoryView). KeepsUp v w) (sym c.in_ok-mark-in-Fine.ensures.marks) (keeps_decided (g.T.Theory.view c.look.new.theory) y.trail w d c.is_sound.ensures.leveled pushed l.asked.keeps looks.2);
+        terms = ap (λ (v : TheoryView). v.watched) c.in_ok-mark-in-Fine.ensures.marks ∙ l.asked.terms;
+        fed = l.asked.fed ∙ ap (λ (v : TheoryView). length v.held) (sym c.in_ok-mark-in-Fine.ensures.marks);
+      };
+      with = c.mark.ensures.with u c.in_ok-look.ensures.with;
+      came = λ ts h. c.mark.ensures.came u ts y.budget.exchanges (c.in_ok-look.ensures.came ts (c.rounds.invariant.came ts h));
+      continues = continues_on c.args.table.now u u c.args.self.now y z (continues_on c.args.table.now c.rounds.table u c.args.self.now c.rounds.self y c.rounds.invariant.continues l.continues)
+          (continues_same u y z refl refl refl pushed.vars refl);
+    }
+
+pub rounds-smaller-in-Fine : goal.rounds-smaller-in-Fine
+rounds-smaller-in-Fine g c =
+    let x = c.rounds.self in
+    let y = c.look.new.self in
+    let looks = rw c.in-Fine.is at c.in_ok-look.ensures.looks in
+    let l = looks.0 in
+    let pushed = c.decide.ensures in
+    let w = c.decide.new.self in
+    let b = l.budget.1 in
+    let more : length x.trail.literals < length w.literals = omega (arith, l.literals, ap length pushed.literals, length-append y.trail.literals (c.in-Some.l ∷ [])) in
+    rw b (less_assigned (x.budget.limit - length x.budget.learned) x.trail.vars w.vars (length x.trail.literals) (length w.literals) (pushed.vars ∙ l.continues.vars) more c.is_sound-in-Fine.ensures.within)
+
+pub returns-in_err-end-in-Clash-clause-grown : goal.returns-in_err-end-in-Clash-clause-grown
+returns-in_err-end-in-Clash-clause-grown g c = Extends-trans c.args.table.now c.look.new.table c.settle.new.table (Extends-trans c.args.table.now c.rounds.table c.look.new.table c.rounds.invariant.continues.table c.look.ensures.grown) c.settle.ensures.grown
+
+pub returns-in-Some-2-clause-grown : goal.returns-in-Some-2-clause-grown
+returns-in-Some-2-clause-grown g c = Extends-trans c.args.table.now c.look.new.table c.settle.new.table (Extends-trans c.args.table.now c.rounds.table c.look.new.table c.rounds.invariant.continues.table c.look.ensures.grown) c.settle.ensures.grown
+
+pub returns-in-Some-2-clause-ends : goal.returns-in-Some-2-clause-ends
+returns-in-Some-2-clause-ends g c =
+    let t = c.args.table.now in
+    let u = c.look.new.table in
+    let y = c.look.new.self in
+    let looks = rw c.in-Clash.is at c.in_ok-look.ensures.looks in
+    let on = continues_on t c.rounds.table u c.args.self.now c.rounds.self y c.rounds.invariant.continues looks.0.continues in
+    ends_on t u c.settle.new.table c.args.self.now y c.settle.new.self (g.T.Theory.view c.settle.new.theory) _ c.in-Some-2.end on (rw c.in-Some-2.is at c.in_ok-end-in-Clash.ensures.settles)
+
+pub rounds-preserved : goal.rounds-preserved
+rounds-preserved g c =
+    let t = c.args.table.now in
+    let u = c.look.new.table in
+    let y = c.look.new.self in
+    let looks = rw c.in-Clash.is at c.in_ok-look.ensures.looks in
+    let settles = rw c.in_default-2.is at c.in_ok-end-in-Clash.ensures.settles in
+    record {
+      ready = settles.0.ready;
+      asked = settles.1;
+      with = c.in_ok-end-in-Clash.ensures.with;
+      came = λ ts h. c.in_ok-end-in-Clash.ensures.came ts (c.in_ok-look.ensures.came ts (c.rounds.invariant.came ts h));
+      continues = continues_on t u c.settle.new.table c.args.self.now y c.settle.new.self (continues_on t c.rounds.table u c.args.self.now c.rounds.self y c.rounds.invariant.continues looks.0.continues) settles.0.continues;
+    }
+
+pub rounds-smaller : goal.rounds-smaller
+rounds-smaller g c =
+    let x = c.rounds.self in
+    let y = c.look.new.self in
+    let z = c.settle.new.self in
+    let looks = rw c.in-Clash.is at c.in_ok-look.ensures.looks in
+    let settles = rw c.in_default-2.is at c.in_ok-end-in-Clash.ensures.settles in
+    let l = settles.0 in
+    let size : z.trail.vars ≡ x.trail.vars = l.continues.vars ∙ looks.0.continues.vars in
+    let b = looks.0.budget.1 in
+    less_learned x.budget.limit z.budget.limit x.trail.vars z.trail.vars (length x.budget.learned) (length z.budget.learned) (x.trail.vars - length x.trail.literals) (z.trail.vars - length z.trail.literals)
+    (l.continues.limits.0 ∙ looks.0.continues.limits.0) size (subst (λ (y : BudgetView). length y.learned < y.limit) b settles.2) (l.learned ∙ ap (λ (y : BudgetView). length y.learned + 1) b) (omega (arith, size))
+
+pub returns-in_err-look-clause-grown : goal.returns-in_err-look-clause-grown
+returns-in_err-look-clause-grown g c = Extends-trans c.args.table.now c.rounds.table c.look.new.table c.rounds.invariant.continues.table c.look.ensures.grown
+
+pub returns-in_default-clause-came : goal.returns-in_default-clause-came
+returns-in_default-clause-came g c ts h = c.in_ok-look.ensures.came ts (c.rounds.invariant.came ts h)
+
+pub returns-in-Some-2-clause-came : goal.returns-in-Some-2-clause-came
+returns-in-Some-2-clause-came g c ts h = c.in_ok-end-in-Clash.ensures.came ts (c.in_ok-look.ensures.came ts (c.rounds.invariant.came ts h))
+
+pub returns-in_err-look-clause-came : goal.returns-in_err-look-clause-came
+returns-in_err-look-clause-came g c ts h =
+    came_handed_on Verdict End (g.T.Theory.came_by c.look.new.theory c.look.new.table ts) c.look.new.self.budget.exchanges c.from_residual.result c.in_err-look.field-0.0 c.from_residual.ensures.1
+    (c.in_err-look.ensures.came ts (c.rounds.invariant.came ts h))
+
+pub returns-in_err-look-clause-stops : goal.returns-in_err-look-clause-stops
+returns-in_err-look-clause-stops g c =
+    let watched = terms_watched c.look.new.table (g.T.Theory.view c.look.new.theory) in
+    let strains : Strain → Type 0 = g.T.Theory.strains c.look.new.theory c.look.new.table watched in
+    let needs_more : Type 0 = g.T.Theory.needs_more c.look.new.theory c.look.new.table watched in
+    handed_on (StopsBy strains (AreSpent needs_more c.look.new.self.budget)) c.from_residual.result c.in_err-look.field-0.0 c.from_residual.ensures.1 c.in_err-look.ensures.stops
+
+pub returns-in_err-look-clause-stopped : goal.returns-in_err-look-clause-stopped
+returns-in_err-look-clause-stopped g c =
+    let t = c.args.table.now in
+    let u = c.rounds.table in
+    let w = c.look.new.table in
+    let x = c.args.self.now in
+    let y = c.rounds.self in
+    let z = c.look.new.self in
+    let v = g.T.Theory.view c.look.new.theory in
+    let with : Type 0 = g.T.Theory.goes_with c.look.new.theory w in
+    let stop = c.in_err-look.field-0.0 in
+    handed_on (OnStop (with × HasStopped (state t x) (state w z) v)) c.from_residual.result stop c.from_residual.ensures.1
+    (on_stop_weaker (with × HasStopped (state u y) (state w z) v) (with × HasStopped (state t x) (state w z) v) (λ h. (h.0, stopped_on t u w x y z v c.rounds.invariant.continues h.1)) stop c.in_err-look.ensures.stopped)

@@ -1,0 +1,20 @@
+-- What each round leaves: all fits together, the theory keeps up and came by the exchanges that are kept, and the search is still one for the
+-- same terms. Each round learns a clause, or assigns an atom more.
+use Rattle.std.proofs.Common.{◌+◌, ◌-◌, ◌*◌, List, length}
+use Rattle.spec_sorts.specs.Terms.{Term}
+use Rattle.search_loop.specs.Search.{IsReady}
+use Rattle.search_loop.specs.Rounds.{Continues}
+use Rattle.search_loop.specs.Asking.{IsAsked}
+use Rattle.search_loop.proofs.search.Search.run.Given as goal
+
+abbrev pub invariant-rounds : goal.invariant-rounds
+invariant-rounds g l = record {
+  ready : IsReady l.table l.self;
+  asked : IsAsked (g.T.Theory.view l.theory) l.self;
+  with : g.T.Theory.goes_with l.theory l.table;
+  came : (ts : List Term) → g.T.Theory.came_by l.fn.theory l.fn.table ts l.fn.self.budget.exchanges → g.T.Theory.came_by l.theory l.table ts l.self.budget.exchanges;
+  continues : Continues l.fn.table l.table l.fn.self l.self;
+}
+
+abbrev pub decreases-rounds : goal.decreases-rounds
+decreases-rounds g l = (l.self.budget.limit - length l.self.budget.learned) * (l.self.trail.vars + 1) + (l.self.trail.vars - length l.self.trail.literals)

@@ -1,0 +1,57 @@
+-- Term by term, and that a stop at one is over the terms up to it.
+use Rattle.std.proofs.Common.{◌≡◌, ◌+◌, ◌<◌, ◌∙◌, ◌++◌, ◌∷◌, [], ℕ, List, take, get_or, length, sym, ap, subst}
+use Rattle.std.proofs.lemmas.List.{take_more}
+use Rattle.std.proofs.lemmas.List.Elements.{Contains-get_or}
+use Rattle.spec_text.proofs.Members.{to_image}
+use Rattle.spec_sorts.specs.Terms.{Term}
+use Rattle.term_core.specs.declared.ids.TermId.{TermId}
+use Rattle.term_core.specs.Tables.{term_at, clause_at}
+use Rattle.sat_budget.specs.declared.limits.Stop.{Stop}
+use Rattle.sat_budget.specs.declared.limits.Strain.{Strain}
+use Rattle.sat_budget.specs.Budgets.{StopsBy}
+use Rattle.proof_log.specs.Theories.{TheoryView, with_watched}
+use Rattle.term_clauses.specs.SpokenTerms.{no_id}
+use Rattle.search_loop.proofs.SearchSpends.{handed_on, came_handed_on}
+use Rattle.search_loop.proofs.SearchTheories.{watching}
+use Rattle.search_loop.proofs.watching.watch_all.Goals as goal
+
+pub terms-init : goal.terms-init
+terms-init g c =
+    let v = g.T.Theory.view c.args.theory.now in
+    record { view = λ i. record { held = v.held; watched = c.requires.none i; marks = v.marks }; goes = c.requires.with; came = λ ts es among h. h }
+
+pub terms-preserved : goal.terms-preserved
+terms-preserved g c =
+    let t = c.args.table.now in
+    let ids = c.args.terms.now in
+    let k = c.terms.id-index in
+    let id = get_or ids k no_id in
+    record {
+      view = c.in_ok-watch_term.ensures.watches ∙ ap (λ (v : TheoryView). with_watched v id) c.terms.invariant.view ∙ ap (watching (g.T.Theory.view c.args.theory.now)) (sym (take_more ids k no_id c.terms-test.true));
+      goes = c.watch_term.ensures.with;
+      came = λ ts es among h.
+          c.in_ok-watch_term.ensures.came ts es (among (term_at t id) (to_image (term_at t) ids id (Contains-get_or ids k no_id c.terms-test.true))) (c.terms.invariant.came ts es among h);
+    }
+
+pub returns-clause-came : goal.returns-clause-came
+returns-clause-came g c = c.terms.invariant.came
+
+pub returns-in_err-watch_term-clause-came : goal.returns-in_err-watch_term-clause-came
+returns-in_err-watch_term-clause-came g c ts es among h =
+    let t = c.args.table.now in
+    let ids = c.args.terms.now in
+    let k = c.terms.id-index in
+    let id = get_or ids k no_id in
+    came_handed_on (Unit {0}) (Unit {0}) (g.T.Theory.came_by c.watch_term.new.self t ts) es c.from_residual.result c.in_err-watch_term.field-0.0 c.from_residual.ensures.1
+    (c.in_err-watch_term.ensures.came ts es (among (term_at t id) (to_image (term_at t) ids id (Contains-get_or ids k no_id c.terms-test.true))) (c.terms.invariant.came ts es among h))
+
+pub returns-in_err-watch_term-clause-stops : goal.returns-in_err-watch_term-clause-stops
+returns-in_err-watch_term-clause-stops g c =
+    let ids = c.args.terms.now in
+    let k = c.terms.id-index in
+    let strains : List Term → Strain → Type 0 = g.T.Theory.strains c.watch_term.new.self c.args.table.now in
+    let shown : List TermId → Stop → Type 0 = λ watched stop. StopsBy (strains (clause_at c.args.table.now watched)) (λ _. ⊥) stop in
+    let up_to = ap (λ (v : TheoryView). v.watched ++ get_or ids k no_id ∷ []) c.terms.invariant.view ∙ sym (take_more ids k no_id c.terms-test.true) in
+    let before = ap (λ (v : TheoryView). v.watched) c.in_err-watch_term.ensures.watches ∙ ap (λ (v : TheoryView). v.watched) c.terms.invariant.view in
+    handed_on (λ stop. (n : ℕ) × (n < length ids) × ((g.T.Theory.view c.watch_term.new.self).watched ≡ take n ids) × shown (take (n + 1) ids) stop) c.from_residual.result c.in_err-watch_term.field-0.0 c.from_residual.ensures.1
+    (k, c.terms-test.true, before, subst (λ watched. shown watched c.in_err-watch_term.field-0.0) up_to c.in_err-watch_term.ensures.stops)

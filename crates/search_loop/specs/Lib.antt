@@ -1,0 +1,7 @@
+-- The definitions that contracts cite: what an answer shows, and what the parts of the search keep.
+pub mod Reach
+pub mod Waiting
+pub mod Search
+pub mod Stops
+pub mod Rounds
+pub mod Asking

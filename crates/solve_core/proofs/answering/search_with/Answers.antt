@@ -1,0 +1,90 @@
+-- From the beginning to an answer, with both theories.
+use Rattle.std.proofs.Common.{◌+◌, List, take, sym, ap, subst}
+use Rattle.std.proofs.lemmas.Result.{IfOk-weaker, IfErr-weaker}
+use Rattle.spec_sorts.specs.Terms.{Term}
+use Rattle.spec_sorts.specs.Subsets.{AreAmong}
+use Rattle.term_core.specs.declared.ids.TermId.{TermId}
+use Rattle.term_core.specs.Tables.{clause_at}
+use Rattle.term_core.proofs.TermsExtend.{Extends-self}
+use Rattle.sat_budget.specs.declared.limits.Reason.TheVariants.{Overflow}
+use Rattle.sat_budget.specs.Budgets.{StopsBy}
+use Rattle.congruence_relation.specs.Relation.{AreOf}
+use Rattle.congruence.specs.Views.{theory_of}
+use Rattle.simplex.specs.Checks.{Suits}
+use Rattle.simplex.specs.Coming.{CameBy, IsStrainAt}
+use Rattle.search_loop.specs.declared.cdcl.Answer.TheVariants.{Unknown}
+use Rattle.search_loop.specs.Rounds.{Shows}
+use Rattle.search_loop.specs.Asking.{state}
+use Rattle.search_loop.proofs.SearchRounds.{shows_on}
+use Rattle.solve_core.specs.Answering.{IsAnswered, IsStoppedBy}
+use Rattle.solve_core.proofs.SearchNumbers.{same_terms}
+use Rattle.solve_core.proofs.SearchStops.{watching_stops, numbers_stop, rounds_stop}
+use Rattle.solve_core.proofs.answering.search_with.Goals as goal
+
+pub returns-in-Err-clause-grown : goal.returns-in-Err-clause-grown
+returns-in-Err-clause-grown c = Extends-self c.args.table.now
+
+pub returns-in-Err-clause-stopped : goal.returns-in-Err-clause-stopped
+returns-in-Err-clause-stopped c =
+    let t = c.args.table.now in
+    let x = c.args.search.now in
+    let es = x.budget.exchanges in
+    let begun = c.requires.begins.2 in
+    let theory = c.watch_all.new.theory in
+    let stop = c.in-Err.stop in
+    let h = rw c.in-Err.is at c.watch_all.ensures.stops in
+    let more = ap (λ (ids : List TermId). clause_at t (take (h.0 + 1) ids)) c.deref.ensures.value in
+    watching_stops t x begun.ready.right theory.simplex (h.0 + 1) stop
+    (λ ts among. rw c.in-Err.is at (c.watch_all.ensures.came ts es (subst (λ (ids : List TermId). AreAmong (clause_at t ids) ts) (sym c.deref.ensures.value) among)
+    (subst (λ made. CameBy t ts made c.args.theory.now.simplex) (sym begun.unspent) (c.requires.came ts))))
+    (subst (λ ts. StopsBy (λ e. IsStrainAt t ts e theory.simplex) (λ _. ⊥) stop) more h.3)
+
+-- where the search rests
+pub answer_rested-requires-clause-came : goal.answer_rested-requires-clause-came
+answer_rested-requires-clause-came c ts among =
+    let t = c.args.table.now in
+    let w = c.run-ended.new.table in
+    let x = c.args.search.now in
+    let y = c.run-ended.new.self in
+    let begun = c.requires.begins.2 in
+    let ends = rw c.in-Ok-Rests.field-0-is at c.in-Ok-Rests.ensures.ends in
+    let before = subst (λ (us : List Term). AreAmong us ts) (same_terms t w ends.1.table x y begun.ready ends.1.terms) among in
+    c.in-Ok-Rests.ensures.came ts (c.in_default.ensures.came ts x.budget.exchanges (subst (λ (ids : List TermId). AreAmong (clause_at t ids) ts) (sym c.deref.ensures.value) before)
+    (subst (λ made. CameBy t ts made c.args.theory.now.simplex) (sym begun.unspent) (c.requires.came ts)))
+
+pub returns-in-Ok-Rests-clause-answered : goal.returns-in-Ok-Rests-clause-answered
+returns-in-Ok-Rests-clause-answered c =
+    let t = c.args.table.now in
+    let w = c.run-ended.new.table in
+    let x = c.args.search.now in
+    let y = c.run-ended.new.self in
+    let ends = rw c.in-Ok-Rests.field-0-is at c.in-Ok-Rests.ensures.ends in
+    IfOk-weaker c.answer_rested.result (Shows w w y y) (IsAnswered (state t x) (state w y)) (λ a shows. record {
+      right = c.in-Ok-Rests.ensures.right;
+      limits = c.in-Ok-Rests.ensures.limits;
+      shows = shows_on t w w x y y a ends.1 shows;
+    }) c.answer_rested.ensures.answered
+
+pub returns-in-Ok-Rests-clause-stopped : goal.returns-in-Ok-Rests-clause-stopped
+returns-in-Ok-Rests-clause-stopped c =
+    let t = c.args.table.now in
+    let w = c.run-ended.new.table in
+    let x = c.args.search.now in
+    let y = c.run-ended.new.self in
+    let theory = c.run-ended.new.theory in
+    let ends = rw c.in-Ok-Rests.field-0-is at c.in-Ok-Rests.ensures.ends in
+    IfErr-weaker c.answer_rested.result (StopsBy (λ s. Shows w w y y (Unknown (Overflow s))) (λ _. ⊥)) (IsStoppedBy (state t x) (state w y))
+    (λ stop h. numbers_stop t w x y ends.1 c.in-Ok-Rests.ensures.right stop h) c.answer_rested.ensures.strained
+
+-- and where its rounds stop
+pub returns-in-Err-ended-clause-stopped : goal.returns-in-Err-ended-clause-stopped
+returns-in-Err-ended-clause-stopped c =
+    let t = c.args.table.now in
+    let w = c.run-ended.new.table in
+    let x = c.args.search.now in
+    let y = c.run-ended.new.self in
+    let theory = c.run-ended.new.theory in
+    let begun = c.requires.begins.2 in
+    rounds_stop t w x y (theory_of theory.congruence) theory.simplex (AreOf w theory.congruence.now.facts × Suits theory.simplex w) c.in-Err-ended.stop
+    (λ ts among. c.in-Err-ended.ensures.came ts (c.in_default.ensures.came ts x.budget.exchanges (subst (λ (ids : List TermId). AreAmong (clause_at t ids) ts) (sym c.deref.ensures.value) among)
+    (subst (λ made. CameBy t ts made c.args.theory.now.simplex) (sym begun.unspent) (c.requires.came ts)))) c.in-Err-ended.ensures.stopped c.in-Err-ended.ensures.stops
