@@ -49,7 +49,7 @@ among_overflows terms o w = elim w.leaves [
   | inr h ↦ numbers_too_wide _ (opposite one_fraction ∷ one_fraction ∷ []) o h
 ]
 
-pub strain_overflows : (p : Problem) (es : List (ℕ × ℕ)) (o : Overflow) → IsStrained p es o → IsOverflow o
-strain_overflows p es o (problem.forming none w) = form_overflows _ o w
-strain_overflows p es o (ordering none w) = among_overflows _ o w
-strain_overflows p es o (reckoning s at w) = cause_overflows _ s o w
+pub strain_overflows : (p : Problem) (l : ℕ) (es : List (ℕ × ℕ)) (o : Overflow) → IsStrained p l es o → IsOverflow o
+strain_overflows p l es o (problem.forming unlearned none w) = form_overflows _ o w
+strain_overflows p l es o (ordering unlearned none w) = among_overflows _ o w
+strain_overflows p l es o (reckoning s runs at few w) = cause_overflows _ s o w

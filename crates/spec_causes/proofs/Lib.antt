@@ -5,3 +5,4 @@ pub mod NumberFaults
 pub mod CauseFaults
 pub mod Wider
 pub mod Silent
+pub mod Resting

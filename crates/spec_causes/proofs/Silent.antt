@@ -23,9 +23,9 @@ use Rattle.spec_simplex.specs.Constraints.{Constraint, where_true, constraint_by
 use Rattle.spec_arithmetic.specs.Contradictions.{are_numbers}
 use Rattle.spec_causes.specs.Standing.{Standing, state_in, moved_to}
 use Rattle.spec_causes.specs.Bounds.{Side, lower, upper, bound_on, AreBounds}
-use Rattle.spec_causes.specs.Reached.{IsFormAmong, IsReached, beginning, naming, summing, settling, checking}
+use Rattle.spec_causes.specs.Reached.{IsFormAmong, IsReached, beginning, naming, summing, resting, checking, IsStoppedAt, between, settling, exchanging}
 use Rattle.spec_causes.specs.Reasons.{Conflicts, crossing, sticking}
-use Rattle.spec_causes.specs.Causes.{StrainsForm, IsHalfAbove, IsHalfBelow, IsEpsilon, StrainsAt, forming, bounding, adding_row, explaining, finding, evaluating, NeedsMore, AreSilent}
+use Rattle.spec_causes.specs.Causes.{IsHalfAbove, IsHalfBelow, IsEpsilon, StrainsAt, forming, bounding, adding_row, explaining, finding, evaluating, NeedsMore, AreSilent}
 use Rattle.spec_causes.specs.Causes as causes
 
 -- a test fails for one constraint and holds for another
@@ -124,18 +124,30 @@ module _ (ts : List Term) (silent : AreSilent ts) where
         h.kept ∙ ap (λ xs. xs ++ h.made) before ∙ made.0,
       )
 
-  pub reaches_nothing : (es : List (ℕ × ℕ)) (s : Standing) → IsReached ts es s → IsEmpty s × (es ≡ [])
-  reaches_nothing _ _ beginning = (record { rows = refl; values = λ y. refl }, refl)
-  reaches_nothing _ _ (naming es s h f among u k has new) = absurd (no_form f among)
-  reaches_nothing _ _ (summing es s h f among gs are longer) = absurd (no_form f among)
-  reaches_nothing _ _ (settling es s h ranges bounds n rs vs many goes) =
-      let before = reaches_nothing es s h in
-      let after = settled_alone s ranges (open_ranges s ranges bounds) n (state_in (moved_to s rs vs)) goes before.0 in
-      (record { rows = after.0; values = after.1 }, before.1)
-  reaches_nothing _ _ (checking old new s h ranges bounds rs vs many ran) =
-      let before = reaches_nothing old s h in
+  pub reaches_nothing : (n : ℕ) (es : List (ℕ × ℕ)) (s : Standing) → IsReached ts n es s → IsEmpty s × (es ≡ [])
+  reaches_nothing _ _ _ beginning = (record { rows = refl; values = λ y. refl }, refl)
+  reaches_nothing _ _ _ (naming n es s h f among u k has new) = absurd (no_form f among)
+  reaches_nothing _ _ _ (summing n es s h f among gs are longer) = absurd (no_form f among)
+  reaches_nothing _ _ _ (resting n es s h ranges bounds rs vs many ran) =
+      let before = reaches_nothing n es s h in
+      let after = ran_alone s ranges (open_ranges s ranges bounds) (state_in (moved_to s rs vs)) es es ran before.0 before.1 in
+      (record { rows = after.0; values = after.1 }, after.2)
+  reaches_nothing _ _ _ (checking n old new s h ranges bounds rs vs many ran) =
+      let before = reaches_nothing n old s h in
       let after = ran_alone s ranges (open_ranges s ranges bounds) (state_in (moved_to s rs vs)) old new ran before.0 before.1 in
       (record { rows = after.0; values = after.1 }, after.2)
+
+  -- nor where it is stopped
+  pub stopped_on_nothing : (n : ℕ) (es : List (ℕ × ℕ)) (s : Standing) → IsStoppedAt ts n es s → IsEmpty s × (es ≡ [])
+  stopped_on_nothing _ _ _ (between n es s h) = reaches_nothing n es s h
+  stopped_on_nothing _ _ _ (settling n es s h ranges bounds m rs vs many goes) =
+      let before = reaches_nothing n es s h in
+      let after = settled_alone s ranges (open_ranges s ranges bounds) m (state_in (moved_to s rs vs)) goes before.0 in
+      (record { rows = after.0; values = after.1 }, before.1)
+  stopped_on_nothing _ _ _ (exchanging n old new s h ranges bounds rs vs many short) =
+      let before = reaches_nothing n old s h in
+      let after = ran_alone s ranges (open_ranges s ranges bounds) (state_in (moved_to s rs vs)) old short.before short.ran before.0 before.1 in
+      absurd (no_exchange ranges (state_in (moved_to s rs vs)) after.0 short.last.0 short.last.1 short.next)
 
   -- no bound is violated
   nothing_out : (ranges : Ranges) → IsOpen ranges → (v : ℕ → Pair Number) (y : ℕ) → is_within deltas ranges v y ≡ false → ⊥
@@ -186,21 +198,18 @@ module _ (ts : List Term) (silent : AreSilent ts) where
   unfolding delta_evaluated added multiplied plus times gcd is_small fits sum_fits ◌>>=◌ numbers fractions
   zero_at_one o h = cc
 
-  pub nothing_strains : (es : List (ℕ × ℕ)) (s : Standing) → IsReached ts es s → (o : Overflow) → StrainsAt ts s o → ⊥
-  nothing_strains es s h o (forming w) = says_neither true w.atom w.constraint (silent w.atom w.there) w.says
-  nothing_strains es s h o (bounding f among u k is w) = no_form f among
-  nothing_strains es s h o (adding_row f among gs are w) = no_form f among
-  nothing_strains es s h o (causes.checking ranges bounds w) =
-      check_never s (reaches_nothing es s h).0 ranges (open_ranges s ranges bounds) o w
-  nothing_strains es s h o (explaining ranges bounds up gs conflict w) =
-      conflict_never s (reaches_nothing es s h).0 ranges (open_ranges s ranges bounds) up gs conflict
-  nothing_strains es s h o (finding ranges bounds within w) =
+  pub nothing_strains : (s : Standing) → IsEmpty s → (o : Overflow) → StrainsAt ts s o → ⊥
+  nothing_strains s is o (forming w) = says_neither true w.atom w.constraint (silent w.atom w.there) w.says
+  nothing_strains s is o (bounding f among u k e w) = no_form f among
+  nothing_strains s is o (adding_row f among gs are w) = no_form f among
+  nothing_strains s is o (causes.checking ranges bounds w) = check_never s is ranges (open_ranges s ranges bounds) o w
+  nothing_strains s is o (explaining ranges bounds up gs conflict w) = conflict_never s is ranges (open_ranges s ranges bounds) up gs conflict
+  nothing_strains s is o (finding ranges bounds within w) =
       find_never ranges (open_ranges s ranges bounds) w.variable (point_in s.values w.variable) o w.strains
-  nothing_strains es s h o (evaluating ranges bounds within e is w) =
-      let is = epsilon_is_one ranges (open_ranges s ranges bounds) (point_in s.values) e is in
-      zero_at_one o (ap (λ (x : Pair Number). delta_evaluated (delta_in x) (numbers.one).fraction) (sym ((reaches_nothing es s h).0.values w.variable))
-      ∙ ap (λ (k : Number). delta_evaluated (delta_in (point_in s.values w.variable)) k.fraction) (sym is) ∙ w.leaves)
+  nothing_strains s is o (evaluating ranges bounds within e half w) =
+      let one = epsilon_is_one ranges (open_ranges s ranges bounds) (point_in s.values) e half in
+      zero_at_one o (ap (λ (x : Pair Number). delta_evaluated (delta_in x) (numbers.one).fraction) (sym (is.values w.variable))
+      ∙ ap (λ (k : Number). delta_evaluated (delta_in (point_in s.values w.variable)) k.fraction) (sym one) ∙ w.leaves)
 
-  pub nothing_is_needed : (es : List (ℕ × ℕ)) (s : Standing) → IsReached ts es s → NeedsMore ts s → ⊥
-  nothing_is_needed es s h more =
-      no_exchange more.ranges (state_in s) (reaches_nothing es s h).0.rows more.wants.leaving more.wants.entering more.wants.says
+  pub nothing_is_needed : (s : Standing) → IsEmpty s → NeedsMore ts s → ⊥
+  nothing_is_needed s is more = no_exchange more.ranges (state_in s) is.rows more.wants.leaving more.wants.entering more.wants.says

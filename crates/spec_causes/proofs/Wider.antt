@@ -9,8 +9,8 @@ use Rattle.spec_arithmetic.specs.Forms.{Form}
 use Rattle.spec_strains.specs.Points.{Ranges}
 use Rattle.spec_causes.specs.Standing.{Standing}
 use Rattle.spec_causes.specs.Bounds.{AreBounds}
-use Rattle.spec_causes.specs.Reached.{IsFormAmong, IsReached, beginning, naming, summing, settling, checking}
-use Rattle.spec_causes.specs.Causes.{StrainsForm, StrainsAt, forming, bounding, adding_row, explaining, finding, evaluating, NeedsMore}
+use Rattle.spec_causes.specs.Reached.{IsFormAmong, IsReached, beginning, naming, summing, resting, checking}
+use Rattle.spec_causes.specs.Causes.{StrainsAt, forming, bounding, adding_row, explaining, finding, evaluating, NeedsMore}
 use Rattle.spec_causes.specs.Causes as causes
 
 module _ (ts us : List Term) (more : AreAmong ts us) where
@@ -24,15 +24,16 @@ module _ (ts us : List Term) (more : AreAmong ts us) where
     stated = h.stated;
   }
 
-  pub reached_over_more : (es : List (ℕ × ℕ)) (s : Standing) → IsReached ts es s → IsReached us es s
-  reached_over_more _ _ beginning = beginning
-  reached_over_more _ _ (naming es s0 h f among u k has new) =
-      naming es s0 (reached_over_more es s0 h) f (form_among_more f among) u k has new
-  reached_over_more _ _ (summing es s0 h f among gs are longer) = summing es s0 (reached_over_more es s0 h) f (form_among_more f among) gs are longer
-  reached_over_more _ _ (settling es s0 h ranges bounds n rs vs many goes) =
-      settling es s0 (reached_over_more es s0 h) ranges (bounds_among_more s0 ranges bounds) n rs vs many goes
-  reached_over_more _ _ (checking old new s0 h ranges bounds rs vs many ran) =
-      checking old new s0 (reached_over_more old s0 h) ranges (bounds_among_more s0 ranges bounds) rs vs many ran
+  pub reached_over_more : (n : ℕ) (es : List (ℕ × ℕ)) (s : Standing) → IsReached ts n es s → IsReached us n es s
+  reached_over_more _ _ _ beginning = beginning
+  reached_over_more _ _ _ (naming n es s0 h f among u k has new) =
+      naming n es s0 (reached_over_more n es s0 h) f (form_among_more f among) u k has new
+  reached_over_more _ _ _ (summing n es s0 h f among gs are longer) =
+      summing n es s0 (reached_over_more n es s0 h) f (form_among_more f among) gs are longer
+  reached_over_more _ _ _ (resting n es s0 h ranges bounds rs vs many ran) =
+      resting n es s0 (reached_over_more n es s0 h) ranges (bounds_among_more s0 ranges bounds) rs vs many ran
+  reached_over_more _ _ _ (checking n old new s0 h ranges bounds rs vs many ran) =
+      checking n old new s0 (reached_over_more n old s0 h) ranges (bounds_among_more s0 ranges bounds) rs vs many ran
 
   pub strains_over_more : (s : Standing) (o : Overflow) → StrainsAt ts s o → StrainsAt us s o
   strains_over_more s o (forming w) = forming (record {

@@ -86,7 +86,7 @@ pub data StrainsAt (ts : List Term) (s : Standing) (o : Overflow) : Type 0 where
   evaluating : (ranges : Ranges) → AreBounds ts s ranges → AreWithin ranges (point_in s.values)
       → (e : Number) → IsEpsilon ranges (point_in s.values) e → StrainsValueAt e s o → StrainsAt ts s o
 
--- Simplex needs a further exchange over terms where it stands.
+-- Under some bounds that literals state simplex needs a further exchange over terms where it stands.
 pub record NeedsMore (ts : List Term) (s : Standing) : Type 0 where
   -- the bounds
   pub ranges : Ranges

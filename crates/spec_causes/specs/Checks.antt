@@ -8,7 +8,8 @@ use Rattle.spec_arithmetic.specs.Contradictions.{given, wide, la_generic}
 use Rattle.spec_derivations.specs.Problems.{Problem, subterms_in}
 use Rattle.spec_derivations.specs.Orders.{whole_terms}
 use Rattle.spec_causes.specs.Standing.{Standing}
-use Rattle.spec_causes.specs.Reached.{IsReached, IsAtLast}
+use Rattle.spec_causes.specs.Reached.{IsReached, IsStoppedAt}
+use Rattle.spec_causes.specs.Counts.{AreFewRuns}
 use Rattle.spec_causes.specs.Causes.{StrainsForm, StrainsAt, NeedsMore}
 
 -- that s and t are equal, and s is not at most t, is not judged by the rule `la_generic` within the bound on numbers, with these weights
@@ -24,22 +25,25 @@ pub record IsOverflowAmong (terms : List Term) (o : Overflow) : Type 0 where
   pub leaves : LeavesOrder left right (pair AtMost left right ∷ []) one_fraction o
       ⊎ LeavesOrder left right (pair AtMost right left ∷ []) (opposite one_fraction) o
 
--- An operation of a search of a problem comes to the overflow o, where these exchanges are made.
-pub data IsStrained (p : Problem) (es : List (ℕ × ℕ)) (o : Overflow) : Type 0 where
-  -- the form of an atom among the subterms, where none is made
-  forming : es ≡ [] → StrainsForm (subterms_in p) o → IsStrained p es o
-  -- the orders of an equality among the terms of which the search speaks, where none is made
-  ordering : es ≡ [] → IsOverflowAmong (whole_terms p) o → IsStrained p es o
-  -- an operation of simplex over these terms, where the exchanges lead, or all but the last, which is kept before it is made
-  reckoning : (s : Standing) → IsAtLast (λ made. IsReached (whole_terms p) made s) es → StrainsAt (whole_terms p) s o
-      → IsStrained p es o
+-- An operation of a search of a problem comes to the overflow o, where l clauses are learned and these exchanges are kept.
+pub data IsStrained (p : Problem) (l : ℕ) (es : List (ℕ × ℕ)) (o : Overflow) : Type 0 where
+  -- the form of an atom among the subterms, before it begins
+  forming : l ≡ 0 → es ≡ [] → StrainsForm (subterms_in p) o → IsStrained p l es o
+  -- the orders of an equality among the terms of which the search speaks, before it begins
+  ordering : l ≡ 0 → es ≡ [] → IsOverflowAmong (whole_terms p) o → IsStrained p l es o
+  -- an operation of simplex over these terms, where it is stopped after these exchanges, in few runs
+  reckoning : (s : Standing) (runs : ℕ) → IsStoppedAt (whole_terms p) runs es s → AreFewRuns (whole_terms p) l runs
+      → StrainsAt (whole_terms p) s o → IsStrained p l es o
 
--- The budget of n exchanges is spent on these, and a further one is needed where they lead.
-pub record ArePivotsSpent (p : Problem) (n : ℕ) (es : List (ℕ × ℕ)) : Type 0 where
+-- The budget of n exchanges is spent on these, and a further one is needed where they lead, under some bounds that literals state. So many
+-- clauses are learned.
+pub record ArePivotsSpent (p : Problem) (n l : ℕ) (es : List (ℕ × ℕ)) : Type 0 where
   -- so many were made
   pub count : length es ≡ n
-  -- they lead here
+  -- they lead here, in few runs
   pub standing : Standing
-  pub reached : IsReached (whole_terms p) es standing
+  pub runs : ℕ
+  pub reached : IsReached (whole_terms p) runs es standing
+  pub few : AreFewRuns (whole_terms p) l runs
   -- and a further one is needed
   pub more : NeedsMore (whole_terms p) standing

@@ -2,6 +2,7 @@
 pub mod Standing
 pub mod Bounds
 pub mod Reached
+pub mod Counts
 pub mod Reasons
 pub mod Causes
 pub mod Checks

@@ -3,7 +3,7 @@ use Rattle.spec_causes.proofs.Wider.{reached_over_more, strains_over_more, needs
 use Rattle.spec_causes.proofs.laws.more_terms_keep_causes.Goals as goal
 
 pub returns-clause-reached : goal.returns-clause-reached
-returns-clause-reached c = λ ts us more es s h. reached_over_more ts us more es s h
+returns-clause-reached c = λ ts us more n es s h. reached_over_more ts us more n es s h
 
 pub returns-clause-strains : goal.returns-clause-strains
 returns-clause-strains c = λ ts us more s o h. strains_over_more ts us more s o h
