@@ -1,5 +1,5 @@
--- A model made with the numbers of a function of terms, where functions with parameters neither take nor give numbers.
-use Rattle.std.proofs.Common.{◌≡◌, ◌≢◌, ℕ, Bool, true, false, cond, List, [], ◌∷◌, ◌++◌, inl, inr, map, Contains, refl, sym, ap, ◌∙◌, subst}
+-- A model made with the numbers of a function of terms, where arguments have the numbers of their heads.
+use Rattle.std.proofs.Common.{◌≡◌, ℕ, Bool, true, false, cond, List, [], ◌∷◌, ◌++◌, inl, inr, map, Contains, refl, sym, ap, ◌∙◌, subst}
 use Rattle.std.specs.Prelude.{Option, Some, None}
 use Rattle.std.proofs.lemmas.Bool.{false≢true}
 use Rattle.spec_text.proofs.Members.{first, later, none, cases}
@@ -16,7 +16,7 @@ use Rattle.term_core.specs.declared.ids.Lit.{Lit}
 use Rattle.term_core.specs.Tables.{TableView, clause_at}
 use Rattle.term_walks.specs.declared.values.Interp.{Interp}
 use Rattle.term_walks.specs.Valuations.{Stands}
-use Rattle.search_model.specs.Models.{truths_of, number_in, IsModelOf}
+use Rattle.search_model.specs.Models.{truths_of, number_in, TakeNumbersOf, IsModelOf}
 use Rattle.search_model.proofs.SymbolRows.{arguments_back}
 use Rattle.search_model.proofs.Interpreting.{models_by}
 
@@ -68,33 +68,29 @@ number_listed number (t ∷ ts) u c = go (same_term t u) refl (number_listed num
     go true e rest = ap number ((terms_decide t u).0 e)
     go false e rest = elim (cases t ts u c) [ inl is ↦ absurd (false≢true (sym e ∙ (terms_decide t u).1 is)) | inr there ↦ rest there ]
 
--- a value of another sort depends on no number
-no_number : (s : Sort) (b : Bool) (p q : Fraction) (k : ℕ) → s ≢ Number → value_in s b p k ≡ value_in s b q k
-no_number Truth b p q k other = refl
-no_number Number b p q k other = absurd (other refl)
-no_number (Declared n) b p q k other = refl
+-- values of one truth and class are one where, of sort Real, they have one number
+one_number : (s : Sort) (b : Bool) (p q : Fraction) (k : ℕ) → (s ≡ Number → p ≡ q) → value_in s b p k ≡ value_in s b q k
+one_number Truth b p q k same = refl
+one_number Number b p q k same = ap (λ x. value_in Number b x k) (same refl)
+one_number (Declared n) b p q k same = refl
 
--- no function with parameters takes or gives a number
-abbrev KeepApart : List Term → Type 0
-KeepApart terms = (s : Symbol) (ts : Terms) → Contains terms (app (Apply s) ts) → list_of ts ≢ [] → (s.result ≢ Number) × ((u : Term) → Contains (list_of ts) u → sort_of u ≢ Number)
-
-module _ (terms : List Term) (truths : Term → Bool) (class : Term → ℕ) (number : Term → Fraction) (apart : KeepApart terms) where
+module _ (terms : List Term) (truths : Term → Bool) (class : Term → ℕ) (number : Term → Fraction) (taken : TakeNumbersOf number terms) where
   -- the numbers given and those of the function give a symbol's terms the same values
   numbers_agree : (s : Symbol) → Agree (value_by truths (number_in terms (map number terms)) class) (value_by truths (number_at number) class) s terms
   unfolding number_at
   numbers_agree s = record {
     values = λ ts c. let u = app (Apply s) ts in ap (λ q. value_in (sort_of u) (truths u) q (class u)) (number_listed number terms u c);
-    arguments = λ ts c u i. no_number (sort_of u) (truths u) (number_in terms (map number terms) u) (number_at number u) (class u)
-        ((apart s ts c (λ bare. none u (subst (λ us. Contains us u) bare i))).1 u i);
+    arguments = λ ts c u i. one_number (sort_of u) (truths u) (number_in terms (map number terms) u) (number_at number u) (class u)
+        (λ e. let x = taken s ts u c i e in number_listed number terms u x.0 ∙ x.1);
   }
 
 -- so a model with the first has the tables of the second
-pub models_by_numbers : (t : TableView) (held : List Lit) (terms : List TermId) (classes : List ℕ) (number : Term → Fraction) (interp : Interp) → KeepApart (clause_at t terms)
+pub models_by_numbers : (t : TableView) (held : List Lit) (terms : List TermId) (classes : List ℕ) (number : Term → Fraction) (interp : Interp) → TakeNumbersOf number (clause_at t terms)
     → IsModelOf t held terms classes (map number (clause_at t terms)) interp → (i : Interpretation) → Stands t interp i
     → IsModelBy i (value_by (term_true_by (truths_of t held)) (number_at number) (class_in (clause_at t terms) classes)) t.symbols (clause_at t terms)
-models_by_numbers t held terms classes number interp apart model i stands s c =
+models_by_numbers t held terms classes number interp taken model i stands s c =
     let listed = clause_at t terms in
     let truths = term_true_by (truths_of t held) in
     let class = class_in listed classes in
     models_by t held terms classes (map number listed) interp model i stands s c
-    ∙ tables_agree (value_by truths (number_in listed (map number listed)) class) (value_by truths (number_at number) class) s listed (numbers_agree listed truths class number apart s)
+    ∙ tables_agree (value_by truths (number_in listed (map number listed)) class) (value_by truths (number_at number) class) s listed (numbers_agree listed truths class number taken s)

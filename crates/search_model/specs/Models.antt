@@ -1,10 +1,11 @@
 -- Which interpretation a search answers with: by the truths of its literals, and by the classes and numbers of its terms.
-use Rattle.std.specs.Prelude.{◌≡◌, ◌<◌, ℕ, Bool, true, ◌&&◌, List, [], ◌∷◌, length, get_or, All, slice_index_or, if◌then◌else◌}
+use Rattle.std.specs.Prelude.{◌≡◌, ◌<◌, ℕ, Bool, true, ◌&&◌, List, [], ◌∷◌, length, get_or, All, Contains, slice_index_or, if◌then◌else◌}
 use Rattle.std.specs.List.{list_any}
 use Rattle.spec_numbers.specs.Fractions.{Fraction, zero_fraction}
-use Rattle.spec_sorts.specs.Terms.{Symbol, Term, same_term}
+use Rattle.spec_sorts.specs.Terms.{Number, Symbol, Apply, Term, Terms, app, list_of, sort_of, same_term}
 use Rattle.spec_sorts.specs.Values.{truth, Interpretation, Interprets}
 use Rattle.spec_sorts.specs.TermValues.{value_at}
+use Rattle.spec_arithmetic.specs.Numbers.{number_at}
 use Rattle.spec_rules.specs.Truths.{Truths, term_true_by}
 use Rattle.spec_valuations.specs.Tables.{Valuation, table_of}
 use Rattle.spec_valuations.specs.Classes.{value_by, class_in}
@@ -27,6 +28,11 @@ truths_of t held u = list_any (λ l. affirms t l u) held
 abbrev pub number_in : List Term → List Fraction → Term → Fraction
 number_in (t ∷ ts) (q ∷ qs) u = if same_term t u then q else number_in ts qs u
 number_in _ _ u = zero_fraction
+
+-- each argument of sort Real is listed, and its number is that of its head at its arguments' numbers
+abbrev pub TakeNumbersOf : (Term → Fraction) → List Term → Type 0
+TakeNumbersOf number terms = (s : Symbol) (ts : Terms) (u : Term) → Contains terms (app (Apply s) ts) → Contains (list_of ts) u
+    → sort_of u ≡ Number → Contains terms u × (number u ≡ number_at number u)
 
 -- the value of a listed term: its truth, its number, or the element of the number of its class
 abbrev pub values_of : TableView → List Lit → List TermId → List ℕ → List Fraction → Valuation

@@ -1,8 +1,8 @@
 //! What the model of a search means. Each law is a function whose contract is the law; it computes nothing.
 
-ghost use Rattle.std.specs.Prelude.{◌≢◌, ℕ, List, [], map, Contains};
+ghost use Rattle.std.specs.Prelude.{ℕ, List, map};
 ghost use Rattle.spec_numbers.specs.Fractions.{Fraction};
-ghost use Rattle.spec_sorts.specs.Terms.{Number, Symbol, Apply, Term, Terms, app, list_of, sort_of};
+ghost use Rattle.spec_sorts.specs.Terms.{Term};
 ghost use Rattle.spec_sorts.specs.Values.{Interpretation};
 ghost use Rattle.spec_valuations.specs.Classes.{class_in};
 ghost use Rattle.spec_valuations.specs.Resting.{values_of as values_at_rest};
@@ -14,7 +14,7 @@ ghost use Rattle.term_core.specs.Symbols.{names_of};
 ghost use Rattle.term_core.specs.Tables.{TableView, clause_at};
 ghost use Rattle.term_walks.specs.declared.values.Interp.{Interp};
 ghost use Rattle.term_walks.specs.Valuations.{Stands};
-ghost use Rattle.search_model.specs.Models.{truths_of, values_of, IsModelOf};
+ghost use Rattle.search_model.specs.Models.{truths_of, values_of, TakeNumbersOf, IsModelOf};
 
 /// States that the tables of a search's model are those of an interpretation, where no name of a symbol stands twice.
 /// Each that has them is the one that the values of the listed terms give.
@@ -28,13 +28,11 @@ pub fn made_models_stand()
         → IsModelBy i (values_of t held terms classes numbers) t.symbols (clause_at t terms) }
 {}
 
-/// States that a model made with the numbers of a function of terms has the tables of a search that rests on them. No
-/// function with parameters takes or gives numbers, so those of terms with heads of arithmetic do not matter.
+/// States that a model made with the numbers of a function of terms has the tables of a search that rests on them. The
+/// arguments of sort Real are listed, with the numbers of their heads.
 pub fn made_models_are_those_of_numbers()
     ensures { (t : TableView) (held : List Lit) (terms : List TermId) (classes : List ℕ) (number : Term → Fraction)
-        (interp : Interp)
-        → ((s : Symbol) (ts : Terms) → Contains (clause_at t terms) (app (Apply s) ts) → list_of ts ≢ []
-        → (s.result ≢ Number) × ((u : Term) → Contains (list_of ts) u → sort_of u ≢ Number))
+        (interp : Interp) → TakeNumbersOf number (clause_at t terms)
         → IsModelOf t held terms classes (map number (clause_at t terms)) interp
         → (i : Interpretation) → Stands t interp i
         → IsModelBy i (values_at_rest (record {

@@ -1,11 +1,11 @@
 -- A search over equality, functions and linear arithmetic that rests has numbers that go with its truths.
-use Rattle.std.proofs.Common.{◌≡◌, ◌≢◌, ◌↔◌, Bool, true, false, not, ◌||◌, ◌&&◌, cond, ◌<ℤ◌, List, [], ◌∷◌, length, map, Contains, pos, refl, sym, ap, ◌∙◌, subst, arith}
+use Rattle.std.proofs.Common.{◌≡◌, ◌↔◌, Bool, true, false, not, ◌||◌, ◌&&◌, cond, ◌<ℤ◌, List, [], ◌∷◌, length, map, Contains, pos, refl, sym, ap, ◌∙◌, subst, arith}
 use Rattle.std.specs.Prelude.{flat_map}
 use Rattle.std.specs.List.{list_any}
 use Rattle.std.proofs.lemmas.Bool.{false≢true, and_parts, not-true}
 use Rattle.std.proofs.lemmas.Int.{ints}
 use Rattle.std.proofs.lemmas.List.Elements.{All-contains, Contains-append_left, Contains-append_right}
-use Rattle.spec_text.proofs.Members.{first, later, none, to_image, in_flat}
+use Rattle.spec_text.proofs.Members.{first, later, to_image, in_flat}
 use Rattle.spec_numbers.specs.Fractions.{Fraction, zero_fraction, IsReduced}
 use Rattle.spec_numbers.proofs.Field.{plus-opposite}
 use Rattle.spec_sorts.specs.Terms.{Sort, Truth, Number, Symbol, same_sort, Less, AtMost, Minus, Plus, Times, Divide, Literal, Equal, Or, Head, Term, Terms, app, nil, cons, list_of, sort_of, sorts_of, all_same, head_takes, negated, pair}
@@ -246,17 +246,11 @@ module _ (symbols : List Symbol) (p : Problem) (terms : List Term) (held : List 
       subst (λ us. Contains terms (app AtMost us) → Obeys v (app AtMost us)) (sym two.same) (λ d. up_to_obeys two.s two.t d two.left two.right) c
   numbers_obey h ts c k = absurd (false≢true k)
 
-  -- an argument of a function
-  some_argument : (ts : Terms) (u : Term) → Contains (list_of ts) u → list_of ts ≢ []
-  some_argument ts u c e = none u (subst (λ us. Contains us u) e c)
-
   pub has_numbers : HasNumbers terms is_so point a.class
-  unfolding sort_of
   has_numbers = record {
-    shares = record {
-      values = λ s ts c some e. absurd ((r.apart s ts c some).0 e);
-      arguments = λ s ts u c d e. absurd ((r.apart s ts c (some_argument ts u d)).1 u d e);
-    };
+    shared = r.shared;
+    shares = r.shares;
+    agree = r.agree;
     reduced = point_reduced;
     numbers = λ s t c e. (equal_sides s t c e).1;
     obeys = numbers_obey;

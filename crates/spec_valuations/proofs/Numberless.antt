@@ -3,7 +3,7 @@ use Rattle.std.proofs.Common.{◌≡◌, ◌≢◌, ℕ, true, List, [], ◌∷�
 use Rattle.std.specs.Prelude.{flat_map}
 use Rattle.std.proofs.lemmas.Bool.{false≢true}
 use Rattle.std.proofs.lemmas.List.Elements.{Contains-append_left, Contains-append_right}
-use Rattle.spec_text.proofs.Members.{first, to_image, in_flat}
+use Rattle.spec_text.proofs.Members.{first, none, to_image, in_flat}
 use Rattle.spec_numbers.specs.Fractions.{Fraction}
 use Rattle.spec_sorts.specs.Terms.{Sort, Number, Symbol, Less, AtMost, Minus, Plus, Times, Divide, Literal, Equal, Apply, Head, Term, Terms, app, nil, cons, list_of, sort_of, sorts_of, head_takes}
 use Rattle.spec_sorts.specs.Literals.{Literal as HeldLiteral}
@@ -68,10 +68,12 @@ module _ (symbols : List Symbol) (p : Problem) (terms : List Term) (held : List 
 
     pub no_numbers : HasNumbers terms (term_true_by v) point class
     no_numbers = record {
+      shared = [];
       shares = record {
         values = λ s ts c some e. absurd (r.no_numbers (app (Apply s) ts) c e);
         arguments = λ s ts u c d e. absurd (no_arguments (Apply s) ts u c d e);
       };
+      agree = record { same = λ s t c d. absurd (none s c) };
       reduced = λ t c e. absurd (r.no_numbers t c e);
       numbers = λ s t c e. absurd (no_arguments Equal (cons s (cons t nil)) s c (first s (t ∷ [])) e);
       obeys = no_obeying;

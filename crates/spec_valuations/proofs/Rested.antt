@@ -3,7 +3,7 @@ use Rattle.std.proofs.Common.{◌≡◌, ◌≢◌, ◌↔◌, ℕ, Bool, true, 
 use Rattle.std.specs.Cmp.Derive.{both_true}
 use Rattle.std.specs.List.{list_any}
 use Rattle.std.proofs.lemmas.List.Elements.{All-contains, Contains-append_left, Contains-append_right, Contains-append_cases, Contains-get_or}
-use Rattle.spec_text.proofs.Members.{first, later, none}
+use Rattle.spec_text.proofs.Members.{first, later}
 use Rattle.spec_numbers.specs.Fractions.{Fraction, IsReduced}
 use Rattle.spec_sorts.specs.Terms.{Truth, Number, Symbol, same_sort, Less, AtMost, Minus, Plus, Times, Divide, Literal, Parameter, Equal, Ite, Apply, True, False, Head, Term, Terms, app, nil, cons, list_of, sort_of, sorts_of, all_same, head_takes, negated, pair}
 use Rattle.spec_sorts.specs.Values.{truth, is_true, same_value, Interpretation, Interprets}
@@ -23,7 +23,7 @@ use Rattle.spec_derivations.proofs.Formulas.{is_core}
 use Rattle.spec_derivations.proofs.Meeting.{negated_true}
 use Rattle.spec_derivations.proofs.Obeying.{IsMet, obeyed}
 use Rattle.spec_valuations.specs.Tables.{IsModelBy, Obeys, AreListed}
-use Rattle.spec_valuations.specs.Classes.{value_in, value_by, AreClasses, AreShared, TellsNumbers, IsOfTruths, AreJoint, AreDefined}
+use Rattle.spec_valuations.specs.Classes.{value_in, value_by, AreClasses, AreShared, Agrees, TellsNumbers, IsOfTruths, AreJoint, AreDefined}
 use Rattle.spec_valuations.proofs.Meeting.{value_is, no_parameter}
 use Rattle.spec_valuations.proofs.Interpreting.{interprets}
 use Rattle.spec_valuations.proofs.Joint.{is_valuation}
@@ -66,10 +66,13 @@ is_of_numbers Less = true
 is_of_numbers AtMost = true
 is_of_numbers h = keeps_constant h
 
--- What it has of its numbers, where no function with parameters takes or gives any.
+-- What it has of its numbers: on shared terms they agree with the classes.
 pub record HasNumbers (terms : List Term) (truths : Term → Bool) (point : Term → Fraction) (class : Term → ℕ) : Type 0 where
-  -- nothing is shared
-  pub shares : AreShared terms []
+  -- the terms that are numbers and have classes
+  pub shared : List Term
+  pub shares : AreShared terms shared
+  -- on these the numbers go with the classes
+  pub agree : Agrees point class shared
   -- each number is in lowest terms
   pub reduced : (t : Term) → Contains terms t → sort_of t ≡ Number → IsReduced (point t)
   -- the numbers go with the truths
@@ -206,11 +209,11 @@ module _ (symbols : List Symbol) (p : Problem) (terms : List Term) (held : List 
     formulas (app AtMost ts) c o = n.obeys AtMost ts c refl
     formulas (app h ts) c o = connected h ts c refl refl
 
-    joint : AreJoint is_so point class terms []
+    joint : AreJoint is_so point class terms n.shared
     joint = record {
       classes = classes;
       shares = n.shares;
-      agree = record { same = λ s t c d. absurd (none s c) };
+      agree = n.agree;
       reduced = n.reduced;
       numbers = n.numbers;
       choices = chooses is_so point class terms classes n.numbers defined;
@@ -219,10 +222,10 @@ module _ (symbols : List Symbol) (p : Problem) (terms : List Term) (held : List 
 
     module _ (i : Interpretation) (model : IsModelBy i (value_by is_so point class) symbols terms) where
       pub interpreted : Interprets i symbols
-      interpreted = interprets i (value_by is_so point class) symbols terms listed (is_valuation is_so point class symbols terms [] listed joint) model
+      interpreted = interprets i (value_by is_so point class) symbols terms listed (is_valuation is_so point class symbols terms n.shared listed joint) model
 
       pub valued : (t : Term) → Contains terms t → value_at i [] t ≡ value_by is_so point class t
-      valued = value_is i (value_by is_so point class) symbols terms listed (is_valuation is_so point class symbols terms [] listed joint) model
+      valued = value_is i (value_by is_so point class) symbols terms listed (is_valuation is_so point class symbols terms n.shared listed joint) model
 
       -- a term of the check that is true has the value true
       true_valued : (t : Term) → Contains (terms_of_problem p) t → is_so t ≡ true → value_at i [] t ≡ truth true

@@ -1,8 +1,8 @@
 -- Where a search over equality and functions rests, and one over linear arithmetic beside these. Source: Nelson and Oppen 1979; Tseitin 1968.
-use Rattle.std.specs.Prelude.{◌≡◌, ◌≢◌, ◌↔◌, ℕ, true, List, [], All, Contains}
+use Rattle.std.specs.Prelude.{◌≡◌, ◌≢◌, ◌↔◌, ℕ, true, List, All, Contains}
 use Rattle.std.specs.List.{list_any}
 use Rattle.spec_numbers.specs.Fractions.{Fraction, IsReduced}
-use Rattle.spec_sorts.specs.Terms.{Truth, Number, Symbol, Apply, Term, Terms, app, list_of, sort_of}
+use Rattle.spec_sorts.specs.Terms.{Truth, Number, Symbol, Term, sort_of}
 use Rattle.spec_sorts.specs.WellSorted.{IsFormulaOver}
 use Rattle.spec_sorts.specs.Subsets.{AreAmong}
 use Rattle.spec_sorts.specs.Literals.{Clause, Literal, literal_of}
@@ -14,7 +14,7 @@ use Rattle.spec_derivations.specs.Problems.{Problem, terms_of_problem}
 use Rattle.spec_derivations.specs.Base.{search_terms, search_clauses}
 use Rattle.spec_derivations.specs.Orders.{whole_terms, whole_clauses}
 use Rattle.spec_valuations.specs.Tables.{Valuation}
-use Rattle.spec_valuations.specs.Classes.{value_by}
+use Rattle.spec_valuations.specs.Classes.{value_by, AreShared, Agrees}
 
 -- What a search over equality and functions has where it rests.
 pub record Rests (symbols : List Symbol) (p : Problem) (terms : List Term) (held : List Literal) (v : Truths) (class : Term → ℕ) : Type 0 where
@@ -48,7 +48,7 @@ pub record TheoryValues : Type 0 where
 abbrev pub values_of : TheoryValues → Valuation
 values_of a = value_by (term_true_by a.truths) (number_at a.number) a.class
 
--- What a search over equality, functions and linear arithmetic has where it rests, if no function with parameters takes or gives numbers.
+-- What a search over equality, functions and linear arithmetic has where it rests, if its theories agree on shared terms. Source: Nelson and Oppen 1979.
 pub record RestsOnNumbers (symbols : List Symbol) (p : Problem) (terms : List Term) (held : List Literal) (a : TheoryValues) : Type 0 where
   -- the terms of the check are formulas over the symbols
   pub formulas : All (IsFormulaOver symbols) (terms_of_problem p)
@@ -56,9 +56,11 @@ pub record RestsOnNumbers (symbols : List Symbol) (p : Problem) (terms : List Te
   pub listed : AreAmong (whole_terms p) terms
   -- and no others
   pub only : AreAmong terms (whole_terms p)
-  -- no function with parameters gives a number or takes one
-  pub apart : (s : Symbol) (ts : Terms) → Contains terms (app (Apply s) ts) → list_of ts ≢ []
-      → (s.result ≢ Number) × ((u : Term) → Contains (list_of ts) u → sort_of u ≢ Number)
+  -- the terms that both theories speak of
+  pub shared : List Term
+  pub shares : AreShared terms shared
+  -- on these the numbers agree with the classes
+  pub agree : Agrees (number_at a.number) a.class shared
   -- products and quotients are linear
   pub linear : (t : Term) → Contains terms t → IsLinear t
   -- one term of each clause is true

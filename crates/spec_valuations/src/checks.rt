@@ -29,7 +29,8 @@ pub fn resting_searches_give_current_checks_models()
 }
 
 /// States that a check has a model where a search over equality, functions and linear arithmetic rests that makes true
-/// what the check assumes. No function with parameters takes or gives numbers. So where it rests, `sat` is right.
+/// what the check assumes. Its theories agree on shared terms. So where it rests, `sat` is right. Source: Nelson and
+/// Oppen 1979.
 pub fn searches_that_rest_on_numbers_give_current_checks_models()
     ensures { (limit : ℕ) (script : List ℕ) (k : ℕ) (c : Check) (earlier terms : List Term) (held : List Literal)
         (a : TheoryValues) → IsCurrent limit script k c

@@ -74,8 +74,8 @@ pub fn resting_searches_have_models()
 
 /// States that where a search over equality, functions and linear arithmetic rests, its truths, classes and numbers give a
 /// model. In it each symbol has its table, each listed term has its value, and each asserted term is true. The assumed
-/// terms are true where the truths make them so. No function with parameters takes or gives numbers, so nothing has to
-/// agree. Source: Nelson and Oppen 1979.
+/// terms are true where the truths make them so. Its theories agree on shared terms: these have one number exactly where
+/// they have one class. Source: Nelson and Oppen 1979.
 pub fn searches_that_rest_on_numbers_have_models()
     ensures interprets { (symbols : List Symbol) (p : Problem) (terms : List Term) (held : List Literal)
         (a : TheoryValues) (i : Interpretation) → RestsOnNumbers symbols p terms held a

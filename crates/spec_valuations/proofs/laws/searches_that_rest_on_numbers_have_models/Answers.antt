@@ -1,4 +1,4 @@
--- By truths, numbers and classes that fit together: nothing is shared.
+-- By truths, numbers and classes that fit together: they agree on shared terms.
 use Rattle.spec_arithmetic.specs.Numbers.{number_at}
 use Rattle.spec_valuations.proofs.Rested.{interpreted, valued, asserted_valued, all_valued}
 use Rattle.spec_valuations.proofs.Numbered.{at_rest, has_numbers}
