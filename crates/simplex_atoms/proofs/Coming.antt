@@ -49,13 +49,13 @@ term_new t os id tells there free y e = by (owner_at os y) refl (sym (owner_mapp
 
 -- nothing comes
 pub leads_same : (t : TableView) (f : Form) (os us : List (Option TermId)) (b c : BoardView) → us ≡ os → c ≡ b → Leads t f (ground_of os b) (ground_of us c)
-leads_same t f os us b c e g ts es among h = subst (IsReached ts es) (λ i. standing_in t (sym e i) (sym g i)) h
+leads_same t f os us b c e g ts n es among h = subst (IsReached ts n es) (λ i. standing_in t (sym e i) (sym g i)) h
 
 -- a variable comes for a term
 pub variable_leads : (t : TableView) (f : Form) (os us : List (Option TermId)) (b c : BoardView) (id : TermId) (k : Ratio) → us ≡ os ++ Some id ∷ [] → c ≡ board_with_variable b
     → IsNumberOf os id None → TellsOwners t os → IsVariableOf t f (id, k) → Leads t f (ground_of os b) (ground_of us c)
-variable_leads t f os us b c id k e g free tells is ts es among h =
-    subst (IsReached ts es) (sym same) (naming es (standing_in t os b) h f among (term_at t id) (fraction k) is.1 (term_new t os id tells is.0 free))
+variable_leads t f os us b c id k e g free tells is ts n es among h =
+    subst (IsReached ts n es) (sym same) (naming n es (standing_in t os b) h f among (term_at t id) (fraction k) is.1 (term_new t os id tells is.0 free))
   where
     now : standing_in t (os ++ Some id ∷ []) (board_with_variable b) ≡ with_term (standing_in t os b) (term_at t id)
     now = λ i. record {
@@ -71,8 +71,8 @@ variable_leads t f os us b c id k e g free tells is ts es among h =
 -- a row comes
 pub row_leads : (t : TableView) (f : Form) (os us : List (Option TermId)) (b c : BoardView) (gs : List (RowEntry Number)) → AreCounted (ground_of os b) → us ≡ os ++ None ∷ []
     → c ≡ board_with_sum b gs → AreEntriesOf (map (owner_meant t) os) gs f.variables → IsLonger gs → Leads t f (ground_of os b) (ground_of us c)
-row_leads t f os us b c gs count e g are longer ts es among h =
-    subst (IsReached ts es) (sym same) (summing es (standing_in t os b) h f among gs are longer)
+row_leads t f os us b c gs count e g are longer ts n es among h =
+    subst (IsReached ts n es) (sym same) (summing n es (standing_in t os b) h f among gs are longer)
   where
     counted : b.tableau.variables ≡ length (map (owner_meant t) os)
     counted = sym (length-map os (owner_meant t) ∙ count)
@@ -135,9 +135,9 @@ module _ (form : FormView) (os us vs : List (Option TermId)) (a b c : BoardView)
   Placed = (t : TableView) → AreVariablesOf t form → TellsOwners t os → Leads t (form_meant t form) (ground_of os a) (ground_of vs c)
 
   placed : Summed → Placed
-  placed summed t all tells ts made among h =
-      summed t (form_meant t form) (form_entries t us es xs form are numbered) ts made among
-      (named t (form_meant t form) tells (form_variables t form xs are (are_in t xs form are all)) ts made among h)
+  placed summed t all tells ts n made among h =
+      summed t (form_meant t form) (form_entries t us es xs form are numbered) ts n made among
+      (named t (form_meant t form) tells (form_variables t form xs are (are_in t xs form are all)) ts n made among h)
 
   pub place_comes : (r : Result Place AtomStop) → ButForMemory Summed r → ButForMemory Placed r
   place_comes (Ok place) h = placed h
@@ -146,16 +146,16 @@ module _ (form : FormView) (os us vs : List (Option TermId)) (a b c : BoardView)
 
 -- so does that of an atom
 module _ (t : TableView) (id : TermId) (sides : Sides) (f : FormView) (os us : List (Option TermId)) (b c : BoardView) (says : (let o : Option Constraint = Some (constraint_meant t sides) in o) ≡ constraint_of (positive_literal (term_at t id)))
-    (has : form_of (constraint_meant t sides) ≡ Ok (form_meant t f)) (all : AreVariablesOf t f) (tells : TellsOwners t os) (ts : List Term) (es : List (ℕ × ℕ)) (there : Contains ts (term_at t id))
-    (before : IsReached ts es (standing_in t os b)) where
+    (has : form_of (constraint_meant t sides) ≡ Ok (form_meant t f)) (all : AreVariablesOf t f) (tells : TellsOwners t os) (ts : List Term) (n : ℕ) (es : List (ℕ × ℕ)) (there : Contains ts (term_at t id))
+    (before : IsReached ts n es (standing_in t os b)) where
   abbrev Comes : Type 0
   Comes = (t : TableView) → AreVariablesOf t f → TellsOwners t os → Leads t (form_meant t f) (ground_of os b) (ground_of us c)
 
   abbrev After : Type 0
-  After = IsReached ts es (standing_in t us c)
+  After = IsReached ts n es (standing_in t us c)
 
   pub atom_comes : Comes → After
-  atom_comes come = come t all tells ts es (form_among t id sides f says has ts there) before
+  atom_comes come = come t all tells ts n es (form_among t id sides f says has ts there) before
 
   pub atom_stops : (s : AtomStop) (r : Result (Unit {0}) AtomStop) → ButForMemory Comes (let o : Result Place AtomStop = Err s in o) → IsErrAnd r (λ e. e ≡ s) → ButForMemory After r
   atom_stops s (Ok u) come is = absurd is

@@ -128,9 +128,10 @@ impl Atoms {
         ensures same { OnErr result ((other : Number)
             → place_in self.new.placed other ≡ place_in self.old.placed other) }
         ensures wide { IfErr result (OnWide (StrainsAtom table.now self.new.owners board.new id)) }
-        ensures came { (ts : List Term) (es : List (ℕ × ℕ)) → Contains ts (term_at table.now id)
-            → IsReached ts es (standing_in table.now self.old.owners board.old)
-            → ButForMemory (IsReached ts es (standing_in table.now self.new.owners board.new)) result }
+        ensures plain { constraint_of (positive_literal (term_at table.now id)) ≡ None → board.new ≡ board.old }
+        ensures came { (ts : List Term) (n : ℕ) (es : List (ℕ × ℕ)) → Contains ts (term_at table.now id)
+            → IsReached ts n es (standing_in table.now self.old.owners board.old)
+            → ButForMemory (IsReached ts n es (standing_in table.now self.new.owners board.new)) result }
     {
         if self.place(id).is_some() {
             return Ok(());

@@ -12,7 +12,7 @@ variables-init c = record {
   grows = grows_same c.args.owners.now.list _ c.args.board.now _ refl refl;
   grounded = λ h. h;
   there = λ t _ h. h;
-  came = λ t f _ _ ts es among h. h;
+  came = λ t f _ _ ts n es among h. h;
   so_far = numbered_none c.args.owners.now.list c.new-entries.result.items c.args.variables.now c.new-entries.ensures.items;
 }
 
@@ -33,10 +33,10 @@ variables-preserved c = record {
   grounded = λ h. c.entry_of.ensures.grounded (c.variables.invariant.grounded h);
   there = λ t all h. c.entry_of.ensures.there t
       (is_at t c.args.variables.now c.variables.at c.index-variables-at.result c.variables-test.true c.index-variables-at.is all) (c.variables.invariant.there t all h);
-  came = λ t f tells all ts es among h.
+  came = λ t f tells all ts n es among h.
       c.in_ok-entry.ensures.came t f (tells.0, c.variables.invariant.there t (all_in t f c.args.variables.now all) tells.1)
-      (variable_at t f c.args.variables.now c.variables.at c.index-variables-at.result c.variables-test.true c.index-variables-at.is all) ts es among
-      (c.variables.invariant.came t f tells all ts es among h);
+      (variable_at t f c.args.variables.now c.variables.at c.index-variables-at.result c.variables-test.true c.index-variables-at.is all) ts n es among
+      (c.variables.invariant.came t f tells all ts n es among h);
   so_far =
       numbered_step c.variables.owners.list c.entry_of.new.owners.list c.variables.entries.items c.push.new.self.items c.args.variables.now c.variables.at c.index-variables-at.result c.in_ok-entry.entry
       c.entry_of.ensures.grows.more_owners c.entry_of.ensures.grows.owners c.variables.invariant.so_far c.in_ok-entry.ensures.ok c.variables-test.true c.index-variables-at.is c.in_ok-push.ensures.items;

@@ -106,23 +106,23 @@ returns-clause-right c =
     }
 
 pub returns-in_err-place-clause-came : goal.returns-in_err-place-clause-came
-returns-in_err-place-clause-came c ts es there h =
+returns-in_err-place-clause-came c ts n es there h =
     let t = c.args.table.now in
     let b = c.args.board.now in
     let os = c.self.inside.owners.list in
     let right : AreRight t (atoms_of os c.self.inside.sums c.self.inside.places.entries) b c.args.bounds.now =
     subst (λ (a : AtomsView). AreRight t a b c.args.bounds.now) (sym c.self.view_is) c.requires.right in
-    let before : IsReached ts es (standing_in t os b) = subst (λ (a : AtomsView). IsReached ts es (standing_in t a.owners b)) (sym c.self.view_is) h in
+    let before : IsReached ts n es (standing_in t os b) = subst (λ (a : AtomsView). IsReached ts n es (standing_in t a.owners b)) (sym c.self.view_is) h in
     atom_stops t c.args.id c.in-Some.sides c.in_ok-form.form os c.place_of-made.new.owners.list b c.place_of-made.new.board c.in-Some.ensures.means c.in_ok-form.ensures.exact c.in_ok-form.ensures.there
-    (c.ids_are_unique.ensures, right.owners_in) ts es there before c.in_err-place.field-0.0 c.from_residual-in_err-place.result c.in_err-place.ensures.came c.from_residual-in_err-place.ensures.1
+    (c.ids_are_unique.ensures, right.owners_in) ts n es there before c.in_err-place.field-0.0 c.from_residual-in_err-place.result c.in_err-place.ensures.came c.from_residual-in_err-place.ensures.1
 
 pub returns-clause-came : goal.returns-clause-came
-returns-clause-came c ts es there h =
+returns-clause-came c ts n es there h =
     let t = c.args.table.now in
     let b = c.args.board.now in
     let os = c.self.inside.owners.list in
     let right : AreRight t (atoms_of os c.self.inside.sums c.self.inside.places.entries) b c.args.bounds.now =
     subst (λ (a : AtomsView). AreRight t a b c.args.bounds.now) (sym c.self.view_is) c.requires.right in
-    let before : IsReached ts es (standing_in t os b) = subst (λ (a : AtomsView). IsReached ts es (standing_in t a.owners b)) (sym c.self.view_is) h in
+    let before : IsReached ts n es (standing_in t os b) = subst (λ (a : AtomsView). IsReached ts n es (standing_in t a.owners b)) (sym c.self.view_is) h in
     atom_comes t c.args.id c.in-Some.sides c.in_ok-form.form os c.place_of-made.new.owners.list b c.place_of-made.new.board c.in-Some.ensures.means c.in_ok-form.ensures.exact c.in_ok-form.ensures.there
-    (c.ids_are_unique.ensures, right.owners_in) ts es there before c.in_ok-place.ensures.came
+    (c.ids_are_unique.ensures, right.owners_in) ts n es there before c.in_ok-place.ensures.came
