@@ -1,7 +1,6 @@
 //! Congruence closure as a theory.
 
-ghost use Rattle.std.specs.Prelude.{◌≡◌, ◌-◌, ◌≤◌, ◌++◌, ◌∷◌, ℕ, List, [], true, length, get_or, take, Contains, MatchResult, IfOk, IfErr, OnOk, OnErr, Ok};
-ghost use Rattle.spec_sorts.specs.Terms.{Term};
+ghost use Rattle.std.specs.Prelude.{◌≡◌, ◌-◌, ◌≤◌, ◌++◌, ◌∷◌, [], true, length, get_or, take, Contains, MatchResult, IfOk, IfErr, OnOk, OnErr, Ok};
 ghost use Rattle.spec_congruence.specs.Congruence.{IsFine, IsRefuted};
 ghost use Rattle.term_core.specs.Tables.{TableView};
 ghost use Rattle.sat_budget.specs.declared.limits.Stop.TheVariants as stops;
@@ -69,7 +68,9 @@ impl Theory for Congruence {
 
     ghost refuses = { λ c ts ls. IsRefuted ts ls };
 
-    ghost came_by = { λ _ _ _ _. Unit {0} };
+    ghost came_by = { λ _ _ _ _ _. Unit {0} };
+
+    ghost stopped_by = { λ _ _ _ _ _. Unit {0} };
 
     ghost strains = { λ _ _ _ _. ⊥ };
 
@@ -84,7 +85,7 @@ impl Theory for Congruence {
         ensures with { AreOf table.now self.new.now.facts }
         ensures watches { MatchResult result (λ _. theory_of self.new ≡ with_watched (theory_of self.old) id)
             (λ _. theory_of self.new ≡ theory_of self.old) }
-        ensures came { (ts : List Term) (es : List (ℕ × ℕ)) → CameTo result (λ _. Unit {0}) es }
+        ensures came { CameTo result (λ _. Unit {0}) (Unit {0}) (Unit {0}) }
         ensures stops { IfErr result (StopsBy (λ _. ⊥) (λ _. ⊥)) }
         ensures memory { IfErr result (λ stop. stop ≡ stops.Memory) }
     {
@@ -120,7 +121,7 @@ impl Theory for Congruence {
             (IsRefuted (terms_watched table.old (theory_of self.old)) (literals_held table.old (theory_of self.old)))
             (theory_of self.old) (record { table = table.old; log = log.old }) result
             (record { table = table.new; log = log.new }) }
-        ensures came { (ts : List Term) → CameTo result (λ _. Unit {0}) budget.new.exchanges }
+        ensures came { CameTo result (λ _. Unit {0}) (Unit {0}) (Unit {0}) }
         ensures stops { IfErr result (StopsBy (λ _. ⊥) (AreSpent ⊥ budget.new)) }
         ensures memory { IfErr result (λ stop. stop ≡ stops.Memory) }
     {
@@ -164,7 +165,7 @@ impl Theory for Congruence {
 
     ghost grown = { λ c t u more with. of_more t u more c.now.facts with };
 
-    ghost came_grown = { λ c t u more with ts es came. came };
+    ghost came_grown = { λ c t u more with ts n es came. came };
 
     ghost exact = { λ c ts ls fine refuted. fine.0 refuted };
 }

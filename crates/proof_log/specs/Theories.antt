@@ -8,7 +8,6 @@ use Rattle.spec_derivations.specs.Lemmas.{IsLemma}
 use Rattle.term_core.specs.declared.ids.TermId.{TermId}
 use Rattle.term_core.specs.declared.ids.Lit.{Lit}
 use Rattle.term_core.specs.Tables.{TableView, term_at, IsIn, clause_at, literal_at, positive_literal, declared_in, Extends}
-use Rattle.spec_causes.specs.Reached.{IsAtLast}
 use Rattle.sat_budget.specs.declared.limits.Stop.{Stop}
 use Rattle.sat_budget.specs.declared.limits.Stop.TheVariants.{Strained, Pivots}
 use Rattle.sat_budget.specs.declared.limits.Stop.TheVariants as stops
@@ -118,10 +117,15 @@ Checks agrees refuses v old (Ok Fine) new = agrees × Derives (terms_watched old
 Checks agrees refuses v old (Ok (Clash step)) new = refuses × Derives (terms_watched old.table v) old new × IsClash new.table new.log v.held step
 Checks agrees refuses v old (Err stop) new = new ≡ old
 
--- what a call of a theory leaves is what the exchanges came to; after a stop by an overflow perhaps all but the last of them,
--- as it is then told before it is made; where memory runs out nothing is said
-abbrev pub CameTo : {A : Type 0} → Result A Stop → (List (ℕ × ℕ) → Type 0) → List (ℕ × ℕ) → Type 0
-CameTo (Ok _) came es = came es
-CameTo (Err (Strained s)) came es = IsAtLast came es
-CameTo (Err (Pivots n)) came es = came es
-CameTo (Err stops.Memory) came es = Unit {0}
+-- what a call of a theory came to: by what it gives; where an overflow stopped it; and where the budget of exchanges did; where memory
+-- runs out nothing is said
+abbrev pub CameTo : {A : Type 0} → Result A Stop → (came : A → Type 0) → (strained : Type 0) → (spent : Type 0) → Type 0
+CameTo (Ok x) came strained spent = came x
+CameTo (Err (Strained s)) came strained spent = strained
+CameTo (Err (Pivots n)) came strained spent = spent
+CameTo (Err stops.Memory) came strained spent = Unit {0}
+
+-- how many runs are paid for after a check: one more where it found something wrong
+abbrev pub paid_after : Verdict → ℕ → ℕ
+paid_after Fine n = n
+paid_after (Clash step) n = suc n

@@ -1,13 +1,14 @@
 //! What the search asks of a theory.
 
-ghost use Rattle.std.specs.Prelude.{◌≡◌, ◌≤◌, ℕ, List, length, Contains, IfErr, MatchResult};
+ghost use Rattle.std.specs.Prelude.{◌≡◌, ◌≤◌, ℕ, suc, List, length, Contains, IfErr, MatchResult};
 ghost use Rattle.spec_sorts.specs.Terms.{Term};
 ghost use Rattle.spec_sorts.specs.Literals.{Literal};
+ghost use Rattle.spec_causes.specs.Counts.{counted};
 ghost use Rattle.term_core.specs.Tables.{TableView, Extends, term_at};
 ghost use Rattle.sat_budget.specs.declared.limits.Strain.{Strain};
 ghost use Rattle.sat_budget.specs.Budgets.{Spends, StopsBy, AreSpent};
 ghost use Rattle.proof_log.specs.Logs.{IsLogOf};
-ghost use Rattle.proof_log.specs.Theories.{TheoryView, with_held, with_watched, with_mark, gone_back, IsTermIn, IsOver, terms_watched, literals_held, Checks, CameTo};
+ghost use Rattle.proof_log.specs.Theories.{TheoryView, with_held, with_watched, with_mark, gone_back, IsTermIn, IsOver, terms_watched, literals_held, Checks, CameTo, paid_after};
 
 use crate::log::ProofLog;
 use crate::premises::StepId;
@@ -44,7 +45,12 @@ pub trait Theory {
     ghost refuses: { Self → List Term → List Literal → Type 0 };
 
     /// What it is over a table came of terms, among which are all that it ever watched, and of these exchanges, oldest first.
-    ghost came_by: { Self → TableView → List Term → List (ℕ × ℕ) → Type 0 };
+    /// Fewer runs made them than so many; or no more, and a check now would make none.
+    ghost came_by: { Self → TableView → List Term → ℕ → List (ℕ × ℕ) → Type 0 };
+
+    /// What it is over a table, where an overflow stopped it, came of terms and of exchanges, of which the last may be kept and not made.
+    /// No more runs made them than so many.
+    ghost stopped_by: { Self → TableView → List Term → ℕ → List (ℕ × ℕ) → Type 0 };
 
     /// What shows that a stop by an overflow is one, over a table and the watched terms.
     ghost strains: { Self → TableView → List Term → Strain → Type 0 };
@@ -63,8 +69,10 @@ pub trait Theory {
         ensures with { goes_with self.new table.now }
         ensures watches { MatchResult result (λ _. view self.new ≡ with_watched (view self.old) id)
             (λ _. view self.new ≡ view self.old) }
-        ensures came { (ts : List Term) (es : List (ℕ × ℕ)) → Contains ts (term_at table.now id)
-            → came_by self.old table.now ts es → CameTo result (came_by self.new table.now ts) es }
+        ensures came { (ts : List Term) (n : ℕ) (es : List (ℕ × ℕ)) → Contains ts (term_at table.now id)
+            → came_by self.old table.now ts n es → CameTo result
+            (λ _. came_by self.new table.now ts (counted (term_at table.now id) n) es)
+            (stopped_by self.new table.now ts n es) (Unit {0}) }
         ensures stops { IfErr result (StopsBy
             (strains self.new table.now (terms_watched table.now (with_watched (view self.old) id))) (λ _. ⊥)) };
 
@@ -73,8 +81,8 @@ pub trait Theory {
         requires watched { Contains (view self.old).watched lit.term }
         requires new { Contains (view self.old).held lit → ⊥ }
         ensures with { (t : TableView) → goes_with self.old t → goes_with self.new t }
-        ensures came { (t : TableView) (ts : List Term) (es : List (ℕ × ℕ)) → came_by self.old t ts es
-            → came_by self.new t ts es }
+        ensures came { (t : TableView) (ts : List Term) (n : ℕ) (es : List (ℕ × ℕ)) → goes_with self.old t
+            → came_by self.old t ts n es → came_by self.new t ts (counted (term_at t lit.term) n) es }
         ensures holds { view self.new ≡ with_held (view self.old) lit };
 
     /// Checks whether something is wrong with the literals that it holds.
@@ -102,8 +110,10 @@ pub trait Theory {
             (refuses self.old (terms_watched table.old (view self.old)) (literals_held table.old (view self.old)))
             (view self.old) (record { table = table.old; log = log.old }) result
             (record { table = table.new; log = log.new }) }
-        ensures came { (ts : List Term) → came_by self.old table.old ts budget.old.exchanges
-            → CameTo result (came_by self.new table.new ts) budget.new.exchanges }
+        ensures came { (ts : List Term) (n : ℕ) → came_by self.old table.old ts n budget.old.exchanges → CameTo result
+            (λ verdict. came_by self.new table.new ts (paid_after verdict n) budget.new.exchanges)
+            (stopped_by self.new table.new ts n budget.new.exchanges)
+            (came_by self.new table.new ts (suc n) budget.new.exchanges) }
         ensures stops { IfErr result (StopsBy (strains self.new table.new (terms_watched table.old (view self.old)))
             (AreSpent (needs_more self.new table.new (terms_watched table.old (view self.old))) budget.new)) };
 
@@ -112,8 +122,8 @@ pub trait Theory {
     /// `NoMemory` comes where the mark finds no memory; then all is as it was.
     fn mark(&mut self) -> Result<(), NoMemory>
         ensures with { (t : TableView) → goes_with self.old t → goes_with self.new t }
-        ensures came { (t : TableView) (ts : List Term) (es : List (ℕ × ℕ)) → came_by self.old t ts es
-            → came_by self.new t ts es }
+        ensures came { (t : TableView) (ts : List Term) (n : ℕ) (es : List (ℕ × ℕ)) → came_by self.old t ts n es
+            → came_by self.new t ts n es }
         ensures marks { MatchResult result (λ _. view self.new ≡ with_mark (view self.old))
             (λ _. view self.new ≡ view self.old) };
 
@@ -121,15 +131,15 @@ pub trait Theory {
     fn back(&mut self, marks: u32)
         requires there { marks ≤ length (view self.old).marks }
         ensures with { (t : TableView) → goes_with self.old t → goes_with self.new t }
-        ensures came { (t : TableView) (ts : List Term) (es : List (ℕ × ℕ)) → came_by self.old t ts es
-            → came_by self.new t ts es }
+        ensures came { (t : TableView) (ts : List Term) (n : ℕ) (es : List (ℕ × ℕ)) → came_by self.old t ts n es
+            → came_by self.new t ts n es }
         ensures back { view self.new ≡ gone_back marks (view self.old) };
 
     // what goes with a table goes with one that has more
     ghost grown: { (x : Self) (t u : TableView) → Extends t u → goes_with x t → goes_with x u };
     // what came of terms over a table did over one that has more
     ghost came_grown: { (x : Self) (t u : TableView) → Extends t u → goes_with x t
-        → (ts : List Term) (es : List (ℕ × ℕ)) → came_by x t ts es → came_by x u ts es };
+        → (ts : List Term) (n : ℕ) (es : List (ℕ × ℕ)) → came_by x t ts n es → came_by x u ts n es };
     // nothing both agrees and is refused
     ghost exact: { (x : Self) (ts : List Term) (ls : List Literal) → agrees x ts ls → refuses x ts ls → ⊥ };
 }

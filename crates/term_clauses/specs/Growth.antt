@@ -1,14 +1,10 @@
 -- Tables and logs that grow by clauses.
-use Rattle.std.specs.Prelude.{◌≡◌, ◌+◌, ◌<◌, List, ◌++◌, length, map, All, Contains}
+use Rattle.std.specs.Prelude.{◌≡◌, ◌+◌, List, ◌++◌, length, map, All, Contains}
 use Rattle.std.specs.List.{range_with_len}
-use Rattle.spec_sorts.specs.Terms.{Term}
-use Rattle.spec_proofs.specs.Resolution.{IsWithin}
-use Rattle.spec_derivations.specs.Base.{search_clauses}
-use Rattle.spec_derivations.specs.Examples.{asserting}
 use Rattle.term_core.specs.declared.ids.TermId.{TermId}
 use Rattle.term_core.specs.Tables.{TableView, declared_in, Extends}
 use Rattle.proof_log.specs.declared.premises.StepId.{StepId}
-use Rattle.proof_log.specs.Logs.{Logged, assumed, stepped, stated, IsLogOf}
+use Rattle.proof_log.specs.Logs.{Logged, assumed, stepped, IsLogOf}
 
 -- what it assumes, if it does, is one of these
 abbrev pub AssumesOneOf : List TermId → Logged → Type 0

@@ -1,13 +1,12 @@
 -- Numbers of the terms that a search speaks of.
-use Rattle.std.specs.Prelude.{◌≡◌, ℕ, ◌<◌, List, ◌++◌, length, get_or, All}
+use Rattle.std.specs.Prelude.{◌≡◌, ℕ, ◌<◌, List, ◌++◌, length, get_or}
 use Rattle.spec_sorts.specs.Terms.{Term}
 use Rattle.spec_sorts.specs.Subsets.{AreAmong}
-use Rattle.spec_derivations.specs.Base.{spoken_terms, search_terms}
+use Rattle.spec_derivations.specs.Base.{spoken_terms}
 use Rattle.spec_derivations.specs.Examples.{asserting}
 use Rattle.term_core.specs.declared.ids.TermId.{TermId}
 use Rattle.term_core.specs.Tables.{TableView, clause_at}
 use Rattle.proof_log.specs.Logs.{AreFormulasIn}
-use Rattle.proof_log.specs.Theories.{IsTermIn}
 
 -- what no place of a list of numbers means
 abbrev pub no_id : TermId
