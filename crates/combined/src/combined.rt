@@ -50,7 +50,7 @@ impl Combined {
         ensures empty { IfOk result (λ c. theory_of c.congruence ≡ record { held = []; watched = []; marks = [] }) }
         ensures congruence { IfOk result (λ c. AreOf table.now c.congruence.now.facts) }
         ensures simplex { IfOk result (λ c. Suits c.simplex table.now) }
-        ensures came { IfOk result (λ c. (ts : List Term) → CameBy table.now ts [] c.simplex) }
+        ensures came { IfOk result (λ c. (ts : List Term) → CameBy table.now ts 0 [] c.simplex) }
     {
         no_atoms_fit();
         let congruence = Congruence::new(alloc, table, truths)?;

@@ -26,7 +26,9 @@ impl Theory for Combined {
     ghost refuses = { λ c ts ls. ⟦<Congruence as Theory>⟧.refuses c.congruence ts ls
         ⊎ ⟦<Simplex as Theory>⟧.refuses c.simplex ts ls };
 
-    ghost came_by = { λ c t ts es. ⟦<Simplex as Theory>⟧.came_by c.simplex t ts es };
+    ghost came_by = { λ c t ts n es. ⟦<Simplex as Theory>⟧.came_by c.simplex t ts n es };
+
+    ghost stopped_by = { λ c t ts n es. ⟦<Simplex as Theory>⟧.stopped_by c.simplex t ts n es };
 
     ghost strains = { λ c t ts s. ⟦<Simplex as Theory>⟧.strains c.simplex t ts s };
 
@@ -83,7 +85,7 @@ impl Theory for Combined {
       of_simplex.grown-law c.simplex t u more with.1,
     ) };
 
-    ghost came_grown = { λ c t u more with ts es came. of_simplex.came_grown-law c.simplex t u more with.1 ts es came };
+    ghost came_grown = { λ c t u more with ts n es came. of_simplex.came_grown-law c.simplex t u more with.1 ts n es came };
 
     ghost exact = { λ c ts ls agree refused. ⊎_elim (of_congruence.exact-law c.congruence ts ls agree.0)
         (of_simplex.exact-law c.simplex ts ls agree.1) refused };

@@ -1,46 +1,129 @@
 -- How simplex came to where it stands, as literals are held, terms are watched, and a check runs.
-use Rattle.std.proofs.Common.{◌≡◌, ℕ, zero, suc, List, length, map, All, Contains, Result, Ok, Err, inl, inr, sym, ap, subst}
-use Rattle.std.specs.Prelude.{MatchResult}
+use Rattle.std.proofs.Common.{◌≡◌, ◌≤◌, ℕ, zero, suc, List, length, map, take, All, Contains, Result, Ok, Err, Option, Some, None, inl, inr, refl, sym, ap, subst, arith}
+use Rattle.std.specs.Prelude.{cond, IsSome, MatchResult}
+use Rattle.std.specs.Option.{is_some}
+use Rattle.std.proofs.lemmas.Bool.{false≢true}
 use Rattle.std.proofs.lemmas.List.Elements.{All-weaker, All-contains, All-take, All-push}
 use Rattle.spec_text.proofs.Members.{to_image, from_image}
 use Rattle.spec_sorts.specs.Terms.{Term}
 use Rattle.spec_sorts.specs.Subsets.{AreAmong}
-use Rattle.spec_strains.specs.Points.{Ranges}
-use Rattle.spec_strains.specs.Runs.{SettlesBelow, Ran, Stopped, settling, exchanging}
-use Rattle.spec_causes.specs.Standing.{moved_to}
+use Rattle.spec_tableaux.specs.SolvedForms.{IsSolved}
+use Rattle.spec_tableaux.specs.Numbers.{numbers}
+use Rattle.spec_tableaux.specs.Ranges.{Meets}
+use Rattle.spec_strains.specs.Points.{deltas, point_in, Ranges}
+use Rattle.spec_strains.specs.Runs.{Ran, Stopped, settling, exchanging}
+use Rattle.spec_simplex.specs.Constraints.{Constraint, constraint_of}
+use Rattle.spec_causes.specs.Standing.{Standing, moved_to}
 use Rattle.spec_causes.specs.Bounds.{AreBounds}
-use Rattle.spec_causes.specs.Reached.{IsReached, IsAtLast}
+use Rattle.spec_causes.specs.Reached.{IsReached, IsStoppedAt}
 use Rattle.spec_causes.specs.Reached as reached
+use Rattle.spec_causes.specs.Counts.{counted}
+use Rattle.spec_causes.proofs.Resting.{kept_makes_none, kept_is_not_short}
 use Rattle.world_io.specs.declared.bytes.NoMemory.{NoMemory}
 use Rattle.term_core.specs.declared.ids.TermId.{TermId}
 use Rattle.term_core.specs.declared.ids.Lit.{Lit}
-use Rattle.term_core.specs.Tables.{TableView, term_at, clause_at, IsIn, Extends}
+use Rattle.term_core.specs.Tables.{TableView, term_at, clause_at, positive_literal, IsIn, Extends}
 use Rattle.sat_budget.specs.Budgets.{BudgetView}
 use Rattle.sat_budget.specs.declared.limits.Stop.{Stop}
 use Rattle.sat_budget.specs.declared.limits.Stop.TheVariants.{Strained, Pivots}
 use Rattle.sat_budget.specs.declared.limits.Stop.TheVariants as stops
 use Rattle.proof_log.specs.Theories.{TheoryView, with_watched, with_held, with_mark, gone_back, IsTermIn, IsOver, terms_watched, CameTo}
-use Rattle.simplex_bounds.specs.Held.{ranges_in}
+use Rattle.simplex_bounds.specs.declared.bounds.Bound.{Bound}
+use Rattle.simplex_bounds.specs.Held.{BoundsView, ranges_in}
+use Rattle.simplex_bounds.proofs.Fewer.{fewer_kept}
 use Rattle.simplex_check.specs.Boards.{BoardView, state_of}
 use Rattle.simplex_check.specs.Ends.{Ends}
 use Rattle.simplex_check.specs.declared.check.Outcome.{Outcome}
 use Rattle.simplex_check.specs.declared.check.Outcome.TheVariants.{Fine, Crossed, Conflict}
+use Rattle.simplex_atoms.specs.declared.place.Place.{Place}
 use Rattle.simplex_atoms.specs.Atoms.{AtomsView}
+use Rattle.simplex_atoms.specs.Places.{place_in}
 use Rattle.simplex_atoms.specs.Standings.{owner_meant, standing_in}
+use Rattle.simplex_atoms.specs.Watching.{IsWatched}
+use Rattle.simplex_held.specs.Stated.{IsKnownIn}
 use Rattle.simplex_held.proofs.Stating.{all_from}
 use Rattle.simplex_held.proofs.Standings.{standing_kept, among_kept, atoms_kept}
 use Rattle.held_literals.specs.Room.{AreOver}
 use Rattle.simplex.specs.Views.{SimplexView, Fits, IsOf}
-use Rattle.simplex.specs.Checks.{Suits}
-use Rattle.simplex.specs.Coming.{standing_of, CameBy}
+use Rattle.simplex.specs.Checks.{Suits, KeepsBounds}
+use Rattle.simplex.specs.Coming.{standing_of, AreFew, CameBy, StoppedBy}
 use Rattle.simplex.proofs.Bounding.{are_bounds}
 
+-- how many runs were made
+
+module _ (v w : SimplexView) (n runs : ℕ) where
+  -- they are as few where what kept the bounds keeps them
+  still_few : (KeepsBounds v → KeepsBounds w) → AreFew v n runs → AreFew w n runs
+  still_few on (inl h) = inl (on h.0, h.1)
+  still_few on (inr h) = inr h
+
+  -- one more pays for another check
+  paid : AreFew v n runs → AreFew w (suc n) runs
+  paid (inl h) = inr (omega (arith, h.1))
+  paid (inr h) = inr (omega (arith, h))
+
+  -- so it does where a term comes of which bounds may come
+  pub counted_few : (u : Term) → (constraint_of (positive_literal u) ≡ None → KeepsBounds v → KeepsBounds w) → AreFew v n runs → AreFew w (counted u n) runs
+  counted_few u plain few = by (constraint_of (positive_literal u)) refl
+    where
+      by : (c : Option Constraint) → constraint_of (positive_literal u) ≡ c → AreFew w (cond (is_some (constraint_of (positive_literal u))) (suc n) n) runs
+      by None e = subst (λ (c : Option Constraint). AreFew w (cond (is_some c) (suc n) n) runs) (sym e) (still_few (plain e) few)
+      by (Some x) e = subst (λ (c : Option Constraint). AreFew w (cond (is_some c) (suc n) n) runs) (sym e) (paid few)
+
+-- they are no more than n
+pub at_most : (v : SimplexView) (n runs : ℕ) → AreFew v n runs → runs ≤ n
+at_most v n runs (inl h) = h.1
+at_most v n runs (inr h) = omega (arith, h)
+
+-- nor than what is more
+few_more : (v : SimplexView) (m n runs : ℕ) → m ≤ n → AreFew v m runs → AreFew v n runs
+few_more v m n runs le (inl h) = inl (h.0, omega (arith, le, h.1))
+few_more v m n runs le (inr h) = inr (omega (arith, le, h))
+
+pub came_more : (t : TableView) (ts : List Term) (m n : ℕ) (es : List (ℕ × ℕ)) (v : SimplexView) → m ≤ n → CameBy t ts m es v → CameBy t ts n es v
+came_more t ts m n es v le came = record {
+  watched = came.watched;
+  held = came.held;
+  runs = came.runs;
+  reached = came.reached;
+  few = few_more v m n came.runs le came.few;
+}
+
+-- bounds that go leave the values within
+keeps_fewer : (v w : SimplexView) (n : ℕ) → w.board ≡ v.board → w.bounds.held ≡ take n v.bounds.held → KeepsBounds v → KeepsBounds w
+keeps_fewer v w n b held keeps =
+    subst (λ (x : BoardView). Meets deltas x.tableau.rows (ranges_in w.bounds.held) (point_in x.values)) (sym b)
+    (subst (λ (bs : List Bound). Meets deltas v.board.tableau.rows (ranges_in bs) (point_in v.board.values)) (sym held)
+    (record { solves = keeps.solves; within = fewer_kept n v.bounds.held (point_in v.board.values) keeps.within }))
+
+-- the same values keep the same bounds
+pub keeps_same : (v w : SimplexView) → w.board ≡ v.board → w.bounds.held ≡ v.bounds.held → KeepsBounds v → KeepsBounds w
+keeps_same v w b held keeps =
+    subst (λ (x : BoardView). Meets deltas x.tableau.rows (ranges_in w.bounds.held) (point_in x.values)) (sym b)
+    (subst (λ (bs : List Bound). Meets deltas v.board.tableau.rows (ranges_in bs) (point_in v.board.values)) (sym held) keeps)
+
+-- a term that says nothing of numbers has no place
+pub no_place_known : (o : Option Place) (c : Option Constraint) → IsWatched o c → c ≡ None → o ≡ None
+no_place_known None c known e = refl
+no_place_known (Some place) c known e = absurd (false≢true (subst IsSome e known))
+
 -- over a table that has more
-pub came_over_more : (v : SimplexView) (t u : TableView) → Extends t u → Suits v t → (ts : List Term) (es : List (ℕ × ℕ)) → CameBy t ts es v → CameBy u ts es v
-came_over_more v t u more with ts es came = record {
+pub came_over_more : (v : SimplexView) (t u : TableView) → Extends t u → Suits v t → (ts : List Term) (n : ℕ) (es : List (ℕ × ℕ)) → CameBy t ts n es v → CameBy u ts n es v
+came_over_more v t u more with ts n es came = record {
   watched = among_kept t u more ts v.theory.watched with.there came.watched;
   held = atoms_kept t u more ts v.theory.held with.held came.held;
-  reached = subst (IsReached ts es) (sym (standing_kept t u more v.atoms.owners v.board with.is.right.owners_in)) came.reached;
+  runs = came.runs;
+  reached = subst (IsReached ts came.runs es) (sym (standing_kept t u more v.atoms.owners v.board with.is.right.owners_in)) came.reached;
+  few = came.few;
+}
+
+-- it is stopped where places and rows are the same
+pub stopped_same : (t : TableView) (ts : List Term) (n : ℕ) (es : List (ℕ × ℕ)) (v w : SimplexView) → w.atoms ≡ v.atoms → w.board ≡ v.board → StoppedBy t ts n es v → StoppedBy t ts n es w
+stopped_same t ts n es v w a b s = record {
+  runs = s.runs;
+  stopped = subst (λ (x : AtomsView). IsStoppedAt ts s.runs es (standing_in t x.owners w.board)) (sym a)
+      (subst (λ (x : BoardView). IsStoppedAt ts s.runs es (standing_in t v.atoms.owners x)) (sym b) s.stopped);
+  few = s.few;
 }
 
 -- literals are held, marks are set, and back
@@ -62,49 +145,72 @@ module _ (t : TableView) (ts : List Term) where
       let x = from_image (term_at t) ids u has in
       subst (Contains ts) x.2 (All-contains (λ id. Contains ts (term_at t id)) ids x.0 h x.1)
 
-  module _ (es : List (ℕ × ℕ)) (old new : SimplexView) (came : CameBy t ts es old) where
+  module _ (n : ℕ) (es : List (ℕ × ℕ)) (old new : SimplexView) (came : CameBy t ts n es old) where
     -- it stands where it stood
-    stands : new.atoms ≡ old.atoms → new.board ≡ old.board → AllOf new.theory.watched → AtomsOf new.theory.held → CameBy t ts es new
-    stands a b watched held = record {
+    stands : (m : ℕ) → AreFew new m came.runs → new.atoms ≡ old.atoms → new.board ≡ old.board → AllOf new.theory.watched → AtomsOf new.theory.held → CameBy t ts m es new
+    stands m few a b watched held = record {
       watched = all_among new.theory.watched watched;
       held = held;
-      reached = subst (λ (x : AtomsView). IsReached ts es (standing_in t x.owners new.board)) (sym a)
-          (subst (λ (x : BoardView). IsReached ts es (standing_in t old.atoms.owners x)) (sym b) came.reached);
+      runs = came.runs;
+      reached = subst (λ (x : AtomsView). IsReached ts came.runs es (standing_in t x.owners new.board)) (sym a)
+          (subst (λ (x : BoardView). IsReached ts came.runs es (standing_in t old.atoms.owners x)) (sym b) came.reached);
+      few = few;
     }
 
+    -- it holds the same bounds
+    same_few : new.board ≡ old.board → new.bounds.held ≡ old.bounds.held → AreFew new n came.runs
+    same_few b bounds = still_few old new n came.runs (keeps_same old new b bounds) came.few
+
     -- it watches and holds the same
-    pub came_same : new.atoms ≡ old.atoms → new.board ≡ old.board → new.theory.watched ≡ old.theory.watched → new.theory.held ≡ old.theory.held → CameBy t ts es new
-    came_same a b watched held = stands a b (subst AllOf (sym watched) (each_among old.theory.watched came.watched)) (subst AtomsOf (sym held) came.held)
+    pub came_same : new.atoms ≡ old.atoms → new.board ≡ old.board → new.bounds.held ≡ old.bounds.held → new.theory.watched ≡ old.theory.watched → new.theory.held ≡ old.theory.held → CameBy t ts n es new
+    came_same a b bounds watched held =
+        stands n (same_few b bounds) a b (subst AllOf (sym watched) (each_among old.theory.watched came.watched)) (subst AtomsOf (sym held) came.held)
 
     -- it watches a term more
-    pub came_watching : (id : TermId) → Contains ts (term_at t id) → new.atoms ≡ old.atoms → new.board ≡ old.board → new.theory ≡ with_watched old.theory id → CameBy t ts es new
-    came_watching id there a b theory =
-        stands a b
+    pub came_watching : (id : TermId) → Contains ts (term_at t id) → new.atoms ≡ old.atoms → new.board ≡ old.board → new.bounds.held ≡ old.bounds.held → new.theory ≡ with_watched old.theory id → CameBy t ts n es new
+    came_watching id there a b bounds theory =
+        stands n (same_few b bounds) a b
         (subst AllOf (sym (ap (λ (v : TheoryView). v.watched) theory)) (All-push (λ id. Contains ts (term_at t id)) old.theory.watched id (each_among old.theory.watched came.watched) there))
         (subst AtomsOf (sym (ap (λ (v : TheoryView). v.held) theory)) came.held)
 
     -- it holds a literal more
-    pub came_holding : (l : Lit) → Contains old.theory.watched l.term → new.atoms ≡ old.atoms → new.board ≡ old.board → new.theory ≡ with_held old.theory l → CameBy t ts es new
-    came_holding l there a b theory =
+    pub came_holding : (l : Lit) → Contains old.theory.watched l.term → All (IsKnownIn t old.atoms.placed) old.theory.watched → new.atoms ≡ old.atoms → new.board ≡ old.board
+        → (place_in old.atoms.placed l.term ≡ None → new.bounds.held ≡ old.bounds.held) → new.theory ≡ with_held old.theory l → CameBy t ts (counted (term_at t l.term) n) es new
+    came_holding l there known a b plain theory =
+        let u = term_at t l.term in
         let watched = each_among old.theory.watched came.watched in
-        stands a b
+        let is_known = All-contains (IsKnownIn t old.atoms.placed) old.theory.watched l.term known there in
+        stands (counted u n)
+        (counted_few old new n came.runs u (λ e. keeps_same old new b (plain (no_place_known (place_in old.atoms.placed l.term) (constraint_of (positive_literal u)) is_known e))) came.few)
+        a b
         (subst AllOf (sym (ap (λ (v : TheoryView). v.watched) theory)) watched)
         (subst AtomsOf (sym (ap (λ (v : TheoryView). v.held) theory)) (All-push (λ (l : Lit). Contains ts (term_at t l.term)) old.theory.held l came.held
         (All-contains (λ id. Contains ts (term_at t id)) old.theory.watched l.term watched there)))
 
     -- it went back
-    pub came_back : (n : ℕ) → new.atoms ≡ old.atoms → new.board ≡ old.board → new.theory ≡ gone_back n old.theory → CameBy t ts es new
-    came_back zero a b theory = came_same a b (ap (λ (v : TheoryView). v.watched) theory) (ap (λ (v : TheoryView). v.held) theory)
-    came_back (suc n) a b theory =
-        stands a b
-        (subst AllOf (sym (ap (λ (v : TheoryView). v.watched) theory)) (All-take (λ id. Contains ts (term_at t id)) _ old.theory.watched (each_among old.theory.watched came.watched)))
-        (subst AtomsOf (sym (ap (λ (v : TheoryView). v.held) theory)) (All-take (λ (l : Lit). Contains ts (term_at t l.term)) _ old.theory.held came.held))
+    pub came_back : (k : ℕ) → new.atoms ≡ old.atoms → new.board ≡ old.board → (m : ℕ) × (new.bounds.held ≡ take m old.bounds.held) → new.theory ≡ gone_back k old.theory → CameBy t ts n es new
+    came_back k a b bounds theory = by k theory
+      where
+        few : AreFew new n came.runs
+        few = still_few old new n came.runs (keeps_fewer old new bounds.0 b bounds.1) came.few
+
+        by : (k : ℕ) → new.theory ≡ gone_back k old.theory → CameBy t ts n es new
+        by zero theory =
+            stands n few a b
+            (subst AllOf (sym (ap (λ (v : TheoryView). v.watched) theory)) (each_among old.theory.watched came.watched))
+            (subst AtomsOf (sym (ap (λ (v : TheoryView). v.held) theory)) came.held)
+        by (suc k) theory =
+            stands n few a b
+            (subst AllOf (sym (ap (λ (v : TheoryView). v.watched) theory)) (All-take (λ id. Contains ts (term_at t id)) _ old.theory.watched (each_among old.theory.watched came.watched)))
+            (subst AtomsOf (sym (ap (λ (v : TheoryView). v.held) theory)) (All-take (λ (l : Lit). Contains ts (term_at t l.term)) _ old.theory.held came.held))
 
   -- a mark changes nothing of it
-  pub came_marked : (es : List (ℕ × ℕ)) (old new : SimplexView) → CameBy t ts es old → (r : Result (Unit {0}) NoMemory) → new.atoms ≡ old.atoms → new.board ≡ old.board
-      → MatchResult r (λ _. new.theory ≡ with_mark old.theory) (λ _. new.theory ≡ old.theory) → CameBy t ts es new
-  came_marked es old new came (Ok x) a b m = came_same es old new came a b (ap (λ (v : TheoryView). v.watched) m) (ap (λ (v : TheoryView). v.held) m)
-  came_marked es old new came (Err x) a b m = came_same es old new came a b (ap (λ (v : TheoryView). v.watched) m) (ap (λ (v : TheoryView). v.held) m)
+  pub came_marked : (n : ℕ) (es : List (ℕ × ℕ)) (old new : SimplexView) → CameBy t ts n es old → (r : Result (Unit {0}) NoMemory) → new.atoms ≡ old.atoms → new.board ≡ old.board
+      → new.bounds ≡ old.bounds → MatchResult r (λ _. new.theory ≡ with_mark old.theory) (λ _. new.theory ≡ old.theory) → CameBy t ts n es new
+  came_marked n es old new came (Ok x) a b bounds m =
+      came_same n es old new came a b (ap (λ (v : BoundsView). v.held) bounds) (ap (λ (v : TheoryView). v.watched) m) (ap (λ (v : TheoryView). v.held) m)
+  came_marked n es old new came (Err x) a b bounds m =
+      came_same n es old new came a b (ap (λ (v : BoundsView). v.held) bounds) (ap (λ (v : TheoryView). v.watched) m) (ap (λ (v : TheoryView). v.held) m)
 
   -- held literals are of watched terms
   pub atoms_among : (v : TheoryView) → AreOver v.held v.watched → AreAmong (terms_watched t v) ts → AtomsOf v.held
@@ -133,64 +239,119 @@ suits_over t v is over held =
 pub fits_on : (v : SimplexView) (c : BoardView) → Fits v → Fits (record { theory = v.theory; atoms = v.atoms; board = c; bounds = v.bounds; starts = v.starts })
 fits_on v c f = record { bounds_are = f.bounds_are; starts_are = f.starts_are; room = f.room; reached = f.reached }
 
+-- What a check comes to over terms, by no more runs than n.
+record Onward (ts : List Term) (n : ℕ) (es : List (ℕ × ℕ)) (s : Standing) : Type 0 where
+  pub runs : ℕ
+  pub reached : IsReached ts runs es s
+  pub few : runs ≤ n
+
 -- a check runs
 
-module _ (t : TableView) (ts : List Term) (v : SimplexView) (c : BoardView) (is : IsOf v t) (fits : Fits v) (listed : c.tableau.listed ≡ v.board.tableau.listed)
-    (lengths : length c.values ≡ length v.board.values) where
+module _ (t : TableView) (ts : List Term) (v : SimplexView) (c : BoardView) (is : IsOf v t) (fits : Fits v) (solved : IsSolved numbers v.board.tableau.rows)
+    (listed : c.tableau.listed ≡ v.board.tableau.listed) (lengths : length c.values ≡ length v.board.values) where
   abbrev after : SimplexView
   after = record { theory = v.theory; atoms = v.atoms; board = c; bounds = v.bounds; starts = v.starts }
 
   abbrev ranges : Ranges
   ranges = ranges_in v.bounds.held
 
-  moved : (es : List (ℕ × ℕ)) → IsReached ts es (moved_to (standing_of t v) c.tableau.rows c.values) → IsReached ts es (standing_of t after)
-  moved es h = subst (λ rs. IsReached ts es (record { owners = map (owner_meant t) v.atoms.owners; listed = rs; rows = c.tableau.rows; values = c.values })) (sym listed) h
+  -- it goes on to where it stands then
+  moved : (P : Standing → Type 0) → P (moved_to (standing_of t v) c.tableau.rows c.values) → P (standing_of t after)
+  moved P h = subst (λ rs. P (record { owners = map (owner_meant t) v.atoms.owners; listed = rs; rows = c.tableau.rows; values = c.values })) (sym listed) h
 
-  ran_on : (old new : List (ℕ × ℕ)) → CameBy t ts old v → Ran ranges (state_of v.board) (state_of c) old new → CameBy t ts new after
-  ran_on old new came ran = record {
-    watched = came.watched;
-    held = came.held;
-    reached = moved new (reached.checking old new (standing_of t v) came.reached ranges (are_bounds t v is fits ts came.held) c.tableau.rows c.values lengths ran);
-  }
+  module _ (n : ℕ) (old : List (ℕ × ℕ)) (came : CameBy t ts n old v) where
+    bounds : AreBounds ts (standing_of t v) ranges
+    bounds = are_bounds t v is fits ts came.held
 
-  settled_on : (old : List (ℕ × ℕ)) (n : ℕ) → CameBy t ts old v → SettlesBelow ranges n (state_of v.board) (state_of c) → CameBy t ts old after
-  settled_on old n came settles = record {
-    watched = came.watched;
-    held = came.held;
-    reached = moved old (reached.settling old (standing_of t v) came.reached ranges (are_bounds t v is fits ts came.held) n c.tableau.rows c.values lengths settles);
-  }
+    -- where the values kept the bounds no exchange is made
+    ran_on : (new : List (ℕ × ℕ)) → Ran ranges (state_of v.board) (state_of c) old new → Onward ts n new (standing_of t after)
+    ran_on new ran = by came.few
+      where
+        by : AreFew v n came.runs → Onward ts n new (standing_of t after)
+        by (inl h) =
+            let none = kept_makes_none ranges (state_of v.board) (state_of c) old new solved h.0 ran in
+            record {
+              runs = came.runs;
+              reached = subst (λ es. IsReached ts came.runs es (standing_of t after)) (sym none)
+                  (moved (IsReached ts came.runs old)
+                  (reached.resting came.runs old (standing_of t v) came.reached ranges bounds c.tableau.rows c.values lengths (subst (λ es. Ran ranges (state_of v.board) (state_of c) old es) none ran)));
+              few = h.1;
+            }
+        by (inr h) = record {
+          runs = suc came.runs;
+          reached = moved (IsReached ts (suc came.runs) new)
+              (reached.checking came.runs old new (standing_of t v) came.reached ranges bounds c.tableau.rows c.values lengths ran);
+          few = omega (arith, h);
+        }
 
-  stopped_on : (old new : List (ℕ × ℕ)) → CameBy t ts old v → Stopped ranges (state_of v.board) (state_of c) old new → IsAtLast (λ es. CameBy t ts es after) new
-  stopped_on old new came (settling n settles e) = inl (subst (λ es. CameBy t ts es after) (sym e) (settled_on old n came settles))
-  stopped_on old new came (exchanging r) = inr (r.before, r.last, r.kept, ran_on old r.before came r.ran)
+    -- nor is one begun
+    stopped_on : (new : List (ℕ × ℕ)) → Stopped ranges (state_of v.board) (state_of c) old new → StoppedBy t ts n new after
+    stopped_on new (settling m settles e) = record {
+      runs = came.runs;
+      stopped = subst (λ es. IsStoppedAt ts came.runs es (standing_of t after)) (sym e)
+          (moved (IsStoppedAt ts came.runs old)
+          (reached.settling came.runs old (standing_of t v) came.reached ranges bounds m c.tableau.rows c.values lengths settles));
+      few = at_most v n came.runs came.few;
+    }
+    stopped_on new (exchanging short) = by came.few
+      where
+        by : AreFew v n came.runs → StoppedBy t ts n new after
+        by (inl h) = absurd (kept_is_not_short ranges (state_of v.board) (state_of c) old new solved h.0 short)
+        by (inr h) = record {
+          runs = suc came.runs;
+          stopped = moved (IsStoppedAt ts (suc came.runs) new)
+              (reached.exchanging came.runs old new (standing_of t v) came.reached ranges bounds c.tableau.rows c.values lengths short);
+          few = omega (arith, h);
+        }
 
-  -- it comes where the check ends
-  pub checked : (old new : BudgetView) (r : Result Outcome Stop) → CameBy t ts old.exchanges v → Ends ranges v.board c old new r → CameTo r (λ es. CameBy t ts es after) new.exchanges
-  checked old new (Ok Fine) came e = ran_on old.exchanges new.exchanges came e.0
-  checked old new (Ok (Conflict y)) came e = ran_on old.exchanges new.exchanges came e.0
-  checked old new (Ok (Crossed y)) came e =
-      subst (λ (b : BudgetView). CameBy t ts b.exchanges after) (sym e.1)
-      (subst (λ (b : BoardView). CameBy t ts old.exchanges (record { theory = v.theory; atoms = v.atoms; board = b; bounds = v.bounds; starts = v.starts })) (sym e.0) came)
-  checked old new (Err (Pivots n)) came e = ran_on old.exchanges new.exchanges came e.0
-  checked old new (Err (Strained s)) came e = stopped_on old.exchanges new.exchanges came e.0
-  checked old new (Err stops.Memory) came e = tt
+    -- one run more pays for the next check
+    onward_came : (new : List (ℕ × ℕ)) → Onward ts n new (standing_of t after) → CameBy t ts (suc n) new after
+    onward_came new on = record { watched = came.watched; held = came.held; runs = on.runs; reached = on.reached; few = inr (omega (arith, on.few)) }
 
--- a stop where it was already come
-pub stops_there : (A : Type 0) (P : List (ℕ × ℕ) → Type 0) (es : List (ℕ × ℕ)) (stop : Stop) → P es → (let r : Result A Stop = Err stop in CameTo r P es)
-stops_there A P es (Strained s) h = inl h
-stops_there A P es (Pivots n) h = h
-stops_there A P es stops.Memory h = tt
+  module _ (n : ℕ) (old new : BudgetView) (came : CameBy t ts n old.exchanges v) where
+    -- it comes where a check ends
+    onward : (o : Outcome) → Ends ranges v.board c old new (Ok o) → Onward ts n new.exchanges (standing_of t after)
+    onward Fine e = ran_on n old.exchanges came new.exchanges e.0
+    onward (Conflict y) e = ran_on n old.exchanges came new.exchanges e.0
+    onward (Crossed y) e = record {
+      runs = came.runs;
+      reached = subst (λ (b : BudgetView). IsReached ts came.runs b.exchanges (standing_of t after)) (sym e.1)
+          (subst (λ (b : BoardView). IsReached ts came.runs old.exchanges (standing_in t v.atoms.owners b)) (sym e.0) came.reached);
+      few = at_most v n came.runs came.few;
+    }
 
--- of a result of another kind
-pub other_result : (A B : Type 0) (P : List (ℕ × ℕ) → Type 0) (es : List (ℕ × ℕ)) (stop : Stop) → (let r : Result A Stop = Err stop in CameTo r P es) → (let r : Result B Stop = Err stop in CameTo r P es)
-other_result A B P es (Strained s) h = h
-other_result A B P es (Pivots n) h = h
-other_result A B P es stops.Memory h = tt
+    -- with bounds that are kept then, the next check needs none
+    pub came_fine : (o : Outcome) → Ends ranges v.board c old new (Ok o) → KeepsBounds after → CameBy t ts n new.exchanges after
+    came_fine o e keeps =
+        let on = onward o e in
+        record { watched = came.watched; held = came.held; runs = on.runs; reached = on.reached; few = inl (keeps, on.few) }
 
--- what leads on from each place does so from the last ones
-pub came_onward : (A : Type 0) (P Q : List (ℕ × ℕ) → Type 0) (es : List (ℕ × ℕ)) (r : Result A Stop) → ((es : List (ℕ × ℕ)) → P es → Q es) → CameTo r P es → CameTo r Q es
-came_onward A P Q es (Ok x) on h = on es h
-came_onward A P Q es (Err (Pivots n)) on h = on es h
-came_onward A P Q es (Err (Strained s)) on (inl h) = inl (on es h)
-came_onward A P Q es (Err (Strained s)) on (inr h) = inr (h.0, h.1, h.2, on h.0 h.3)
-came_onward A P Q es (Err stops.Memory) on h = tt
+    -- and else it may need one
+    pub came_found : (o : Outcome) → Ends ranges v.board c old new (Ok o) → CameBy t ts (suc n) new.exchanges after
+    came_found o e = onward_came n old.exchanges came new.exchanges (onward o e)
+
+    -- it may be stopped after the check
+    pub stopped_found : (o : Outcome) → Ends ranges v.board c old new (Ok o) → StoppedBy t ts n new.exchanges after
+    stopped_found o e =
+        let on = onward o e in
+        record { runs = on.runs; stopped = reached.between on.runs new.exchanges (standing_of t after) on.reached; few = on.few }
+
+    -- or in it
+    pub came_stopped : {A : Type 0} (stop : Stop) (P : A → Type 0) → Ends ranges v.board c old new (Err stop)
+        → (let r : Result A Stop = Err stop in CameTo r P (StoppedBy t ts n new.exchanges after) (CameBy t ts (suc n) new.exchanges after))
+    came_stopped (Pivots k) P e = onward_came n old.exchanges came new.exchanges (ran_on n old.exchanges came new.exchanges e.0)
+    came_stopped (Strained s) P e = stopped_on n old.exchanges came new.exchanges e.0
+    came_stopped stops.Memory P e = tt
+
+-- a stop where this is so of both kinds
+pub stops_there : {A : Type 0} (P : A → Type 0) (S E : Type 0) (stop : Stop) → S → E → (let r : Result A Stop = Err stop in CameTo r P S E)
+stops_there P S E (Strained x) s e = s
+stops_there P S E (Pivots n) s e = e
+stops_there P S E stops.Memory s e = tt
+
+-- what each of these leads to is so of what leads there
+pub came_onward : {A : Type 0} (r : Result A Stop) (P Q : A → Type 0) (S S' E E' : Type 0) → ((x : A) → P x → Q x) → (S → S') → (E → E') → CameTo r P S E → CameTo r Q S' E'
+came_onward (Ok x) P Q S S' E E' p s e h = p x h
+came_onward (Err (Strained x)) P Q S S' E E' p s e h = s h
+came_onward (Err (Pivots n)) P Q S S' E E' p s e h = e h
+came_onward (Err stops.Memory) P Q S S' E E' p s e h = tt

@@ -1,6 +1,6 @@
 //! The check of simplex: literals that it holds, and a step of the log where they cannot all hold.
 
-ghost use Rattle.std.specs.Prelude.{◌≡◌, List, Result, IfOk, IfErr, OnOk, OnErr};
+ghost use Rattle.std.specs.Prelude.{◌≡◌, ℕ, suc, List, Result, IfOk, IfErr, OnOk, OnErr};
 ghost use Rattle.spec_sorts.specs.Terms.{Term};
 ghost use Rattle.spec_simplex.specs.Constraints.{HaveForms};
 ghost use Rattle.spec_simplex.specs.Points.{IsFeasible, IsInfeasible};
@@ -10,7 +10,7 @@ ghost use Rattle.sat_budget.specs.Budgets.{Spends, StopsBy, AreSpent};
 ghost use Rattle.sat_budget.specs.declared.limits.Stop.{Stop};
 ghost use Rattle.proof_log.specs.Logs.{IsLogOf};
 ghost use Rattle.proof_log.specs.Clashes.{IsClash};
-ghost use Rattle.proof_log.specs.Theories.{IsOver, terms_watched, literals_held, Derives, Checks, CameTo};
+ghost use Rattle.proof_log.specs.Theories.{IsOver, terms_watched, literals_held, Derives, Checks, CameTo, paid_after};
 ghost use Rattle.simplex_bounds.specs.Held.{ranges_in};
 ghost use Rattle.simplex_check.specs.Boards.{IsBasisOf};
 ghost use Rattle.simplex_check.specs.Ends.{Ends};
@@ -20,7 +20,7 @@ ghost use Rattle.simplex_explain.specs.Steps.{derived};
 ghost use Rattle.simplex_reasons.specs.Reasons.{AreOfHeld, OnWide};
 ghost use Rattle.simplex.specs.Views.{IsOf};
 ghost use Rattle.simplex.specs.Checks.{Case, KeepsBounds, Found, StrainsFound, AreReasonsOf, Answers};
-ghost use Rattle.simplex.specs.Coming.{standing_of, CameBy, IsStrainAt};
+ghost use Rattle.simplex.specs.Coming.{standing_of, CameBy, StoppedBy, IsStrainAt};
 
 use crate::simplex::Simplex;
 use proof_log::{ProofLog, StepId, Verdict};
@@ -129,14 +129,17 @@ impl Simplex {
             × IsFeasible (literals_held table.old self.old.theory) × KeepsBounds self.new)
             (IsInfeasible (literals_held table.old self.old.theory))
             self.old.theory (derived table.old log.old) result (derived table.new log.new) }
-        ensures came { (ts : List Term) → CameBy table.old ts budget.old.exchanges self.old
-            → CameTo result (λ es. CameBy table.new ts es self.new) budget.new.exchanges }
+        ensures came { (ts : List Term) (n : ℕ) → CameBy table.old ts n budget.old.exchanges self.old → CameTo result
+            (λ verdict. CameBy table.new ts (paid_after verdict n) budget.new.exchanges self.new)
+            (StoppedBy table.new ts n budget.new.exchanges self.new)
+            (CameBy table.new ts (suc n) budget.new.exchanges self.new) }
         ensures stops { IfErr result (StopsBy
             (λ s. IsStrainAt table.new (terms_watched table.old self.old.theory) s self.new)
             (AreSpent (NeedsMore (terms_watched table.old self.old.theory) (standing_of table.new self.new)) budget.new)) }
     {
         self.literals.are_of_watched_terms();
         self.board.values_solve_the_rows();
+        self.board.tableau().rows_are_in_solved_form();
         table.ids_are_unique();
         let outcome = match self.board.check(&self.bounds, budget) {
             Ok(outcome) => outcome,

@@ -1,9 +1,10 @@
 //! Literals are held as bounds, marks are set, and the way back.
 
-ghost use Rattle.std.specs.Prelude.{◌≡◌, ◌+◌, ◌<◌, ◌≤◌, ◌++◌, length, map, Contains, IfSome, MatchResult};
+ghost use Rattle.std.specs.Prelude.{◌≡◌, ◌+◌, ◌<◌, ◌≤◌, ◌++◌, ℕ, length, map, take, None, Contains, IfSome, MatchResult};
 ghost use Rattle.term_core.specs.Tables.{TableView};
 ghost use Rattle.proof_log.specs.Theories.{with_held, with_mark, gone_back};
 ghost use Rattle.held_literals.specs.Room.{without_mark};
+ghost use Rattle.simplex_atoms.specs.Places.{place_in};
 ghost use Rattle.simplex_atoms.specs.Limits.{limit_of, one_of, limits_by};
 ghost use Rattle.simplex.specs.Views.{IsOf};
 
@@ -51,6 +52,7 @@ impl Simplex {
         ensures holds { self.new.theory ≡ with_held self.old.theory lit }
         ensures atoms { self.new.atoms ≡ self.old.atoms }
         ensures board { self.new.board ≡ self.old.board }
+        ensures plain { place_in self.old.atoms.placed lit.term ≡ None → self.new.bounds.held ≡ self.old.bounds.held }
     {
         self.literals.are_of_watched_terms();
         self.literals.marks_are_prefixes();
@@ -103,6 +105,7 @@ impl Simplex {
         ensures back { self.new.theory ≡ gone_back marks self.old.theory }
         ensures atoms { self.new.atoms ≡ self.old.atoms }
         ensures board { self.new.board ≡ self.old.board }
+        ensures bounds { (n : ℕ) × (self.new.bounds.held ≡ take n self.old.bounds.held) }
     {
         if marks > 0 {
             self.literals.marks_are_prefixes();

@@ -24,7 +24,7 @@ impl Theory for Simplex {
     ghost use Rattle.simplex_held.proofs.Stating.{all_from};
     ghost use Rattle.simplex_held.proofs.Standings.{standing_kept, among_kept, atoms_kept};
     ghost use Rattle.simplex.specs.Checks.{Suits, KeepsBounds};
-    ghost use Rattle.simplex.specs.Coming.{standing_of, CameBy, IsStrainAt};
+    ghost use Rattle.simplex.specs.Coming.{standing_of, CameBy, StoppedBy, IsStrainAt};
 
     ghost view = { λ s. s.theory };
 
@@ -34,7 +34,9 @@ impl Theory for Simplex {
 
     ghost refuses = { λ s ts ls. IsInfeasible ls };
 
-    ghost came_by = { λ s t ts es. CameBy t ts es s };
+    ghost came_by = { λ s t ts n es. CameBy t ts n es s };
+
+    ghost stopped_by = { λ s t ts n es. StoppedBy t ts n es s };
 
     ghost strains = { λ s t ts x. IsStrainAt t ts x s };
 
@@ -78,11 +80,13 @@ impl Theory for Simplex {
           (λ l within. IsIn-kept t u more l.term within) s.theory.held with.held;
     } };
 
-    ghost came_grown = { λ s t u more with ts es came. record {
+    ghost came_grown = { λ s t u more with ts n es came. record {
       watched = among_kept t u more ts s.theory.watched with.there came.watched;
       held = atoms_kept t u more ts s.theory.held with.held came.held;
-      reached = subst (IsReached ts es) (sym (standing_kept t u more s.atoms.owners s.board with.is.right.owners_in))
-          came.reached;
+      runs = came.runs;
+      reached = subst (IsReached ts came.runs es)
+          (sym (standing_kept t u more s.atoms.owners s.board with.is.right.owners_in)) came.reached;
+      few = came.few;
     } };
 
     ghost exact = { λ s ts ls fine refuted. refuted fine.1.0 fine.1.1 };

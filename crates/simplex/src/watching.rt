@@ -2,6 +2,7 @@
 
 ghost use Rattle.std.specs.Prelude.{◌≡◌, ◌++◌, ◌∷◌, ℕ, List, [], Contains, OnOk, IfOk, IfErr, MatchResult};
 ghost use Rattle.spec_sorts.specs.Terms.{Term};
+ghost use Rattle.spec_causes.specs.Counts.{counted};
 ghost use Rattle.ratio128.specs.declared.wide.Wide.{Wide};
 ghost use Rattle.term_core.specs.Tables.{IsIn, term_at};
 ghost use Rattle.sat_budget.specs.Budgets.{StopsBy};
@@ -10,7 +11,7 @@ ghost use Rattle.proof_log.specs.Theories.{with_watched, terms_watched, IsTermIn
 ghost use Rattle.simplex_check.specs.Boards.{IsBasisOf};
 ghost use Rattle.simplex_held.specs.Stated.{IsKnownIn};
 ghost use Rattle.simplex.specs.Views.{IsOf, placed_count};
-ghost use Rattle.simplex.specs.Coming.{CameBy, IsStrainAt};
+ghost use Rattle.simplex.specs.Coming.{CameBy, StoppedBy, IsStrainAt};
 
 use crate::simplex::Simplex;
 use ratio128::Wide;
@@ -39,8 +40,10 @@ impl Simplex {
         ensures with { IsOf self.new table.now }
         ensures theory { self.new.theory ≡ self.old.theory }
         ensures known { OnOk result (IsKnownIn table.now self.new.atoms.placed id) }
-        ensures came { (ts : List Term) (es : List (ℕ × ℕ)) → Contains ts (term_at table.now id)
-            → CameBy table.now ts es self.old → CameTo result (λ es. CameBy table.now ts es self.new) es }
+        ensures came { (ts : List Term) (n : ℕ) (es : List (ℕ × ℕ)) → Contains ts (term_at table.now id)
+            → CameBy table.now ts n es self.old → CameTo result
+            (λ _. CameBy table.now ts (counted (term_at table.now id) n) es self.new)
+            (StoppedBy table.now ts n es self.new) (Unit {0}) }
         ensures stops { IfErr result (StopsBy (λ s. (ts : List Term) → Contains ts (term_at table.now id)
             → IsStrainAt table.now ts s self.new) (λ _. ⊥)) }
     {
@@ -82,8 +85,10 @@ impl Simplex {
         ensures with { IsOf self.new table.now }
         ensures watches { MatchResult result (λ _. self.new.theory ≡ with_watched self.old.theory id)
             (λ _. self.new.theory ≡ self.old.theory) }
-        ensures came { (ts : List Term) (es : List (ℕ × ℕ)) → Contains ts (term_at table.now id)
-            → CameBy table.now ts es self.old → CameTo result (λ es. CameBy table.now ts es self.new) es }
+        ensures came { (ts : List Term) (n : ℕ) (es : List (ℕ × ℕ)) → Contains ts (term_at table.now id)
+            → CameBy table.now ts n es self.old → CameTo result
+            (λ _. CameBy table.now ts (counted (term_at table.now id) n) es self.new)
+            (StoppedBy table.now ts n es self.new) (Unit {0}) }
         ensures stops { IfErr result (StopsBy (λ s. IsStrainAt table.now
             (terms_watched table.now (with_watched self.old.theory id)) s self.new) (λ _. ⊥)) }
     {

@@ -5,3 +5,4 @@ pub mod Strongest
 pub mod Crossings
 pub mod Changes
 pub mod Keeping
+pub mod Fewer

@@ -1,5 +1,5 @@
 -- A theory that holds and watches nothing goes with every table.
-use Rattle.std.proofs.Common.{[], Contains, sym, subst}
+use Rattle.std.proofs.Common.{[], Contains, inl, refl, sym, subst, arith}
 use Rattle.std.proofs.lemmas.List.Elements.{All-nil}
 use Rattle.spec_text.proofs.Members.{none as no_member}
 use Rattle.spec_causes.specs.Reached.{beginning}
@@ -21,8 +21,10 @@ returns-clause-simplex c =
     })
 
 pub returns-clause-came : goal.returns-clause-came
-returns-clause-came c = λ ts. subst (λ (x : SimplexView). CameBy c.args.table.now ts [] x) (sym c.new-2.ensures) (record {
+returns-clause-came c = λ ts. subst (λ (x : SimplexView). CameBy c.args.table.now ts 0 [] x) (sym c.new-2.ensures) (record {
   watched = λ u has. absurd (no_member u has);
   held = All-nil (λ (l : Lit). Contains ts (term_at c.args.table.now l.term));
+  runs = 0;
   reached = beginning;
+  few = inl (record { solves = tt; within = λ y. refl }, omega arith);
 })

@@ -1,7 +1,8 @@
 -- Both go with the table.
 use Rattle.std.proofs.Common.{ℕ, List, subst}
 use Rattle.spec_sorts.specs.Terms.{Term}
-use Rattle.term_core.specs.Tables.{TableView}
+use Rattle.spec_causes.specs.Counts.{counted}
+use Rattle.term_core.specs.Tables.{TableView, term_at}
 use Rattle.congruence_relation.specs.Relation.{AreOf}
 use Rattle.simplex.specs.Checks.{Suits}
 use Rattle.simplex.specs.Coming.{CameBy}
@@ -15,5 +16,6 @@ returns-clause-with c =
 
 pub returns-clause-came : goal.returns-clause-came
 returns-clause-came c =
-    subst (λ (v : CombinedView). (t : TableView) (ts : List Term) (es : List (ℕ × ℕ)) → CameBy t ts es v.simplex → CameBy t ts es c.assume_lit-2.new.self)
-    c.self.view_is c.assume_lit-2.ensures.came
+    subst (λ (v : CombinedView). (t : TableView) (ts : List Term) (n : ℕ) (es : List (ℕ × ℕ)) → AreOf t v.congruence.now.facts × Suits v.simplex t → CameBy t ts n es v.simplex
+    → CameBy t ts (counted (term_at t c.args.lit.term) n) es c.assume_lit-2.new.self)
+    c.self.view_is (λ t ts n es with came. c.assume_lit-2.ensures.came t ts n es with.1 came)

@@ -15,5 +15,5 @@ returns-clause-with c =
 
 pub returns-clause-came : goal.returns-clause-came
 returns-clause-came c =
-    subst (λ (v : CombinedView). (t : TableView) (ts : List Term) (es : List (ℕ × ℕ)) → CameBy t ts es v.simplex → CameBy t ts es c.back-2.new.self)
+    subst (λ (v : CombinedView). (t : TableView) (ts : List Term) (n : ℕ) (es : List (ℕ × ℕ)) → CameBy t ts n es v.simplex → CameBy t ts n es c.back-2.new.self)
     c.self.view_is c.back-2.ensures.came

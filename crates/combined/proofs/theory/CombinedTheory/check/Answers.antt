@@ -1,5 +1,5 @@
 -- The second is asked over the table and the log of the first.
-use Rattle.std.proofs.Common.{◌≡◌, List, Ok, ap, sym, ◌∙◌, subst}
+use Rattle.std.proofs.Common.{◌≡◌, suc, List, Ok, ap, sym, ◌∙◌, subst, arith}
 use Rattle.std.specs.Prelude.{IfErr}
 use Rattle.spec_sorts.specs.Terms.{Term}
 use Rattle.term_core.specs.Tables.{TableView}
@@ -13,6 +13,7 @@ use Rattle.simplex.specs.contracts.theory.SimplexTheory.TheImpl as of_simplex
 use Rattle.simplex.specs.contracts.theory.SimplexTheory.TheImpl.Laws as laws_of_simplex
 use Rattle.simplex.specs.Checks.{Suits}
 use Rattle.simplex.specs.Coming.{CameBy}
+use Rattle.simplex.proofs.Coming.{came_more}
 use Rattle.combined.specs.Views.{CombinedView}
 use Rattle.combined.proofs.Checks.{ChecksOver, grew, second_answers}
 use Rattle.combined.proofs.theory.CombinedTheory.check.Goals as goal
@@ -64,20 +65,23 @@ returns-in-Fine-clause-stops c =
     (λ i. terms_watched (nothing.0 i) (view i)) c.check-in-Fine.ensures.stops
 
 pub returns-in-Clash-clause-came : goal.returns-in-Clash-clause-came
-returns-in-Clash-clause-came c ts came =
+returns-in-Clash-clause-came c ts n came =
     let t = c.args.table.now in
+    let u = c.check.new.table in
     let s = c.self.inside.simplex in
+    let es = c.args.budget.now.exchanges in
     let old : Derived = record { table = t; log = c.args.log.now } in
-    let new : Derived = record { table = c.check.new.table; log = c.check.new.log } in
+    let new : Derived = record { table = u; log = c.check.new.log } in
     let suits : Suits s t = subst (λ (v : CombinedView). Suits v.simplex t) (sym c.self.view_is) c.requires.with.1 in
-    let before = subst (λ (v : CombinedView). CameBy t ts c.args.budget.now.exchanges v.simplex) (sym c.self.view_is) came in
-    subst (λ (b : BudgetView). CameBy c.check.new.table ts b.exchanges s) (sym c.check.ensures.kept)
-    (laws_of_simplex.came_grown-law s t c.check.new.table (grew _ _ (theory_of c.self.inside.congruence) old new c.check.result c.check.ensures.checks) suits ts c.args.budget.now.exchanges before)
+    let before = subst (λ (v : CombinedView). CameBy t ts n es v.simplex) (sym c.self.view_is) came in
+    subst (λ (b : BudgetView). CameBy u ts (suc n) b.exchanges s) (sym c.check.ensures.kept)
+    (came_more u ts n (suc n) es s (omega arith)
+    (laws_of_simplex.came_grown-law s t u (grew _ _ (theory_of c.self.inside.congruence) old new c.check.result c.check.ensures.checks) suits ts n es before))
 
 pub returns-in-Fine-clause-came : goal.returns-in-Fine-clause-came
-returns-in-Fine-clause-came c ts came =
+returns-in-Fine-clause-came c ts n came =
     let s = c.self.inside.simplex in
     let nothing = c.in_ok-step.ensures.nothing_came (ap Ok c.in-Fine.is) in
-    let before = subst (λ (v : CombinedView). CameBy c.args.table.now ts c.args.budget.now.exchanges v.simplex) (sym c.self.view_is) came in
-    c.check-in-Fine.ensures.came ts (subst (λ (b : BudgetView). CameBy c.check.new.table ts b.exchanges s) (sym c.check.ensures.kept)
-    (subst (λ (u : TableView). CameBy u ts c.args.budget.now.exchanges s) (sym nothing.0) before))
+    let before = subst (λ (v : CombinedView). CameBy c.args.table.now ts n c.args.budget.now.exchanges v.simplex) (sym c.self.view_is) came in
+    c.check-in-Fine.ensures.came ts n (subst (λ (b : BudgetView). CameBy c.check.new.table ts n b.exchanges s) (sym c.check.ensures.kept)
+    (subst (λ (u : TableView). CameBy u ts n c.args.budget.now.exchanges s) (sym nothing.0) before))

@@ -20,10 +20,10 @@ returns-clause-with c =
 
 pub returns-in-Err-clause-came : goal.returns-in-Err-clause-came
 returns-in-Err-clause-came c =
-    subst (λ (v : CombinedView). (t : TableView) (ts : List Term) (es : List (ℕ × ℕ)) → CameBy t ts es v.simplex → CameBy t ts es c.mark-2.new.self)
+    subst (λ (v : CombinedView). (t : TableView) (ts : List Term) (n : ℕ) (es : List (ℕ × ℕ)) → CameBy t ts n es v.simplex → CameBy t ts n es c.mark-2.new.self)
     c.self.view_is c.mark-2.ensures.came
 
 pub returns-clause-came : goal.returns-clause-came
 returns-clause-came c =
-    subst (λ (v : CombinedView). (t : TableView) (ts : List Term) (es : List (ℕ × ℕ)) → CameBy t ts es v.simplex → CameBy t ts es c.mark-2.new.self)
+    subst (λ (v : CombinedView). (t : TableView) (ts : List Term) (n : ℕ) (es : List (ℕ × ℕ)) → CameBy t ts n es v.simplex → CameBy t ts n es c.mark-2.new.self)
     c.self.view_is c.mark-2.ensures.came

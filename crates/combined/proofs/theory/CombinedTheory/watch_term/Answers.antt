@@ -1,18 +1,20 @@
 -- A term is watched in both, or simplex is as it was.
-use Rattle.std.proofs.Common.{◌≡◌, ◌++◌, ◌∷◌, [], Err, ap, sym, ◌∙◌, subst}
+use Rattle.std.proofs.Common.{◌≡◌, ◌++◌, ◌∷◌, [], Result, Err, ap, sym, ◌∙◌, subst}
 use Rattle.std.proofs.lemmas.List.Elements.{All-push}
-use Rattle.term_core.specs.Tables.{IsIn}
+use Rattle.spec_causes.specs.Counts.{counted}
+use Rattle.term_core.specs.Tables.{IsIn, term_at}
 use Rattle.sat_budget.specs.Budgets.{StopsBy}
-use Rattle.proof_log.specs.Theories.{TheoryView, with_watched, with_mark, gone_back, terms_watched}
+use Rattle.sat_budget.specs.declared.limits.Stop.{Stop}
+use Rattle.proof_log.specs.Theories.{TheoryView, with_watched, with_mark, gone_back, terms_watched, CameTo}
 use Rattle.congruence.specs.Views.{theory_of}
 use Rattle.held_literals.specs.Room.{without_mark}
 use Rattle.simplex.specs.Checks.{Suits}
-use Rattle.simplex.specs.Coming.{CameBy, IsStrainAt}
+use Rattle.simplex.specs.Coming.{CameBy, StoppedBy, IsStrainAt}
 use Rattle.simplex.proofs.Suiting.{suits_same}
-use Rattle.simplex.proofs.Coming.{came_same, came_marked, came_back, came_onward, stops_there}
+use Rattle.simplex.proofs.Coming.{came_marked, came_onward, stopped_same}
 use Rattle.combined.specs.Views.{CombinedView}
 use Rattle.combined.proofs.Marks.{unwatched, unmarked_watched}
-use Rattle.combined.proofs.Watching.{same_stop}
+use Rattle.combined.proofs.Watching.{same_stop, unmarked_came}
 use Rattle.combined.proofs.theory.CombinedTheory.watch_term.Goals as goal
 
 pub returns-in-Err-clause-stops : goal.returns-in-Err-clause-stops
@@ -24,34 +26,35 @@ returns-in-Err-clause-stops c =
     (subst (λ (x : TheoryView). StopsBy (λ e. IsStrainAt t (terms_watched t (with_watched x c.args.id)) e c.watch_term.new.self) (λ _. ⊥) c.in-Err.stop) view c.in-Err.ensures.stops)
 
 pub returns-in-Err-clause-came : goal.returns-in-Err-clause-came
-returns-in-Err-clause-came c ts es there came =
+returns-in-Err-clause-came c ts n es there came =
     let t = c.args.table.now in
     let s = c.self.inside.simplex in
-    let marked : CameBy t ts es c.mark.new.self =
-    came_marked t ts es s c.mark.new.self (subst (λ (v : CombinedView). CameBy t ts es v.simplex) (sym c.self.view_is) came) c.mark.result c.mark.ensures.atoms c.mark.ensures.board c.mark.ensures.marks in
+    let marked : CameBy t ts n es c.mark.new.self =
+    came_marked t ts n es s c.mark.new.self (subst (λ (v : CombinedView). CameBy t ts n es v.simplex) (sym c.self.view_is) came) c.mark.result c.mark.ensures.atoms c.mark.ensures.board c.mark.ensures.bounds c.mark.ensures.marks in
     let w = c.watch_term.new.self in
     let u = c.forget_mark.new.self in
-    came_onward (Unit {0}) (λ es. CameBy t ts es w) (λ es. CameBy t ts es u) es (Err c.in-Err.stop)
-    (λ es on. came_same t ts es w u on c.forget_mark.ensures.atoms c.forget_mark.ensures.board (ap (λ (v : TheoryView). v.watched) c.forget_mark.ensures.forgets) (ap (λ (v : TheoryView). v.held) c.forget_mark.ensures.forgets))
-    (c.in-Err.ensures.came ts es there marked)
+    let m = counted (term_at t c.args.id) n in
+    came_onward (Err c.in-Err.stop) (λ _. CameBy t ts m es w) (λ _. CameBy t ts m es u) (StoppedBy t ts n es w) (StoppedBy t ts n es u) (Unit {0}) (Unit {0})
+    (λ x on. unmarked_came t ts m es w u on c.forget_mark.ensures.atoms c.forget_mark.ensures.board c.forget_mark.ensures.bounds c.forget_mark.ensures.forgets)
+    (stopped_same t ts n es w u c.forget_mark.ensures.atoms c.forget_mark.ensures.board) (λ x. x)
+    (c.in-Err.ensures.came ts n es there marked)
 
 pub returns-in-Err-watch_term-clause-came : goal.returns-in-Err-watch_term-clause-came
-returns-in-Err-watch_term-clause-came c ts es there came =
+returns-in-Err-watch_term-clause-came c ts n es there came =
     let t = c.args.table.now in
-    let s = c.self.inside.simplex in
-    let marked : CameBy t ts es c.mark.new.self =
-    came_marked t ts es s c.mark.new.self (subst (λ (v : CombinedView). CameBy t ts es v.simplex) (sym c.self.view_is) came) c.mark.result c.mark.ensures.atoms c.mark.ensures.board c.mark.ensures.marks in
-    stops_there (Unit {0}) (λ es. CameBy t ts es c.back.new.self) es c.in-Err-watch_term.stop
-    (came_back t ts es c.watch_term.new.self c.back.new.self (c.in_default.ensures.came ts es there marked) 1 c.back.ensures.atoms c.back.ensures.board c.back.ensures.back)
+    let v = c.back.new.self in
+    subst (λ stop. (let r : Result (Unit {0}) Stop = Err stop in CameTo r (λ _. CameBy t ts (counted (term_at t c.args.id) n) es v) (StoppedBy t ts n es v) (Unit {0})))
+    (sym c.in-Err-watch_term.ensures.memory) tt
 
 pub returns-clause-came : goal.returns-clause-came
-returns-clause-came c ts es there came =
+returns-clause-came c ts n es there came =
     let t = c.args.table.now in
     let s = c.self.inside.simplex in
-    let marked : CameBy t ts es c.mark.new.self =
-    came_marked t ts es s c.mark.new.self (subst (λ (v : CombinedView). CameBy t ts es v.simplex) (sym c.self.view_is) came) c.mark.result c.mark.ensures.atoms c.mark.ensures.board c.mark.ensures.marks in
+    let marked : CameBy t ts n es c.mark.new.self =
+    came_marked t ts n es s c.mark.new.self (subst (λ (v : CombinedView). CameBy t ts n es v.simplex) (sym c.self.view_is) came) c.mark.result c.mark.ensures.atoms c.mark.ensures.board c.mark.ensures.bounds c.mark.ensures.marks in
+    let m = counted (term_at t c.args.id) n in
     let f = c.forget_mark-2.ensures in
-    came_same t ts es c.watch_term.new.self c.forget_mark-2.new.self (c.in_default.ensures.came ts es there marked) f.atoms f.board (ap (λ (v : TheoryView). v.watched) f.forgets) (ap (λ (v : TheoryView). v.held) f.forgets)
+    unmarked_came t ts m es c.watch_term.new.self c.forget_mark-2.new.self (c.in_default.ensures.came ts n es there marked) f.atoms f.board f.bounds f.forgets
 
 pub returns-in-Err-watch_term-clause-with : goal.returns-in-Err-watch_term-clause-with
 returns-in-Err-watch_term-clause-with c =

@@ -1,5 +1,7 @@
 -- A literal more is held, with its bounds.
 use Rattle.std.proofs.Common.{◌≤◌, length, Contains, Option, refl, sym, ◌∙◌, ap, subst}
+use Rattle.std.specs.Option.{is_some}
+use Rattle.std.proofs.lemmas.Bool.{false≢true}
 use Rattle.proof_log.specs.Theories.{TheoryView}
 use Rattle.held_literals.proofs.Rooms.{held_more}
 use Rattle.simplex_atoms.specs.declared.place.Place.{Place}
@@ -77,3 +79,6 @@ returns-in-Some-clause-with c t =
     let w : SimplexView = record { theory = c.hold.new.self; atoms = s.atoms; board = s.board; bounds = c.hold_by.new.bounds; starts = s.starts.items } in
     subst (λ (x : SimplexView). IsOf x t → IsOf w t) c.self.view_is
     (of_kept t v w refl refl c.hold_by.ensures.variables (ap (λ (x : TheoryView). x.watched) c.hold.ensures))
+
+pub returns-in-Some-clause-plain : goal.returns-in-Some-clause-plain
+returns-in-Some-clause-plain c none = absurd (false≢true (sym (ap is_some (c.in-Some.ensures ∙ ap (λ (x : SimplexView). place_in x.atoms.placed c.args.lit.term) c.self.view_is ∙ none))))

@@ -1,5 +1,6 @@
 -- The way back to a mark.
 use Rattle.std.proofs.Common.{◌≡◌, ◌<◌, ◌≤◌, ◌-◌, ℕ, length, take, get_or, refl, ap, sym, subst, ◌∙◌, arith}
+use Rattle.std.proofs.Math.Seq.{take-length}
 use Rattle.proof_log.specs.Theories.{TheoryView, no_mark, at_mark}
 use Rattle.simplex.specs.declared.starts.Start.{Start}
 use Rattle.simplex.specs.Views.{SimplexView, Fits, IsOf, start_of, placed_count}
@@ -75,3 +76,9 @@ returns-then-marks-gt0-clause-with c t =
     let w : SimplexView = record { theory = c.back-then-marks-gt0.new.self; atoms = s.atoms; board = s.board; bounds = c.back.new.self; starts = c.truncate.new.self.items } in
     subst (λ (x : SimplexView). IsOf x t → IsOf w t) c.self.view_is
     (of_fewer t v w refl refl c.back.ensures.variables (get_or s.literals.marks kept no_mark).watched (ap (λ (x : TheoryView). x.watched) gone))
+
+pub returns-then-marks-gt0-clause-bounds : goal.returns-then-marks-gt0-clause-bounds
+returns-then-marks-gt0-clause-bounds c = (c.index-start.result.now.bounds, c.back.ensures.held ∙ ap (λ (x : SimplexView). take c.index-start.result.now.bounds x.bounds.held) c.self.view_is)
+
+pub returns-else-marks-gt0-clause-bounds : goal.returns-else-marks-gt0-clause-bounds
+returns-else-marks-gt0-clause-bounds c = (length c.args.self.now.bounds.held, sym (take-length c.args.self.now.bounds.held))

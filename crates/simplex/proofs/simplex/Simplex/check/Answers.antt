@@ -1,5 +1,5 @@
 -- The rows stop, or say what is so of the literals.
-use Rattle.std.proofs.Common.{ℕ, List, Err, Ok, refl, sym, ◌∙◌, ap, subst}
+use Rattle.std.proofs.Common.{ℕ, suc, List, Result, Err, Ok, refl, sym, ◌∙◌, ap, subst}
 use Rattle.sat_budget.specs.Budgets.{BudgetView}
 use Rattle.std.proofs.lemmas.List.Elements.{All-weaker}
 use Rattle.spec_simplex.specs.Constraints.{HaveForms}
@@ -7,16 +7,16 @@ use Rattle.spec_simplex.specs.Points.{IsFeasible, IsInfeasible}
 use Rattle.term_core.specs.Tables.{TableView, IsIn}
 use Rattle.spec_causes.specs.Bounds.{AreBounds}
 use Rattle.sat_budget.specs.Budgets.{StopsBy}
+use Rattle.sat_budget.specs.declared.limits.Stop.{Stop}
 use Rattle.proof_log.specs.Clashes.{IsClash}
-use Rattle.proof_log.specs.Theories.{IsOver, IsTermIn, terms_watched, literals_held, Derives}
+use Rattle.proof_log.specs.Theories.{IsOver, IsTermIn, terms_watched, literals_held, Derives, CameTo, paid_after}
 use Rattle.tableau.specs.Views.{IsTableau}
 use Rattle.simplex_check.specs.Ends.{Ends}
-use Rattle.simplex_check.specs.declared.check.Outcome.{Outcome}
 use Rattle.proof_log.specs.declared.theory.Verdict.{Verdict}
 use Rattle.simplex_explain.specs.Steps.{derived}
 use Rattle.simplex.specs.Checks.{KeepsBounds}
-use Rattle.simplex.specs.Coming.{standing_of, CameBy, IsStrainAt}
-use Rattle.simplex.proofs.Coming.{came_over_more, watched_bounds, suits_over, fits_on, checked, stops_there, other_result}
+use Rattle.simplex.specs.Coming.{standing_of, CameBy, StoppedBy, IsStrainAt}
+use Rattle.simplex.proofs.Coming.{came_over_more, watched_bounds, suits_over, fits_on, came_fine, came_found, stopped_found, came_stopped, stops_there}
 use Rattle.simplex_bounds.specs.Held.{ranges_in}
 use Rattle.simplex_held.proofs.Checked.{checked_meets}
 use Rattle.simplex.specs.Views.{SimplexView, IsOf}
@@ -37,16 +37,17 @@ returns-in-Err-clause-budget c =
     (more.0, c.check.ensures.budget ∙ ap (λ (es : List (ℕ × ℕ)). (let b : BudgetView = record { limit = old.limit; learned = old.learned; pivots = old.pivots; exchanges = es } in b)) more.1)
 
 pub returns-in-Err-clause-came : goal.returns-in-Err-clause-came
-returns-in-Err-clause-came c ts came =
+returns-in-Err-clause-came c ts n came =
     let s = c.self.inside in
     let t = c.args.table.now in
     let old : SimplexView = record { theory = s.literals; atoms = s.atoms; board = s.board; bounds = s.bounds; starts = s.starts.items } in
     let v : SimplexView = record { theory = s.literals; atoms = s.atoms; board = c.check.new.self; bounds = s.bounds; starts = s.starts.items } in
     let is : IsOf old t = subst (λ (v : SimplexView). IsOf v t) (sym c.self.view_is) c.requires.with in
-    let came : CameBy t ts c.args.budget.now.exchanges old = subst (CameBy t ts c.args.budget.now.exchanges) (sym c.self.view_is) came in
-    other_result Outcome Verdict (λ es. CameBy t ts es v) c.check.new.budget.exchanges c.in-Err.stop
-    (checked t ts old c.check.new.self is c.self.invariant.0 c.check.ensures.listed
-    (c.values_solve_the_rows-in-Err.ensures.lengths ∙ c.check.ensures.variables ∙ sym c.values_solve_the_rows.ensures.lengths) c.args.budget.now c.check.new.budget (Err c.in-Err.stop) came c.in-Err.ensures.ends)
+    let came : CameBy t ts n c.args.budget.now.exchanges old = subst (CameBy t ts n c.args.budget.now.exchanges) (sym c.self.view_is) came in
+    let solved = (subst IsTableau c.tableau.ensures c.rows_are_in_solved_form.ensures).solved in
+    came_stopped t ts old c.check.new.self is c.self.invariant.0 solved c.check.ensures.listed
+    (c.values_solve_the_rows-in-Err.ensures.lengths ∙ c.check.ensures.variables ∙ sym c.values_solve_the_rows.ensures.lengths) n c.args.budget.now c.check.new.budget came c.in-Err.stop
+    (λ verdict. CameBy t ts (paid_after verdict n) c.check.new.budget.exchanges v) c.in-Err.ensures.ends
 
 pub returns-in-Err-clause-stops : goal.returns-in-Err-clause-stops
 returns-in-Err-clause-stops c =
@@ -60,15 +61,18 @@ returns-in-Err-clause-stops c =
     (subst (λ (w : SimplexView). AreBounds (terms_watched t w.theory) (standing_of t v) (ranges_in s.bounds.held)) c.self.view_is bounds) c.in-Err.ensures.ends
 
 pub returns-in-Fine-clause-came : goal.returns-in-Fine-clause-came
-returns-in-Fine-clause-came c ts came =
+returns-in-Fine-clause-came c ts n came =
     let s = c.self.inside in
     let t = c.args.table.now in
     let old : SimplexView = record { theory = s.literals; atoms = s.atoms; board = s.board; bounds = s.bounds; starts = s.starts.items } in
     let v : SimplexView = record { theory = s.literals; atoms = s.atoms; board = c.check.new.self; bounds = s.bounds; starts = s.starts.items } in
     let is : IsOf old t = subst (λ (v : SimplexView). IsOf v t) (sym c.self.view_is) c.requires.with in
-    let came : CameBy t ts c.args.budget.now.exchanges old = subst (CameBy t ts c.args.budget.now.exchanges) (sym c.self.view_is) came in
-    checked t ts old c.check.new.self is c.self.invariant.0 c.check.ensures.listed
-    (c.values_solve_the_rows-2.ensures.lengths ∙ c.check.ensures.variables ∙ sym c.values_solve_the_rows.ensures.lengths) c.args.budget.now c.check.new.budget (Ok c.in-Ok.outcome) came c.in-Ok.ensures.ends
+    let came : CameBy t ts n c.args.budget.now.exchanges old = subst (CameBy t ts n c.args.budget.now.exchanges) (sym c.self.view_is) came in
+    let solved = (subst IsTableau c.tableau.ensures c.rows_are_in_solved_form.ensures).solved in
+    let ends = subst (λ o. Ends (ranges_in s.bounds.held) s.board c.check.new.self c.args.budget.now c.check.new.budget (Ok o)) c.in-Fine.is c.in-Ok.ensures.ends in
+    let keeps : KeepsBounds v = checked_meets (ranges_in s.bounds.held) s.board c.check.new.self c.args.budget.now c.check.new.budget ends in
+    came_fine t ts old c.check.new.self is c.self.invariant.0 solved c.check.ensures.listed
+    (c.values_solve_the_rows-2.ensures.lengths ∙ c.check.ensures.variables ∙ sym c.values_solve_the_rows.ensures.lengths) n c.args.budget.now c.check.new.budget came c.in-Ok.outcome c.in-Ok.ensures.ends keeps
 
 pub returns-in-Fine-clause-with : goal.returns-in-Fine-clause-with
 returns-in-Fine-clause-with c =
@@ -86,7 +90,7 @@ returns-in-Fine-clause-checks c =
     let ends = subst (λ o. Ends (ranges_in s.bounds.held) s.board c.check.new.self c.args.budget.now c.check.new.budget (Ok o)) c.in-Fine.is c.in-Ok.ensures.ends in
     let meets : KeepsBounds v = checked_meets (ranges_in s.bounds.held) s.board c.check.new.self c.args.budget.now c.check.new.budget ends in
     let both = subst (λ (w : SimplexView). HaveForms (literals_held t w.theory) × IsFeasible (literals_held t w.theory)) c.self.view_is
-    (fine t v c.ids_are_unique.ensures (subst IsTableau c.tableau.ensures c.rows_are_in_solved_form.ensures) with c.self.invariant.0.bounds_are c.are_of_watched_terms.ensures.over meets) in
+    (fine t v c.ids_are_unique.ensures (subst IsTableau c.tableau-in-Fine.ensures c.rows_are_in_solved_form-in-Fine.ensures) with c.self.invariant.0.bounds_are c.are_of_watched_terms.ensures.over meets) in
     ((both.0, both.1, meets), nothing_came (terms_watched t c.args.self.now.theory) t c.args.log.now c.requires.log)
 
 pub clash-requires : goal.clash-requires
@@ -130,19 +134,20 @@ returns-in-Ok-clash-clause-checks c =
     (c.in-Ok-clash.ensures.infeasible, c.in-Ok-clash.ensures.derives, c.in-Ok-clash.ensures.clash)
 
 pub returns-in-Ok-clash-clause-came : goal.returns-in-Ok-clash-clause-came
-returns-in-Ok-clash-clause-came c ts came =
+returns-in-Ok-clash-clause-came c ts n came =
     let s = c.self.inside in
     let t = c.args.table.now in
     let old : SimplexView = record { theory = s.literals; atoms = s.atoms; board = s.board; bounds = s.bounds; starts = s.starts.items } in
     let v : SimplexView = record { theory = s.literals; atoms = s.atoms; board = c.check.new.self; bounds = s.bounds; starts = s.starts.items } in
     let is : IsOf old t = subst (λ (v : SimplexView). IsOf v t) (sym c.self.view_is) c.requires.with in
-    let came : CameBy t ts c.args.budget.now.exchanges old = subst (CameBy t ts c.args.budget.now.exchanges) (sym c.self.view_is) came in
-    let on : CameBy t ts c.check.new.budget.exchanges v =
-    checked t ts old c.check.new.self is c.self.invariant.0 c.check.ensures.listed
-    (c.values_solve_the_rows-2.ensures.lengths ∙ c.check.ensures.variables ∙ sym c.values_solve_the_rows.ensures.lengths) c.args.budget.now c.check.new.budget (Ok c.in-Ok.outcome) came c.in-Ok.ensures.ends in
+    let came : CameBy t ts n c.args.budget.now.exchanges old = subst (CameBy t ts n c.args.budget.now.exchanges) (sym c.self.view_is) came in
+    let solved = (subst IsTableau c.tableau.ensures c.rows_are_in_solved_form.ensures).solved in
+    let on : CameBy t ts (suc n) c.check.new.budget.exchanges v =
+    came_found t ts old c.check.new.self is c.self.invariant.0 solved c.check.ensures.listed
+    (c.values_solve_the_rows-2.ensures.lengths ∙ c.check.ensures.variables ∙ sym c.values_solve_the_rows.ensures.lengths) n c.args.budget.now c.check.new.budget came c.in-Ok.outcome c.in-Ok.ensures.ends in
     let over = subst (λ (w : SimplexView). IsOver t w.theory) (sym c.self.view_is) c.requires.over in
     let with : IsOf v t = board_fits t old c.check.new.self c.check.ensures.variables c.check.ensures.listed is in
-    came_over_more v t c.clash.new.table c.in-Ok-clash.ensures.derives.table (suits_over t v with over c.are_of_watched_terms.ensures.over) ts c.check.new.budget.exchanges on
+    came_over_more v t c.clash.new.table c.in-Ok-clash.ensures.derives.table (suits_over t v with over c.are_of_watched_terms.ensures.over) ts (suc n) c.check.new.budget.exchanges on
 
 pub returns-in-Err-clash-clause-with : goal.returns-in-Err-clash-clause-with
 returns-in-Err-clash-clause-with c =
@@ -164,18 +169,21 @@ pub returns-in-Err-clash-clause-ends : goal.returns-in-Err-clash-clause-ends
 returns-in-Err-clash-clause-ends c = (Ok c.in-Ok.outcome, answers c.in-Ok.outcome _ c.in_default.not-Fine (stop_differs c.in-Err-clash.stop), subst (λ (v : SimplexView). Ends (ranges_in v.bounds.held) v.board c.check.new.self c.args.budget.now c.check.new.budget (Ok c.in-Ok.outcome)) c.self.view_is c.in-Ok.ensures.ends)
 
 pub returns-in-Err-clash-clause-came : goal.returns-in-Err-clash-clause-came
-returns-in-Err-clash-clause-came c ts came =
+returns-in-Err-clash-clause-came c ts n came =
     let s = c.self.inside in
     let t = c.args.table.now in
     let old : SimplexView = record { theory = s.literals; atoms = s.atoms; board = s.board; bounds = s.bounds; starts = s.starts.items } in
     let v : SimplexView = record { theory = s.literals; atoms = s.atoms; board = c.check.new.self; bounds = s.bounds; starts = s.starts.items } in
     let is : IsOf old t = subst (λ (v : SimplexView). IsOf v t) (sym c.self.view_is) c.requires.with in
-    let came : CameBy t ts c.args.budget.now.exchanges old = subst (CameBy t ts c.args.budget.now.exchanges) (sym c.self.view_is) came in
-    let on : CameBy t ts c.check.new.budget.exchanges v =
-    checked t ts old c.check.new.self is c.self.invariant.0 c.check.ensures.listed
-    (c.values_solve_the_rows-2.ensures.lengths ∙ c.check.ensures.variables ∙ sym c.values_solve_the_rows.ensures.lengths) c.args.budget.now c.check.new.budget (Ok c.in-Ok.outcome) came c.in-Ok.ensures.ends in
-    stops_there Verdict (λ es. CameBy c.clash.new.table ts es v) c.check.new.budget.exchanges c.in-Err-clash.stop
-    (subst (λ (u : TableView). CameBy u ts c.check.new.budget.exchanges v) (sym c.in-Err-clash.ensures.same.0) on)
+    let came : CameBy t ts n c.args.budget.now.exchanges old = subst (CameBy t ts n c.args.budget.now.exchanges) (sym c.self.view_is) came in
+    let solved = (subst IsTableau c.tableau.ensures c.rows_are_in_solved_form.ensures).solved in
+    let lengths = (c.values_solve_the_rows-2.ensures.lengths ∙ c.check.ensures.variables ∙ sym c.values_solve_the_rows.ensures.lengths) in
+    let es = c.check.new.budget.exchanges in
+    subst (λ (u : TableView). CameTo (let r : Result Verdict Stop = Err c.in-Err-clash.stop in r) (λ verdict. CameBy u ts (paid_after verdict n) es v) (StoppedBy u ts n es v) (CameBy u ts (suc n) es v))
+    (sym c.in-Err-clash.ensures.same.0)
+    (stops_there (λ verdict. CameBy t ts (paid_after verdict n) es v) (StoppedBy t ts n es v) (CameBy t ts (suc n) es v) c.in-Err-clash.stop
+    (stopped_found t ts old c.check.new.self is c.self.invariant.0 solved c.check.ensures.listed lengths n c.args.budget.now c.check.new.budget came c.in-Ok.outcome c.in-Ok.ensures.ends)
+    (came_found t ts old c.check.new.self is c.self.invariant.0 solved c.check.ensures.listed lengths n c.args.budget.now c.check.new.budget came c.in-Ok.outcome c.in-Ok.ensures.ends))
 
 pub returns-in-Err-clash-clause-stops : goal.returns-in-Err-clash-clause-stops
 returns-in-Err-clash-clause-stops c =

@@ -1,7 +1,8 @@
 -- A term may get its place.
 use Rattle.std.proofs.Common.{List, Contains, Result, Err, IfErr, refl, sym, subst, ◌∙◌}
 use Rattle.spec_sorts.specs.Terms.{Term}
-use Rattle.spec_causes.specs.Reached.{IsReached}
+use Rattle.spec_causes.specs.Reached.{IsReached, between}
+use Rattle.spec_causes.specs.Counts.{counted}
 use Rattle.term_core.specs.Tables.{term_at}
 use Rattle.sat_budget.specs.Budgets.{StopsBy}
 use Rattle.simplex_atoms.specs.Watching.{OnWide, StrainsAtom}
@@ -9,8 +10,8 @@ use Rattle.simplex.specs.Views.{SimplexView}
 use Rattle.simplex_atoms.specs.declared.stop.AtomStop.{AtomStop}
 use Rattle.simplex_atoms.specs.Standings.{ButForMemory}
 use Rattle.proof_log.specs.Theories.{CameTo}
-use Rattle.simplex.specs.Coming.{standing_of, CameBy, IsStrainAt}
-use Rattle.simplex.proofs.Coming.{stops_there}
+use Rattle.simplex.specs.Coming.{standing_of, CameBy, StoppedBy, IsStrainAt}
+use Rattle.simplex.proofs.Coming.{at_most, counted_few, keeps_same, stops_there}
 use Rattle.simplex.proofs.Placed.{GivesPlace, fits_placed, count_stays, stop_of}
 use Rattle.simplex.proofs.simplex.Simplex.place_term.Goals as goal
 use Rattle.simplex.proofs.simplex.Simplex.place_term.Goals.{in-Ok, in-Err-Wide, in-Err-Memory}
@@ -48,16 +49,28 @@ returns-clause-stops c =
     ]
 
 pub returns-clause-came : goal.returns-clause-came
-returns-clause-came c ts es there came =
+returns-clause-came c ts n es there came =
     let s = c.self.inside in
     let t = c.args.table.now in
+    let u = term_at t c.args.id in
     let v : SimplexView = record { theory = s.literals; atoms = s.atoms; board = s.board; bounds = s.bounds; starts = s.starts.items } in
     let w : SimplexView = record { theory = s.literals; atoms = c.watch.new.self; board = c.watch.new.board; bounds = c.watch.new.bounds; starts = s.starts.items } in
-    let old : CameBy t ts es v = subst (CameBy t ts es) (sym c.self.view_is) came in
-    let on : IsReached ts es (standing_of t w) → CameBy t ts es w = λ h. record { watched = old.watched; held = old.held; reached = h } in
+    let old : CameBy t ts n es v = subst (CameBy t ts n es) (sym c.self.view_is) came in
     elim c.match-watch.branch [
-      | in-Ok a ↦ subst (λ r. CameTo r (λ es. CameBy t ts es w) es) (sym a.result-is) (on (a.in-Ok.ensures.came ts es there old.reached))
-      | in-Err-Wide a ↦ subst (λ r. CameTo r (λ es. CameBy t ts es w) es) (sym a.result-is) (stops_there (Unit {0}) (λ es. CameBy t ts es w) es a.strained.result
-          (on (subst (λ (x : AtomStop). ButForMemory (IsReached ts es (standing_of t w)) (let r : Result (Unit {0}) AtomStop = Err x in r)) a.in-Err-Wide.field-0-is (a.in-Err-Wide.ensures.came ts es there old.reached))))
-      | in-Err-Memory a ↦ subst (λ r. CameTo r (λ es. CameBy t ts es w) es) (sym a.result-is) tt
+      | in-Ok a ↦ subst (λ r. CameTo r (λ _. CameBy t ts (counted u n) es w) (StoppedBy t ts n es w) (Unit {0})) (sym a.result-is) (record {
+        watched = old.watched;
+        held = old.held;
+        runs = old.runs;
+        reached = a.in-Ok.ensures.came ts old.runs es there old.reached;
+        few = counted_few v w n old.runs u (λ plain. keeps_same v w (c.watch.ensures.plain plain) c.watch.ensures.bounds.held) old.few;
+      })
+      | in-Err-Wide a ↦ subst (λ r. CameTo r (λ _. CameBy t ts (counted u n) es w) (StoppedBy t ts n es w) (Unit {0})) (sym a.result-is)
+          (stops_there (λ _. CameBy t ts (counted u n) es w) (StoppedBy t ts n es w) (Unit {0}) a.strained.result
+          (record {
+            runs = old.runs;
+            stopped = between old.runs es (standing_of t w)
+                (subst (λ (x : AtomStop). ButForMemory (IsReached ts old.runs es (standing_of t w)) (let r : Result (Unit {0}) AtomStop = Err x in r)) a.in-Err-Wide.field-0-is (a.in-Err-Wide.ensures.came ts old.runs es there old.reached));
+            few = at_most v n old.runs old.few;
+          }) tt)
+      | in-Err-Memory a ↦ subst (λ r. CameTo r (λ _. CameBy t ts (counted u n) es w) (StoppedBy t ts n es w) (Unit {0})) (sym a.result-is) tt
     ]

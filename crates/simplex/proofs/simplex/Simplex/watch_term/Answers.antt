@@ -1,5 +1,7 @@
 -- A term is watched, with room for the bounds of its literals.
 use Rattle.std.proofs.Common.{◌≡◌, ◌++◌, ◌∷◌, [], refl, ap, sym, subst, ◌∙◌, arith}
+use Rattle.spec_causes.specs.Counts.{counted}
+use Rattle.term_core.specs.Tables.{term_at}
 use Rattle.proof_log.specs.Theories.{TheoryView}
 use Rattle.simplex_held.specs.Stated.{IsKnownIn}
 use Rattle.simplex.specs.Views.{SimplexView, IsOf, placed_count}
@@ -63,7 +65,7 @@ returns-in_err-place_term-clause-stops c =
     stops_watching c.args.table.now c.place_term.new.self c.args.self.now.theory c.args.id c.from_residual.result c.in_err-place_term.field-0.0 c.from_residual.ensures.1 c.in_err-place_term.ensures.stops
 
 pub returns-clause-came : goal.returns-clause-came
-returns-clause-came c ts es there came =
+returns-clause-came c ts n es there came =
     let s = c.self.inside in
     let t = c.args.table.now in
     let v : SimplexView = record {
@@ -74,4 +76,5 @@ returns-clause-came c ts es there came =
       starts = s.starts.items;
     } in
     let w : SimplexView = record { theory = c.watch.new.self; atoms = s.atoms; board = s.board; bounds = c.reserve.new.self; starts = s.starts.items } in
-    came_watching t ts es v w (subst (CameBy t ts es) (sym c.self.view_is) (c.in_ok-place_term.ensures.came ts es there came)) c.args.id there refl refl c.in_ok-watch.ensures
+    let m = counted (term_at t c.args.id) n in
+    came_watching t ts m es v w (subst (CameBy t ts m es) (sym c.self.view_is) (c.in_ok-place_term.ensures.came ts n es there came)) c.args.id there refl refl c.reserve.ensures.held c.in_ok-watch.ensures
