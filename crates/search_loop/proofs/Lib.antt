@@ -18,4 +18,5 @@ pub mod SearchBegins
 pub mod SearchRounds
 pub mod SearchSpends
 pub mod SearchLooks
+pub mod SearchPays
 pub mod SearchChosen

@@ -11,7 +11,6 @@ use Rattle.search_loop.specs.Asking.{OnStop}
 use Rattle.sat_budget.specs.Budgets.{BudgetView, Spends}
 use Rattle.proof_log.specs.Logs.{derivation_in}
 use Rattle.proof_log.specs.Theories.{CameTo}
-use Rattle.simplex.proofs.Coming.{other_result}
 use Rattle.search_loop.specs.declared.search.Search.{Search}
 use Rattle.search_loop.specs.Search.{images, AreAllOf, IsReady}
 use Rattle.search_loop.specs.Rounds.{HasDerived, Continues}
@@ -62,10 +61,21 @@ pub handed_on : {A : Type 0} (P : Stop → Type 0) (r : Result A Stop) (e : Stop
 handed_on P (Ok x) e is h = absurd is
 handed_on P (Err s) e is h = subst P (sym is) h
 
--- so is what it came to
-pub came_handed_on : (A B : Type 0) (P : List (ℕ × ℕ) → Type 0) (es : List (ℕ × ℕ)) (r : Result B Stop) (e : Stop) → IsErrAnd r (λ s. s ≡ e) → CameTo (let q : Result A Stop = Err e in q) P es → CameTo r P es
-came_handed_on A B P es (Ok x) e is h = absurd is
-came_handed_on A B P es (Err s) e is h = subst (λ (stop : Stop). CameTo (let q : Result B Stop = Err stop in q) P es) (sym is) (other_result A B P es e h)
+-- so is what follows of what it came to
+pub came_handed_on : {A B : Type 0} (P : A → Type 0) (Q : B → Type 0) (S T E F : Type 0) (r : Result B Stop) (e : Stop) → IsErrAnd r (λ s. s ≡ e) → (S → T) → (E → F)
+    → CameTo (let q : Result A Stop = Err e in q) P S E → CameTo r Q T F
+came_handed_on P Q S T E F (Ok x) e is f g h = absurd is
+came_handed_on P Q S T E F (Err s) e is f g h = subst (λ (stop : Stop). CameTo (let q : Result _ Stop = Err stop in q) Q T F) (sym is) (by e h)
+  where
+    by : (e : Stop) → CameTo (let q : Result _ Stop = Err e in q) P S E → CameTo (let q : Result _ Stop = Err e in q) Q T F
+    by (Strained s) h = f h
+    by (Pivots n) h = g h
+    by Memory h = tt
+
+-- and where memory runs out nothing is said of it
+pub came_at_memory : {A : Type 0} (P : A → Type 0) (S E : Type 0) (r : Result A Stop) → IsErrAnd r (λ s. s ≡ Memory) → CameTo r P S E
+came_at_memory P S E (Ok x) is = absurd is
+came_at_memory P S E (Err s) is = subst (λ (stop : Stop). CameTo (let q : Result _ Stop = Err stop in q) P S E) (sym is) tt
 
 -- what is so is so where a theory stopped
 pub on_stop : (P : Type 0) → P → (stop : Stop) → OnStop P stop

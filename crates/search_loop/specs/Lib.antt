@@ -5,3 +5,4 @@ pub mod Search
 pub mod Stops
 pub mod Rounds
 pub mod Asking
+pub mod Paying

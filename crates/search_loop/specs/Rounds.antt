@@ -131,7 +131,7 @@ added_by (Unknown reason) learned = learned
 abbrev pub HasEvidence : TableView → Problem → List Logged → BudgetView → Answer → Type 0
 HasEvidence t p log budget (Sat interp) = IsModel t (terms_of_problem p) interp
 HasEvidence t p log budget (Unsat step) = (stated t log step ≡ []) × IsDerivedFrom (terms_of_problem p) (derivation_in t log) step.0
-HasEvidence t p log budget (Unknown (Overflow s)) = IsStrained p budget.exchanges s
+HasEvidence t p log budget (Unknown (Overflow s)) = IsStrained p (length budget.learned) budget.exchanges s
 HasEvidence t p log budget (Unknown (Pivots n)) = ArePivotsSpent p budget n
 HasEvidence t p log budget (Unknown (Conflicts n)) = IsConflictBudgetSpent p (derivation_in t log) budget.limit n (map (map (literal_at t)) budget.learned) × IsConflict p (derivation_in t log) (map (map (literal_at t)) budget.learned)
 

@@ -1,9 +1,10 @@
 -- What shows that a search stops: an operation on fractions that leaves the bound, or a budget that is spent.
-use Rattle.std.specs.Prelude.{◌≡◌, ℕ, List, []}
+use Rattle.std.specs.Prelude.{◌≡◌, ℕ, List, [], length}
 use Rattle.spec_derivations.specs.Problems.{Problem, subterms_in}
 use Rattle.spec_derivations.specs.Orders.{whole_terms}
 use Rattle.spec_causes.specs.Standing.{Standing}
-use Rattle.spec_causes.specs.Reached.{IsReached, IsAtLast}
+use Rattle.spec_causes.specs.Reached.{IsStoppedAt}
+use Rattle.spec_causes.specs.Counts.{AreFewRuns}
 use Rattle.spec_causes.specs.Causes.{StrainsForm, StrainsAt}
 use Rattle.spec_causes.specs.Checks.{IsOverflowAmong}
 use Rattle.spec_causes.specs.Checks as causes
@@ -17,20 +18,20 @@ use Rattle.simplex_atoms.specs.Standings.{IsBasisAt}
 abbrev pub IsNoBasis : Basis → Type 0
 IsNoBasis b = (b.variables.items ≡ []) × (b.values.items ≡ [])
 
--- An operation of a search of the problem, which made these exchanges, leaves the bound, as the strain tells, which comes with the
--- basis and the values where it was asked for.
-pub data IsStrained (p : Problem) (es : List (ℕ × ℕ)) (s : Strain) : Type 0 where
-  -- the form of an atom, before all else
-  forming : es ≡ [] → StrainsForm (subterms_in p) (overflow s.wide) → IsNoBasis s.basis → IsStrained p es s
+-- An operation of a search of the problem, which learned l clauses and kept these exchanges, leaves the bound, as the strain tells,
+-- which comes with the basis and the values where it was asked for.
+pub data IsStrained (p : Problem) (l : ℕ) (es : List (ℕ × ℕ)) (s : Strain) : Type 0 where
+  -- the form of an atom, before it begins
+  forming : l ≡ 0 → es ≡ [] → StrainsForm (subterms_in p) (overflow s.wide) → IsNoBasis s.basis → IsStrained p l es s
   -- a clause of the orders of an equality, before there is a basis
-  ordering : es ≡ [] → IsOverflowAmong (whole_terms p) (overflow s.wide) → IsNoBasis s.basis → IsStrained p es s
-  -- an operation of simplex, where the exchanges lead, or all but the last
-  reckoning : (x : Standing) → IsAtLast (λ made. IsReached (whole_terms p) made x) es
-      → StrainsAt (whole_terms p) x (overflow s.wide) → IsBasisAt x s.basis → IsStrained p es s
+  ordering : l ≡ 0 → es ≡ [] → IsOverflowAmong (whole_terms p) (overflow s.wide) → IsNoBasis s.basis → IsStrained p l es s
+  -- an operation of simplex, where it is stopped after these exchanges, in few runs
+  reckoning : (x : Standing) (runs : ℕ) → IsStoppedAt (whole_terms p) runs es x → AreFewRuns (whole_terms p) l runs
+      → StrainsAt (whole_terms p) x (overflow s.wide) → IsBasisAt x s.basis → IsStrained p l es s
 
 -- As many exchanges were made as the budget allows, which the reason says, and simplex needs a further one.
 pub record ArePivotsSpent (p : Problem) (budget : BudgetView) (n : ℕ) : Type 0 where
   -- so many
   pub limit : n ≡ budget.pivots
   -- were made and do not suffice
-  pub spent : causes.ArePivotsSpent p n budget.exchanges
+  pub spent : causes.ArePivotsSpent p n (length budget.learned) budget.exchanges

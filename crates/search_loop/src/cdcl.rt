@@ -10,6 +10,8 @@ ghost use Rattle.proof_log.specs.Theories.{terms_watched, literals_held, CameTo}
 ghost use Rattle.search_loop.specs.Search.{IsReady};
 ghost use Rattle.search_loop.specs.Rounds.{KeepsLimits};
 ghost use Rattle.search_loop.specs.Asking.{IsAsked, HasRested, HasStopped, OnStop, state, Ends};
+ghost use Rattle.search_loop.specs.Paying.{atoms_of, most, IsPaid};
+ghost use Rattle.search_loop.specs.declared.cdcl.End.TheVariants.{Rests};
 
 use crate::search::Search;
 use clause_store::laws::{reasons_stay_right, what_is_marked_was_seen};
@@ -59,8 +61,11 @@ impl Search {
         ensures ends { IfOk result (Ends (state table.old self.old) (state table.new self.new)
             (HasRested table.new self.new (T.view theory.new) (T.agrees theory.new
             (terms_watched table.new (T.view theory.new)) (literals_held table.new (T.view theory.new))))) }
-        ensures came { (ts : List Term) → T.came_by theory.old table.old ts self.old.budget.exchanges
-            → CameTo result (T.came_by theory.new table.new ts) self.new.budget.exchanges }
+        ensures came { (ts : List Term) → T.came_by theory.old table.old ts (atoms_of table.old self.old) self.old.budget.exchanges
+            → CameTo result (λ end. end ≡ Rests → IsPaid
+            (λ n. T.came_by theory.new table.new ts n self.new.budget.exchanges) (most table.old self.old self.new))
+            (IsPaid (λ n. T.stopped_by theory.new table.new ts n self.new.budget.exchanges) (most table.old self.old self.new))
+            (IsPaid (λ n. T.came_by theory.new table.new ts n self.new.budget.exchanges) (most table.old self.old self.new)) }
         ensures stops { IfErr result (StopsBy
             (T.strains theory.new table.new (terms_watched table.new (T.view theory.new)))
             (AreSpent (T.needs_more theory.new table.new (terms_watched table.new (T.view theory.new)))

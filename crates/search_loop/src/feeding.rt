@@ -1,12 +1,13 @@
 //! What a theory is told: literals as they come to hold, and levels that are taken back.
 
-ghost use Rattle.std.specs.Prelude.{◌≡◌, ◌≤◌, ◌<◌, ◌-◌, ℕ, List, length, take, Contains};
+ghost use Rattle.std.specs.Prelude.{◌≡◌, ◌+◌, ◌≤◌, ◌<◌, ◌-◌, ℕ, List, length, take, Contains};
 ghost use Rattle.spec_sorts.specs.Terms.{Term};
 ghost use Rattle.term_core.specs.declared.ids.Lit.{Lit as Literal};
 ghost use Rattle.term_core.specs.Tables.{TableView};
 ghost use Rattle.proof_log.specs.Theories.{gone_back};
 ghost use Rattle.sat_trail.specs.Trails.{IsCutTo};
 ghost use Rattle.search_loop.specs.Asking.{AreRising, KeepsUp};
+ghost use Rattle.search_loop.specs.Paying.{counted_held};
 
 use proof_log::Theory;
 use sat_trail::SatTrail;
@@ -22,8 +23,9 @@ pub(crate) fn feed<T: Theory>(theory: &mut T, trail: &SatTrail, from: u64)
       marks = (T.view theory.old).marks;
     } }
     ensures with { (t : TableView) → T.goes_with theory.old t → T.goes_with theory.new t }
-    ensures came { (t : TableView) (ts : List Term) (es : List (ℕ × ℕ)) → T.came_by theory.old t ts es
-        → T.came_by theory.new t ts es }
+    ensures came { (t : TableView) (ts : List Term) (n : ℕ) (es : List (ℕ × ℕ)) → T.goes_with theory.old t
+        → T.came_by theory.old t ts n es → (m : ℕ) × T.came_by theory.new t ts m es
+        × (m + counted_held t (T.view theory.old).held ≡ n + counted_held t (T.view theory.new).held) }
 {
     trail.is_sound();
     'places: for place in from..trail.len() {
@@ -37,8 +39,8 @@ fn back<T: Theory>(theory: &mut T, marks: u64)
     requires rising { AreRising (T.view theory.old) }
     ensures back { T.view theory.new ≡ gone_back marks (T.view theory.old) }
     ensures with { (t : TableView) → T.goes_with theory.old t → T.goes_with theory.new t }
-    ensures came { (t : TableView) (ts : List Term) (es : List (ℕ × ℕ)) → T.came_by theory.old t ts es
-        → T.came_by theory.new t ts es }
+    ensures came { (t : TableView) (ts : List Term) (n : ℕ) (es : List (ℕ × ℕ)) → T.came_by theory.old t ts n es
+        → T.came_by theory.new t ts n es }
 {
     'marks: for _ in 0..marks {
         theory.back(1);
@@ -54,8 +56,8 @@ pub(crate) fn go_back<T: Theory>(theory: &mut T, trail: &mut SatTrail, level: u6
     ensures holds { (T.view theory.new).held ≡ trail.new.literals }
     ensures watched { (T.view theory.new).watched ≡ (T.view theory.old).watched }
     ensures with { (t : TableView) → T.goes_with theory.old t → T.goes_with theory.new t }
-    ensures came { (t : TableView) (ts : List Term) (es : List (ℕ × ℕ)) → T.came_by theory.old t ts es
-        → T.came_by theory.new t ts es }
+    ensures came { (t : TableView) (ts : List Term) (n : ℕ) (es : List (ℕ × ℕ)) → T.came_by theory.old t ts n es
+        → T.came_by theory.new t ts n es }
 {
     trail.is_sound();
     back(theory, trail.level() - level);

@@ -1,12 +1,13 @@
 //! What follows from the literals that hold, and whether something is wrong with them.
 
-ghost use Rattle.std.specs.Prelude.{◌≡◌, List, IfOk, IfErr};
+ghost use Rattle.std.specs.Prelude.{◌≡◌, ℕ, suc, List, IfOk, IfErr};
 ghost use Rattle.spec_sorts.specs.Terms.{Term};
 ghost use Rattle.term_core.specs.Tables.{declared_in, Extends};
 ghost use Rattle.sat_budget.specs.Budgets.{StopsBy, AreSpent};
-ghost use Rattle.proof_log.specs.Theories.{terms_watched, literals_held, CameTo};
+ghost use Rattle.proof_log.specs.Theories.{terms_watched, literals_held, CameTo, paid_after};
 ghost use Rattle.search_loop.specs.Search.{IsReady};
 ghost use Rattle.search_loop.specs.Asking.{IsAsked, HasStopped, OnStop, state, Looks};
+ghost use Rattle.search_loop.specs.Paying.{IsPaid, Looked};
 
 use crate::feeding::feed;
 use crate::search::Search;
@@ -36,8 +37,12 @@ impl Search {
         ensures with { IfOk result (λ _. T.goes_with theory.new table.new) }
         ensures looks { IfOk result (Looks (state table.old self.old) (state table.new self.new) (T.view theory.new)
             (T.agrees theory.new (terms_watched table.new (T.view theory.new)) (literals_held table.new (T.view theory.new)))) }
-        ensures came { (ts : List Term) → T.came_by theory.old table.old ts self.old.budget.exchanges
-            → CameTo result (T.came_by theory.new table.new ts) self.new.budget.exchanges }
+        ensures learned { self.new.budget.learned ≡ self.old.budget.learned }
+        ensures came { (ts : List Term) (n : ℕ) → T.came_by theory.old table.old ts n self.old.budget.exchanges
+            → Looked (state table.old self.old) (T.view theory.old).held (T.view theory.new).held n (λ m. CameTo result
+            (λ verdict. IsPaid (λ k. T.came_by theory.new table.new ts k self.new.budget.exchanges) (paid_after verdict m))
+            (T.stopped_by theory.new table.new ts m self.new.budget.exchanges)
+            (T.came_by theory.new table.new ts (suc m) self.new.budget.exchanges)) }
         ensures stops { IfErr result (StopsBy
             (T.strains theory.new table.new (terms_watched table.new (T.view theory.new)))
             (AreSpent (T.needs_more theory.new table.new (terms_watched table.new (T.view theory.new)))
@@ -53,6 +58,7 @@ impl Search {
         if let Propagation::Clash(step) = self.store.propagate(&mut self.trail)? {
             return Ok(Verdict::Clash(step));
         }
+        self.trail.is_sound();
         feed(theory, &self.trail, self.fed);
         self.fed = self.trail.len();
         let verdict = theory.check(table, &mut self.log, &mut self.budget)?;

@@ -7,6 +7,7 @@ ghost use Rattle.term_core.specs.Tables.{clause_at};
 ghost use Rattle.sat_budget.specs.Budgets.{StopsBy};
 ghost use Rattle.proof_log.specs.Theories.{IsTermIn, CameTo};
 ghost use Rattle.term_clauses.specs.SpokenTerms.{no_id};
+ghost use Rattle.search_loop.specs.Paying.{counted_among, IsPaid};
 
 use proof_log::Theory;
 use sat_budget::Stop;
@@ -27,7 +28,9 @@ pub fn watch_all<T: Theory>(theory: &mut T, table: &TermTable, terms: &[TermId])
       marks = (T.view theory.old).marks;
     }) }
     ensures came { (ts : List Term) (es : List (ℕ × ℕ)) → AreAmong (clause_at table.now terms.now) ts
-        → T.came_by theory.old table.now ts es → CameTo result (T.came_by theory.new table.now ts) es }
+        → T.came_by theory.old table.now ts 0 es → CameTo result
+        (λ _. T.came_by theory.new table.now ts (counted_among table.now terms.now) es)
+        (IsPaid (λ n. T.stopped_by theory.new table.now ts n es) (counted_among table.now terms.now)) (Unit {0}) }
     ensures stops { IfErr result (λ stop. (k : ℕ) × (k < length terms.now)
         × ((T.view theory.new).watched ≡ take k terms.now)
         × StopsBy (T.strains theory.new table.now (clause_at table.now (take (k + 1) terms.now))) (λ _. ⊥) stop) }

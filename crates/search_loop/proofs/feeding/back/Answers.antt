@@ -5,7 +5,7 @@ use Rattle.search_loop.proofs.SearchTheories.{back_more, marks_left}
 use Rattle.search_loop.proofs.feeding.back.Goals as goal
 
 pub marks-init : goal.marks-init
-marks-init g c = record { view = refl; goes = λ t h. h; came = λ t ts es h. h }
+marks-init g c = record { view = refl; goes = λ t h. h; came = λ t ts n es h. h }
 
 pub back-requires : goal.back-requires
 back-requires g c =
@@ -20,7 +20,7 @@ marks-preserved g c =
     record {
       view = c.back.ensures.back ∙ ap (gone_back 1) c.marks.invariant.view ∙ back_more v n c.requires.rising (omega (arith, c.requires.there, c.marks-test.true));
       goes = λ t h. c.back.ensures.with t (c.marks.invariant.goes t h);
-      came = λ t ts es h. c.back.ensures.came t ts es (c.marks.invariant.came t ts es h);
+      came = λ t ts n es h. c.back.ensures.came t ts n es (c.marks.invariant.came t ts n es h);
     }
 
 pub returns-clause-came : goal.returns-clause-came

@@ -1,9 +1,14 @@
 -- Literal by literal.
-use Rattle.std.proofs.Common.{◌<◌, ◌∙◌, List, length, get_or, sym, ap, arith}
+use Rattle.std.proofs.Common.{◌≡◌, ◌+◌, ◌<◌, ◌∙◌, List, length, get_or, take, sym, ap, subst, arith}
 use Rattle.std.proofs.lemmas.List.{take_all, take_more}
 use Rattle.std.proofs.lemmas.List.Elements.{Contains-get_or}
+use Rattle.spec_causes.specs.Counts.{counted}
 use Rattle.term_core.specs.declared.ids.Lit.{Lit}
+use Rattle.term_core.specs.Tables.{term_at}
+use Rattle.proof_log.specs.Theories.{TheoryView}
 use Rattle.sat_trail.specs.Trails.{no_lit}
+use Rattle.search_loop.specs.Paying.{counted_held}
+use Rattle.search_loop.proofs.SearchPays.{held_more, both_more}
 use Rattle.search_loop.proofs.SearchTheories.{fed, new_at}
 use Rattle.search_loop.proofs.feeding.feed.Goals as goal
 
@@ -15,7 +20,7 @@ places-init g c = record {
     marks = (g.T.Theory.view c.args.theory.now).marks;
   };
   goes = λ t h. h;
-  came = λ t ts es h. h;
+  came = λ t ts n es with h. (n, h, ap (λ (xs : List Lit). n + counted_held t xs) c.requires.front);
 }
 
 pub assume_lit-requires-clause-watched : goal.assume_lit-requires-clause-watched
@@ -35,7 +40,17 @@ places-preserved g c =
     record {
       view = c.assume_lit.ensures.holds ∙ rw (c.places.invariant.view, c.literal.ensures) (ap (λ (xs : List Lit). fed (g.T.Theory.view c.args.theory.now) xs) (sym (take_more ls c.places.place no_lit lt)));
       goes = λ t h. c.assume_lit.ensures.with t (c.places.invariant.goes t h);
-      came = λ t ts es h. c.assume_lit.ensures.came t ts es (c.places.invariant.came t ts es h);
+      came = λ t ts n es with h.
+          let before = c.places.invariant.came t ts n es with h in
+          let l = get_or ls c.places.place no_lit in
+          let held : counted_held t (take (c.places.place + 1) ls) ≡ counted (term_at t l.term) (counted_held t (take c.places.place ls)) =
+          ap (counted_held t) (take_more ls c.places.place no_lit lt) ∙ held_more t (take c.places.place ls) l in (
+            counted (term_at t l.term) before.0,
+            subst (λ (m : Lit). g.T.Theory.came_by c.assume_lit.new.self t ts (counted (term_at t m.term) before.0) es) c.literal.ensures
+                (c.assume_lit.ensures.came t ts before.0 es (c.places.invariant.goes t with) before.1),
+            both_more (term_at t l.term) before.0 n (counted_held t (g.T.Theory.view c.args.theory.now).held) (counted_held t (take c.places.place ls)) before.2
+                ∙ ap (λ k. n + k) (sym held),
+          );
     }
 
 pub returns-clause-holds : goal.returns-clause-holds
@@ -47,4 +62,11 @@ pub returns-clause-with : goal.returns-clause-with
 returns-clause-with g c = c.places.invariant.goes
 
 pub returns-clause-came : goal.returns-clause-came
-returns-clause-came g c = c.places.invariant.came
+returns-clause-came g c t ts n es with h =
+    let ls = c.args.trail.now.literals in
+    let z = c.places.invariant.came t ts n es with h in (
+      z.0,
+      z.1,
+      z.2 ∙ ap (λ (xs : List Lit). n + counted_held t xs) (take_all c.places.place ls (omega (arith, c.places-test.false, c.len-place-end.ensures))
+          ∙ sym (ap (λ (v : TheoryView). v.held) (returns-clause-holds g c))),
+    )

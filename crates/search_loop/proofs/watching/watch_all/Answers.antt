@@ -1,6 +1,6 @@
 -- Term by term, and that a stop at one is over the terms up to it.
-use Rattle.std.proofs.Common.{◌≡◌, ◌+◌, ◌<◌, ◌∙◌, ◌++◌, ◌∷◌, [], ℕ, List, take, get_or, length, sym, ap, subst}
-use Rattle.std.proofs.lemmas.List.{take_more}
+use Rattle.std.proofs.Common.{◌≡◌, ◌+◌, ◌<◌, ◌∙◌, ◌++◌, ◌∷◌, [], ℕ, List, take, get_or, length, sym, ap, subst, arith}
+use Rattle.std.proofs.lemmas.List.{take_all, take_more}
 use Rattle.std.proofs.lemmas.List.Elements.{Contains-get_or}
 use Rattle.spec_text.proofs.Members.{to_image}
 use Rattle.spec_sorts.specs.Terms.{Term}
@@ -10,7 +10,10 @@ use Rattle.sat_budget.specs.declared.limits.Stop.{Stop}
 use Rattle.sat_budget.specs.declared.limits.Strain.{Strain}
 use Rattle.sat_budget.specs.Budgets.{StopsBy}
 use Rattle.proof_log.specs.Theories.{TheoryView, with_watched}
+use Rattle.spec_causes.specs.Counts.{counted}
 use Rattle.term_clauses.specs.SpokenTerms.{no_id}
+use Rattle.search_loop.specs.Paying.{counted_among, IsPaid}
+use Rattle.search_loop.proofs.SearchPays.{among_more, among_first}
 use Rattle.search_loop.proofs.SearchSpends.{handed_on, came_handed_on}
 use Rattle.search_loop.proofs.SearchTheories.{watching}
 use Rattle.search_loop.proofs.watching.watch_all.Goals as goal
@@ -30,11 +33,16 @@ terms-preserved g c =
       view = c.in_ok-watch_term.ensures.watches ∙ ap (λ (v : TheoryView). with_watched v id) c.terms.invariant.view ∙ ap (watching (g.T.Theory.view c.args.theory.now)) (sym (take_more ids k no_id c.terms-test.true));
       goes = c.watch_term.ensures.with;
       came = λ ts es among h.
-          c.in_ok-watch_term.ensures.came ts es (among (term_at t id) (to_image (term_at t) ids id (Contains-get_or ids k no_id c.terms-test.true))) (c.terms.invariant.came ts es among h);
+          subst (λ n. g.T.Theory.came_by c.watch_term.new.self t ts n es) (sym (ap (counted_among t) (take_more ids k no_id c.terms-test.true) ∙ among_more t (take k ids) id))
+          (c.in_ok-watch_term.ensures.came ts (counted_among t (take k ids)) es (among (term_at t id) (to_image (term_at t) ids id (Contains-get_or ids k no_id c.terms-test.true)))
+          (c.terms.invariant.came ts es among h));
     }
 
 pub returns-clause-came : goal.returns-clause-came
-returns-clause-came g c = c.terms.invariant.came
+returns-clause-came g c ts es among h =
+    let ids = c.args.terms.now in
+    subst (λ (xs : List TermId). g.T.Theory.came_by c.terms.theory c.args.table.now ts (counted_among c.args.table.now xs) es) (take_all c.terms.id-index ids (omega (arith, c.terms-test.false)))
+    (c.terms.invariant.came ts es among h)
 
 pub returns-in_err-watch_term-clause-came : goal.returns-in_err-watch_term-clause-came
 returns-in_err-watch_term-clause-came g c ts es among h =
@@ -42,8 +50,12 @@ returns-in_err-watch_term-clause-came g c ts es among h =
     let ids = c.args.terms.now in
     let k = c.terms.id-index in
     let id = get_or ids k no_id in
-    came_handed_on (Unit {0}) (Unit {0}) (g.T.Theory.came_by c.watch_term.new.self t ts) es c.from_residual.result c.in_err-watch_term.field-0.0 c.from_residual.ensures.1
-    (c.in_err-watch_term.ensures.came ts es (among (term_at t id) (to_image (term_at t) ids id (Contains-get_or ids k no_id c.terms-test.true))) (c.terms.invariant.came ts es among h))
+    let n = counted_among t (take k ids) in
+    let came : ℕ → Type 0 = λ m. g.T.Theory.came_by c.watch_term.new.self t ts m es in
+    let stopped : ℕ → Type 0 = λ m. g.T.Theory.stopped_by c.watch_term.new.self t ts m es in
+    came_handed_on (λ _. came (counted (term_at t id) n)) (λ _. came (counted_among t ids)) (stopped n) (IsPaid stopped (counted_among t ids)) (Unit {0}) (Unit {0})
+    c.from_residual.result c.in_err-watch_term.field-0.0 c.from_residual.ensures.1 (λ s. (n, among_first t k ids, s)) (λ u. u)
+    (c.in_err-watch_term.ensures.came ts n es (among (term_at t id) (to_image (term_at t) ids id (Contains-get_or ids k no_id c.terms-test.true))) (c.terms.invariant.came ts es among h))
 
 pub returns-in_err-watch_term-clause-stops : goal.returns-in_err-watch_term-clause-stops
 returns-in_err-watch_term-clause-stops g c =

@@ -42,13 +42,13 @@ pub returns-clause-with : goal.returns-clause-with
 returns-clause-with g c = c.go_back.ensures.with c.learn.new.table (g.met.T.Theory.grown c.args.theory.now c.args.table.now c.learn.new.table c.learn.ensures.grown c.requires.with)
 
 pub returns-clause-came : goal.returns-clause-came
-returns-clause-came g c ts h =
+returns-clause-came g c ts n h =
     let t = c.args.table.now in
     let u = c.learn.new.table in
     let x = c.args.self.now in
     let noted : IsNoted c.in_ok-learned.learned.clause x.budget c.note.new.budget = subst (λ (ls : List Lit). IsNoted ls x.budget c.note.new.budget) c.as_slice.ensures c.in_ok-note.ensures in
-    subst (λ (es : List (ℕ × ℕ)). g.T.Theory.came_by c.go_back.new.theory u ts es) (sym (ap (λ (b : BudgetView). b.exchanges) noted))
-    (c.go_back.ensures.came u ts x.budget.exchanges (g.met.T.Theory.came_grown c.args.theory.now t u c.learn.ensures.grown c.requires.with ts x.budget.exchanges h))
+    subst (λ (es : List (ℕ × ℕ)). g.T.Theory.came_by c.go_back.new.theory u ts n es) (sym (ap (λ (b : BudgetView). b.exchanges) noted))
+    (c.go_back.ensures.came u ts n x.budget.exchanges (g.met.T.Theory.came_grown c.args.theory.now t u c.learn.ensures.grown c.requires.with ts n x.budget.exchanges h))
 
 pub returns-clause-asked : goal.returns-clause-asked
 returns-clause-asked g c = record {

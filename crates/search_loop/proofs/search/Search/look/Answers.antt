@@ -1,20 +1,22 @@
 -- That propagation and the theory's check leave all as it should be.
 use Rattle.std.specs.Prelude.{Ok}
-use Rattle.std.proofs.Common.{◌∙◌, List, sym, ap, subst}
+use Rattle.std.proofs.Common.{◌+◌, ◌≤◌, ◌∙◌, ℕ, suc, List, Contains, refl, sym, ap, subst, arith}
 use Rattle.spec_sorts.specs.Terms.{Term}
 use Rattle.spec_sorts.specs.Literals.{Literal}
+use Rattle.term_core.specs.declared.ids.TermId.{TermId}
 use Rattle.term_core.specs.Tables.{TableView, Extends}
 use Rattle.term_core.proofs.TermsExtend.{Extends-self}
 use Rattle.sat_budget.specs.declared.limits.Stop.{Stop}
 use Rattle.sat_budget.specs.declared.limits.Strain.{Strain}
-use Rattle.sat_budget.specs.Budgets.{StopsBy, AreSpent}
-use Rattle.proof_log.specs.declared.theory.Verdict.{Verdict}
-use Rattle.proof_log.specs.Theories.{TheoryView, Derived, IsOver, terms_watched, literals_held, Checks}
+use Rattle.sat_budget.specs.Budgets.{BudgetView, StopsBy, AreSpent}
+use Rattle.proof_log.specs.Theories.{TheoryView, Derived, IsOver, terms_watched, literals_held, Checks, paid_after}
 use Rattle.search_loop.proofs.SearchReasons.{clash_is}
 use Rattle.search_loop.proofs.SearchTheories.{fed}
 use Rattle.search_loop.specs.Asking.{HasStopped, OnStop, state}
+use Rattle.search_loop.specs.Paying.{counted_held, atoms_of, IsPaid}
+use Rattle.search_loop.proofs.SearchPays.{few_held, few_asked}
 use Rattle.search_loop.proofs.SearchRounds.{propagated}
-use Rattle.search_loop.proofs.SearchSpends.{handed_on, came_handed_on, on_stop}
+use Rattle.search_loop.proofs.SearchSpends.{handed_on, came_handed_on, came_at_memory, on_stop}
 use Rattle.search_loop.proofs.SearchLooks.{looked_after, fed_within, front_held, watches_held, is_over, stopped_checked, looks}
 use Rattle.search_loop.proofs.search.Search.look.Goals as goal
 
@@ -94,15 +96,60 @@ returns-in_err-verdict-clause-grown g c =
     subst (λ (u : TableView). Extends c.args.table.now u) (sym (ap (λ (d : Derived). d.table) c.in_err-verdict.ensures.checks)) (Extends-self c.args.table.now)
 
 pub returns-in-Clash-clause-came : goal.returns-in-Clash-clause-came
-returns-in-Clash-clause-came g c ts h = h
+returns-in-Clash-clause-came g c ts n h =
+    let t = c.args.table.now in
+    let x = c.args.self.now in
+    let v = g.T.Theory.view c.args.theory.now in
+    (n, refl, few_asked t x c.requires.ready v c.requires.asked c.ids_are_unique.ensures c.is_sound.ensures.once, (n, omega arith, h))
 
 pub returns-clause-came : goal.returns-clause-came
-returns-clause-came g c ts h = c.in_ok-verdict.ensures.came ts (c.feed.ensures.came c.args.table.now ts c.args.self.now.budget.exchanges h)
+returns-clause-came g c ts n h =
+    let t = c.args.table.now in
+    let x = c.args.self.now in
+    let v = g.T.Theory.view c.args.theory.now in
+    let w = c.propagate.new.trail in
+    let p = c.propagate.ensures in
+    let z = c.feed.ensures.came t ts n x.budget.exchanges c.requires.with h in
+    let r = c.requires.ready in
+    let few : counted_held t w.literals ≤ atoms_of t x = few_held t x r c.ids_are_unique.ensures w.literals c.is_sound-2.ensures.once (λ l i.
+    subst (λ (ids : List TermId). Contains ids l.term) c.requires.asked.terms
+    (watches_held t x r v c.requires.asked c.is_sound.ensures.leveled.levels_paired c.propagate.new.self w p.same p.seen (c.reasons_stay_right.ensures.propagated x.store x.trail w r.implied p.adds) p.adds l i)) in
+    let held = ap (λ (y : TheoryView). y.held) c.check.ensures.same in (
+      z.0,
+      z.2 ∙ ap (λ ls. n + counted_held t ls) (sym held),
+      subst (λ ls. counted_held t ls ≤ atoms_of t x) (sym (held ∙ ap (λ (y : TheoryView). y.held) c.feed.ensures.holds)) few,
+      (paid_after c.in_ok-verdict.verdict z.0, omega arith, c.in_ok-verdict.ensures.came ts z.0 z.1),
+    )
 
 pub returns-in_err-verdict-clause-came : goal.returns-in_err-verdict-clause-came
-returns-in_err-verdict-clause-came g c ts h =
-    came_handed_on Verdict Verdict (g.T.Theory.came_by c.check.new.self c.check.new.table ts) c.check.new.budget.exchanges c.from_residual-in_err-verdict.result c.in_err-verdict.field-0.0 c.from_residual-in_err-verdict.ensures.1
-    (c.in_err-verdict.ensures.came ts (c.feed.ensures.came c.args.table.now ts c.args.self.now.budget.exchanges h))
+returns-in_err-verdict-clause-came g c ts n h =
+    let t = c.args.table.now in
+    let x = c.args.self.now in
+    let v = g.T.Theory.view c.args.theory.now in
+    let w = c.propagate.new.trail in
+    let p = c.propagate.ensures in
+    let z = c.feed.ensures.came t ts n x.budget.exchanges c.requires.with h in
+    let r = c.requires.ready in
+    let few : counted_held t w.literals ≤ atoms_of t x = few_held t x r c.ids_are_unique.ensures w.literals c.is_sound-2.ensures.once (λ l i.
+    subst (λ (ids : List TermId). Contains ids l.term) c.requires.asked.terms
+    (watches_held t x r v c.requires.asked c.is_sound.ensures.leveled.levels_paired c.propagate.new.self w p.same p.seen (c.reasons_stay_right.ensures.propagated x.store x.trail w r.implied p.adds) p.adds l i)) in
+    let held = ap (λ (y : TheoryView). y.held) c.check.ensures.same in
+    let es = c.check.new.budget.exchanges in
+    let came : ℕ → Type 0 = λ m. g.T.Theory.came_by c.check.new.self c.check.new.table ts m es in
+    let stopped : Type 0 = g.T.Theory.stopped_by c.check.new.self c.check.new.table ts z.0 es in (
+      z.0,
+      z.2 ∙ ap (λ ls. n + counted_held t ls) (sym held),
+      subst (λ ls. counted_held t ls ≤ atoms_of t x) (sym (held ∙ ap (λ (y : TheoryView). y.held) c.feed.ensures.holds)) few,
+      came_handed_on (λ verdict. came (paid_after verdict z.0)) (λ verdict. IsPaid came (paid_after verdict z.0)) stopped stopped (came (suc z.0)) (came (suc z.0))
+          c.from_residual-in_err-verdict.result c.in_err-verdict.field-0.0 c.from_residual-in_err-verdict.ensures.1 (λ s. s) (λ s. s)
+          (c.in_err-verdict.ensures.came ts z.0 z.1),
+    )
+
+pub returns-clause-learned : goal.returns-clause-learned
+returns-clause-learned g c = ap (λ (b : BudgetView). b.learned) c.check.ensures.budget.1
+
+pub returns-in_err-verdict-clause-learned : goal.returns-in_err-verdict-clause-learned
+returns-in_err-verdict-clause-learned g c = ap (λ (b : BudgetView). b.learned) c.check.ensures.budget.1
 
 pub returns-in_err-verdict-clause-stops : goal.returns-in_err-verdict-clause-stops
 returns-in_err-verdict-clause-stops g c =
@@ -138,3 +185,10 @@ returns-in_err-verdict-clause-stopped g c =
     let P : Type 0 = g.T.Theory.goes_with c.check.new.self u × HasStopped (state t x) (state u (record (propagated x s w x.decider) { log = log; fed = n; budget = b })) v2 in
     let stop = c.in_err-verdict.field-0.0 in
     handed_on (OnStop P) c.from_residual-in_err-verdict.result stop c.from_residual-in_err-verdict.ensures.1 (on_stop P (c.check.ensures.with, moved) stop)
+
+pub returns-in_err-step-clause-came : goal.returns-in_err-step-clause-came
+returns-in_err-step-clause-came g c ts n h =
+    let t = c.args.table.now in
+    let x = c.args.self.now in
+    let v = g.T.Theory.view c.args.theory.now in
+    (n, refl, few_asked t x c.requires.ready v c.requires.asked c.ids_are_unique.ensures c.is_sound.ensures.once, came_at_memory _ _ _ c.from_residual.result c.from_residual.ensures.1)

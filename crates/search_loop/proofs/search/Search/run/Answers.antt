@@ -1,13 +1,18 @@
 -- That the rounds end in an answer with its evidence.
-use Rattle.std.proofs.Common.{◌≡◌, ◌<◌, ◌-◌, ◌∙◌, ◌∷◌, [], length, ap, ◌+◌, refl, sym, subst, arith}
-use Rattle.std.specs.Prelude.{None}
+use Rattle.std.proofs.Common.{◌≡◌, ◌<◌, ◌≤◌, ◌-◌, ◌∙◌, ◌∷◌, [], ℕ, suc, List, length, ap, ◌+◌, refl, sym, subst, arith}
+use Rattle.std.specs.Prelude.{None, Some, Vec, Contains}
+use Rattle.std.specs.declared.alloc.Global.{Global}
 use Rattle.std.proofs.lemmas.List.{length-append}
 use Rattle.sat_budget.specs.declared.limits.Strain.{Strain}
 use Rattle.sat_budget.specs.Budgets.{BudgetView, StopsBy, AreSpent}
-use Rattle.proof_log.specs.declared.theory.Verdict.{Verdict}
-use Rattle.proof_log.specs.Theories.{TheoryView, terms_watched}
+use Rattle.term_core.specs.declared.ids.TermId.{TermId}
+use Rattle.term_core.specs.declared.ids.Lit.{Lit}
+use Rattle.proof_log.specs.Theories.{TheoryView, terms_watched, paid_after}
 use Rattle.search_loop.specs.declared.cdcl.End.{End}
-use Rattle.search_loop.specs.Asking.{KeepsUp, HasStopped, OnStop, state}
+use Rattle.search_loop.specs.declared.cdcl.End.TheVariants.{Rests}
+use Rattle.search_loop.specs.Asking.{KeepsUp, HasStopped, OnStop, state, Settles}
+use Rattle.search_loop.specs.Paying.{counted_held, atoms_of, most, IsPaid}
+use Rattle.search_loop.proofs.SearchPays.{paid_begun, paid_more, paid_learned, paid_most, atoms_stay, held_stay, held_among}
 use Rattle.search_loop.proofs.SearchSpends.{handed_on, came_handed_on, on_stop_weaker}
 use Rattle.search_loop.proofs.SearchLooks.{stopped_on}
 use Rattle.search_loop.proofs.SearchReady.{ready_waiting, ready_decided}
@@ -22,7 +27,9 @@ rounds-init g c = record {
   ready = c.requires.ready;
   asked = c.requires.asked;
   with = c.requires.with;
-  came = λ ts h. h;
+  came = λ ts h.
+      let a = atoms_of c.args.table.now c.args.self.now in
+      (a, paid_begun a (length c.args.self.now.budget.learned) (counted_held c.args.table.now (g.T.Theory.view c.args.theory.now).held), h);
   continues = continues_same c.args.table.now c.args.self.now c.args.self.now refl refl refl refl refl;
 }
 
@@ -69,7 +76,21 @@ rounds-preserved-in-Fine g c =
         fed = l.asked.fed ∙ ap (λ (v : TheoryView). length v.held) (sym c.in_ok-mark-in-Fine.ensures.marks);
       };
       with = c.mark.ensures.with u c.in_ok-look.ensures.with;
-      came = λ ts h. c.mark.ensures.came u ts y.budget.exchanges (c.in_ok-look.ensures.came ts (c.rounds.invariant.came ts h));
+      came = λ ts h.
+          let n = c.rounds.invariant.came ts h in
+          let m = rw c.in-Fine.is at (c.in_ok-look.ensures.came ts n.0 n.2) in
+          let k = m.3 in
+          let v = g.T.Theory.view c.look.new.theory in
+          let held : counted_held u (g.T.Theory.view c.mark.new.self).held ≡ counted_held c.rounds.table v.held =
+          ap (λ (v : TheoryView). counted_held u v.held) c.in_ok-mark-in-Fine.ensures.marks
+          ∙ held_stay c.rounds.table c.rounds.self c.rounds.invariant.ready u l.continues.table v.held (λ d i.
+          subst (λ (ids : Vec TermId Global). Contains ids.items d.term) l.continues.terms (held_among u y l.ready v l.asked d i)) in (
+            k.0,
+            paid_more (atoms_of c.args.table.now c.args.self.now) (length c.rounds.self.budget.learned) (length y.budget.learned)
+                (counted_held c.rounds.table (g.T.Theory.view c.rounds.theory).held) (counted_held c.rounds.table v.held) (counted_held u (g.T.Theory.view c.mark.new.self).held)
+                n.0 m.0 k.0 n.1 m.1 k.1 (ap length c.look.ensures.learned) held,
+            c.mark.ensures.came u ts k.0 y.budget.exchanges k.2,
+          );
       continues = continues_on c.args.table.now u u c.args.self.now y z (continues_on c.args.table.now c.rounds.table u c.args.self.now c.rounds.self y c.rounds.invariant.continues l.continues)
           (continues_same u y z refl refl refl pushed.vars refl);
     }
@@ -112,7 +133,17 @@ rounds-preserved g c =
       ready = settles.0.ready;
       asked = settles.1;
       with = c.in_ok-end-in-Clash.ensures.with;
-      came = λ ts h. c.in_ok-end-in-Clash.ensures.came ts (c.in_ok-look.ensures.came ts (c.rounds.invariant.came ts h));
+      came = λ ts h.
+          let n = c.rounds.invariant.came ts h in
+          let m = rw c.in-Clash.is at (c.in_ok-look.ensures.came ts n.0 n.2) in
+          let k = m.3 in (
+            k.0,
+            paid_learned (atoms_of t c.args.self.now) (length c.rounds.self.budget.learned) (length c.settle.new.self.budget.learned)
+                (counted_held c.rounds.table (g.T.Theory.view c.rounds.theory).held) (counted_held c.rounds.table (g.T.Theory.view c.look.new.theory).held)
+                (counted_held c.settle.new.table (g.T.Theory.view c.settle.new.theory).held) n.0 m.0 k.0 n.1 m.1 (subst (λ a. counted_held c.rounds.table (g.T.Theory.view c.look.new.theory).held ≤ a) (atoms_stay t c.args.self.now c.requires.ready c.rounds.table c.rounds.invariant.continues.table c.rounds.self c.rounds.invariant.continues.terms) m.2) k.1
+                (settles.0.learned ∙ ap (λ (xs : List (List Lit)). length xs + 1) c.look.ensures.learned),
+            c.in_ok-end-in-Clash.ensures.came ts k.0 k.2,
+          );
       continues = continues_on t u c.settle.new.table c.args.self.now y c.settle.new.self (continues_on t c.rounds.table u c.args.self.now c.rounds.self y c.rounds.invariant.continues looks.0.continues) settles.0.continues;
     }
 
@@ -133,15 +164,47 @@ pub returns-in_err-look-clause-grown : goal.returns-in_err-look-clause-grown
 returns-in_err-look-clause-grown g c = Extends-trans c.args.table.now c.rounds.table c.look.new.table c.rounds.invariant.continues.table c.look.ensures.grown
 
 pub returns-in_default-clause-came : goal.returns-in_default-clause-came
-returns-in_default-clause-came g c ts h = c.in_ok-look.ensures.came ts (c.rounds.invariant.came ts h)
+returns-in_default-clause-came g c ts h rests =
+    let n = c.rounds.invariant.came ts h in
+    let m = rw c.in-Fine.is at (c.in_ok-look.ensures.came ts n.0 n.2) in
+    let k = m.3 in
+    let x = c.args.self.now in
+    let t = c.args.table.now in
+    let y = c.rounds.self in
+    let u = c.rounds.table in
+    let v = g.T.Theory.view c.rounds.theory in
+    let w = g.T.Theory.view c.look.new.theory in (
+      k.0,
+      paid_most (atoms_of t x) (length y.budget.learned) (length c.look.new.self.budget.learned) (counted_held u v.held) (counted_held u w.held) n.0 m.0 k.0 n.1 m.1
+          (subst (λ a. counted_held u w.held ≤ a) (atoms_stay t x c.requires.ready u c.rounds.invariant.continues.table y c.rounds.invariant.continues.terms) m.2) (omega (arith, k.1))
+          (ap length c.look.ensures.learned),
+      k.2,
+    )
 
 pub returns-in-Some-2-clause-came : goal.returns-in-Some-2-clause-came
-returns-in-Some-2-clause-came g c ts h = c.in_ok-end-in-Clash.ensures.came ts (c.in_ok-look.ensures.came ts (c.rounds.invariant.came ts h))
+returns-in-Some-2-clause-came g c ts h rests =
+    absurd (subst (λ (e : End). Settles (state c.look.new.table c.look.new.self) (state c.settle.new.table c.settle.new.self) (g.T.Theory.view c.settle.new.theory) (Some e)) rests
+    (rw c.in-Some-2.is at c.in_ok-end-in-Clash.ensures.settles))
 
 pub returns-in_err-look-clause-came : goal.returns-in_err-look-clause-came
 returns-in_err-look-clause-came g c ts h =
-    came_handed_on Verdict End (g.T.Theory.came_by c.look.new.theory c.look.new.table ts) c.look.new.self.budget.exchanges c.from_residual.result c.in_err-look.field-0.0 c.from_residual.ensures.1
-    (c.in_err-look.ensures.came ts (c.rounds.invariant.came ts h))
+    let n = c.rounds.invariant.came ts h in
+    let m = c.in_err-look.ensures.came ts n.0 n.2 in
+    let x = c.args.self.now in
+    let t = c.args.table.now in
+    let y = c.rounds.self in
+    let u = c.rounds.table in
+    let v = g.T.Theory.view c.rounds.theory in
+    let w = g.T.Theory.view c.look.new.theory in
+    let es = c.look.new.self.budget.exchanges in
+    let came : ℕ → Type 0 = λ k. g.T.Theory.came_by c.look.new.theory c.look.new.table ts k es in
+    let stopped : ℕ → Type 0 = λ k. g.T.Theory.stopped_by c.look.new.theory c.look.new.table ts k es in
+    let all = most t x c.look.new.self in
+    let within : (k : ℕ) → k ≤ suc m.0 → k ≤ all = λ k few. paid_most (atoms_of t x) (length y.budget.learned) (length c.look.new.self.budget.learned) (counted_held u v.held) (counted_held u w.held)
+    n.0 m.0 k n.1 m.1 (subst (λ a. counted_held u w.held ≤ a) (atoms_stay t x c.requires.ready u c.rounds.invariant.continues.table y c.rounds.invariant.continues.terms) m.2) few
+    (ap length c.look.ensures.learned) in
+    came_handed_on (λ verdict. IsPaid came (paid_after verdict m.0)) (λ (end : End). end ≡ Rests → IsPaid came all) (stopped m.0) (IsPaid stopped all) (came (suc m.0)) (IsPaid came all)
+    c.from_residual.result c.in_err-look.field-0.0 c.from_residual.ensures.1 (λ s. (m.0, within m.0 (omega arith), s)) (λ s. (suc m.0, within (suc m.0) (omega arith), s)) m.3
 
 pub returns-in_err-look-clause-stops : goal.returns-in_err-look-clause-stops
 returns-in_err-look-clause-stops g c =

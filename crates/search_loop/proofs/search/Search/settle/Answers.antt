@@ -17,4 +17,4 @@ pub returns-clause-settles : goal.returns-clause-settles
 returns-clause-settles g c = (c.in_ok-learn_and_go_back.ensures.learned, c.in_ok-learn_and_go_back.ensures.asked, c.in_default.ensures)
 
 pub returns-then-conflict_level-eq0-clause-came : goal.returns-then-conflict_level-eq0-clause-came
-returns-then-conflict_level-eq0-clause-came g c ts h = subst (λ (b : BudgetView). g.T.Theory.came_by c.args.theory.now c.args.table.now ts b.exchanges) (sym c.refuted.ensures.budget) h
+returns-then-conflict_level-eq0-clause-came g c ts n h = subst (λ (b : BudgetView). g.T.Theory.came_by c.args.theory.now c.args.table.now ts n b.exchanges) (sym c.refuted.ensures.budget) h
