@@ -9,7 +9,7 @@ use Rattle.spec_commands.specs.Stack.{signature_of}
 use Rattle.spec_commands.specs.Checks.{Check, asked, IsTrueUnder}
 use Rattle.spec_derivations.specs.Problems.{Problem, problem_of}
 use Rattle.spec_derivations.specs.Derivations.{Derivation}
-use Rattle.spec_derivations.specs.Spent.{IsConflictBudgetSpent, IsConflict}
+use Rattle.spec_derivations.specs.Spent.{AreLearned, IsConflictBudgetSpent, IsConflict}
 use Rattle.spec_causes.specs.Checks.{IsStrained, ArePivotsSpent}
 use Rattle.spec_sessions.specs.Refutations.{IsProofOf}
 
@@ -22,6 +22,15 @@ pub record Limits : Type 0 where
   -- how many names a script may have, and how many different subterms the terms of a command
   pub terms : ℕ
 
+-- What a search of a check keeps.
+pub record Kept : Type 0 where
+  -- the exchanges of variables, oldest first; the last may be kept and not made
+  pub exchanges : List (ℕ × ℕ)
+  -- how the clauses are derived that were learned
+  pub derivation : Derivation
+  -- and these clauses, oldest first
+  pub learned : List (List Literal)
+
 -- What was found at a check.
 pub data Found : Type 0 where
   -- an interpretation
@@ -30,10 +39,10 @@ pub data Found : Type 0 where
   proof : List ℕ → Found
   -- that the budget of conflicts is spent: its size, how the clauses that were learned are derived, and these clauses
   spent : ℕ → Derivation → List (List Literal) → Found
-  -- that an operation on fractions leaves the bound: the operation, with its operands, and the exchanges of variables that were made
-  strained : Overflow → List (ℕ × ℕ) → Found
-  -- that the budget of pivots is spent: its size, and the exchanges
-  out_of_pivots : ℕ → List (ℕ × ℕ) → Found
+  -- that an operation on fractions leaves the bound: the operation, with its operands, and what the search keeps
+  strained : Overflow → Kept → Found
+  -- that the budget of pivots is spent: its size, and what the search keeps
+  out_of_pivots : ℕ → Kept → Found
 
 -- A check, with what was found at it.
 pub record Checked : Type 0 where
@@ -60,12 +69,23 @@ pub record IsSpentOn (c : Check) (limit carried : ℕ) (d : Derivation) (learned
   -- and one more would be
   pub conflict : IsConflict (problem c) d learned
 
+-- What a search of a check keeps is within its limits, and the clauses may be learned.
+pub record IsKeptOf (limits : Limits) (c : Check) (k : Kept) : Type 0 where
+  -- no more exchanges were kept than the budget allows
+  pub exchanges : length k.exchanges ≤ limits.pivots
+  -- no more clauses were learned
+  pub learned : length k.learned ≤ limits.conflicts
+  -- and each of them is derived, over the check's atoms, and was new
+  pub learns : AreLearned (problem c) k.derivation k.learned
+
 -- what was found shows this of a check: a model makes true what it asks about; a proof that no interpretation does; a budget of
--- conflicts is spent on it; an operation leaves the bound where the exchanges lead, which are within their budget, or before there are
--- any; or this budget is spent on them, and a further one is needed where they lead
+-- conflicts is spent on it; an operation leaves the bound where the exchanges lead, or all but the last, or before there are any; or the
+-- budget of exchanges is spent on them, and a further one is needed where they lead. Of both the runs are few, and the clauses that were
+-- learned may be.
 abbrev pub Justifies : Limits → Check → Found → Type 0
 Justifies limits c (model i) = IsModelOf c i
 Justifies limits c (proof text) = IsProofOf c text
 Justifies limits c (spent n d learned) = IsSpentOn c limits.conflicts n d learned
-Justifies limits c (strained o es) = IsOverflow o × (length es ≤ limits.pivots) × IsStrained (problem c) es o
-Justifies limits c (out_of_pivots n es) = (n ≡ limits.pivots) × ArePivotsSpent (problem c) n es
+Justifies limits c (strained o k) = IsOverflow o × IsKeptOf limits c k × IsStrained (problem c) (length k.learned) k.exchanges o
+Justifies limits c (out_of_pivots n k) =
+    (n ≡ limits.pivots) × IsKeptOf limits c k × ArePivotsSpent (problem c) n (length k.learned) k.exchanges

@@ -46,8 +46,8 @@ abbrev pub MeansAt : Check → Found → Type 0
 MeansAt c (model i) = ModelMeans (IsModelOf c) (signature_of c.stack) i
 MeansAt c (proof p) = (i : Interpretation) → IsModelOf c i → ⊥
 MeansAt c (spent n d learned) = Unit {0}
-MeansAt c (strained o es) = Unit {0}
-MeansAt c (out_of_pivots n es) = Unit {0}
+MeansAt c (strained o kept) = Unit {0}
+MeansAt c (out_of_pivots n kept) = Unit {0}
 
 -- the text of a proof has no more than 2^18 numerals and decimals, so that there is room for all that it names; a text
 -- without numbers has none
@@ -70,8 +70,8 @@ abbrev pub Means : Limits → (text : List ℕ) → ℕ → Check → Found → 
 Means limits text k c (model i) = ModelMeans (λ j. MakesTrue limits.terms j text k) (signature_of c.stack) i
 Means limits text k c (proof p) = ProofMeans limits.terms text k p
 Means limits text k c (spent n d learned) = Unit {0}
-Means limits text k c (strained o es) = Unit {0}
-Means limits text k c (out_of_pivots n es) = Unit {0}
+Means limits text k c (strained o kept) = Unit {0}
+Means limits text k c (out_of_pivots n kept) = Unit {0}
 
 -- What the answer of the k-th check of a text, from 1, says, with all that this means.
 pub record Says (limits : Limits) (text : List ℕ) (k : ℕ) (c : Checked) : Type 0 where

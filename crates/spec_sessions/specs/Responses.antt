@@ -80,8 +80,8 @@ abbrev pub answer_text : Found → List ℕ
 answer_text (model i) = word_line Sat
 answer_text (proof text) = word_line Unsat
 answer_text (spent n d learned) = word_line Unknown
-answer_text (strained o es) = word_line Unknown
-answer_text (out_of_pivots n es) = word_line Unknown
+answer_text (strained o k) = word_line Unknown
+answer_text (out_of_pivots n k) = word_line Unknown
 
 -- what shows it, in print
 abbrev pub evidence_text : Checked → List ℕ
@@ -91,8 +91,8 @@ evidence_text c = by c.found
     by (model i) = model_text i (symbols_in (signature_of c.check.stack))
     by (proof text) = text
     by (spent n d learned) = reason_line (conflicts n)
-    by (strained o es) = reason_line (overflow o)
-    by (out_of_pivots n es) = reason_line (pivots n)
+    by (strained o k) = reason_line (overflow o)
+    by (out_of_pivots n k) = reason_line (pivots n)
 
 -- what is written after the line of an answer
 abbrev pub shown_text : Mode → Checked → List ℕ

@@ -46,8 +46,8 @@ none_found (model i) shown xs ys e =
     cc
 none_found (proof p) shown xs ys e = cc
 none_found (spent n d learned) shown xs ys e = cc
-none_found (strained o es) shown xs ys e = cc
-none_found (out_of_pivots n es) shown xs ys e = cc
+none_found (strained o k) shown xs ys e = cc
+none_found (out_of_pivots n k) shown xs ys e = cc
 
 at_check : (r : Response) (s : Stack) (xs ys : List ℕ) → Answers limits asserted check (record { response = r; stack = s }) → codes "success\nsat\n" ≡ codes "success\n" ++ ((response_text solve (kept false_asserted) (record { response = r; stack = s }) ++ xs) ++ ys) → ⊥
 unfolding commands_on_literals

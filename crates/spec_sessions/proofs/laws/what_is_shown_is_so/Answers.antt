@@ -106,8 +106,8 @@ module _ (c : goal.After-printed_proofs_are_accepted) where
     means_at limits (model i) h = model_at i h
     means_at limits (proof p) h = proof_at p h
     means_at limits (spent n d learned) h = tt
-    means_at limits (strained o es) h = tt
-    means_at limits (out_of_pivots n es) h = tt
+    means_at limits (strained o kept) h = tt
+    means_at limits (out_of_pivots n kept) h = tt
 
     module _ (limit : ℕ) (text : List ℕ) (k : ℕ) (current : IsCurrent limit text k x) where
       makes_true : (i : Interpretation) → IsModelOf x i → MakesTrue limit i text k
@@ -147,8 +147,8 @@ module _ (c : goal.After-printed_proofs_are_accepted) where
       means_so limits e (model i) h = subst (λ n. ModelMeans (λ j. MakesTrue n j text k) g i) (sym e) (of_model i (model_at i h))
       means_so limits e (proof p) h = subst (λ n. ProofMeans n text k p) (sym e) (of_proof p h)
       means_so limits e (spent n d learned) h = tt
-      means_so limits e (strained o es) h = tt
-      means_so limits e (out_of_pivots n es) h = tt
+      means_so limits e (strained o kept) h = tt
+      means_so limits e (out_of_pivots n kept) h = tt
 
 pub returns-clause-at : goal.returns-clause-at
 returns-clause-at c = λ limits x f kept shown.
