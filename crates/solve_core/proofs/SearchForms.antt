@@ -1,5 +1,5 @@
 -- What comes of the forms of marked terms.
-use Rattle.std.proofs.Common.{◌≡◌, ℕ, ◌+◌, ◌<◌, ◌++◌, Bool, List, [], get_or, Contains, inl, inr, sym, ◌∙◌, subst, arith}
+use Rattle.std.proofs.Common.{◌≡◌, ℕ, ◌+◌, ◌<◌, ◌++◌, Bool, List, [], length, get_or, Contains, inl, inr, sym, ◌∙◌, subst, arith}
 use Rattle.std.specs.Prelude.{Option, Some, None, Ok}
 use Rattle.std.proofs.lemmas.Bool.{cases_eq}
 use Rattle.std.proofs.lemmas.List.{append-nil}
@@ -13,10 +13,10 @@ use Rattle.spec_causes.specs.Causes.{StrainsForm}
 use Rattle.ratio128.specs.declared.wide.Wide.{Wide}
 use Rattle.ratio128.specs.Meant.{overflow}
 use Rattle.term_core.specs.declared.ids.TermId.{TermId}
-use Rattle.term_core.specs.Tables.{TableView, clause_at, positive_literal}
+use Rattle.term_core.specs.Tables.{TableView, AreDifferent, term_at, clause_at, positive_literal}
 use Rattle.term_clauses.specs.Marks.{IsMarked, AreMarksOf}
-use Rattle.term_clauses.proofs.Marked.{in_marked, from_marked}
-use Rattle.solve_core.specs.Forms.{FailsBy}
+use Rattle.term_clauses.proofs.Marked.{in_marked, from_marked, marked_below}
+use Rattle.solve_core.specs.Forms.{FailsBy, IsFirstOverflow}
 
 -- a term that says nothing of linear arithmetic has a form, as far as it needs one
 pub says_nothing : (u : Term) → (let o : Option Constraint = None in o) ≡ constraint_of (positive_literal u) → HasForm (positive_literal u)
@@ -53,14 +53,29 @@ module _ (t : TableView) (roots : List TermId) (marks : List Bool) (are : AreMar
       let n = from_marked marks t.terms u (are.each u (subst (λ (ts : List Term). Contains (subterms_of ts) u) whole i)) in
       subst (λ (w : Term). HasForm (positive_literal w)) n.2 (have n.0 n.1)
 
-  -- and where the form of a marked term fails, that of a subterm does
-  pub overflow_found : (k : ℕ) → IsMarked marks k → (w : Wide) → FailsBy (get_or t.terms k no_term) w → StrainsForm (subterms_in (asserting (clause_at t roots))) (overflow w)
-  overflow_found k m w h = record {
-    atom = get_or t.terms k no_term;
+  -- and where the form of a marked term fails, and those before it have forms, that of a subterm fails first
+  pub overflow_found : AreDifferent t.terms → (k : ℕ) → ((j : ℕ) → j < k → IsMarked marks j → HasForm (positive_literal (get_or t.terms j no_term))) → IsMarked marks k → (w : Wide)
+      → FailsBy (get_or t.terms k no_term) w → IsFirstOverflow t (subterms_in (asserting (clause_at t roots))) w
+  overflow_found differ k have m w h = record {
+    id = record { 0 = k };
     there = subst (λ (ts : List Term). Contains (subterms_of ts) (get_or t.terms k no_term)) (sym whole) (are.only (get_or t.terms k no_term) (in_marked marks t.terms are.short k m));
-    constraint = h.constraint;
-    says = h.says;
-    fault = h.fault;
-    fails = h.fails;
-    is = h.is;
+    fails = h;
+    before = λ other less i.
+        let n = from_marked marks t.terms (term_at t other) (are.each (term_at t other) (subst (λ (ts : List Term). Contains (subterms_of ts) (term_at t other)) whole i)) in
+        let last : k < length t.terms = omega (arith, marked_below marks k m, are.short) in
+        let there : n.0 < length t.terms = omega (arith, marked_below marks n.0 n.1, are.short) in
+        let same : n.0 ≡ other.0 = differ n.0 other.0 there (omega (arith, less, last)) n.2 in
+        subst (λ (j : ℕ). HasForm (positive_literal (get_or t.terms j no_term))) same (have n.0 (omega (arith, same, less)) n.1);
   }
+
+-- that overflow is one of an atom's form
+pub strains_first : (t : TableView) (ts : List Term) (w : Wide) → IsFirstOverflow t ts w → StrainsForm ts (overflow w)
+strains_first t ts w h = record {
+  atom = term_at t h.id;
+  there = h.there;
+  constraint = h.fails.constraint;
+  says = h.fails.says;
+  fault = h.fails.fault;
+  fails = h.fails.fails;
+  is = h.fails.is;
+}

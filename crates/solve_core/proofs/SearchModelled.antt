@@ -4,7 +4,7 @@ use Rattle.std.specs.Prelude.{◌↔◌}
 use Rattle.std.specs.List.{list_any}
 use Rattle.std.proofs.lemmas.List.{append-nil, length-map, get_or-map}
 use Rattle.std.proofs.lemmas.List.Elements.{All-map, All-contains, Contains-get_or, All-nil}
-use Rattle.spec_text.proofs.Members.{to_image, from_image}
+use Rattle.spec_text.proofs.Members.{none, to_image, from_image}
 use Rattle.spec_numbers.specs.Fractions.{Fraction, IsReduced}
 use Rattle.spec_sorts.specs.Terms.{Truth, Number, Symbol, Apply, Term, Terms, app, list_of, sort_of}
 use Rattle.spec_sorts.specs.Values.{Interpretation, Interprets, truth}
@@ -20,7 +20,7 @@ use Rattle.spec_derivations.specs.Problems.{Problem, terms_of_problem}
 use Rattle.spec_derivations.specs.Orders.{whole_terms, whole_clauses}
 use Rattle.search_loop.specs.Reach.{AreAnswered}
 use Rattle.spec_derivations.specs.Models.{AreInReach}
-use Rattle.spec_valuations.specs.Classes.{class_in}
+use Rattle.spec_valuations.specs.Classes.{class_in, AreShared}
 use Rattle.spec_valuations.specs.Resting.{TheoryValues, values_of, RestsOnNumbers}
 use Rattle.term_core.specs.declared.ids.TermId.{TermId}
 use Rattle.term_core.specs.Tables.{TableView, AreDifferent, term_at, literal_at, clause_at, positive_literal}
@@ -32,7 +32,7 @@ use Rattle.congruence.specs.Views.{AreEqualBy}
 use Rattle.term_walks.specs.declared.values.Interp.{Interp}
 use Rattle.term_walks.specs.Valuations.{Stands}
 use Rattle.spec_valuations.specs.Tables.{IsModelBy}
-use Rattle.search_model.specs.Models.{truths_of, IsModelOf, IsModel}
+use Rattle.search_model.specs.Models.{truths_of, TakeNumbersOf, IsModelOf, IsModel}
 use Rattle.search_loop.specs.declared.search.Search.{Search}
 use Rattle.search_loop.specs.Rounds.{IsSearch}
 use Rattle.search_loop.specs.Asking.{HasRested}
@@ -125,15 +125,32 @@ module _ (t : TableView) (differ : AreDifferent t.terms) (x : Search) (v : Theor
     abbrev pub given : TheoryValues
     given = record { truths = truths; class = class_in terms classes; number = number }
 
-    pub apart : KeepApart (Contains terms)
+    apart : KeepApart (Contains terms)
     apart f ts i = apart_in_reach t.symbols problem formulas reached.reached f ts (only (app (Apply f) ts) i)
+
+    -- no argument of a function is a number
+    no_argument : (f : Symbol) (ts : Terms) (u : Term) → Contains terms (app (Apply f) ts) → Contains (list_of ts) u → sort_of u ≢ Number
+    no_argument f ts u i j = (apart f ts i (λ bare. none u (subst (λ us. Contains us u) bare j))).1 u j
+
+    pub taken : TakeNumbersOf number terms
+    taken f ts u i j e = absurd (no_argument f ts u i j e)
+
+    -- so the theories share nothing
+    nothing_shared : AreShared terms []
+    unfolding sort_of
+    nothing_shared = record {
+      values = λ f ts i some e. absurd ((apart f ts i some).0 e);
+      arguments = λ f ts u i j e. absurd (no_argument f ts u i j e);
+    }
 
     pub rests : RestsOnNumbers t.symbols problem terms held given
     rests = record {
       formulas = formulas;
       listed = subst (λ (p : Problem). AreAmong (whole_terms p) terms) s.meant s.listed.each;
       only = only;
-      apart = apart;
+      shared = [];
+      shares = nothing_shared;
+      agree = record { same = λ a b i j. absurd (none a i) };
       linear = λ u i. linear_in problem reached.linear u (only u i);
       met = met;
       truths = atom_held;

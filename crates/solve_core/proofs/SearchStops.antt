@@ -1,17 +1,20 @@
 -- What shows that a search stops for another reason than a conflict.
 use Rattle.std.specs.Prelude.{Result, Ok, Err, IfOk}
-use Rattle.std.proofs.Common.{◌≡◌, ℕ, zero, suc, List, [], ◌∷◌, take, Contains, inl, inr, refl, sym, ap, ◌∙◌, subst}
+use Rattle.std.proofs.Common.{◌≡◌, ◌≢◌, ◌≤◌, ℕ, zero, suc, true, length, arith, List, [], ◌∷◌, take, Contains, inl, inr, refl, sym, ap, ◌∙◌, subst}
+use Rattle.std.proofs.lemmas.List.Elements.{All-weaker, All-contains, filter_passes}
+use Rattle.std.proofs.lemmas.List.Kept.{AllPairs-filter}
 use Rattle.spec_text.proofs.Members.{first, later, cases, none, to_image, from_image}
 use Rattle.spec_sorts.specs.Terms.{Term}
 use Rattle.spec_sorts.specs.Subsets.{AreAmong}
 use Rattle.spec_derivations.specs.Problems.{Problem}
 use Rattle.spec_derivations.specs.Orders.{whole_terms}
-use Rattle.spec_causes.specs.Reached.{IsReached, IsAtLast}
+use Rattle.spec_causes.specs.Reached.{between}
+use Rattle.spec_causes.specs.Counts.{is_arithmetic, arithmetic_in, most_runs, AreFewRuns}
 use Rattle.spec_causes.specs.Causes.{NeedsMore}
 use Rattle.spec_causes.proofs.Wider.{strains_over_more, needs_over_more}
 use Rattle.ratio128.specs.Meant.{overflow}
 use Rattle.term_core.specs.declared.ids.TermId.{TermId}
-use Rattle.term_core.specs.Tables.{TableView, term_at, clause_at}
+use Rattle.term_core.specs.Tables.{TableView, AreDifferent, IsIn, term_at, clause_at}
 use Rattle.world_io.specs.declared.bytes.NoMemory.{NoMemory}
 use Rattle.sat_budget.specs.declared.limits.Strain.{Strain}
 use Rattle.sat_budget.specs.declared.limits.Stop.{Stop}
@@ -19,16 +22,18 @@ use Rattle.sat_budget.specs.declared.limits.Stop.TheVariants as stops
 use Rattle.sat_budget.specs.declared.limits.Reason.TheVariants as reasons
 use Rattle.sat_budget.specs.Budgets.{StopsBy, AreSpent}
 use Rattle.proof_log.specs.Logs.{IsLogOf}
-use Rattle.proof_log.specs.Theories.{TheoryView, terms_watched, CameTo}
+use Rattle.proof_log.specs.Theories.{TheoryView, IsTermIn, terms_watched, CameTo}
 use Rattle.simplex.specs.Views.{SimplexView}
-use Rattle.simplex.specs.Coming.{standing_of, CameBy, IsStrainAt}
-use Rattle.simplex.proofs.Coming.{came_onward}
+use Rattle.simplex.specs.Coming.{standing_of, CameBy, StoppedBy, IsStrainAt}
 use Rattle.search_loop.specs.declared.search.Search.{Search}
 use Rattle.search_loop.specs.declared.cdcl.Answer.{Answer}
 use Rattle.search_loop.specs.declared.cdcl.Answer.TheVariants.{Unknown}
 use Rattle.search_loop.specs.Stops.{IsStrained, reckoning, ArePivotsSpent}
+use Rattle.search_loop.specs.Search.{IsReady}
+use Rattle.search_loop.specs.Paying.{atoms_of, most, IsPaid}
 use Rattle.search_loop.specs.Rounds.{IsSearch, Continues, Shows}
 use Rattle.search_loop.specs.Asking.{HasRested, HasStopped, OnStop, state}
+use Rattle.search_loop.proofs.SearchPays.{from_filter, terms_once}
 use Rattle.search_loop.proofs.SearchGrown.{spoken}
 use Rattle.search_loop.proofs.SearchRounds.{shows_on}
 use Rattle.search_loop.proofs.SearchShows.{learning_shows}
@@ -47,34 +52,65 @@ module _ (t : TableView) (x : Search) (problem : Problem) (s : IsSearch t proble
       let n = from_image (term_at t) (take k x.terms.items) u i in
       spoken t x problem s u (subst (Contains (clause_at t x.terms.items)) n.2 (to_image (term_at t) x.terms.items n.0 (take_among k x.terms.items n.0 n.1)))
 
-  -- simplex that came of them
-  module _ (v : SimplexView) where
+  -- runs that are paid for are few
+  pub are_few : AreDifferent t.terms → IsReady t x → (l runs : ℕ) → runs ≤ most_runs l (atoms_of t x) → AreFewRuns (whole_terms problem) l runs
+  are_few differ ready l runs le =
+      let terms = clause_at t x.terms.items in
+      let there = All-weaker (IsTermIn t) (IsIn t) (λ id k. k.0) x.terms.items ready.atoms_are.there in
+      record {
+        atoms = arithmetic_in terms;
+        different = AllPairs-filter (λ (u v : Term). u ≢ v) is_arithmetic terms (terms_once t differ x.terms.items ready.atoms_are.rising there);
+        among = λ u c. (
+          spoken t x problem s u (from_filter is_arithmetic terms u c),
+          All-contains (λ (v : Term). is_arithmetic v ≡ true) (arithmetic_in terms) u (filter_passes is_arithmetic terms) c,
+        );
+        few = le;
+      }
+
+  -- simplex that came of them, in runs that were paid for and are few
+  module _ (v : SimplexView) (m : ℕ) (few : (runs : ℕ) → runs ≤ m → AreFewRuns (whole_terms problem) (length x.budget.learned) runs) where
+    -- where an overflow stopped it
+    abbrev IsStoppedIn : Type 0
+    IsStoppedIn = IsPaid (λ n. StoppedBy t (whole_terms problem) n x.budget.exchanges v) m
+
+    -- and where it came to
+    abbrev CameIn : Type 0
+    CameIn = IsPaid (λ n. CameBy t (whole_terms problem) n x.budget.exchanges v) m
+
+    runs_within : (n : ℕ) → n ≤ m → (c : CameBy t (whole_terms problem) n x.budget.exchanges v) → c.runs ≤ m
+    runs_within n le c = elim c.few [ inl kept ↦ omega (arith, kept.1, le) | inr fewer ↦ omega (arith, fewer, le) ]
+
+    -- what it came to is a place where it can be stopped
+    pub stopped_there : CameIn → IsStoppedIn
+    stopped_there (n, le, c) = (m, omega arith, record { runs = c.runs; stopped = between c.runs x.budget.exchanges (standing_of t v) c.reached; few = runs_within n le c })
+
     -- an operation of it over some of them leaves the bound
-    strained_over : (ts : List Term) → AreAmong ts (whole_terms problem) → IsAtLast (λ es. CameBy t (whole_terms problem) es v) x.budget.exchanges → (e : Strain) → IsStrainAt t ts e v
-        → IsStrained problem x.budget.exchanges e
-    strained_over ts among at e h =
-        reckoning (standing_of t v)
-        (came_onward (Unit {0}) (λ es. CameBy t (whole_terms problem) es v) (λ es. IsReached (whole_terms problem) es (standing_of t v)) x.budget.exchanges (Err (stops.Strained e)) (λ es came. came.reached) at)
+    strained_over : (ts : List Term) → AreAmong ts (whole_terms problem) → IsStoppedIn → (e : Strain) → IsStrainAt t ts e v
+        → IsStrained problem (length x.budget.learned) x.budget.exchanges e
+    strained_over ts among (n, le, at) e h =
+        reckoning (standing_of t v) at.runs at.stopped (few at.runs (omega (arith, at.few, le)))
         (strains_over_more ts (whole_terms problem) among (standing_of t v) (overflow e.wide) h.0) h.1
 
     -- where a term comes to be watched, and in a check or in a number of a model
-    pub watching_strained : IsAtLast (λ es. CameBy t (whole_terms problem) es v) x.budget.exchanges → (n : ℕ) (e : Strain) → IsStrainAt t (clause_at t (take n x.terms.items)) e v
-        → IsStrained problem x.budget.exchanges e
+    pub watching_strained : IsStoppedIn → (n : ℕ) (e : Strain) → IsStrainAt t (clause_at t (take n x.terms.items)) e v
+        → IsStrained problem (length x.budget.learned) x.budget.exchanges e
     watching_strained at n = strained_over (clause_at t (take n x.terms.items)) (spoken_front n) at
 
-    pub checking_strained : IsAtLast (λ es. CameBy t (whole_terms problem) es v) x.budget.exchanges → (watched : List TermId) → watched ≡ x.terms.items → (e : Strain) → IsStrainAt t (clause_at t watched) e v
-        → IsStrained problem x.budget.exchanges e
+    pub checking_strained : IsStoppedIn → (watched : List TermId) → watched ≡ x.terms.items → (e : Strain) → IsStrainAt t (clause_at t watched) e v
+        → IsStrained problem (length x.budget.learned) x.budget.exchanges e
     checking_strained at watched are = strained_over (clause_at t watched) (subst (λ (ids : List TermId). AreAmong (clause_at t ids) (whole_terms problem)) (sym are) (spoken t x problem s)) at
 
     -- spent pivots
-    pub pivots_spent : CameBy t (whole_terms problem) x.budget.exchanges v → (watched : List TermId) → watched ≡ x.terms.items → (n : ℕ)
+    pub pivots_spent : CameIn → (watched : List TermId) → watched ≡ x.terms.items → (n : ℕ)
         → AreSpent (NeedsMore (clause_at t watched) (standing_of t v)) x.budget n → ArePivotsSpent problem x.budget n
-    pivots_spent came watched are n h = record {
+    pivots_spent (k, le, came) watched are n h = record {
       limit = h.1;
       spent = record {
         count = h.2;
         standing = standing_of t v;
+        runs = came.runs;
         reached = came.reached;
+        few = few came.runs (runs_within k le came);
         more = needs_over_more (clause_at t watched) (whole_terms problem) (subst (λ (ids : List TermId). AreAmong (clause_at t ids) (whole_terms problem)) (sym are) (spoken t x problem s)) (standing_of t v) h.0;
       };
     }
@@ -88,21 +124,46 @@ answers_show P (stops.Pivots n) (Err e) a h = tt
 answers_show P stops.Memory (Ok a) e h = absurd e
 answers_show P stops.Memory (Err e) a h = tt
 
--- what a stop of a theory of numbers came to, over terms among which are those of a search
-abbrev pub HasStoppedAt : TableView → List Term → SimplexView → Stop → List (ℕ × ℕ) → Type 0
-HasStoppedAt w ts v stop es = CameTo (let r : Result (Unit {0}) Stop = Err stop in r) (λ made. CameBy w ts made v) es
+-- what a stop of a theory of numbers came to, over terms among which are those of a search, in no more runs than are paid for
+abbrev pub HasStoppedAt : TableView → List Term → SimplexView → Stop → List (ℕ × ℕ) → ℕ → Type 0
+HasStoppedAt w ts v stop es m =
+    CameTo (let r : Result (Unit {0}) Stop = Err stop in r) (λ _. Unit {0}) (IsPaid (λ n. StoppedBy w ts n es v) m) (IsPaid (λ n. CameBy w ts n es v) m)
+
+-- what a stop that hands it on came to
+pub rounds_paid : {A : Type 0} (P : A → Type 0) (w : TableView) (ts : List Term) (v : SimplexView) (es : List (ℕ × ℕ)) (m : ℕ) (stop : Stop)
+    → CameTo (let r : Result A Stop = Err stop in r) P (IsPaid (λ n. StoppedBy w ts n es v) m) (IsPaid (λ n. CameBy w ts n es v) m) → HasStoppedAt w ts v stop es m
+rounds_paid P w ts v es m (stops.Strained e) h = h
+rounds_paid P w ts v es m (stops.Pivots n) h = h
+rounds_paid P w ts v es m stops.Memory h = tt
+
+-- where pivots are never spent
+pub no_pivots : (S : Strain → Type 0) (stop : Stop) → StopsBy S (λ _. ⊥) stop → StopsBy (λ _. Unit {0}) (λ _. ⊥) stop
+no_pivots S (stops.Strained e) h = tt
+no_pivots S (stops.Pivots n) h = absurd h
+no_pivots S stops.Memory h = tt
+
+-- and one where a term comes to be watched, for which the atoms pay
+pub watching_paid : (P : Unit {0} → Type 0) (t : TableView) (ts : List Term) (v : SimplexView) (es : List (ℕ × ℕ)) (count l a : ℕ) → count ≡ a → (stop : Stop)
+    → StopsBy (λ e. Unit {0}) (λ _. ⊥) stop
+    → CameTo (let r : Result (Unit {0}) Stop = Err stop in r) P (IsPaid (λ n. StoppedBy t ts n es v) count) (Unit {0}) → HasStoppedAt t ts v stop es (most_runs l a)
+watching_paid P t ts v es count l a is (stops.Strained e) never h = (h.0, omega (arith, h.1, is), h.2)
+watching_paid P t ts v es count l a is (stops.Pivots n) never h = absurd never
+watching_paid P t ts v es count l a is stops.Memory never h = tt
 
 -- a stop where a term comes to be watched
-pub watching_stops : (t : TableView) (x : Search) → IsLogOf t x.log → (v : SimplexView) (n : ℕ) (stop : Stop)
-    → ((ts : List Term) → AreAmong (clause_at t x.terms.items) ts → HasStoppedAt t ts v stop x.budget.exchanges)
+pub watching_stops : (t : TableView) (x : Search) → AreDifferent t.terms → IsReady t x → (v : SimplexView) (n : ℕ) (stop : Stop)
+    → ((ts : List Term) → AreAmong (clause_at t x.terms.items) ts → HasStoppedAt t ts v stop x.budget.exchanges (most t x x))
     → StopsBy (λ e. IsStrainAt t (clause_at t (take n x.terms.items)) e v) (λ _. ⊥) stop → IsStoppedBy (state t x) (state t x) stop
-watching_stops t x right v n (stops.Strained e) came h = record {
-  right = right;
+watching_stops t x differ ready v n (stops.Strained e) came h = record {
+  right = ready.right;
   limits = (refl, refl);
-  shows = λ problem s. (watching_strained t x problem s v (came (whole_terms problem) (spoken t x problem s)) n e h, learning_shows t problem x (Unknown (reasons.Overflow e)) (λ steps. inl steps) right s);
+  shows = λ problem s. (
+    watching_strained t x problem s v (most t x x) (are_few t x problem s differ ready (length x.budget.learned)) (came (whole_terms problem) (spoken t x problem s)) n e h,
+    learning_shows t problem x (Unknown (reasons.Overflow e)) (λ steps. inl steps) ready.right s,
+  );
 }
-watching_stops t x right v n (stops.Pivots m) came h = absurd h
-watching_stops t x right v n stops.Memory came h = tt
+watching_stops t x differ ready v n (stops.Pivots m) came h = absurd h
+watching_stops t x differ ready v n stops.Memory came h = tt
 
 module _ (t w : TableView) (x y : Search) where
   -- a stop where the search rests, by what computes the numbers of a model
@@ -112,37 +173,38 @@ module _ (t w : TableView) (x y : Search) where
   numbers_stop on right stops.Memory none = tt
 
   -- and one of the rounds of a search, for each of its reasons
-  pub rounds_stop : (V : TheoryView) (v : SimplexView) (P : Type 0) (stop : Stop)
-      → ((ts : List Term) → AreAmong (clause_at t x.terms.items) ts → HasStoppedAt w ts v stop y.budget.exchanges) → OnStop (P × HasStopped (state t x) (state w y) V) stop
+  pub rounds_stop : AreDifferent t.terms → IsReady t x → (V : TheoryView) (v : SimplexView) (P : Type 0) (stop : Stop)
+      → ((ts : List Term) → AreAmong (clause_at t x.terms.items) ts → HasStoppedAt w ts v stop y.budget.exchanges (most t x y)) → OnStop (P × HasStopped (state t x) (state w y) V) stop
       → StopsBy (λ e. IsStrainAt w (terms_watched w V) e v) (AreSpent (NeedsMore (terms_watched w V) (standing_of w v)) y.budget) stop → IsStoppedBy (state t x) (state w y) stop
-  rounds_stop V v P (stops.Strained e) came h strain = record {
+  rounds_stop differ ready V v P (stops.Strained e) came h strain = record {
     right = h.1.right;
     limits = h.1.continues.limits;
     shows = λ problem s. let z = h.1.continues.search problem s in (
-      checking_strained w y problem z v (came (whole_terms problem) (spoken t x problem s)) V.watched h.1.terms e strain,
+      checking_strained w y problem z v (most t x y) (are_few t x problem s differ ready (length y.budget.learned)) (came (whole_terms problem) (spoken t x problem s)) V.watched h.1.terms e strain,
       learning_shows w problem y (Unknown (reasons.Overflow e)) (λ steps. inl steps) h.1.right z,
     );
   }
-  rounds_stop V v P (stops.Pivots n) came h spent = record {
+  rounds_stop differ ready V v P (stops.Pivots n) came h spent = record {
     right = h.1.right;
     limits = h.1.continues.limits;
     shows = λ problem s. let z = h.1.continues.search problem s in (
-      pivots_spent w y problem z v (came (whole_terms problem) (spoken t x problem s)) V.watched h.1.terms n spent,
+      pivots_spent w y problem z v (most t x y) (are_few t x problem s differ ready (length y.budget.learned)) (came (whole_terms problem) (spoken t x problem s)) V.watched h.1.terms n spent,
       learning_shows w problem y (Unknown (reasons.Pivots n)) (λ steps. steps) h.1.right z,
     );
   }
-  rounds_stop V v P stops.Memory came h none = tt
+  rounds_stop differ ready V v P stops.Memory came h none = tt
 
 -- a stop by what computes the numbers of a model is shown where the search rests
-pub model_stops : (t : TableView) (x : Search) (V : TheoryView) (v : SimplexView) → V ≡ v.theory → V.watched ≡ x.terms.items → HasCome t x v → IsLogOf t x.log → (stop : Stop)
+pub model_stops : (t : TableView) (x : Search) (V : TheoryView) (v : SimplexView) → V ≡ v.theory → V.watched ≡ x.terms.items → AreDifferent t.terms → IsReady t x → HasCome t x v → (stop : Stop)
     → StopsBy (λ e. IsStrainAt t (terms_watched t v.theory) e v) (λ _. ⊥) stop → StopsBy (λ e. Shows t t x x (Unknown (reasons.Overflow e))) (λ _. ⊥) stop
-model_stops t x V v same watched come right (stops.Strained e) strain = λ problem s.
-    let watches = ap (λ (z : TheoryView). z.watched) (sym same) ∙ watched in (
-      checking_strained t x problem s v (inl (come (whole_terms problem) (spoken t x problem s))) v.theory.watched watches e strain,
-      learning_shows t problem x (Unknown (reasons.Overflow e)) (λ steps. inl steps) right s,
+model_stops t x V v same watched differ ready come (stops.Strained e) strain = λ problem s.
+    let watches = ap (λ (z : TheoryView). z.watched) (sym same) ∙ watched in
+    let few = are_few t x problem s differ ready (length x.budget.learned) in (
+      checking_strained t x problem s v (most t x x) few (stopped_there t x problem s v (most t x x) few (come (whole_terms problem) (spoken t x problem s))) v.theory.watched watches e strain,
+      learning_shows t problem x (Unknown (reasons.Overflow e)) (λ steps. inl steps) ready.right s,
     )
-model_stops t x V v same watched come right (stops.Pivots n) never = absurd never
-model_stops t x V v same watched come right stops.Memory none = tt
+model_stops t x V v same watched differ ready come (stops.Pivots n) never = absurd never
+model_stops t x V v same watched differ ready come stops.Memory none = tt
 
 -- what was shown after a table grew was shown before
 pub answered_on : (t u w : TableView) (x y : Search) → Continues t u x x → (a : Answer) → IsAnswered (state u x) (state w y) a → IsAnswered (state t x) (state w y) a

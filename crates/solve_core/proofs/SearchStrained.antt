@@ -1,5 +1,6 @@
 -- That an operation which leaves the bound before a search begins justifies that nothing was found out.
 use Rattle.std.proofs.Common.{◌⊎◌, inl, inr, List, [], length, refl, sym, ap, subst, arith}
+use Rattle.std.specs.Prelude.{Some, None}
 use Rattle.std.proofs.lemmas.List.Elements.{All-nil}
 use Rattle.spec_derivations.specs.Problems.{Problem, terms_of_problem, subterms_in}
 use Rattle.spec_derivations.specs.Orders.{whole_terms}
@@ -20,7 +21,9 @@ use Rattle.search_loop.specs.declared.cdcl.Answer.TheVariants.{Unknown}
 use Rattle.search_loop.specs.Stops.{IsStrained, forming, ordering}
 use Rattle.search_loop.specs.Rounds.{HasEvidence, IsLearning}
 use Rattle.solve_core.specs.declared.outcome.Outcome.{Outcome}
+use Rattle.solve_core.specs.Forms.{FindsOverflow}
 use Rattle.solve_core.specs.Decisions.{IsJustified, IsStrainedBy}
+use Rattle.solve_core.proofs.SearchForms.{strains_first}
 
 module _ (t : TableView) (p : Problem) (limits : Limits) (empty : IsLogOf t []) where
   -- nothing was logged or learned
@@ -36,19 +39,21 @@ module _ (t : TableView) (p : Problem) (limits : Limits) (empty : IsLogOf t []) 
     logged = inr (refl, refl);
   }
 
-  pub strained_justified : (w : Wide) (d : Outcome) → IsStrainedBy limits w d → StrainsForm (subterms_in p) (overflow w) ⊎ IsOverflowAmong (whole_terms p) (overflow w) → IsJustified t p limits d
+  pub strained_justified : (w : Wide) (d : Outcome) → IsStrainedBy limits w d → FindsOverflow t p (Some w) ⊎ (FindsOverflow t p None × IsOverflowAmong (whole_terms p) (overflow w)) → IsJustified t p limits d
   strained_justified w d h cause =
       let is = ap overflow h.is in
       let unspent = ap (λ (b : BudgetView). b.exchanges) h.budget in
-      let shown : IsStrained p d.budget.exchanges h.strain = elim cause [
-        | inl f ↦ forming unspent (subst (StrainsForm (subterms_in p)) (sym is) f) h.basis
-        | inr o ↦ ordering unspent (subst (IsOverflowAmong (whole_terms p)) (sym is) o) h.basis
-      ] in
       let none = ap (λ (b : BudgetView). b.learned) h.budget in
+      let shown : IsStrained p (length d.budget.learned) d.budget.exchanges h.strain = elim cause [
+        | inl f ↦ forming (ap length none) unspent (subst (StrainsForm (subterms_in p)) (sym is) (strains_first t (subterms_in p) w f)) h.basis
+        | inr o ↦ ordering (ap length none) unspent (subst (IsOverflowAmong (whole_terms p)) (sym is) o.1) h.basis
+      ] in
       record {
         log_right = subst (IsLogOf t) (sym h.log) empty;
         limits_are = (ap (λ (b : BudgetView). b.limit) h.budget, ap (λ (b : BudgetView). b.pivots) h.budget);
         within = omega (arith, ap length unspent);
+        learned_within = omega (arith, ap length none);
+        forms = elim cause [ inl f ↦ inr (w, f, h) | inr o ↦ inl o.0 ];
         evidence = subst (HasEvidence t p d.log d.budget) (sym h.answer) shown;
         learning = subst (λ (a : Answer). IsLearning t p d.log a d.budget.learned) (sym h.answer)
             (subst (λ (log : List Logged). IsLearning t p log (Unknown (Overflow h.strain)) d.budget.learned) (sym h.log)

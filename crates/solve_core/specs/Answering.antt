@@ -24,6 +24,7 @@ use Rattle.search_loop.specs.declared.cdcl.Answer.{Answer}
 use Rattle.search_loop.specs.declared.cdcl.Answer.TheVariants.{Unknown}
 use Rattle.search_loop.specs.Rounds.{KeepsLimits, Shows}
 use Rattle.search_loop.specs.Asking.{State}
+use Rattle.search_loop.specs.Paying.{most, IsPaid}
 
 -- One of the terms is a number.
 pub record HasNumber (ts : List Term) : Type 0 where
@@ -47,9 +48,11 @@ pub record HoldByNumbers (ts : List Term) (held : List Literal) (xs : List Fract
 abbrev pub AgreeBoth : List Term → List Literal → CombinedView → Type 0
 AgreeBoth ts ls v = (IsFine ts ls × (v.congruence.now.settled ≡ true)) × (HaveForms ls × IsFeasible ls × KeepsBounds v.simplex)
 
--- linear arithmetic came of all terms that the search speaks of, among any others, by the exchanges that are kept
+-- linear arithmetic came of all terms that the search speaks of, among any others, by the exchanges that are kept, in no more runs
+-- than are paid for
 abbrev pub HasCome : TableView → Search → SimplexView → Type 0
-HasCome t x v = (ts : List Term) → AreAmong (clause_at t x.terms.items) ts → CameBy t ts x.budget.exchanges v
+HasCome t x v = (ts : List Term) → AreAmong (clause_at t x.terms.items) ts
+    → IsPaid (λ n. CameBy t ts n x.budget.exchanges v) (most t x x)
 
 -- An answer is shown, over a log that is right, and the limits are kept.
 pub record IsAnswered (old new : State) (a : Answer) : Type 0 where

@@ -1,5 +1,5 @@
 -- What a decision shows.
-use Rattle.std.specs.Prelude.{◌≡◌, ◌≤◌, List, [], length}
+use Rattle.std.specs.Prelude.{◌≡◌, ◌⊎◌, ◌≤◌, List, [], length, Some, None}
 use Rattle.spec_derivations.specs.Problems.{Problem}
 use Rattle.term_core.specs.Tables.{TableView}
 use Rattle.proof_log.specs.Logs.{Logged, IsLogOf}
@@ -12,20 +12,8 @@ use Rattle.search_loop.specs.declared.cdcl.Answer.{Answer}
 use Rattle.search_loop.specs.declared.cdcl.Answer.TheVariants.{Unknown}
 use Rattle.search_loop.specs.Stops.{IsNoBasis}
 use Rattle.search_loop.specs.Rounds.{HasLimits, HasEvidence, IsLearning}
+use Rattle.solve_core.specs.Forms.{FindsOverflow}
 use Rattle.solve_core.specs.declared.outcome.Outcome.{Outcome}
-
--- The answer has its evidence, in a log that is right and within a budget of these limits.
-pub record IsJustified (t : TableView) (p : Problem) (limits : Limits) (d : Outcome) : Type 0 where
-  -- each step of the log is right
-  pub log_right : IsLogOf t d.log
-  -- the budget has the limits
-  pub limits_are : HasLimits limits d.budget
-  -- no more exchanges were made than it allows
-  pub within : length d.budget.exchanges ≤ d.budget.pivots
-  -- the answer shows what it should
-  pub evidence : HasEvidence t p d.log d.budget d.answer
-  -- and so do the log and what was learned
-  pub learning : IsLearning t p d.log d.answer d.budget.learned
 
 -- An operation left the bound before a search began.
 pub record IsStrainedBy (limits : Limits) (w : Wide) (d : Outcome) : Type 0 where
@@ -38,6 +26,23 @@ pub record IsStrainedBy (limits : Limits) (w : Wide) (d : Outcome) : Type 0 wher
   pub log : d.log ≡ []
   -- and nothing spent
   pub budget : d.budget ≡ record { limit = limits.conflicts; learned = []; pivots = limits.pivots; exchanges = [] }
+
+-- The answer has its evidence, in a log that is right and within a budget of these limits.
+pub record IsJustified (t : TableView) (p : Problem) (limits : Limits) (d : Outcome) : Type 0 where
+  -- each step of the log is right
+  pub log_right : IsLogOf t d.log
+  -- the budget has the limits
+  pub limits_are : HasLimits limits d.budget
+  -- no more exchanges were kept than it allows
+  pub within : length d.budget.exchanges ≤ d.budget.pivots
+  -- and no more clauses were learned
+  pub learned_within : length d.budget.learned ≤ d.budget.limit
+  -- each atom has a form; or the answer is the overflow of the first that has none, and nothing else was done
+  pub forms : FindsOverflow t p None ⊎ ((w : Wide) × FindsOverflow t p (Some w) × IsStrainedBy limits w d)
+  -- the answer shows what it should
+  pub evidence : HasEvidence t p d.log d.budget d.answer
+  -- and so do the log and what was learned
+  pub learning : IsLearning t p d.log d.answer d.budget.learned
 
 -- What a solver keeps of its last decision.
 pub record SolverView : Type 0 where

@@ -132,12 +132,13 @@ fn search_with(
     requires empty { theory_of theory.old.congruence ≡ record { held = []; watched = []; marks = [] } }
     requires congruence { AreOf table.old theory.old.congruence.now.facts }
     requires simplex { Suits theory.old.simplex table.old }
-    requires came { (ts : List Term) → CameBy table.old ts [] theory.old.simplex }
+    requires came { (ts : List Term) → CameBy table.old ts 0 [] theory.old.simplex }
     ensures grown { Extends table.old table.new }
     ensures declared { declared_in table.new ≡ declared_in table.old }
     ensures answered { IfOk result (IsAnswered (state table.old search.old) (state table.new search.new)) }
     ensures stopped { IfErr result (IsStoppedBy (state table.old search.old) (state table.new search.new)) }
 {
+    table.ids_are_unique();
     if let Err(stop) = watch_all(theory, table, &search.terms) {
         theory.parts_hold_the_same();
         return Err(stop);
@@ -167,6 +168,7 @@ fn answer_rested(search: &Search, table: &TermTable, theory: &Combined) -> Resul
         (Unknown (Overflow s))) (λ _. ⊥)) }
 {
     theory.parts_hold_the_same();
+    table.ids_are_unique();
     let numbers = theory.simplex().numbers(table, &search.terms)?;
     let model = model(search, table, theory.congruence(), &numbers)?;
     Ok(Answer::Sat(model))

@@ -41,8 +41,9 @@ pub(crate) fn first_overflow(
     roots: &[TermId],
 ) -> Result<Option<Wide>, NoMemory>
     requires { AreIn table.now roots.now }
-    ensures { IfOk result (FindsOverflow (asserting (clause_at table.now roots.now))) }
+    ensures { IfOk result (FindsOverflow table.now (asserting (clause_at table.now roots.now))) }
 {
+    table.ids_are_unique();
     let marks = marks_of(alloc, table, roots)?;
     'marks: for number in 0..marks.len() {
         if !marks[number] {

@@ -28,4 +28,4 @@ returns-in_err-numbers-clause-strained c =
     let stop = c.in_err-numbers.field-0.0 in
     let strains = subst (λ (v : SimplexView). StopsBy (λ e. IsStrainAt t (terms_watched t v.theory) e v) (λ _. ⊥) stop) c.simplex.ensures c.in_err-numbers.ensures.stops in
     handed_on (StopsBy (λ s. Shows t t x x (Unknown (Overflow s))) (λ _. ⊥)) c.from_residual.result stop c.from_residual.ensures.1
-    (model_stops t x (theory_of theory.congruence) theory.simplex c.parts_hold_the_same.ensures c.requires.rested.terms c.requires.came c.requires.rested.ready.right stop strains)
+    (model_stops t x (theory_of theory.congruence) theory.simplex c.parts_hold_the_same.ensures c.requires.rested.terms c.ids_are_unique.ensures c.requires.rested.ready c.requires.came stop strains)

@@ -1,8 +1,9 @@
 -- From the beginning to an answer, with both theories.
-use Rattle.std.proofs.Common.{◌+◌, List, take, sym, ap, subst}
+use Rattle.std.proofs.Common.{◌+◌, ◌≤◌, List, take, length, sym, ap, subst}
 use Rattle.std.proofs.lemmas.Result.{IfOk-weaker, IfErr-weaker}
 use Rattle.spec_sorts.specs.Terms.{Term}
 use Rattle.spec_sorts.specs.Subsets.{AreAmong}
+use Rattle.spec_causes.specs.Counts.{arithmetic_in, most_runs}
 use Rattle.term_core.specs.declared.ids.TermId.{TermId}
 use Rattle.term_core.specs.Tables.{clause_at}
 use Rattle.term_core.proofs.TermsExtend.{Extends-self}
@@ -15,10 +16,11 @@ use Rattle.simplex.specs.Coming.{CameBy, IsStrainAt}
 use Rattle.search_loop.specs.declared.cdcl.Answer.TheVariants.{Unknown}
 use Rattle.search_loop.specs.Rounds.{Shows}
 use Rattle.search_loop.specs.Asking.{state}
+use Rattle.search_loop.specs.Paying.{counted_among, atoms_of, most}
 use Rattle.search_loop.proofs.SearchRounds.{shows_on}
 use Rattle.solve_core.specs.Answering.{IsAnswered, IsStoppedBy}
 use Rattle.solve_core.proofs.SearchNumbers.{same_terms}
-use Rattle.solve_core.proofs.SearchStops.{watching_stops, numbers_stop, rounds_stop}
+use Rattle.solve_core.proofs.SearchStops.{watching_stops, watching_paid, no_pivots, numbers_stop, rounds_stop, rounds_paid}
 use Rattle.solve_core.proofs.answering.search_with.Goals as goal
 
 pub returns-in-Err-clause-grown : goal.returns-in-Err-clause-grown
@@ -34,9 +36,12 @@ returns-in-Err-clause-stopped c =
     let stop = c.in-Err.stop in
     let h = rw c.in-Err.is at c.watch_all.ensures.stops in
     let more = ap (λ (ids : List TermId). clause_at t (take (h.0 + 1) ids)) c.deref.ensures.value in
-    watching_stops t x begun.ready.right theory.simplex (h.0 + 1) stop
-    (λ ts among. rw c.in-Err.is at (c.watch_all.ensures.came ts es (subst (λ (ids : List TermId). AreAmong (clause_at t ids) ts) (sym c.deref.ensures.value) among)
-    (subst (λ made. CameBy t ts made c.args.theory.now.simplex) (sym begun.unspent) (c.requires.came ts))))
+    let l = length x.budget.learned in
+    let count = ap (λ (ids : List TermId). counted_among t ids) c.deref.ensures.value in
+    watching_stops t x c.ids_are_unique.ensures begun.ready theory.simplex (h.0 + 1) stop
+    (λ ts among. watching_paid _ t ts theory.simplex es (counted_among t c.deref.result.now) l (atoms_of t x) count stop (no_pivots _ stop h.3)
+    (rw c.in-Err.is at (c.watch_all.ensures.came ts es (subst (λ (ids : List TermId). AreAmong (clause_at t ids) ts) (sym c.deref.ensures.value) among)
+    (subst (λ made. CameBy t ts 0 made c.args.theory.now.simplex) (sym begun.unspent) (c.requires.came ts)))))
     (subst (λ ts. StopsBy (λ e. IsStrainAt t ts e theory.simplex) (λ _. ⊥) stop) more h.3)
 
 -- where the search rests
@@ -49,8 +54,11 @@ answer_rested-requires-clause-came c ts among =
     let begun = c.requires.begins.2 in
     let ends = rw c.in-Ok-Rests.field-0-is at c.in-Ok-Rests.ensures.ends in
     let before = subst (λ (us : List Term). AreAmong us ts) (same_terms t w ends.1.table x y begun.ready ends.1.terms) among in
-    c.in-Ok-Rests.ensures.came ts (c.in_default.ensures.came ts x.budget.exchanges (subst (λ (ids : List TermId). AreAmong (clause_at t ids) ts) (sym c.deref.ensures.value) before)
-    (subst (λ made. CameBy t ts made c.args.theory.now.simplex) (sym begun.unspent) (c.requires.came ts)))
+    let came = c.in_default.ensures.came ts x.budget.exchanges (subst (λ (ids : List TermId). AreAmong (clause_at t ids) ts) (sym c.deref.ensures.value) before)
+    (subst (λ made. CameBy t ts 0 made c.args.theory.now.simplex) (sym begun.unspent) (c.requires.came ts)) in
+    let paid = c.in-Ok-Rests.ensures.came ts (subst (λ (ids : List TermId). CameBy t ts (counted_among t ids) x.budget.exchanges c.watch_all.new.theory.simplex) c.deref.ensures.value came) c.in-Ok-Rests.field-0-is in
+    let same = ap (λ us. length (arithmetic_in us)) (same_terms t w ends.1.table x y begun.ready ends.1.terms) in
+    (paid.0, subst (λ a. paid.0 ≤ most_runs (length y.budget.learned) a) (sym same) paid.1, paid.2)
 
 pub returns-in-Ok-Rests-clause-answered : goal.returns-in-Ok-Rests-clause-answered
 returns-in-Ok-Rests-clause-answered c =
@@ -85,6 +93,9 @@ returns-in-Err-ended-clause-stopped c =
     let y = c.run-ended.new.self in
     let theory = c.run-ended.new.theory in
     let begun = c.requires.begins.2 in
-    rounds_stop t w x y (theory_of theory.congruence) theory.simplex (AreOf w theory.congruence.now.facts × Suits theory.simplex w) c.in-Err-ended.stop
-    (λ ts among. c.in-Err-ended.ensures.came ts (c.in_default.ensures.came ts x.budget.exchanges (subst (λ (ids : List TermId). AreAmong (clause_at t ids) ts) (sym c.deref.ensures.value) among)
-    (subst (λ made. CameBy t ts made c.args.theory.now.simplex) (sym begun.unspent) (c.requires.came ts)))) c.in-Err-ended.ensures.stopped c.in-Err-ended.ensures.stops
+    rounds_stop t w x y c.ids_are_unique.ensures begun.ready (theory_of theory.congruence) theory.simplex (AreOf w theory.congruence.now.facts × Suits theory.simplex w) c.in-Err-ended.stop
+    (λ ts among. let came = c.in_default.ensures.came ts x.budget.exchanges (subst (λ (ids : List TermId). AreAmong (clause_at t ids) ts) (sym c.deref.ensures.value) among)
+    (subst (λ made. CameBy t ts 0 made c.args.theory.now.simplex) (sym begun.unspent) (c.requires.came ts)) in
+    rounds_paid _ w ts theory.simplex y.budget.exchanges (most t x y) c.in-Err-ended.stop
+    (c.in-Err-ended.ensures.came ts (subst (λ (ids : List TermId). CameBy t ts (counted_among t ids) x.budget.exchanges c.watch_all.new.theory.simplex) c.deref.ensures.value came)))
+    c.in-Err-ended.ensures.stopped c.in-Err-ended.ensures.stops

@@ -23,7 +23,7 @@ returns-in-Some c =
     let k = c.marks.number in
     let within : k < length marks = omega (arith, c.marks-test.true, c.len-number-end.ensures) in
     let at : c.index.result.now ≡ get_or marks k false = c.index.ensures ∙ get_or_default marks k c.index.result.now false within in
-    overflow_found c.args.table.now c.args.roots.now marks c.in_ok-marks.ensures k (sym at ∙ c.if-not-index.false) c.in-Some.wide (rw c.in-Some.is at c.in_ok-found.ensures)
+    overflow_found c.args.table.now c.args.roots.now marks c.in_ok-marks.ensures c.ids_are_unique.ensures k c.marks.invariant (sym at ∙ c.if-not-index.false) c.in-Some.wide (rw c.in-Some.is at c.in_ok-found.ensures)
 
 pub marks-preserved : goal.marks-preserved
 marks-preserved c = up_to c.args.table.now c.in_ok-marks.marks.items c.marks.number c.marks.invariant (λ m. rw c.in_default.is at c.in_ok-found.ensures)

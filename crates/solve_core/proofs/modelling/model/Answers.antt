@@ -20,7 +20,7 @@ use Rattle.search_loop.specs.declared.cdcl.Answer.TheVariants.{Sat}
 use Rattle.search_loop.specs.Rounds.{Shows}
 use Rattle.search_loop.proofs.SearchReady.{held_in}
 use Rattle.search_loop.proofs.SearchShows.{learning_shows}
-use Rattle.solve_core.proofs.SearchModelled.{given, apart, rests, nothing_assumed, has_model}
+use Rattle.solve_core.proofs.SearchModelled.{given, taken, rests, nothing_assumed, has_model}
 use Rattle.solve_core.proofs.modelling.model.Goals as goal
 
 pub model_of-requires-clause-rising : goal.model_of-requires-clause-rising
@@ -73,11 +73,11 @@ returns c =
     let linear = c.terms_of_linear_checks_are_linear.ensures in
     let g = given t differ x v _ h consistent h.agrees.0 ns tell problem s place far linear k.number k.reduced kept in
     let resting = rests t differ x v _ h consistent h.agrees.0 ns tell problem s place far linear k.number k.reduced kept in
-    let functions = apart t differ x v _ h consistent h.agrees.0 ns tell problem s place far linear k.number k.reduced kept in
+    let arguments = taken t differ x v _ h consistent h.agrees.0 ns tell problem s place far linear k.number k.reduced kept in
     let assumed = nothing_assumed t differ x v _ h consistent h.agrees.0 ns tell problem s in (
       has_model t differ x v _ h consistent h.agrees.0 ns tell problem s place far linear k.number k.reduced kept interp good
           (c.made_models_stand.ensures.stands t ls ids ns (map k.number terms) interp declared.names_apart good)
-          (c.made_models_are_those_of_numbers.ensures t ls ids ns k.number interp functions good)
+          (c.made_models_are_those_of_numbers.ensures t ls ids ns k.number interp arguments good)
           (λ i by. c.searches_that_rest_on_numbers_have_models.ensures.interprets t.symbols problem terms held g i resting by)
           (λ i by. c.searches_that_rest_on_numbers_have_models.ensures.all t.symbols problem terms held g i resting by assumed),
       learning_shows t problem x (Sat interp) (λ steps. steps) h.ready.right s,

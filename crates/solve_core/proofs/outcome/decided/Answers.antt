@@ -29,7 +29,7 @@ returns-in-Err-Wide-clause-decided c =
     let p = asserting (clause_at t c.args.roots.now) in
     let limits = c.args.limits.now in
     let found = rw c.in-Err-Wide.field-0-is at (rw c.in-Err-Wide.is at c.begin.ensures.wide) in
-    IfOk-weaker c.strained-in-Err-Wide.result (IsStrainedBy limits c.in-Err-Wide.wide) (IsJustified u p limits) (λ d by. strained_justified u p limits (c.empty_logs_are_right.ensures u) c.in-Err-Wide.wide d by (inr found)) c.strained-in-Err-Wide.ensures
+    IfOk-weaker c.strained-in-Err-Wide.result (IsStrainedBy limits c.in-Err-Wide.wide) (IsJustified u p limits) (λ d by. strained_justified u p limits (c.empty_logs_are_right.ensures u) c.in-Err-Wide.wide d by (inr (rw c.in_default.is at c.in_ok-wide.ensures, found))) c.strained-in-Err-Wide.ensures
 
 pub returns-clause-decided : goal.returns-clause-decided
 returns-clause-decided c =
@@ -40,6 +40,8 @@ returns-clause-decided c =
       log_right = answered.right;
       limits_are = (answered.limits.0 ∙ begun.limits_are.0, answered.limits.1 ∙ begun.limits_are.1);
       within = c.is_within.ensures.exchanges;
+      learned_within = c.is_within.ensures.learned;
+      forms = inl (rw c.in_default.is at c.in_ok-wide.ensures);
       evidence = shown.0;
       learning = shown.1;
     }
