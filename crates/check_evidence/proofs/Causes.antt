@@ -10,9 +10,9 @@ use Rattle.search_loop.specs.Stops.{IsStrained, forming, ordering, reckoning}
 
 -- what a search comes to is an operation that leaves the bound
 abbrev pub AreOverflows : Type 0
-AreOverflows = (p : Problem) (es : List (ℕ × ℕ)) (o : Overflow) → causes.IsStrained p es o → IsOverflow o
+AreOverflows = (p : Problem) (l : ℕ) (es : List (ℕ × ℕ)) (o : Overflow) → causes.IsStrained p l es o → IsOverflow o
 
-pub cause_of : (p : Problem) (es : List (ℕ × ℕ)) (s : Strain) → IsStrained p es s → causes.IsStrained p es (overflow s.wide)
-cause_of p es s (forming none f basis) = causes.forming none f
-cause_of p es s (ordering none o basis) = causes.ordering none o
-cause_of p es s (reckoning x at strains basis) = causes.reckoning x at strains
+pub cause_of : (p : Problem) (l : ℕ) (es : List (ℕ × ℕ)) (s : Strain) → IsStrained p l es s → causes.IsStrained p l es (overflow s.wide)
+cause_of p l es s (forming unlearned none f basis) = causes.forming unlearned none f
+cause_of p l es s (ordering unlearned none o basis) = causes.ordering unlearned none o
+cause_of p l es s (reckoning x runs at few strains basis) = causes.reckoning x runs at few strains

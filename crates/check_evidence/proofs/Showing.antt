@@ -8,7 +8,8 @@ use Rattle.spec_sorts.specs.Signatures.{Signature, symbols_in}
 use Rattle.spec_sorts.specs.Meaning.{value_under}
 use Rattle.spec_commands.specs.Stack.{Assertion, Stack, signature_of, assertions_of, terms_asserted}
 use Rattle.spec_commands.specs.Checks.{IsTrueUnder}
-use Rattle.spec_sessions.specs.Evidence.{Limits, model, spent, strained, out_of_pivots, Justifies}
+use Rattle.spec_causes.specs.Checks.{ArePivotsSpent}
+use Rattle.spec_sessions.specs.Evidence.{Limits, Kept, model, spent, strained, out_of_pivots, IsKeptOf, Justifies}
 use Rattle.term_core.specs.Tables.{TableView, literal_at}
 use Rattle.term_walks.specs.declared.values.Interp.{Interp}
 use Rattle.proof_log.specs.Logs.{derivation_in}
@@ -17,10 +18,11 @@ use Rattle.sat_budget.specs.declared.limits.Reason.TheVariants as reasons
 use Rattle.search_loop.specs.declared.cdcl.Answer.TheVariants.{Sat, Unknown}
 use Rattle.solve_core.specs.declared.outcome.Outcome.{Outcome}
 use Rattle.ratio128.specs.Meant.{overflow}
-use Rattle.search_loop.specs.Rounds.{HasLimits, HasEvidence}
+use Rattle.search_loop.specs.Stops.{IsStrained}
+use Rattle.search_loop.specs.Rounds.{HasEvidence}
 use Rattle.spec_derivations.specs.Examples.{asserting}
 use Rattle.check_evidence.specs.declared.evidence.Evidence.TheVariants as found
-use Rattle.check_evidence.specs.Evidence.{limits_of, check_on, IsShown}
+use Rattle.check_evidence.specs.Evidence.{check_on, kept_of, Decides, IsShown}
 use Rattle.check_evidence.proofs.Causes.{AreOverflows, cause_of}
 
 -- the text has its term's value under an interpretation
@@ -62,13 +64,33 @@ module _ (limits : Limits) (t : TableView) (s : Stack) (symbols : symbols_in (si
         (is, refl, refl),
       )
 
-  pub reason_shown : AreOverflows → (r : Reason) → o.answer ≡ Unknown r → HasLimits (limits_of limits) o.budget → length o.budget.exchanges ≤ o.budget.pivots
-      → HasEvidence t (asserting asked) o.log o.budget (Unknown r) → IsShown limits t s (found.Reason r) o
-  reason_shown overflows (reasons.Conflicts n) is l within h = conflicts_shown n is l.0 h
-  reason_shown overflows (reasons.Overflow x) is l within h =
+  -- what the search keeps
+  abbrev kept : Kept
+  kept = kept_of t (derivation_in t o.log) o.budget
+
+  many : length kept.learned ≡ length o.budget.learned
+  many = length-map o.budget.learned (map (literal_at t))
+
+  kept_within : Decides limits t s o → IsKeptOf limits (check_on s) kept
+  kept_within h = record {
+    exchanges = subst (λ (n : ℕ). length o.budget.exchanges ≤ n) h.limits_are.1 h.within;
+    learned = omega (arith, many, h.learned_within, h.limits_are.0);
+    learns = h.learning.learns;
+  }
+
+  pub reason_shown : AreOverflows → Decides limits t s o → (r : Reason) → o.answer ≡ Unknown r → HasEvidence t (asserting asked) o.log o.budget (Unknown r)
+      → IsShown limits t s (found.Reason r) o
+  reason_shown overflows d (reasons.Conflicts n) is h = conflicts_shown n is d.limits_are.0 h
+  reason_shown overflows d (reasons.Overflow x) is h =
       let es = o.budget.exchanges in
-      let cause = cause_of (asserting asked) es x h in
-      let few = subst (λ (n : ℕ). length es ≤ n) l.1 within in
-      (strained (overflow x.wide) es, (overflows (asserting asked) es (overflow x.wide) cause, few, cause), refl, (x, is, refl, refl))
-  reason_shown overflows (reasons.Pivots n) is l within h =
-      (out_of_pivots n o.budget.exchanges, (h.limit ∙ l.1, h.spent), refl, (is, refl))
+      let p = asserting asked in
+      let cause = cause_of p (length kept.learned) es x (subst (λ (l : ℕ). IsStrained p l es x) (sym many) h) in (
+        strained (overflow x.wide) kept,
+        (overflows p (length kept.learned) es (overflow x.wide) cause, kept_within d, cause),
+        (derivation_in t o.log, refl),
+        (x, is, refl, refl),
+      )
+  reason_shown overflows d (reasons.Pivots n) is h =
+      let es = o.budget.exchanges in
+      let more = subst (λ (l : ℕ). ArePivotsSpent (asserting asked) n l es) (sym many) h.spent in
+      (out_of_pivots n kept, (h.limit ∙ d.limits_are.1, kept_within d, more), (derivation_in t o.log, refl), (is, refl))

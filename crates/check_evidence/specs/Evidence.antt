@@ -9,7 +9,7 @@ use Rattle.spec_derivations.specs.Derivations.{Derivation}
 use Rattle.spec_derivations.specs.Examples.{asserting}
 use Rattle.spec_proof_texts.specs.Lines.{proof_text}
 use Rattle.spec_proof_texts.specs.Plans.{Plan, IsPlan, lines_of}
-use Rattle.spec_sessions.specs.Evidence.{Limits, Found, model, proof, spent, strained, out_of_pivots, Checked, Justifies}
+use Rattle.spec_sessions.specs.Evidence.{Limits, Kept, Found, model, proof, spent, strained, out_of_pivots, Checked, Justifies}
 use Rattle.spec_sessions.specs.Meaning.{IsKeptCheck}
 use Rattle.term_core.specs.Tables.{TableView, literal_at}
 use Rattle.term_walks.specs.declared.values.Interp.{Interp}
@@ -58,6 +58,14 @@ pub record IsHeld (terms : ℕ) (x : Standing) (s : Stack) : Type 0 where
 abbrev pub HoldsSome : ℕ → Standing → Type 0
 HoldsSome terms x = (s : Stack) × IsHeld terms x s
 
+-- what a search keeps, as a table means it, with a derivation of its clauses
+abbrev pub kept_of : TableView → Derivation → BudgetView → Kept
+kept_of t d budget = record {
+  exchanges = budget.exchanges;
+  derivation = d;
+  learned = map (map (literal_at t)) budget.learned;
+}
+
 -- what was found is this, in the words of the definitions
 abbrev pub IsEvidence : TableView → BudgetView → Evidence → Found → Type 0
 IsEvidence t budget (found.Model interp) f =
@@ -66,8 +74,9 @@ IsEvidence t budget (found.Proof log plan) f =
     IsLogOf t log × Fits t log plan × (f ≡ proof (proof_text (lines_of t.terms (derivation_in t log) plan)))
 IsEvidence t budget (found.Reason (reasons.Conflicts n)) f =
     (d : Derivation) × (f ≡ spent n d (map (map (literal_at t)) budget.learned))
-IsEvidence t budget (found.Reason (reasons.Overflow s)) f = f ≡ strained (overflow s.wide) budget.exchanges
-IsEvidence t budget (found.Reason (reasons.Pivots n)) f = f ≡ out_of_pivots n budget.exchanges
+IsEvidence t budget (found.Reason (reasons.Overflow s)) f =
+    (d : Derivation) × (f ≡ strained (overflow s.wide) (kept_of t d budget))
+IsEvidence t budget (found.Reason (reasons.Pivots n)) f = (d : Derivation) × (f ≡ out_of_pivots n (kept_of t d budget))
 
 -- it is evidence of something
 abbrev pub IsSomeEvidence : TableView → Evidence → Type 0
@@ -83,9 +92,11 @@ IsFoundBy t o (proof text) =
 IsFoundBy t o (spent n d learned) =
     (o.answer ≡ Unknown (reasons.Conflicts n)) × (d ≡ derivation_in t o.log)
     × (learned ≡ map (map (literal_at t)) o.budget.learned)
-IsFoundBy t o (strained x es) =
-    (s : Strain) × (o.answer ≡ Unknown (reasons.Overflow s)) × (x ≡ overflow s.wide) × (es ≡ o.budget.exchanges)
-IsFoundBy t o (out_of_pivots n es) = (o.answer ≡ Unknown (reasons.Pivots n)) × (es ≡ o.budget.exchanges)
+IsFoundBy t o (strained x k) =
+    (s : Strain) × (o.answer ≡ Unknown (reasons.Overflow s)) × (x ≡ overflow s.wide)
+    × (k ≡ kept_of t (derivation_in t o.log) o.budget)
+IsFoundBy t o (out_of_pivots n k) =
+    (o.answer ≡ Unknown (reasons.Pivots n)) × (k ≡ kept_of t (derivation_in t o.log) o.budget)
 
 -- it shows what it should of a stack, within limits, and is that of an outcome
 abbrev pub IsShown : Limits → TableView → Stack → Evidence → Outcome → Type 0

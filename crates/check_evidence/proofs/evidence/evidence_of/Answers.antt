@@ -63,5 +63,5 @@ pub returns-in-Unknown-clause-shown : goal.returns-in-Unknown-clause-shown
 returns-in-Unknown-clause-shown c = λ limits s kept readable symbols h.
     let t = c.args.table.now in
     let o = c.args.outcome in
-    reason_shown limits t s symbols o c.causes_are_overflows.ensures.search c.in-Unknown.reason c.in-Unknown.is h.limits_are h.within
+    reason_shown limits t s symbols o c.causes_are_overflows.ensures.search h c.in-Unknown.reason c.in-Unknown.is
     (subst (HasEvidence t (asserting (terms_asserted (assertions_of s))) o.log o.budget) c.in-Unknown.is h.evidence)
