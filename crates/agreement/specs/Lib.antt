@@ -1,0 +1,2 @@
+-- When theories agree on shared terms.
+pub mod Agreeing
