@@ -40,7 +40,7 @@ cause_overflows ts s o (bounding f among u k is w) = quotient_overflows _ _ o w
 cause_overflows ts s o (adding_row f among gs are w) = new_overflows (state_in s) gs o w
 cause_overflows ts s o (checking ranges bounds w) = check_overflows ranges (state_in s) o w
 cause_overflows ts s o (explaining ranges bounds up es conflict w) = reasons_overflow s bounds.literals ranges up es o w
-cause_overflows ts s o (finding ranges bounds within w) = number_overflows ranges (point_in s.values) o w
+cause_overflows ts s o (finding ranges bounds within w) = number_overflows ranges (point_in s.values) [] o w
 cause_overflows ts s o (evaluating ranges bounds within e is w) = value_at_overflows e s o w
 
 among_overflows : (terms : List Term) (o : Overflow) → IsOverflowAmong terms o → IsOverflow o

@@ -1,5 +1,5 @@
 -- What computes numbers of terms comes to the overflow of one operation.
-use Rattle.std.proofs.Common.{ℕ, inl, inr}
+use Rattle.std.proofs.Common.{ℕ, List, inl, inr}
 use Rattle.std.specs.Prelude.{Option, Some, None}
 use Rattle.spec_numbers.specs.Bounds.{Overflow}
 use Rattle.spec_tableaux.specs.Spaces.{Pair}
@@ -8,7 +8,7 @@ use Rattle.spec_tableaux.specs.Numbers.{Number}
 use Rattle.spec_overflows.specs.Overflows.{IsOverflow}
 use Rattle.spec_overflows.proofs.Operations.{difference_overflows, quotient_overflows}
 use Rattle.spec_strains.specs.Points.{Ranges}
-use Rattle.spec_strains.specs.Halves.{StrainsHalf, bases, tilts, quotient, half, StrainsLower, StrainsUpper, StrainsRange, StrainsNumber}
+use Rattle.spec_strains.specs.Halves.{StrainsHalf, bases, tilts, quotient, half, StrainsLower, StrainsUpper, StrainsRange, StrainsNumber, bounds, values}
 use Rattle.spec_causes.specs.Standing.{Standing}
 use Rattle.spec_causes.specs.Causes.{StrainsValueAt}
 use Rattle.spec_causes.proofs.DeltaFaults.{delta_value_overflows}
@@ -31,8 +31,9 @@ range_overflows : (r : Range (Pair Number)) (x : Pair Number) (o : Overflow) →
 range_overflows r x o (inl w) = lower_overflows r.lower x o w
 range_overflows r x o (inr w) = upper_overflows r.upper x o w
 
-pub number_overflows : (ranges : Ranges) (v : ℕ → Pair Number) (o : Overflow) → StrainsNumber ranges v o → IsOverflow o
-number_overflows ranges v o w = range_overflows (ranges w.variable) (v w.variable) o w.strains
+pub number_overflows : (ranges : Ranges) (v : ℕ → Pair Number) (apart : List (Pair Number)) (o : Overflow) → StrainsNumber ranges v apart o → IsOverflow o
+number_overflows ranges v apart o (bounds y w) = range_overflows (ranges y) (v y) o w
+number_overflows ranges v apart o (values w) = half_overflows w.lesser w.greater o w.strains.1
 
 pub value_at_overflows : (e : Number) (s : Standing) (o : Overflow) → StrainsValueAt e s o → IsOverflow o
 value_at_overflows e s o w = delta_value_overflows _ _ o w.leaves

@@ -3,6 +3,7 @@ use Rattle.std.proofs.Common.{◌≡◌, ℕ, Bool, true, false, List, [], ◌�
 use Rattle.std.specs.Prelude.{◌&&◌, ◌||◌, not, cond, Err}
 use Rattle.std.proofs.lemmas.Bool.{false≢true, cases_lt}
 use Rattle.std.proofs.lemmas.List.Elements.{All-contains}
+use Rattle.spec_text.proofs.Members as members
 use Rattle.spec_text.specs.Answers.{◌>>=◌}
 use Rattle.spec_numbers.specs.Fractions.{gcd, plus, times}
 use Rattle.spec_numbers.specs.Bounds.{Overflow, is_small, fits, sum_fits, added, multiplied}
@@ -18,7 +19,8 @@ use Rattle.spec_strains.specs.Deltas.{delta_evaluated}
 use Rattle.spec_strains.specs.Points.{deltas, delta_in, Ranges, BoardState, point_in}
 use Rattle.spec_strains.specs.Strains.{settles, enters, Strains, difference, quotient, move, rows}
 use Rattle.spec_strains.specs.Runs.{SettlesBelow, Ran}
-use Rattle.spec_strains.specs.Halves.{StrainsLower, StrainsUpper, StrainsRange}
+use Rattle.spec_strains.specs.Halves.{StrainsLower, StrainsUpper, StrainsRange, values}
+use Rattle.spec_strains.specs.Halves as halves
 use Rattle.spec_simplex.specs.Constraints.{Constraint, where_true, constraint_by}
 use Rattle.spec_arithmetic.specs.Contradictions.{are_numbers}
 use Rattle.spec_causes.specs.Standing.{Standing, state_in, moved_to}
@@ -186,11 +188,12 @@ module _ (ts : List Term) (silent : AreSilent ts) where
   no_half_below None x e is w = w
   no_half_below (Some b) x e is w = cc
 
-  epsilon_is_one : (ranges : Ranges) → IsOpen ranges → (v : ℕ → Pair Number) (e : Number) → IsEpsilon ranges v e → e ≡ numbers.one
+  epsilon_is_one : (ranges : Ranges) → IsOpen ranges → (v : ℕ → Pair Number) (e : Number) → IsEpsilon ranges v [] e → e ≡ numbers.one
   epsilon_is_one ranges none v e h = elim h.one_of [
     | inl is ↦ is
-    | inr (y, inl half) ↦ absurd (no_half_above (ranges y).lower (v y) e (none y).0 half)
-    | inr (y, inr half) ↦ absurd (no_half_below (ranges y).upper (v y) e (none y).1 half)
+    | inr (inl (y, inl half)) ↦ absurd (no_half_above (ranges y).lower (v y) e (none y).0 half)
+    | inr (inl (y, inr half)) ↦ absurd (no_half_below (ranges y).upper (v y) e (none y).1 half)
+    | inr (inr half) ↦ absurd (members.none half.lesser half.lesser_in)
   ]
 
   -- 0 is 0 where the infinitesimal is 1
@@ -204,8 +207,9 @@ module _ (ts : List Term) (silent : AreSilent ts) where
   nothing_strains s is o (adding_row f among gs are w) = no_form f among
   nothing_strains s is o (causes.checking ranges bounds w) = check_never s is ranges (open_ranges s ranges bounds) o w
   nothing_strains s is o (explaining ranges bounds up gs conflict w) = conflict_never s is ranges (open_ranges s ranges bounds) up gs conflict
-  nothing_strains s is o (finding ranges bounds within w) =
-      find_never ranges (open_ranges s ranges bounds) w.variable (point_in s.values w.variable) o w.strains
+  nothing_strains s is o (finding ranges bounds within (halves.bounds y w)) =
+      find_never ranges (open_ranges s ranges bounds) y (point_in s.values y) o w
+  nothing_strains s is o (finding ranges bounds within (values w)) = members.none w.lesser w.lesser_in
   nothing_strains s is o (evaluating ranges bounds within e half w) =
       let one = epsilon_is_one ranges (open_ranges s ranges bounds) (point_in s.values) e half in
       zero_at_one o (ap (λ (x : Pair Number). delta_evaluated (delta_in x) (numbers.one).fraction) (sym (is.values w.variable))

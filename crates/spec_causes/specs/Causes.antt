@@ -47,11 +47,23 @@ IsHalfBelow (Some b) x e = IsSteeper x b × (e ≡ halfway x b)
 abbrev pub IsHalfIn : Range (Pair Number) → Pair Number → Number → Type 0
 IsHalfIn r x e = IsHalfAbove r.lower x e ⊎ IsHalfBelow r.upper x e
 
--- The number that is put for the infinitesimal: the least of 1 and of each half of a number at which a value comes to a bound of it.
-pub record IsEpsilon (ranges : Ranges) (v : ℕ → Pair Number) (e : Number) : Type 0 where
-  pub one_of : (e ≡ numbers.one) ⊎ ((y : ℕ) × IsHalfIn (ranges y) (v y) e)
+-- e is half of the number at which two of the values xs meet: the lesser has the greater tilt.
+pub record IsHalfAmong (xs : List (Pair Number)) (e : Number) : Type 0 where
+  pub lesser : Pair Number
+  pub lesser_in : Contains xs lesser
+  pub greater : Pair Number
+  pub greater_in : Contains xs greater
+  pub less : deltas.less lesser greater ≡ true
+  pub steep : IsSteeper lesser greater
+  pub is : e ≡ halfway lesser greater
+
+-- The number that is put for the infinitesimal: the least of 1 and of some halves. Each is half of a number at which a value comes to a
+-- bound of it, or at which two values meet that are kept apart.
+pub record IsEpsilon (ranges : Ranges) (v : ℕ → Pair Number) (apart : List (Pair Number)) (e : Number) : Type 0 where
+  pub one_of : (e ≡ numbers.one) ⊎ ((y : ℕ) × IsHalfIn (ranges y) (v y) e) ⊎ IsHalfAmong apart e
   pub most_one : is_less numbers.one e ≡ false
   pub most_each : (y : ℕ) (h : Number) → IsHalfIn (ranges y) (v y) h → is_less h e ≡ false
+  pub most_apart : (h : Number) → IsHalfAmong apart h → is_less h e ≡ false
 
 -- the values keep the bounds of each variable
 abbrev pub AreWithin : Ranges → (ℕ → Pair Number) → Type 0
@@ -79,12 +91,12 @@ pub data StrainsAt (ts : List Term) (s : Standing) (o : Overflow) : Type 0 where
   -- the reasons for a conflict
   explaining : (ranges : Ranges) → (bounds : AreBounds ts s ranges) → (up : Bool) (es : List (Entry Number))
       → Conflicts ranges (state_in s) up es → StrainsReasons s bounds.literals ranges up es o → StrainsAt ts s o
-  -- a number for the infinitesimal
+  -- a number for the infinitesimal; no values are kept apart, as theories share no terms
   finding : (ranges : Ranges) → AreBounds ts s ranges → AreWithin ranges (point_in s.values)
-      → StrainsNumber ranges (point_in s.values) o → StrainsAt ts s o
+      → StrainsNumber ranges (point_in s.values) [] o → StrainsAt ts s o
   -- a value where the infinitesimal is such a number
   evaluating : (ranges : Ranges) → AreBounds ts s ranges → AreWithin ranges (point_in s.values)
-      → (e : Number) → IsEpsilon ranges (point_in s.values) e → StrainsValueAt e s o → StrainsAt ts s o
+      → (e : Number) → IsEpsilon ranges (point_in s.values) [] e → StrainsValueAt e s o → StrainsAt ts s o
 
 -- Under some bounds that literals state simplex needs a further exchange over terms where it stands.
 pub record NeedsMore (ts : List Term) (s : Standing) : Type 0 where

@@ -1,12 +1,12 @@
 -- Numbers in the place of the infinitesimal, and the operations by which they can leave the bound on fractions.
 -- Source: Dutertre and de Moura, A Fast Linear-Arithmetic Solver for DPLL(T), CAV 2006.
-use Rattle.std.specs.Prelude.{◌≡◌, ℕ, Bool, true, Option, Some, None, ◌⊎◌}
+use Rattle.std.specs.Prelude.{◌≡◌, ℕ, Bool, true, List, Option, Some, None, ◌⊎◌, Contains}
 use Rattle.spec_numbers.specs.Bounds.{Overflow, subtracted, divided}
 use Rattle.spec_tableaux.specs.Spaces.{Pair, as_space}
 use Rattle.spec_tableaux.specs.Ranges.{Range}
 use Rattle.spec_tableaux.specs.Numbers.{Number, numbers}
 use Rattle.spec_tableaux.specs.Strains.{Overflows}
-use Rattle.spec_strains.specs.Points.{Ranges}
+use Rattle.spec_strains.specs.Points.{deltas, Ranges}
 
 -- a number is less than another
 abbrev pub is_less : Number → Number → Bool
@@ -69,8 +69,18 @@ StrainsUpper (Some b) x o = StrainsOrder x b o
 abbrev pub StrainsRange : Range (Pair Number) → Pair Number → Overflow → Type 0
 StrainsRange r x o = StrainsLower r.lower x o ⊎ StrainsUpper r.upper x o
 
--- A number for the values v and the bounds of all variables comes to the overflow o.
-pub record StrainsNumber (ranges : Ranges) (v : ℕ → Pair Number) (o : Overflow) : Type 0 where
-  -- by the bounds of this variable
-  pub variable : ℕ
-  pub strains : StrainsRange (ranges variable) (v variable) o
+-- Two of the values xs come to the overflow o: the lesser has the greater tilt.
+pub record StrainsApart (xs : List (Pair Number)) (o : Overflow) : Type 0 where
+  pub lesser : Pair Number
+  pub lesser_in : Contains xs lesser
+  pub greater : Pair Number
+  pub greater_in : Contains xs greater
+  pub less : deltas.less lesser greater ≡ true
+  pub strains : StrainsOrder lesser greater o
+
+-- A number for the values v, the bounds of all variables, and values that are kept apart comes to the overflow o.
+pub data StrainsNumber (ranges : Ranges) (v : ℕ → Pair Number) (apart : List (Pair Number)) (o : Overflow) : Type 0 where
+  -- by the bounds of a variable
+  bounds : (y : ℕ) → StrainsRange (ranges y) (v y) o → StrainsNumber ranges v apart o
+  -- by two of the values that are kept apart
+  values : StrainsApart apart o → StrainsNumber ranges v apart o
