@@ -1,13 +1,15 @@
 -- Which number is put for the infinitesimal.
-use Rattle.std.proofs.Common.{◌≡◌, ℕ, ◌⊎◌, inl, inr, Result, Ok, Err, IfOk, sym, ◌∙◌, ap, subst}
+use Rattle.std.proofs.Common.{◌≡◌, ℕ, ◌⊎◌, inl, inr, List, [], Result, Ok, Err, IfOk, IfErr, sym, ◌∙◌, ap, subst}
+use Rattle.spec_text.proofs.Members.{none as no_member}
 use Rattle.spec_tableaux.specs.Spaces.{Pair}
 use Rattle.spec_tableaux.specs.Ranges.{Range}
 use Rattle.spec_tableaux.specs.Numbers.{Number, numbers}
 use Rattle.spec_strains.specs.Points.{Ranges}
-use Rattle.spec_strains.specs.Halves.{IsSteeper, halfway}
-use Rattle.spec_causes.specs.Causes.{IsHalfAbove, IsHalfBelow, IsHalfIn}
+use Rattle.spec_strains.specs.Halves.{IsSteeper, halfway, StrainsApart, StrainsNumber, values}
+use Rattle.spec_causes.specs.Causes.{IsHalfAbove, IsHalfBelow, IsHalfIn, IsHalfAmong, IsEpsilon}
 use Rattle.ratio128.specs.declared.ratio.Ratio.{Ratio}
 use Rattle.ratio128.specs.declared.wide.Wide.{Wide}
+use Rattle.ratio128.specs.Meant.{overflow}
 use Rattle.tableau.specs.Numbers.{number_of}
 use Rattle.simplex_numbers.specs.Values.{IsSmaller, IsAboveNone}
 use Rattle.simplex_numbers.proofs.Orders.{not_above}
@@ -46,3 +48,28 @@ none_in (Ok c) d range x above small below = λ h half. elim half [
   | inl it ↦ none_smaller (IsHalfAbove range.lower x) d (number_of c) small above h it
   | inr it ↦ below h it
 ]
+
+-- a last step for values that are kept apart gives the number for these too
+pub epsilon_after : (r : Result Ratio Wide) (e : Ratio) (ranges : Ranges) (v : ℕ → Pair Number) (apart : List (Pair Number)) → IsEpsilon ranges v [] (number_of e)
+    → IfOk r (λ d. IsSmaller (number_of d) (number_of e)) → IfOk r (λ d. (d ≡ e) ⊎ IsHalfAmong apart (number_of d))
+    → IfOk r (λ d. IsAboveNone (IsHalfAmong apart) (number_of d)) → IfOk r (λ d. IsEpsilon ranges v apart (number_of d))
+epsilon_after (Err w) e ranges v apart before small is least = tt
+epsilon_after (Ok d) e ranges v apart before small is least = record {
+  one_of = one_of is before.one_of;
+  most_one = not_above numbers.one (number_of e) (number_of d) before.most_one small.1;
+  most_each = λ y. none_smaller (IsHalfIn (ranges y) (v y)) (number_of e) (number_of d) small (before.most_each y);
+  most_apart = least;
+}
+  where
+    one_of : (d ≡ e) ⊎ IsHalfAmong apart (number_of d) → (number_of e ≡ numbers.one) ⊎ ((y : ℕ) × IsHalfIn (ranges y) (v y) (number_of e)) ⊎ IsHalfAmong [] (number_of e)
+        → (number_of d ≡ numbers.one) ⊎ ((y : ℕ) × IsHalfIn (ranges y) (v y) (number_of d)) ⊎ IsHalfAmong apart (number_of d)
+    one_of (inr half) h = inr (inr half)
+    one_of (inl same) (inl is) = inl (ap number_of same ∙ is)
+    one_of (inl same) (inr (inl half)) = inr (inl (half.0, subst (λ (b : Ratio). IsHalfIn (ranges half.0) (v half.0) (number_of b)) (sym same) half.1))
+    one_of (inl same) (inr (inr half)) = absurd (no_member half.lesser half.lesser_in)
+
+-- it fails by two of these
+pub strains_after : (r : Result Ratio Wide) (ranges : Ranges) (v : ℕ → Pair Number) (apart : List (Pair Number)) → IfErr r (λ w. StrainsApart apart (overflow w))
+    → IfErr r (λ w. StrainsNumber ranges v apart (overflow w))
+strains_after (Ok d) ranges v apart h = tt
+strains_after (Err w) ranges v apart h = values h

@@ -1,7 +1,8 @@
 -- A number that serves the variables that are there serves all.
-use Rattle.std.proofs.Common.{◌≡◌, ◌⊎◌, ◌+◌, ◌<◌, ◌≤◌, ℕ, false, inl, inr, List, All, Option, Some, None, refl, sym, subst, arith}
+use Rattle.std.proofs.Common.{◌≡◌, ◌⊎◌, ◌+◌, ◌<◌, ◌≤◌, ℕ, false, inl, inr, List, [], All, Option, Some, None, refl, sym, subst, arith}
 use Rattle.std.proofs.lemmas.Bool.{cases_lt}
 use Rattle.std.proofs.lemmas.List.Elements.{All-contains}
+use Rattle.spec_text.proofs.Members.{none as no_member}
 use Rattle.spec_tableaux.specs.Spaces.{Pair}
 use Rattle.spec_tableaux.specs.Ranges.{Range}
 use Rattle.spec_tableaux.specs.Numbers.{Number, numbers}
@@ -62,9 +63,10 @@ module _ (held : List Bound) (v : ℕ → Pair Number) where
       of_one_more (λ q z. IsAboveNone (IsHalfIn q z) e) (λ q z. IsAboveNone (IsHalfIn q z) d) (λ q z. none_smaller (IsHalfIn q z) e d small) n r x h
 
   pub epsilon_of_all : (e : Number) (n : ℕ) → All (λ (b : Bound). b.variable < n) held → (e ≡ numbers.one) ⊎ ((y : ℕ) × IsHalfIn (ranges_in held y) (v y) e) → is_less numbers.one e ≡ false
-      → ((y : ℕ) → y < n → IsAboveNone (IsHalfIn (ranges_in held y) (v y)) e) → IsEpsilon (ranges_in held) v e
+      → ((y : ℕ) → y < n → IsAboveNone (IsHalfIn (ranges_in held y) (v y)) e) → IsEpsilon (ranges_in held) v [] e
   epsilon_of_all e n there one_of most_one most_each = record {
-    one_of = one_of;
+    one_of = elim one_of [ inl is ↦ inl is | inr half ↦ inr (inl half) ];
     most_one = most_one;
     most_each = of_all (λ q z. IsAboveNone (IsHalfIn q z) e) (λ x h half. elim half [ inl n ↦ absurd n | inr n ↦ absurd n ]) n there most_each;
+    most_apart = λ h half. absurd (no_member half.lesser half.lesser_in);
   }

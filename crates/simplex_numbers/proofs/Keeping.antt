@@ -1,5 +1,5 @@
 -- Values that keep bounds as pairs keep them at a number at which what is off a bound stays off it.
-use Rattle.std.proofs.Common.{◌≡◌, Bool, true, false, not, ◌||◌, Option, Some, None, Result, Ok, Err, IfOk, refl, ◌∙◌, ap}
+use Rattle.std.proofs.Common.{◌≡◌, ℕ, Bool, true, false, not, ◌||◌, Option, Some, None, Result, Ok, Err, IfOk, refl, ◌∙◌, ap}
 use Rattle.spec_tableaux.specs.Spaces.{Pair, as_space}
 use Rattle.spec_tableaux.specs.Ranges.{Range, below, above}
 use Rattle.spec_tableaux.specs.Numbers.{Number, numbers}
@@ -8,14 +8,14 @@ use Rattle.spec_tableaux.proofs.OrderedSpaces.{field_is_ordered, pairs_are_order
 use Rattle.ratio128.specs.declared.ratio.Ratio.{Ratio}
 use Rattle.ratio128.specs.declared.wide.Wide.{Wide}
 use Rattle.tableau.specs.Numbers.{number_of}
-use Rattle.spec_strains.specs.Points.{deltas}
+use Rattle.spec_strains.specs.Points.{deltas, Ranges}
 use Rattle.simplex_check.specs.Moves.{keeps}
-use Rattle.simplex_numbers.specs.Values.{bound_at, range_at, IsSmaller, StaysLess, StaysAbove, StaysBelow, StaysOff}
+use Rattle.simplex_numbers.specs.Values.{bound_at, range_at, IsSmaller, StaysLess, StaysAbove, StaysBelow, StaysOff, KeepsAt}
 use Rattle.spec_strains.specs.Halves.{at_number, is_less}
 use Rattle.simplex_numbers.proofs.Orders.{less_stays, smaller_smaller, asymmetric}
 
 -- what is not greater is not so at the number
-not_greater : (e : Number) (x y : Pair Number) → deltas.less y x ≡ false → StaysLess e x y → is_less (at_number e y) (at_number e x) ≡ false
+pub not_greater : (e : Number) (x y : Pair Number) → deltas.less y x ≡ false → StaysLess e x y → is_less (at_number e y) (at_number e x) ≡ false
 not_greater e x y h stays = by (deltas.less x y) refl
   where
     by : (q : Bool) → deltas.less x y ≡ q → is_less (at_number e y) (at_number e x) ≡ false
@@ -38,7 +38,7 @@ kept_sides true q h = absurd (cc)
 kept_sides false true h = absurd (cc)
 kept_sides false false h = (refl, refl)
 
-pub range_kept : (e : Number) (r : Range (Pair Number)) (x : Pair Number) → keeps r x ≡ true → StaysOff e r x
+range_kept : (e : Number) (r : Range (Pair Number)) (x : Pair Number) → keeps r x ≡ true → StaysOff e r x
     → not (below (as_space numbers) (at_number e x) (range_at e r).lower || above (as_space numbers) (at_number e x) (range_at e r).upper) ≡ true
 range_kept e r x h off =
     let sides = kept_sides (below deltas x r.lower) (above deltas x r.upper) h in
@@ -65,3 +65,15 @@ pub off_both : (r : Result Ratio Wide) (d : Number) (range : Range (Pair Number)
     → IfOk r (λ c. StaysBelow (number_of c) range.upper x) → IfOk r (λ c. StaysOff (number_of c) range x)
 off_both (Ok c) d range x above second below = (above_smaller d (number_of c) range.lower x second above, below)
 off_both (Err w) d range x above second below = tt
+
+-- a last step keeps what is off all bounds off them, and within them
+module _ (ranges : Ranges) (v : ℕ → Pair Number) where
+  pub off_after : (r : Result Ratio Wide) (e : Number) → ((y : ℕ) → StaysOff e (ranges y) (v y)) → IfOk r (λ d. IsSmaller (number_of d) e)
+      → IfOk r (λ d. (y : ℕ) → StaysOff (number_of d) (ranges y) (v y))
+  off_after (Ok d) e off small = λ y. off_smaller e (number_of d) (ranges y) (v y) small (off y)
+  off_after (Err w) e off small = tt
+
+  pub kept_after : (r : Result Ratio Wide) → ((y : ℕ) → keeps (ranges y) (v y) ≡ true) → IfOk r (λ d. (y : ℕ) → StaysOff (number_of d) (ranges y) (v y))
+      → IfOk r (λ d. KeepsAt (number_of d) ranges v)
+  kept_after (Ok d) within off = λ y. range_kept (number_of d) (ranges y) (v y) (within y) (off y)
+  kept_after (Err w) within off = tt

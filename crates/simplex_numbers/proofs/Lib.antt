@@ -10,3 +10,4 @@ pub mod Holding
 pub mod Sides
 pub mod Compared
 pub mod Epsilons
+pub mod Neighbours

@@ -30,6 +30,18 @@ positive_factor k a p =
     ap numbers.is_negative (ap numbers.opposite (l.product_commutative k a) ∙ sym (opposite_product numbers l a k) ∙ l.product_commutative (numbers.opposite a) k)
     ∙ product_sign numbers l k (numbers.opposite a) p
 
+-- 2 is above 0, and so is twice a number above 0
+pub two_not_zero : numbers.is_zero two ≡ false
+unfolding numbers fractions plus gcd
+two_not_zero = refl
+
+two_positive : is_positive numbers two ≡ true
+unfolding numbers fractions plus opposite gcd
+two_positive = refl
+
+pub double_positive : (e : Number) → is_positive numbers e ≡ true → is_positive numbers (numbers.times two e) ≡ true
+double_positive e p = positive_factor two e two_positive ∙ p
+
 -- what is not above 0, times a number above 0, is not above what is
 below_positive : (k e d : Number) → is_positive numbers e ≡ true → numbers.is_negative (numbers.opposite k) ≡ false → is_positive numbers d ≡ true
     → is_less (numbers.times k e) d ≡ true
@@ -122,6 +134,25 @@ module _ (x y : Pair Number) where
         (l.product_commutative (steepness x y) (meeting x y) ∙ l.product_associative (gap x y) (numbers.inverse (steepness x y)) (steepness x y)
         ∙ ap (numbers.times (gap x y)) (l.product_inverse (steepness x y) rises_not_zero) ∙ l.product_commutative (gap x y) numbers.one ∙ l.product_one (gap x y))
 
+    -- the steepness times twice the half is the gap
+    whole_gap : numbers.times (steepness x y) (numbers.times two (halfway x y)) ≡ gap x y
+    whole_gap =
+        sym (l.product_associative (steepness x y) two (halfway x y)) ∙ ap (λ (n : Number). numbers.times n (halfway x y)) (l.product_commutative (steepness x y) two)
+        ∙ l.product_associative two (steepness x y) (halfway x y) ∙ ap (numbers.times two) (half_gap ∙ l.product_commutative (gap x y) (numbers.inverse two))
+        ∙ sym (l.product_associative two (numbers.inverse two) (gap x y))
+        ∙ ap (λ (n : Number). numbers.times n (gap x y)) (l.product_commutative two (numbers.inverse two) ∙ l.product_inverse two two_not_zero) ∙ l.product_one (gap x y)
+
+    -- twice a number is beyond the one at which they meet where the number is above the half of that
+    pub at_double : (e : Number) → is_less (at_number (numbers.times two e) y) (at_number (numbers.times two e) x) ≡ is_less (halfway x y) e
+    at_double e =
+        let d = numbers.times two e in
+        ap numbers.is_negative (sym (difference_opposite numbers l (at_number d x) (at_number d y)) ∙ ap numbers.opposite (at_difference d x y)
+        ∙ difference_opposite numbers l (numbers.times (steepness x y) d) (gap x y))
+        ∙ ap (λ (n : Number). is_less n (numbers.times (steepness x y) d)) (sym whole_gap)
+        ∙ o.less_scale (steepness x y) (numbers.times two (halfway x y)) d rises_not_zero
+        ∙ ap (λ q. cond q (is_less (numbers.times two (halfway x y)) d) (is_less d (numbers.times two (halfway x y)))) rises
+        ∙ o.less_scale two (halfway x y) e two_not_zero ∙ ap (λ q. cond q (is_less (halfway x y) e) (is_less e (halfway x y))) two_positive
+
     half_positive : is_positive numbers (numbers.inverse two) ≡ true
     unfolding numbers fractions plus times opposite inverse gcd
     half_positive = refl
@@ -170,10 +201,6 @@ steep_less x y steep h = by ((pairs numbers).less x y) refl
     by false e =
         let same : x ≡ y = (pairs_are_ordered numbers l).less_total x y e h in
         absurd (true≢false (sym steep ∙ ap (λ (z : Pair Number). is_less y.tilt z.tilt) same ∙ irreflexive y.tilt))
-
-pub two_not_zero : numbers.is_zero two ≡ false
-unfolding numbers fractions plus gcd
-two_not_zero = refl
 
 -- what is not above a number is not above one that this is not above
 pub not_above : (e d c : Number) → is_less e d ≡ false → is_less d c ≡ false → is_less e c ≡ false

@@ -1,15 +1,17 @@
 -- Numbers in the place of the infinitesimal, and what pairs and ranges of them come to.
 -- Source: Dutertre and de Moura, A Fast Linear-Arithmetic Solver for DPLL(T), CAV 2006.
-use Rattle.std.specs.Prelude.{◌≡◌, ℕ, true, false, map, Option, Some, None}
+use Rattle.std.specs.Prelude.{◌≡◌, ◌≢◌, ℕ, Bool, true, false, List, map, Option, Some, None, Contains}
+use Rattle.delta_num.specs.declared.delta.Delta.{Delta}
 use Rattle.spec_tableaux.specs.Fields.{is_positive}
 use Rattle.spec_tableaux.specs.Spaces.{Pair, as_space}
 use Rattle.spec_tableaux.specs.Ranges.{Range, is_within}
 use Rattle.spec_tableaux.specs.Numbers.{Number, numbers}
 use Rattle.simplex_bounds.specs.declared.bounds.Side.{Side}
 use Rattle.simplex_bounds.specs.declared.bounds.Side.TheVariants.{Lower, Upper}
+use Rattle.simplex_bounds.specs.Deltas.{pair_of}
 use Rattle.spec_strains.specs.Points.{deltas, Ranges}
 use Rattle.simplex_check.specs.Boards.{BoardView}
-use Rattle.spec_strains.specs.Halves.{is_less, at_number}
+use Rattle.spec_strains.specs.Halves.{is_less, at_number, IsSteeper, halfway}
 
 -- d is above 0, and not greater than e
 abbrev pub IsSmaller : Number → Number → Type 0
@@ -49,6 +51,18 @@ StaysBelow e (Some b) x = StaysLess e x b
 -- a value that is off a bound of its range is so where the infinitesimal is e
 abbrev pub StaysOff : Number → Range (Pair Number) → Pair Number → Type 0
 StaysOff e r x = StaysAbove e r.lower x × StaysBelow e r.upper x
+
+-- the order of values of the code
+abbrev pub by_value : Delta → Delta → Bool
+by_value x y = deltas.less (pair_of x) (pair_of y)
+
+-- d is not above half of the number at which x comes to y, where the tilt of x is above that of y
+abbrev pub IsClear : Number → Pair Number → Pair Number → Type 0
+IsClear d x y = IsSteeper x y → is_less (halfway x y) d ≡ false
+
+-- no two of the values xs, if they differ, are one number where the infinitesimal is e
+abbrev pub KeepsApart : Number → List (Pair Number) → Type 0
+KeepsApart e xs = (x y : Pair Number) → Contains xs x → Contains xs y → x ≢ y → at_number e x ≢ at_number e y
 
 -- a number as a pair without an infinitesimal part
 abbrev pub flat : Number → Pair Number

@@ -41,7 +41,7 @@ fn lesser(a: Ratio, b: Ratio) -> Ratio
 ///
 /// Where the tilt of x is not above that of y this is e. Else it is e or half of the number at which x comes to y, the lesser
 /// of them. The error is the `Wide` of an operation that computes this half.
-fn narrowed(e: Ratio, x: Delta, y: Delta) -> Result<Ratio, Wide>
+pub(crate) fn narrowed(e: Ratio, x: Delta, y: Delta) -> Result<Ratio, Wide>
     requires positive { is_positive numbers (number_of e) ≡ true }
     requires order { deltas.less (pair_of y) (pair_of x) ≡ false }
     ensures smaller { IfOk result (λ d. IsSmaller (number_of d) (number_of e)) }

@@ -1,4 +1,4 @@
-//! Small boards by hand: numbers at which values keep strict bounds. The variables are x0, x1 and x2, which is x0 - x1.
+//! Small boards by hand: numbers at which values keep strict bounds, or are kept apart. The variables are x0, x1 and x2, which is x0 - x1.
 
 use crate::{small_number, value_at};
 use delta_num::Delta;
@@ -60,26 +60,29 @@ fn bounds_of(alloc: Global, list: &[(u64, Side, Ratio, i64)]) -> Result<Bounds, 
     Ok(bounds)
 }
 
-/// Checks a board, and gives a number for its values where the check finds nothing wrong.
+/// Checks a board, and gives a number for its values, and for those that are kept apart, where the check finds nothing wrong.
 fn small_of(
     board: &mut Board,
     bounds: &Bounds,
     budget: &mut Budget,
+    apart: &mut [Delta],
 ) -> Option<Result<Ratio, Wide>> {
     checked_values_keep_bounds();
     if bounds.variables() > board.tableau().variables_len() {
         return None;
     }
     match board.check(bounds, budget) {
-        Ok(Outcome::Fine) => Some(small_number(bounds, board)),
+        Ok(Outcome::Fine) => Some(small_number(bounds, board, apart)),
         _ => None,
     }
 }
 
-/// Gives the number for bounds, with the values of x0 and x1 there, or 0 for these where there is no number.
+/// Gives the number for bounds and for values that are kept apart, with the values of x0 and x1 there, or 0 for these where
+/// there is no number.
 fn numbers_of(
     alloc: Global,
     list: &[(u64, Side, Ratio, i64)],
+    apart: &mut [Delta],
 ) -> Option<(Result<Ratio, Wide>, Ratio, Ratio)> {
     let mut board = board_of(alloc).ok()?;
     let bounds = bounds_of(alloc, list).ok()?;
@@ -89,7 +92,7 @@ fn numbers_of(
         terms: 0,
     };
     let mut budget = Budget::new(alloc, &limits).ok()?;
-    let small = small_of(&mut board, &bounds, &mut budget)?;
+    let small = small_of(&mut board, &bounds, &mut budget, apart)?;
     let e = small.unwrap_or(Ratio::of(0, 1));
     let first = value_at(board.value(0), e).ok()?;
     let second = value_at(board.value(1), e).ok()?;
@@ -106,7 +109,7 @@ fn strict_bounds_are_kept_by_numbers(rt: HostRuntime) -> Result<(), Fail> {
     ];
     let sixth = Ratio::of(1, 6);
     assert_eq!(rt;
-        numbers_of(rt.alloc(), &strict),
+        numbers_of(rt.alloc(), &strict, &mut []),
         Some((Ok(sixth), sixth, Ratio::of(1, 3)))
     );
     // 3 <= x0, x1 <= -1
@@ -116,7 +119,7 @@ fn strict_bounds_are_kept_by_numbers(rt: HostRuntime) -> Result<(), Fail> {
     ];
     let one = Ratio::of(1, 1);
     assert_eq!(rt;
-        numbers_of(rt.alloc(), &level),
+        numbers_of(rt.alloc(), &level, &mut []),
         Some((Ok(one), Ratio::of(3, 1), Ratio::of(-1, 1)))
     );
     Ok(())
@@ -134,8 +137,27 @@ fn close_bounds_leave_128_bits(rt: HostRuntime) -> Result<(), Fail> {
     };
     let zero = Ratio::of(0, 1);
     assert_eq!(rt;
-        numbers_of(rt.alloc(), &close),
+        numbers_of(rt.alloc(), &close, &mut []),
         Some((Err(wide), low, zero))
+    );
+    Ok(())
+}
+
+#[test]
+fn values_that_differ_are_kept_apart(rt: HostRuntime) -> Result<(), Fail> {
+    let zero = Ratio::of(0, 1);
+    let one = Ratio::of(1, 1);
+    // 1 and 1 + epsilon are apart at each number above 0
+    let mut level = [pair(one, 1), pair(one, 0)];
+    assert_eq!(rt;
+        numbers_of(rt.alloc(), &[], &mut level),
+        Some((Ok(one), zero, zero))
+    );
+    // 2 epsilon and 1 meet at 1/2, epsilon and 1 at 1
+    let mut steep = [pair(one, 0), pair(zero, 1), pair(one, 0), pair(zero, 2)];
+    assert_eq!(rt;
+        numbers_of(rt.alloc(), &[], &mut steep),
+        Some((Ok(Ratio::of(1, 4)), zero, zero))
     );
     Ok(())
 }
