@@ -55,7 +55,7 @@ impl Simplex {
         self.literals.are_of_watched_terms();
         self.board.tableau().rows_are_in_solved_form();
         table.ids_are_unique();
-        let small = match small_number(&self.bounds, &self.board) {
+        let small = match small_number(&self.bounds, &self.board, &mut []) {
             Ok(small) => small,
             Err(wide) => return Err(self.stop_of(wide)),
         };
