@@ -85,18 +85,35 @@ fn answer_classes(search: &mut Search, table: &mut TermTable) -> Result<Answer, 
     logs_stand_in_grown_tables();
     let truths = truth_values(search.alloc, table)?;
     let mut theory = Congruence::new(search.alloc, table, truths)?;
+    search_classes(search, table, &mut theory)
+}
+
+/// Searches with the theory of equality and functions, which holds and watches nothing yet, where no term is a number.
+fn search_classes(
+    search: &mut Search,
+    table: &mut TermTable,
+    theory: &mut Congruence,
+) -> Result<Answer, NoMemory>
+    requires begins { (p : Problem) × (limits : Limits) × Begins table.old p limits search.old }
+    requires plain { (u : Term) → Contains (clause_at table.old search.old.terms.items) u → sort_of u ≢ Number }
+    requires empty { theory_of theory.old ≡ record { held = []; watched = []; marks = [] } }
+    requires with { AreOf table.old theory.old.now.facts }
+    ensures grown { Extends table.old table.new }
+    ensures declared { declared_in table.new ≡ declared_in table.old }
+    ensures answered { IfOk result (IsAnswered (state table.old search.old) (state table.new search.new)) }
+{
     // This theory stops for memory alone, as it computes with no numbers.
-    let Ok(()) = watch_all(&mut theory, table, &search.terms) else {
+    let Ok(()) = watch_all(theory, table, &search.terms) else {
         return Err(NoMemory);
     };
     // So it does in a check.
-    let Ok(end) = search.run(table, &mut theory) else {
+    let Ok(end) = search.run(table, theory) else {
         return Err(NoMemory);
     };
     match end {
         End::Rests => {
             let numbers = zeros(search.alloc, search.terms.len())?;
-            let model = model(search, table, &theory, &numbers)?;
+            let model = model(search, table, theory, &numbers)?;
             Ok(Answer::Sat(model))
         }
         End::Refuted(step) => Ok(Answer::Unsat(step)),

@@ -1,0 +1,55 @@
+-- From the beginning to an answer, with the theory of equality and functions.
+use Rattle.std.proofs.Common.{◌≡◌, ◌≢◌, length, map, Contains, ap, ap₂, ◌∙◌, refl, arith}
+use Rattle.std.specs.Prelude.{replicate}
+use Rattle.spec_numbers.specs.Fractions.{zero_fraction}
+use Rattle.spec_tableaux.specs.Numbers.{numbers}
+use Rattle.spec_sorts.specs.Terms.{Number, Term, sort_of}
+use Rattle.ratio128.specs.Meant.{fraction}
+use Rattle.term_core.specs.Tables.{clause_at}
+use Rattle.term_core.proofs.TermsExtend.{Extends-self}
+use Rattle.congruence.specs.Views.{theory_of}
+use Rattle.search_loop.specs.declared.cdcl.Answer.TheVariants.{Sat}
+use Rattle.search_loop.proofs.SearchRounds.{shows_on}
+use Rattle.solve_core.proofs.SearchNumbers.{plain_later, zeros_hold}
+use Rattle.solve_core.proofs.answering.search_classes.Goals as goal
+
+pub returns-in_default-clause-grown : goal.returns-in_default-clause-grown
+returns-in_default-clause-grown c = Extends-self c.args.table.now
+
+zero_is : numbers.zero.fraction ≡ zero_fraction
+unfolding numbers
+zero_is = refl
+
+-- 0 for each term, as none is a number
+pub model-requires-clause-numbers : goal.model-requires-clause-numbers
+model-requires-clause-numbers c =
+    let w = c.run.new.table in
+    let y = c.run.new.self in
+    let t = c.args.table.now in
+    let x = c.args.search.now in
+    let v = theory_of c.run.new.theory in
+    let ends = rw c.in-Rests.is at (rw c.in-Ok-run.is at c.run.ensures.ends) in
+    let plain : (u : Term) → Contains (clause_at w y.terms.items) u → sort_of u ≢ Number =
+    plain_later t w c.run.ensures.grown x y c.requires.begins.2.ready ends.1.terms c.requires.plain in
+    let all : c.len.result ≡ length y.terms.items = omega (arith, c.len.ensures, y.terms.ok.0) in
+    zeros_hold w y v _ ends.0 plain _ (ap (map fraction) c.deref-in-Rests.ensures.value ∙ c.in_ok-numbers-in-Rests.ensures ∙ ap₂ replicate all zero_is)
+
+pub returns-in_ok-model-in-Rests-clause-answered : goal.returns-in_ok-model-in-Rests-clause-answered
+returns-in_ok-model-in-Rests-clause-answered c =
+    let t = c.args.table.now in
+    let w = c.run.new.table in
+    let x = c.args.search.now in
+    let y = c.run.new.self in
+    let ends = rw c.in-Rests.is at (rw c.in-Ok-run.is at c.run.ensures.ends) in
+    record {
+      right = rw c.in-Ok-run.is at c.run.ensures.right;
+      limits = rw c.in-Ok-run.is at c.run.ensures.limits;
+      shows = shows_on t w w x y y (Sat c.in_ok-model-in-Rests.model) ends.1 c.in_ok-model-in-Rests.ensures;
+    }
+
+pub returns-in-Refuted-clause-answered : goal.returns-in-Refuted-clause-answered
+returns-in-Refuted-clause-answered c = record {
+  right = rw c.in-Ok-run.is at c.run.ensures.right;
+  limits = rw c.in-Ok-run.is at c.run.ensures.limits;
+  shows = rw c.in-Refuted.is at (rw c.in-Ok-run.is at c.run.ensures.ends);
+}
