@@ -162,10 +162,10 @@ def judge_certify(script, output, status, limits=NONE, is_foretold=True):
             if is_check and not is_foretold:
                 answer.is_satisfiable = None
             line = line_at(script, answer, output, at, limits)
-            start, at = at, at + len(line)
+            at += len(line)
             if is_check:
                 number += 1
-                at = evidence_end(answer, line, output, at, limits)
+                start, at = at, evidence_end(answer, line, output, at, limits)
                 proofs += [(number, output[start:at])] if line == b"unsat\n" else []
         require_end(output, at, status, wanted_status)
     except Wrong as wrong:
