@@ -6,6 +6,8 @@ mod chance_tests;
 #[cfg(test)]
 mod members;
 #[cfg(test)]
+mod neighbour_tests;
+#[cfg(test)]
 mod over;
 #[cfg(test)]
 mod printed;

@@ -1,0 +1,2 @@
+-- A theory that is asked of two literals.
+mod Asked

@@ -1,0 +1,14 @@
+//! Clauses between neighbouring bounds: which pairs of atoms they are of, and their lemmas.
+//!
+//! Where atoms bound one sum, the stronger bound implies the weaker. A clause that says so between each two neighbours lets one bound
+//! propagate the others. Source: Dutertre and de Moura, A Fast Linear-Arithmetic Solver for DPLL(T), CAV 2006, section 5 (bound
+//! propagation).
+#![tactic(auto)]
+
+mod asking;
+mod cuts;
+mod neighbours;
+mod sums;
+
+pub use asking::excluding;
+pub use neighbours::neighbours_of;
