@@ -20,3 +20,4 @@ pub mod SearchSpends
 pub mod SearchLooks
 pub mod SearchPays
 pub mod SearchChosen
+pub mod SearchKept

@@ -4,7 +4,6 @@ use Rattle.std.specs.Prelude.{flat_map}
 use Rattle.std.proofs.lemmas.List.Elements.{Contains-append_left, Contains-append_right}
 use Rattle.spec_text.proofs.Members.{to_image, from_image, in_flat, from_flat, only, none, first, cases}
 use Rattle.spec_sorts.specs.Terms.{True, False, Equal, AtMost, Truth, Number, Term, app, nil, cons, of, pair, negated, same_sort, sort_of}
-use Rattle.spec_sorts.specs.Subsets.{arguments_of}
 use Rattle.spec_sorts.specs.Literals.{Clause, Literal, complement, literal_of, literals_of}
 use Rattle.spec_derivations.specs.Problems.{Problem}
 use Rattle.spec_derivations.specs.Base.{clauses_of, truth_facts, defining_clauses, choice_clauses}
@@ -31,10 +30,6 @@ in_search p u c i j = among_whole p u c i (Contains-append_left (defining_clause
 -- and one of the orders of an equality
 in_orders : (p : Problem) (u : Term) (c : Clause) → Contains (whole_terms p) u → Contains (order_clauses u) c → Contains (whole_clauses p) c
 in_orders p u c i j = among_whole p u c i (Contains-append_right (defining_clauses u) (order_clauses u) c j)
-
--- with a term its arguments are spoken of
-pub closed_terms : (p : Problem) (t u : Term) → Contains (whole_terms p) t → Contains (arguments_of t) u → Contains (whole_terms p) u
-closed_terms p t u i j = whole_closed p t u i j
 
 -- (= (not true) false), and (= (not false) true)
 abbrev not_true_fact : Term
@@ -137,10 +132,10 @@ module _ (t : TableView) (differ : AreDifferent t.terms) (problem : Problem) (cl
   fact_in u i = searched_whole problem u (facts_spoken problem u i)
 
   true_in : Contains (whole_terms problem) (of True [])
-  true_in = closed_terms problem not_false_fact (of True []) (fact_in not_false_fact (1, omega arith, refl)) (1, omega arith, refl)
+  true_in = whole_closed problem not_false_fact (of True []) (fact_in not_false_fact (1, omega arith, refl)) (1, omega arith, refl)
 
   false_in : Contains (whole_terms problem) (of False [])
-  false_in = closed_terms problem not_true_fact (of False []) (fact_in not_true_fact (0, omega arith, refl)) (1, omega arith, refl)
+  false_in = whole_closed problem not_true_fact (of False []) (fact_in not_true_fact (0, omega arith, refl)) (1, omega arith, refl)
 
   true_holds : Holds (yes (of True []))
   true_holds = forced (of True [] ∷ []) (in_search problem (of True []) (of True [] ∷ []) true_in true_clause) (yes (of True []))

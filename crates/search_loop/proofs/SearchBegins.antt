@@ -1,5 +1,5 @@
 -- What a search begins with.
-use Rattle.std.proofs.Common.{◌≡◌, ℕ, ◌+◌, ◌<◌, List, [], ◌∷◌, ◌++◌, length, get_or, map, All, Contains, refl, sym, ap, ◌∙◌, subst, arith}
+use Rattle.std.proofs.Common.{◌≡◌, ℕ, ◌+◌, ◌<◌, List, [], ◌∷◌, ◌++◌, length, get_or, map, All, Contains, inl, refl, sym, ap, ◌∙◌, subst, arith}
 use Rattle.std.proofs.lemmas.List.{get_or_default, get_or-map, append-nil, length-map}
 use Rattle.std.proofs.lemmas.List.FromFn.{get_or-range_with_len}
 use Rattle.std.proofs.lemmas.List.Elements.{All-nil, All-map, All-contains, Contains-append_left, Contains-get_or}
@@ -14,11 +14,12 @@ use Rattle.search_loop.specs.Reach.{AreAnswered}
 use Rattle.spec_derivations.specs.Derivations.{AssumesAmong, conclusion, conclusion_at, inference_at, no_inference}
 use Rattle.spec_derivations.specs.Orders.{whole_terms, whole_clauses}
 use Rattle.spec_derivations.specs.Spent.{IsLearnedFrom, IsOverAtoms}
-use Rattle.spec_derivations.proofs.OrderedTerms.{whole_over}
+use Rattle.spec_derivations.proofs.OrderedTerms.{whole_over, whole_closed}
 use Rattle.term_core.specs.declared.ids.TermId.{TermId}
 use Rattle.term_core.specs.declared.ids.Lit.{Lit}
 use Rattle.term_core.specs.Tables.{TableView, IsIn, AreDifferent, term_at, literal_at, clause_at}
 use Rattle.term_core.proofs.TermsExtend.{clause_at-kept}
+use Rattle.term_core.proofs.Numbers.{same_numbers}
 use Rattle.clause_literals.specs.Literals.{AreOf}
 use Rattle.proof_log.specs.declared.premises.StepId.{StepId}
 use Rattle.proof_log.specs.Logs.{Logged, assumed, stepped, named, no_logged, logged_at, inference_of, derivation_in}
@@ -30,12 +31,10 @@ use Rattle.clausify.specs.HavingClauses.{HasClauses}
 use Rattle.term_clauses.specs.Growth.{AssumesOneOf, Grows, AreAllMade}
 use Rattle.clausify.specs.SearchTerms.{AreSearchTerms}
 use Rattle.conflict_learn.proofs.Meanings.{bare_in}
-use Rattle.rule_bool.proofs.Behind.{same_numbers}
 use Rattle.clause_store.specs.Stores.{StoreView, no_step, empty, AreKnown, IsAdded}
 use Rattle.search_loop.specs.declared.search.Search.{Search}
 use Rattle.search_loop.specs.Search.{images, Derives, AreAtomsAmong, AreCovered, IsStoreOf}
-use Rattle.search_loop.specs.Rounds.{HasDerived, IsSearch}
-use Rattle.search_loop.proofs.SearchAtoms.{closed_terms}
+use Rattle.search_loop.specs.Rounds.{ComesFrom, HasDerived, IsSearch}
 use Rattle.search_loop.proofs.SearchLogs.{steps_start}
 use Rattle.search_loop.proofs.SearchStored.{derives_with}
 
@@ -154,13 +153,13 @@ module _ (t u : TableView) (differ : AreDifferent u.terms) (roots : List TermId)
 
   -- with a term its arguments are listed
   pub closed : IsClosed (clause_at u terms)
-  closed v i w j = listed.each w (closed_terms problem v w (listed.only v i) j)
+  closed v i w j = listed.each w (whole_closed problem v w (listed.only v i) j)
 
-  only : IsWithin (images u store.clauses) (map literals_of (whole_clauses problem) ++ [])
+  only : (c : List Literal) → Contains (images u store.clauses) c → ComesFrom problem (derivation_in u log) [] c
   only c i =
       let k = place c i in
-      Contains-append_left (map literals_of (whole_clauses problem)) [] c
-      (subst (Contains (map literals_of (whole_clauses problem))) k.2 (to_image literals_of (whole_clauses problem) (stated u log (get_or store.steps k.0 no_step)) (is_base k.0 k.1)))
+      inl (Contains-append_left (map literals_of (whole_clauses problem)) [] c
+      (subst (Contains (map literals_of (whole_clauses problem))) k.2 (to_image literals_of (whole_clauses problem) (stated u log (get_or store.steps k.0 no_step)) (is_base k.0 k.1))))
 
   begun : HasDerived problem (derivation_in u log) (images u store.clauses) []
   begun = record {

@@ -20,7 +20,8 @@ use Rattle.term_clauses.proofs.Parts.{formula_kept}
 use Rattle.clausify.specs.SearchTerms.{AreSearchTerms}
 use Rattle.sat_budget.specs.declared.limits.Limits.{Limits}
 use Rattle.proof_log.specs.Logs.{Logged, inference_of, derivation_in, IsLogOf}
-use Rattle.proof_log.specs.Theories.{IsTermIn, IsAtomIn}
+use Rattle.proof_log.specs.Theories.{IsTermIn, IsAtomIn, Derives}
+use Rattle.proof_log.proofs.Tables.{grown_same}
 use Rattle.search_loop.specs.declared.search.Search.{Search}
 use Rattle.search_loop.specs.Search.{images, AreAllOf, AreAtomsOf, IsReady}
 use Rattle.search_loop.specs.Rounds.{HasDerived, IsSearch, Begins, Continues}
@@ -163,3 +164,22 @@ module _ (t u : TableView) (g : Extends t u) (declared : declared_in u ≡ decla
       limits_are = b.limits_are;
       unspent = b.unspent;
     }
+
+-- where lemmas over its terms came into the log, a search goes on, and begins still
+module _ (t u : TableView) (x : Search) (r : IsReady t x) (log : List Logged) (came : Derives (clause_at t x.terms.items) (record { table = t; log = x.log }) (record { table = u; log = log })) where
+  same_before : derivation_in u x.log ≡ derivation_in t x.log
+  same_before = grown_same t u x.log r.right came.table
+
+  pub continues_derived : Continues t u x (record x { log = log })
+  continues_derived = continues_grown t u came.table came.declared x x.fed log came.more came.log came.right same_before r came.lemmas
+
+  pub begins_derived : (problem : Problem) (limits : Limits) → Begins t problem limits x → Begins u problem limits (record x { log = log })
+  begins_derived problem limits b = record {
+    ready = ready_grown t u came.table came.declared x x.fed log came.more came.log came.right same_before r;
+    empty = b.empty;
+    level = b.level;
+    fed = b.fed;
+    search = continues_derived.search problem b.search;
+    limits_are = b.limits_are;
+    unspent = b.unspent;
+  }

@@ -1,12 +1,12 @@
 -- What a search pays for runs of exchanges, as literals come to be held, clauses are learned, and a table grows.
-use Rattle.std.proofs.Common.{◌≡◌, ◌≢◌, ◌+◌, ◌<◌, ◌≤◌, ℕ, suc, Bool, true, false, cond, filter, List, [], ◌∷◌, ◌++◌, length, map, get_or, take, drop, All, Contains, inl, inr, refl, sym, ap, ◌∙◌, subst, arith}
+use Rattle.std.proofs.Common.{◌≡◌, ◌≢◌, ◌+◌, ◌<◌, ◌≤◌, ℕ, suc, Bool, true, false, cond, filter, List, [], ◌∷◌, ◌++◌, length, map, get_or, take, drop, All, Contains, refl, sym, ap, ◌∙◌, subst, arith}
 use Rattle.std.specs.Prelude.{Vec}
 use Rattle.std.specs.declared.alloc.Global.{Global}
 use Rattle.std.proofs.lemmas.List.{length-append, length-map, length-take-le, get_or-map, get_or-take, map-append, take-append-drop}
 use Rattle.std.proofs.lemmas.List.Elements.{All-weaker, All-take, All-contains, Contains-get_or, All-contains_itself, All-filter, filter-append, filter_passes}
 use Rattle.std.proofs.lemmas.List.Kept.{AllPairs-filter}
 use Rattle.std.proofs.lemmas.Map.Made.{is_member-Decides, length-le_from_is_member, IsDistinct-from_AllPairs}
-use Rattle.spec_text.proofs.Members.{first, later, cases, none, to_image, from_image}
+use Rattle.spec_text.proofs.Members.{first, later, to_image, from_image, in_filter}
 use Rattle.spec_sorts.specs.Terms.{Term}
 use Rattle.spec_sorts.specs.Subsets.{AreAmong, AreOnce}
 use Rattle.spec_sorts.proofs.SameTerms.{terms_decide, terms_equivalence}
@@ -25,17 +25,6 @@ use Rattle.search_loop.specs.Paying.{counted_among, counted_held, atoms_of, paid
 use Rattle.search_loop.proofs.SearchReady.{all_of_atoms}
 
 -- what passes a test
-
-passed : {A : Type 0} (b : Bool) (y : A) (ys : List A) (x : A) → Contains ys x → Contains (cond b (y ∷ ys) ys) x
-passed true y ys x c = later y ys x c
-passed false y ys x c = c
-
-in_filter : {A : Type 0} (p : A → Bool) (xs : List A) (x : A) → Contains xs x → p x ≡ true → Contains (filter p xs) x
-in_filter p [] x c h = absurd (none x c)
-in_filter p (y ∷ ys) x c h = elim (cases y ys x c) [
-  | inl e ↦ subst (λ b. Contains (cond b (y ∷ filter p ys) (filter p ys)) x) (sym (ap p e ∙ h)) (subst (Contains (y ∷ filter p ys)) e (first y (filter p ys)))
-  | inr r ↦ passed (p y) y (filter p ys) x (in_filter p ys x r h)
-]
 
 pub from_filter : {A : Type 0} (p : A → Bool) (xs : List A) (x : A) → Contains (filter p xs) x → Contains xs x
 from_filter p xs x c = All-contains (Contains xs) (filter p xs) x (All-filter p (Contains xs) xs (All-contains_itself xs)) c

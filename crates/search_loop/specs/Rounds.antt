@@ -1,5 +1,5 @@
 -- What the rounds of a search keep, and what its answers show.
-use Rattle.std.specs.Prelude.{◌≡◌, ◌⊎◌, ◌+◌, ℕ, List, [], ◌∷◌, ◌++◌, length, map, All, Contains}
+use Rattle.std.specs.Prelude.{◌≡◌, ◌⊎◌, ◌+◌, ◌<◌, ◌≤◌, ℕ, List, [], ◌∷◌, ◌++◌, length, map, All, Contains}
 use Rattle.spec_sorts.specs.Literals.{Clause, Literal, literals_of}
 use Rattle.spec_proofs.specs.Resolution.{IsWithin}
 use Rattle.spec_proofs.specs.declared.Rule.TheVariants.{Resolution}
@@ -7,7 +7,7 @@ use Rattle.spec_sorts.specs.Terms.{Term}
 use Rattle.spec_derivations.specs.Problems.{Problem, terms_of_problem}
 use Rattle.spec_derivations.specs.Examples.{asserting}
 use Rattle.search_loop.specs.Reach.{AreAnswered}
-use Rattle.spec_derivations.specs.Derivations.{Inference, «assumption», by_rule, Derivation, conclusion, AssumesAmong, IsDerivedFrom}
+use Rattle.spec_derivations.specs.Derivations.{Inference, «assumption», by_rule, Derivation, inference_at, conclusion, conclusion_at, AssumesAmong, IsDerivedFrom}
 use Rattle.spec_derivations.specs.Base.{base_clauses}
 use Rattle.spec_derivations.specs.Orders.{whole_terms, whole_clauses}
 use Rattle.spec_derivations.specs.Lemmas.{IsLemma}
@@ -19,6 +19,7 @@ use Rattle.term_core.specs.Tables.{TableView, declared_in, clause_at, literal_at
 use Rattle.proof_log.specs.declared.premises.StepId.{StepId}
 use Rattle.proof_log.specs.Logs.{Logged, inference_of, derivation_in, stated, AreFormulasIn}
 use Rattle.clausify.specs.SearchTerms.{AreSearchTerms}
+use Rattle.clause_store.specs.Stores.{IsAdded}
 use Rattle.sat_budget.specs.Budgets.{BudgetView}
 use Rattle.sat_budget.specs.declared.limits.Limits.{Limits}
 use Rattle.sat_budget.specs.declared.limits.Reason.TheVariants.{Overflow, Conflicts, Pivots}
@@ -64,14 +65,31 @@ pub record HasSteps (p : Problem) (d : Derivation) (clauses : List (List Literal
   -- and those after them state these clauses
   pub steps : AreSteps (whole_terms p) (length base) more clauses
 
+-- A derivation has a lemma of this clause, which rests on none of the clauses that a search begins with.
+pub record HasLemma (p : Problem) (d : Derivation) (c : List Literal) : Type 0 where
+  -- the number of its inference
+  pub number : ℕ
+  pub there : number < length d
+  -- its premises have numbers from one on, which comes after those of the first clauses
+  pub since : ℕ
+  pub after : length (whole_clauses p) ≤ since
+  -- it is a lemma over the terms that a search speaks of
+  pub is_lemma : IsLemma (whole_terms p) since (inference_at d number)
+  -- of this clause
+  pub same : literals_of (conclusion_at d number) ≡ c
+
+-- a search begins with the clause, or learned it, or it is that of a lemma
+abbrev pub ComesFrom : Problem → Derivation → List (List Literal) → List Literal → Type 0
+ComesFrom p d learned c = Contains (map literals_of (whole_clauses p) ++ learned) c ⊎ HasLemma p d c
+
 -- What a search has derived of a problem: the clauses by their literals, and those that it learned.
 pub record HasDerived (p : Problem) (d : Derivation) (clauses learned : List (List Literal)) : Type 0 where
   -- the derivation assumes the problem's terms alone
   pub assumes : All (AssumesAmong (terms_of_problem p)) d
   -- each clause that a search begins with is one of the clauses
   pub base : (c : Clause) → Contains (whole_clauses p) c → Contains clauses (literals_of c)
-  -- each clause is such a one or was learned
-  pub only : IsWithin clauses (map literals_of (whole_clauses p) ++ learned)
+  -- each clause is such a one, or was learned, or is that of a lemma
+  pub only : (c : List Literal) → Contains clauses c → ComesFrom p d learned c
   -- what was learned is among the clauses
   pub kept : IsWithin learned clauses
   -- each learned clause is derived from the problem's terms
@@ -176,6 +194,10 @@ pub record Continues (t u : TableView) (old new : Search) : Type 0 where
   pub terms : new.terms ≡ old.terms
   -- it is asked the same
   pub search : (p : Problem) → IsSearch t p old → IsSearch u p new
+
+-- the clause of a step of the log came into the store, and all else is as it was
+abbrev pub HasKept : TableView → StepId → Search → Search → Type 0
+HasKept t step old new = (new ≡ record old { store = new.store }) × IsAdded t old.log step old.store new.store
 
 -- A clause was learned, and the search goes on.
 pub record HasLearned (t u : TableView) (old new : Search) : Type 0 where

@@ -13,6 +13,7 @@ mod conflict;
 mod decider;
 mod decision;
 mod feeding;
+mod lemmas;
 mod looking;
 mod search;
 mod waiting;

@@ -1,0 +1,96 @@
+-- That a search begins still with the clause of a step of its log in the store.
+use Rattle.std.proofs.Common.{◌≡◌, ◌<◌, List, [], ◌∷◌, ◌++◌, length, get_or, map, All, Contains, inl, inr, refl, sym, ap, ◌∙◌, subst, arith}
+use Rattle.std.proofs.lemmas.List.{length-map, map-append}
+use Rattle.std.proofs.lemmas.List.Elements.{All-contains, All-push, Contains-get_or, Contains-push_cases}
+use Rattle.spec_text.proofs.Members.{to_image}
+use Rattle.spec_sorts.specs.Literals.{Literal, literals_of}
+use Rattle.spec_derivations.specs.Problems.{Problem}
+use Rattle.spec_derivations.specs.Derivations.{conclusion_at}
+use Rattle.term_core.specs.declared.ids.TermId.{TermId}
+use Rattle.term_core.specs.declared.ids.Lit.{Lit}
+use Rattle.term_core.specs.Tables.{TableView, IsIn, literal_at}
+use Rattle.term_core.proofs.TermsExtend.{Extends-self}
+use Rattle.clause_literals.specs.Literals.{lit_complement}
+use Rattle.sat_budget.specs.declared.limits.Limits.{Limits}
+use Rattle.proof_log.specs.declared.premises.StepId.{StepId}
+use Rattle.proof_log.specs.Logs.{derivation_in}
+use Rattle.proof_log.specs.Clashes.{IsClash}
+use Rattle.proof_log.proofs.Logged.{conclusion_there}
+use Rattle.clause_store.specs.Stores.{StoreView, HasSeen, IsAdded}
+use Rattle.clause_store.specs.Propagating.{AreImplied}
+use Rattle.search_loop.specs.declared.search.Search.{Search}
+use Rattle.search_loop.specs.Waiting.{AreOfAtoms}
+use Rattle.search_loop.specs.Search.{images, AreCovered, IsReady}
+use Rattle.search_loop.specs.Rounds.{HasDerived, IsSearch, Begins, Continues}
+use Rattle.search_loop.proofs.SearchStored.{derives_with}
+use Rattle.search_loop.proofs.SearchLogs.{derived_stored}
+
+module _ (t : TableView) (x : Search) (r : IsReady t x) (step : StepId) (held : List Lit) (clash : IsClash t x.log held step) (of_atoms : AreOfAtoms x.atoms.items held)
+    (s : StoreView) (a : IsAdded t x.log step x.store s) where
+  -- the clause is over the atoms
+  atom_of : (m : Lit) → Contains a.clause m → Contains x.atoms.items m.term
+  atom_of m i = of_atoms (lit_complement m) (clash.fails m (record {
+    in_table = All-contains (λ (l : Lit). IsIn t l.term) a.clause m a.means.there i;
+    there = subst (λ (ls : List Literal). Contains ls (literal_at t m)) a.means.same (to_image (literal_at t) a.clause m i);
+  }))
+
+  covers : AreCovered x.atoms.items (x.store.clauses ++ a.clause ∷ [])
+  covers c m i j = elim (Contains-push_cases x.store.clauses a.clause c i) [
+    | inl was ↦ r.covered c m was j
+    | inr is ↦ atom_of m (subst (λ (e : List Lit). Contains e m) (sym is) j)
+  ]
+
+  -- so its terms are variables
+  known_of : All (λ (m : Lit). m.term.0 < x.trail.vars) a.clause
+  known_of k e lt =
+      let m = get_or a.clause k e in
+      All-contains (λ (id : TermId). id.0 < x.trail.vars) x.terms.items m.term r.variables (r.atoms_are.chosen.among m.term (atom_of m (Contains-get_or a.clause k e lt)))
+
+  -- what the search has fits together
+  pub ready_kept : x.trail.literals ≡ [] → HasSeen s x.trail → AreImplied s x.trail → IsReady t (record x { store = s })
+  ready_kept empty seen implied = record {
+    right = r.right;
+    derives = derives_with t x.log step x.store s r.derives a clash.in_log;
+    known = subst (All (All (λ (m : Lit). m.term.0 < x.trail.vars))) (sym a.clauses) (All-push (All (λ (m : Lit). m.term.0 < x.trail.vars)) x.store.clauses a.clause r.known known_of);
+    seen = seen;
+    implied = implied;
+    decided = record { quiet = λ p lt none. absurd (omega (arith, lt, ap length empty)); of_atoms = λ p lt none. absurd (omega (arith, lt, ap length empty)) };
+    atoms_are = r.atoms_are;
+    variables = r.variables;
+    covered = subst (AreCovered x.atoms.items) (sym a.clauses) covers;
+    waiting = r.waiting;
+    sized = r.sized;
+    learned = r.learned;
+  }
+
+  -- the clause stands last
+  image : images t s.clauses ≡ images t x.store.clauses ++ literals_of (conclusion_at (derivation_in t x.log) step.0) ∷ []
+  image = ap (images t) a.clauses ∙ map-append (map (literal_at t)) x.store.clauses (a.clause ∷ [])
+      ∙ ap (λ (c : List Literal). images t x.store.clauses ++ c ∷ []) (a.means.same ∙ ap literals_of (sym (conclusion_there t x.log step clash.in_log)))
+
+  search_kept : (problem : Problem) → IsSearch t problem x → IsSearch t problem (record x { store = s })
+  search_kept problem z = record {
+    roots = z.roots;
+    roots_in = z.roots_in;
+    reached = z.reached;
+    meant = z.meant;
+    listed = z.listed;
+    derived = subst (λ (cs : List (List Literal)). HasDerived problem (derivation_in t x.log) cs (images t x.budget.learned)) (sym image)
+        (derived_stored problem (derivation_in t x.log) (images t x.store.clauses) (images t x.budget.learned) z.derived step.0 (rw length-map clash.in_log));
+  }
+
+  -- it goes on
+  pub continues_kept : Continues t t x (record x { store = s })
+  continues_kept = record { table = Extends-self t; declared = refl; limits = (refl, refl); vars = refl; terms = refl; search = search_kept }
+
+  -- and begins still
+  pub begins_kept : HasSeen s x.trail → AreImplied s x.trail → (problem : Problem) (limits : Limits) → Begins t problem limits x → Begins t problem limits (record x { store = s })
+  begins_kept seen implied problem limits b = record {
+    ready = ready_kept b.empty seen implied;
+    empty = b.empty;
+    level = b.level;
+    fed = b.fed;
+    search = search_kept problem b.search;
+    limits_are = b.limits_are;
+    unspent = b.unspent;
+  }
