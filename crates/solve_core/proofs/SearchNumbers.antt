@@ -1,9 +1,10 @@
 -- Numbers of terms where a search rests: what a theory of numbers may be asked, and that zeros do where no term is a number.
 use Rattle.std.proofs.Common.{◌≡◌, ◌≢◌, ℕ, Bool, true, false, List, [], ◌∷◌, length, get_or, map, All, Contains, refl, sym, ap, ◌∙◌, subst}
-use Rattle.std.specs.Prelude.{Option, Some, None, replicate}
+use Rattle.std.specs.Prelude.{Some, replicate}
 use Rattle.std.proofs.lemmas.Bool.{and_parts}
 use Rattle.std.proofs.lemmas.List.{length-map}
 use Rattle.std.proofs.lemmas.List.Elements.{All-map, Contains-get_or}
+use Rattle.std.proofs.lemmas.Option.{same_Some, none-some}
 use Rattle.spec_text.proofs.Members.{first, to_image}
 use Rattle.spec_numbers.specs.Fractions.{Fraction, zero_fraction}
 use Rattle.spec_numbers.proofs.Field.{zero-reduced}
@@ -29,17 +30,11 @@ pub record IsLeft (u : Term) (c : Constraint) : Type 0 where
   pub there : Contains (arguments_of u) c.left
   pub number : sort_of c.left ≡ Number
 
-no_constraint : (u : Term) (c : Constraint) → (let o : Option Constraint = None in o) ≡ Some c → IsLeft u c
-no_constraint u c e = absurd cc
-
-inside : {A : Type 0} {x y : A} → Some x ≡ Some y → x ≡ y
-inside f = cc
-
 left_of_pair : (h : Head) (r : Relation) (s t : Term) (c : Constraint) (q : Bool) → are_numbers s t ≡ q → where_true q (saying r (pair h s t) s t) ≡ Some c → IsLeft (pair h s t) c
-left_of_pair h r s t c false n e = no_constraint (pair h s t) c e
+left_of_pair h r s t c false n e = absurd (none-some c e)
 left_of_pair h r s t c true n e =
     let own : IsLeft (pair h s t) (saying r (pair h s t) s t) = record { there = first s (t ∷ []); number = same_sort_is (sort_of s) Number (and_parts (same_sort (sort_of s) Number) (same_sort (sort_of t) Number) n).0 } in
-    subst (IsLeft (pair h s t)) (inside e) own
+    subst (IsLeft (pair h s t)) (same_Some _ _ e) own
 
 pub left_of : (positive : Bool) (u : Term) (c : Constraint) → constraint_by positive u ≡ Some c → IsLeft u c
 unfolding constraint_by
@@ -48,7 +43,7 @@ left_of false (app Less (cons s (cons t nil))) c e = left_of_pair Less at_least 
 left_of true (app AtMost (cons s (cons t nil))) c e = left_of_pair AtMost at_most s t c (are_numbers s t) refl e
 left_of false (app AtMost (cons s (cons t nil))) c e = left_of_pair AtMost above s t c (are_numbers s t) refl e
 left_of true (app Equal (cons s (cons t nil))) c e = left_of_pair Equal equals s t c (are_numbers s t) refl e
-left_of positive u c e = no_constraint u c e
+left_of positive u c e = absurd (none-some c e)
 
 -- the same number for each term
 same_number : (q : Fraction) (ts : List Term) → replicate (length ts) q ≡ map (λ (u : Term). q) ts

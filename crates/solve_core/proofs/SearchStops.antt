@@ -206,14 +206,14 @@ model_stops t x V v same watched differ ready come (stops.Strained e) strain = �
 model_stops t x V v same watched differ ready come (stops.Pivots n) never = absurd never
 model_stops t x V v same watched differ ready come stops.Memory none = tt
 
--- what was shown after a table grew was shown before
-pub answered_on : (t u w : TableView) (x y : Search) → Continues t u x x → (a : Answer) → IsAnswered (state u x) (state w y) a → IsAnswered (state t x) (state w y) a
-answered_on t u w x y on a h = record { right = h.right; limits = h.limits; shows = shows_on t u w x x y a on h.shows }
+-- what was shown after a search went on was shown before
+pub answered_on : (t u w : TableView) (x y z : Search) → Continues t u x y → (a : Answer) → IsAnswered (state u y) (state w z) a → IsAnswered (state t x) (state w z) a
+answered_on t u w x y z on a h = record { right = h.right; limits = (h.limits.0 ∙ on.limits.0, h.limits.1 ∙ on.limits.1); shows = shows_on t u w x y z a on h.shows }
 
-pub stopped_on : (t u w : TableView) (x y : Search) → Continues t u x x → (stop : Stop) → IsStoppedBy (state u x) (state w y) stop → IsStoppedBy (state t x) (state w y) stop
-stopped_on t u w x y on (stops.Strained e) h = answered_on t u w x y on (Unknown (reasons.Overflow e)) h
-stopped_on t u w x y on (stops.Pivots n) h = answered_on t u w x y on (Unknown (reasons.Pivots n)) h
-stopped_on t u w x y on stops.Memory h = tt
+pub stopped_on : (t u w : TableView) (x y z : Search) → Continues t u x y → (stop : Stop) → IsStoppedBy (state u y) (state w z) stop → IsStoppedBy (state t x) (state w z) stop
+stopped_on t u w x y z on (stops.Strained e) h = answered_on t u w x y z on (Unknown (reasons.Overflow e)) h
+stopped_on t u w x y z on (stops.Pivots n) h = answered_on t u w x y z on (Unknown (reasons.Pivots n)) h
+stopped_on t u w x y z on stops.Memory h = tt
 
 -- a search that rests with more rests with less
 pub rests_with : {A B : Type 0} (t : TableView) (x : Search) (v : TheoryView) → (A → B) → HasRested t x v A → HasRested t x v B

@@ -1,7 +1,6 @@
 -- The truths of the literals that hold meet the clauses.
 use Rattle.std.proofs.Common.{◌≡◌, Bool, true, false, not, List, Contains, refl, sym, ap, ◌∙◌, subst, if◌then◌else◌}
 use Rattle.std.specs.List.{list_any}
-use Rattle.std.specs.Cmp.Derive.{both_true}
 use Rattle.std.proofs.lemmas.Bool.{and_parts}
 use Rattle.std.proofs.lemmas.List.Elements.{All-contains}
 use Rattle.std.proofs.lemmas.List.Folds.{Any-from_list_any, list_any_at}
@@ -12,21 +11,16 @@ use Rattle.spec_sorts.proofs.SameTerms.{terms_decide}
 use Rattle.spec_rules.specs.Truths.{Truths, literal_true, term_true_by}
 use Rattle.term_core.specs.declared.ids.Lit.{Lit}
 use Rattle.term_core.specs.Tables.{TableView, term_at, IsIn, literal_at, AreDifferent}
+use Rattle.term_core.proofs.Numbers.{same_numbers}
 use Rattle.clause_literals.specs.Literals.{lit_complement, IsConsistent, AreOf, Means}
 use Rattle.clause_literals.specs.Statuses.{IsSatisfied}
-use Rattle.rule_bool.proofs.Behind.{same_numbers}
 use Rattle.search_model.specs.Models.{affirms, truths_of}
+use Rattle.search_model.proofs.LiteralTruths.{affirmed}
 
 module _ (t : TableView) (held : List Lit) (different : AreDifferent t.terms) (there : AreOf t held) (consistent : IsConsistent held) where
   -- the truths of what holds
   abbrev v : Truths
   v = truths_of t held
-
-  -- what holds as it stands is true
-  pub affirmed : (l : Lit) → Contains held l → l.positive ≡ true → v (term_at t l.term) ≡ true
-  affirmed l c e =
-      let same : same_term (term_at t l.term) (term_at t l.term) ≡ true = (terms_decide (term_at t l.term) (term_at t l.term)).1 refl in
-      list_any_at (λ m. affirms t m (term_at t l.term)) held c.0 l c.1 (subst (λ (x : Lit). affirms t x (term_at t l.term) ≡ true) (sym c.2) (both_true e same))
 
   -- what holds negated is not
   pub denied : (l : Lit) → Contains held l → l.positive ≡ false → v (term_at t l.term) ≡ false
@@ -49,7 +43,7 @@ module _ (t : TableView) (held : List Lit) (different : AreDifferent t.terms) (t
   holds l c = go l.positive refl
     where
       go : (b : Bool) → l.positive ≡ b → (if b then v (term_at t l.term) else not (v (term_at t l.term))) ≡ true
-      go true e = affirmed l c e
+      go true e = affirmed t held different there consistent l c e
       go false e = ap not (denied l c e)
 
   -- a clause is met of which a literal holds
@@ -65,5 +59,5 @@ module _ (t : TableView) (held : List Lit) (different : AreDifferent t.terms) (t
   truth_is l c = go l.positive refl
     where
       go : (b : Bool) → l.positive ≡ b → v (term_at t l.term) ≡ l.positive
-      go true e = affirmed l c e ∙ sym e
+      go true e = affirmed t held different there consistent l c e ∙ sym e
       go false e = denied l c e ∙ sym e

@@ -1,4 +1,5 @@
 -- The definitions that contracts cite: what is decided, and what is shown from the beginning to an answer.
 pub mod Forms
+pub mod Relating
 pub mod Answering
 pub mod Decisions

@@ -17,6 +17,7 @@ ghost use Rattle.search_loop.specs.Rounds.{Begins, Shows};
 ghost use Rattle.search_loop.specs.Asking.{HasRested, state};
 ghost use Rattle.solve_core.specs.Answering.{HasNumber, AgreeBoth, HasCome, IsAnswered, IsStoppedBy, Answers};
 
+use crate::bounding::relate_bounds;
 use crate::modelling::{model, zeros};
 use crate::truths::truth_values;
 use combined::Combined;
@@ -128,6 +129,7 @@ fn answer_numbers(search: &mut Search, table: &mut TermTable) -> Result<Answer, 
     ensures declared { declared_in table.new ≡ declared_in table.old }
     ensures answered { IfOk result (IsAnswered (state table.old search.old) (state table.new search.new)) }
 {
+    relate_bounds(search, table)?;
     logs_stand_in_grown_tables();
     let truths = truth_values(search.alloc, table)?;
     let mut theory = Combined::new(search.alloc, table, truths)?;

@@ -5,6 +5,7 @@
 #![tactic(auto)]
 
 mod answering;
+mod bounding;
 mod forms;
 mod modelling;
 mod outcome;

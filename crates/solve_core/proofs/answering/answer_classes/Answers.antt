@@ -35,7 +35,7 @@ returns-clause-answered c =
     let r = c.requires.begins.2.ready in
     let laws = c.logs_stand_in_grown_tables.ensures in
     let wider = continues_wider t u e.grown e.declared x (laws.right t u x.log r.right e.grown) (laws.same t u x.log r.right e.grown) r in
-    IfOk-weaker c.search_classes.result (IsAnswered (state u x) (state w y)) (IsAnswered (state t x) (state w y)) (λ a. answered_on t u w x y wider a) c.search_classes.ensures.answered
+    IfOk-weaker c.search_classes.result (IsAnswered (state u x) (state w y)) (IsAnswered (state t x) (state w y)) (λ a. answered_on t u w x x y wider a) c.search_classes.ensures.answered
 
 pub returns-clause-grown : goal.returns-clause-grown
 returns-clause-grown c = Extends-trans c.args.table.now c.truth_values.new.table c.search_classes.new.table c.truth_values.ensures.grown c.search_classes.ensures.grown
