@@ -1,10 +1,10 @@
 -- Numbers of clauses: a set of them, and the clauses that they are of.
-use Rattle.std.proofs.Common.{◌≡◌, ℕ, ◌+◌, ◌<◌, Bool, true, false, nat_eq, List, [], ◌∷◌, ◌++◌, length, map, get_or, take, All, Contains, inl, inr, refl, sym, ap, ◌∙◌, subst, if◌then◌else◌, arith}
+use Rattle.std.proofs.Common.{◌≡◌, ℕ, ◌+◌, ◌<◌, Bool, true, false, nat_eq, List, [], ◌∷◌, ◌++◌, length, map, get_or, take, All, Contains, inl, inr, refl, sym, ap, ◌∙◌, subst, if◌then◌else◌}
 use Rattle.std.specs.Prelude.{◌↔◌}
 use Rattle.std.specs.List.{list_any}
-use Rattle.std.proofs.lemmas.Bool.Decides.{nat_tests}
 use Rattle.std.proofs.lemmas.List.{map_more, map_push, take_more}
 use Rattle.std.proofs.lemmas.List.Elements.{All-contains, All-push, All-take, Contains-get_or, Contains-push, Contains-push_cases, Contains-append_left}
+use Rattle.std.proofs.lemmas.Bool.{eqb-true}
 use Rattle.indexmap.specs.IndexSet.{insert_key}
 use Rattle.indexmap.proofs.CallerLemmas.{Contains-list_any}
 use Rattle.spec_sorts.specs.Literals.{Clause}
@@ -18,9 +18,6 @@ use Rattle.spec_proofs.proofs.Chains.{mapped_within}
 -- the same numbers are in both
 abbrev SameNumbers : List ℕ → List ℕ → Type 0
 SameNumbers xs ys = (k : ℕ) → Contains xs k ↔ Contains ys k
-
-one_number : (a b : ℕ) → nat_eq a b ≡ true → a ≡ b
-one_number a b e = grind (arith, nat_tests)
 
 -- a number that comes into the set, or was in it
 set_more : (old new front : List ℕ) (k : ℕ) → new ≡ insert_key nat_eq old k → SameNumbers old front → SameNumbers new (front ++ k ∷ [])
@@ -36,7 +33,7 @@ set_more old new front k e same = go (list_any (nat_eq k) old) refl
     )
 
     go : (b : Bool) → list_any (nat_eq k) old ≡ b → SameNumbers new (front ++ k ∷ [])
-    go true t = subst (λ ks. SameNumbers ks (front ++ k ∷ [])) (sym (e ∙ ap (λ c. if c then old else old ++ k ∷ []) t)) (one (Contains-list_any nat_eq one_number old k t))
+    go true t = subst (λ ks. SameNumbers ks (front ++ k ∷ [])) (sym (e ∙ ap (λ c. if c then old else old ++ k ∷ []) t)) (one (Contains-list_any nat_eq eqb-true old k t))
     go false t = subst (λ ks. SameNumbers ks (front ++ k ∷ [])) (sym (e ∙ ap (λ c. if c then old else old ++ k ∷ []) t)) (λ m. (to old front (λ n. (same n).0) m, to front old (λ n. (same n).1) m))
 
 pub taken_more : (old new numbers : List ℕ) (i d : ℕ) → i < length numbers → new ≡ insert_key nat_eq old (get_or numbers i d) → SameNumbers old (take i numbers) → SameNumbers new (take (i + 1) numbers)

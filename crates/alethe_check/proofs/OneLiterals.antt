@@ -1,11 +1,12 @@
 -- `trans` and `cong` take of each premise nothing but its one literal, and so its two first terms are enough.
-use Rattle.std.proofs.Common.{◌≡◌, ◌≢◌, ℕ, List, [], ◌∷◌, map, take, get_or, refl, sym, subst}
+use Rattle.std.proofs.Common.{◌≡◌, ℕ, List, [], ◌∷◌, map, take, get_or, refl, sym}
 use Rattle.std.specs.Prelude.{◌↔◌, Result, Ok, Err, MatchResult}
 use Rattle.spec_text.specs.Trees.{Trees}
 use Rattle.spec_sorts.specs.Literals.{Clause}
 use Rattle.spec_equality.specs.declared.EqualityRule.TheVariants as equals
-use Rattle.spec_equality.specs.Reasons.{alone, Lead, AreCongruent}
+use Rattle.spec_equality.specs.Reasons.{alone}
 use Rattle.spec_equality.specs.EqualityRules.{IsChained, IsJoined}
+use Rattle.spec_equality.proofs.Alone.{chained_same, joined_same}
 use Rattle.spec_rules.specs.Schemes.{Kind, equates}
 use Rattle.spec_rules.specs.Rules.{IsBy, IsWideBy}
 use Rattle.term_core.specs.declared.ids.TermId.{TermId}
@@ -27,22 +28,6 @@ pub fronts_alone : (h : ProofState) (ks : List ℕ) → map alone (fronts_number
 fronts_alone h [] = refl
 fronts_alone h (k ∷ ks) = λ j. front_alone h.table (get_or h.clauses.items k []) j ∷ fronts_alone h ks j
 
--- there are premises in both
-some_there : (ps qs : List Clause) → map alone ps ≡ map alone qs → ps ≢ [] → qs ≢ []
-some_there [] qs e some none = some refl
-some_there (p ∷ ps) [] e some none = cc
-some_there (p ∷ ps) (q ∷ qs) e some none = cc
-
-chained_alike : (ps qs : List Clause) (c : Clause) → map alone ps ≡ map alone qs → IsChained ps c → IsChained qs c
-chained_alike ps qs (e ∷ []) same (t, u, is, some, led) = (t, u, is, some_there ps qs same some, subst (λ reasons. Lead reasons t u) same led)
-chained_alike ps qs [] same h = h
-chained_alike ps qs (e ∷ f ∷ c) same h = h
-
-joined_alike : (ps qs : List Clause) (c : Clause) → map alone ps ≡ map alone qs → IsJoined ps c → IsJoined qs c
-joined_alike ps qs (e ∷ []) same (t, u, is, joined) = (t, u, is, subst (λ reasons. AreCongruent reasons t u) same joined)
-joined_alike ps qs [] same h = h
-joined_alike ps qs (e ∷ f ∷ c) same h = h
-
 -- a step is right or not, and can be told or not
 abbrev JudgesKind : Kind → List Clause → Trees → Clause → Result (Unit {0}) RuleStop → Type 0
 JudgesKind k ps arguments c result = MatchResult result (λ _. IsBy k ps arguments c) (λ stop. Stops stop (IsBy k ps arguments c) (IsWideBy k ps arguments c))
@@ -53,6 +38,6 @@ told P Q same (Ok u) h = same.0 h
 told P Q same (Err stop) h = stops_same P Q stop same h
 
 pub judged_alike : (k : Kind) → takes_literals k → (ps qs : List Clause) (arguments : Trees) (c : Clause) → map alone ps ≡ map alone qs → (result : Result (Unit {0}) RuleStop) → JudgesKind k ps arguments c result → JudgesKind k qs arguments c result
-judged_alike (equates equals.Trans) takes ps qs arguments c same result h = told (IsChained ps c) (IsChained qs c) (chained_alike ps qs c same, chained_alike qs ps c (sym same)) result h
-judged_alike (equates equals.Cong) takes ps qs arguments c same result h = told (IsJoined ps c) (IsJoined qs c) (joined_alike ps qs c same, joined_alike qs ps c (sym same)) result h
+judged_alike (equates equals.Trans) takes ps qs arguments c same result h = told (IsChained ps c) (IsChained qs c) (chained_same ps qs c same, chained_same qs ps c (sym same)) result h
+judged_alike (equates equals.Cong) takes ps qs arguments c same result h = told (IsJoined ps c) (IsJoined qs c) (joined_same ps qs c same, joined_same qs ps c (sym same)) result h
 judged_alike _ takes ps qs arguments c same result h = absurd takes

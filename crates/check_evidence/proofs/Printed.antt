@@ -3,9 +3,8 @@ use Rattle.std.proofs.Common.{◌≡◌, ℕ, List, [], ◌∷◌, ◌++◌, len
 use Rattle.std.proofs.lemmas.Bool.{cases_lt}
 use Rattle.std.proofs.lemmas.List.{append-nil, get_or_past}
 use Rattle.std.proofs.lemmas.List.Elements.{All-contains, Contains-get_or, Contains-append_left, Contains-append_right, Contains-append_cases, Contains-push_cases}
-use Rattle.spec_text.proofs.Members.{first, none, only, each_of, to_image}
-use Rattle.spec_sorts.specs.Terms.{True, Not, Term, Terms, app, nil, cons, list_of, of}
-use Rattle.spec_sorts.specs.Subsets.{arguments_of}
+use Rattle.spec_text.proofs.Members.{first, none, only, to_image}
+use Rattle.spec_sorts.specs.Terms.{True, Not, Term, app, nil, cons, of}
 use Rattle.spec_sorts.specs.Literals.{Clause, Literal, literal_of, literals_of}
 use Rattle.spec_derivations.specs.Problems.{Problem, terms_of_problem}
 use Rattle.spec_derivations.specs.Derivations.{Inference, «assumption», by_rule, Derivation, conclusion, inference_at, conclusion_at, no_inference}
@@ -14,8 +13,9 @@ use Rattle.spec_derivations.specs.Lemmas.{IsMadeOf, given, is_true, IsLemma}
 use Rattle.spec_derivations.specs.Examples.{asserting}
 use Rattle.spec_derivations.specs.Spent.{IsAtomOf, IsOverAtoms}
 use Rattle.spec_proof_texts.specs.Plans.{IsPrinted, in_clause, as_argument}
-use Rattle.spec_arithmetic.specs.Numbers.{IsLinear, AreLinear}
-use Rattle.spec_readable.specs.Readable.{HasDecimals, HaveDecimals, IsReadableWhole}
+use Rattle.spec_arithmetic.specs.Numbers.{IsLinear}
+use Rattle.spec_readable.specs.Readable.{HasDecimals, IsReadableWhole}
+use Rattle.spec_readable.proofs.Search.{argument_readable}
 use Rattle.search_loop.specs.Rounds.{AreSteps, nothing, lemmas, learning, HasSteps}
 
 -- a term can be read where what it negates can
@@ -29,16 +29,6 @@ bare_readable (app h ts) e = e
 -- and those of a clause where the atoms of its literals can
 clause_readable : (c : Clause) → ((l : Literal) → Contains (literals_of c) l → IsReadableWhole l.atom) → (u : Term) → Contains c u → IsReadableWhole u
 clause_readable c h u i = bare_readable u (h (literal_of u) (to_image literal_of c u i))
-
-members_readable : (ts : Terms) → AreLinear ts → HaveDecimals ts → (u : Term) → Contains (list_of ts) u → IsReadableWhole u
-unfolding AreLinear HaveDecimals
-members_readable nil l d u i = absurd (none u i)
-members_readable (cons t ts) l d u i = each_of IsReadableWhole t (list_of ts) (l.0, d.0) (members_readable ts l.1 d.1) u i
-
--- the arguments of a term that can be read can
-argument_readable : (t : Term) → IsReadableWhole t → (u : Term) → Contains (arguments_of t) u → IsReadableWhole u
-unfolding IsLinear HasDecimals
-argument_readable (app h ts) r = members_readable ts r.0.1 r.1.1
 
 -- each clause that a search begins with is over terms that it speaks of
 abbrev pub AreOverSearchTerms : Type 0

@@ -5,7 +5,8 @@ use Rattle.std.proofs.lemmas.Grind.{same_number_lists}
 use Rattle.std.proofs.lemmas.Bool.{cases_eq, cases_lt}
 use Rattle.std.proofs.lemmas.Bool.Decides.{nat_tests}
 use Rattle.std.proofs.lemmas.List.{length-map, get_or-map, length-replicate, get_or-replicate}
-use Rattle.std.proofs.lemmas.List.FromFn.{length-range_with_len, get_or-range_with_len}
+use Rattle.std.proofs.lemmas.List.FromFn.{length-range_with_len}
+use Rattle.term_core.proofs.Numbers.{range-at}
 use Rattle.class_table.specs.declared.rings.Merge.{Merge}
 use Rattle.class_table.specs.Classes.{renumbered}
 use Rattle.class_table.specs.Rings.{walk, set_each, swapped, occurrences, IsRing, State, alone, after, after_all, Joins, AreJoins, IsClass, IsWhole}
@@ -125,9 +126,6 @@ module _ (s : State) (m : Merge) (whole : IsWhole s) (j : Joins s.numbers m) whe
 
 -- a term alone is a class
 module _ (n t : ℕ) (h : t < n) where
-  own : slice_index (range_with_len 0 n) t ≡ t
-  own = let sum : 0 + t ≡ t = omega arith in get_or-range_with_len 0 n t 0 h ∙ sum
-
   one : slice_index (replicate n 1) t ≡ 1
   one = get_or-replicate n t 1 0 h
 
@@ -135,8 +133,8 @@ pub whole_alone : (n : ℕ) → IsWhole (alone n)
 whole_alone n = record {
   next_long = refl;
   sizes_long = length-replicate n 1 ∙ sym range_long;
-  next_low = λ t h. omega (arith, own n t (below t h), h);
-  classes = λ t h. subst (IsClass (alone n)) (sym (own n t (below t h))) (class_alone t (below t h));
+  next_low = λ t h. omega (arith, range-at n t (below t h), h);
+  classes = λ t h. subst (IsClass (alone n)) (sym (range-at n t (below t h))) (class_alone t (below t h));
 }
   where
     range_long : length (range_with_len 0 n) ≡ n
@@ -146,17 +144,17 @@ whole_alone n = record {
     below t h = omega (arith, range_long, h)
 
     only : (t u : ℕ) → t < n → (u < n) ⊎ (n ≤ u) → (if u == t then 1 else 0) + 0 ≡ (if nat_lt u (length (range_with_len 0 n)) && (slice_index (range_with_len 0 n) u == t) then 1 else 0)
-    only t u h (inl lt) = let is = own n u lt in let many = range_long in grind (arith, nat_tests)
+    only t u h (inl lt) = let is = range-at n u lt in let many = range_long in grind (arith, nat_tests)
     only t u h (inr ge) = let many = range_long in grind (arith, nat_tests)
 
     class_alone : (t : ℕ) → t < n → IsClass (alone n) t
     class_alone t h = record {
       low = omega (arith, range_long, h);
-      live = own n t h;
+      live = range-at n t h;
       ring = record {
         ring = t ∷ [];
         start = t;
-        leads = (refl, own n t h);
+        leads = (refl, range-at n t h);
         long = sym (one n t h);
         members = λ u. only t u h (cases_lt u n);
       };

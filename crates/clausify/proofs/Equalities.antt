@@ -1,14 +1,16 @@
 -- Equalities of numbers, by their sides, and the orders of these.
-use Rattle.std.proofs.Common.{◌≡◌, true, if◌then◌else◌, List, [], ◌∷◌, length, map, get_or, Contains, refl, sym, ap, ◌∙◌, subst, arith}
+use Rattle.std.proofs.Common.{◌≡◌, if◌then◌else◌, List, [], ◌∷◌, length, map, get_or, Contains, refl, sym, ap, ◌∙◌, subst, arith}
 use Rattle.std.proofs.lemmas.List.{length-map}
 use Rattle.std.proofs.lemmas.List.Elements.{All-nil, All-cons}
 use Rattle.spec_text.proofs.Members.{first, later}
 use Rattle.spec_text.specs.Trees.{none}
+use Rattle.spec_text.proofs.General.{two_of_length}
 use Rattle.spec_numbers.specs.Fractions.{Fraction, one_fraction, opposite}
 use Rattle.spec_sorts.specs.Terms.{Sort, Number, Symbol, Or, Equal, AtMost, Term, nil, cons, of, pair, negated, sort_of, same_sort, head_takes}
 use Rattle.spec_sorts.specs.WellSorted.{IsWellSorted, IsFormulaOver}
 use Rattle.spec_sorts.specs.Literals.{Clause}
 use Rattle.spec_sorts.proofs.WellSorted.{before, same_sort_is}
+use Rattle.spec_sorts.proofs.General.{equal_takes}
 use Rattle.spec_proofs.specs.declared.Rule.TheVariants.{LaDisequality}
 use Rattle.spec_rules.specs.Rules.{IsRight}
 use Rattle.spec_arithmetic.specs.Contradictions.{given, la_generic}
@@ -32,19 +34,10 @@ use Rattle.clausify.specs.declared.sides.Sides.{Sides}
 use Rattle.clausify.specs.Orders.{IsNumberIn, order_at, AreSidesOf, order_clause, arguments_by}
 use Rattle.clausify.proofs.Taken.{forth_taken, back_taken}
 
--- an equality has two sides
-two_long : (ss : List Sort) → takes Equal ss ≡ true → length ss ≡ 2
-two_long (s ∷ t ∷ []) e = refl
-two_long _ e = cc
-
 equal_fits : (t : TableView) (s : Shape) → Fits t s → s.head ≡ heads.Equal → length s.arguments ≡ 2
 equal_fits t s f e =
     sym (length-map s.arguments (term_at t)) ∙ sym (length-map (clause_at t s.arguments) sort_of)
-    ∙ two_long (map sort_of (clause_at t s.arguments)) (ap (λ h. takes (head_meant t h) (map sort_of (clause_at t s.arguments))) (sym e) ∙ f.sorts)
-
-two_of_length : {X : Type 0} (xs : List X) (d : X) → length xs ≡ 2 → xs ≡ get_or xs 0 d ∷ get_or xs 1 d ∷ []
-two_of_length (x ∷ y ∷ []) d e = refl
-two_of_length _ d e = absurd (omega (arith, e))
+    ∙ equal_takes (map sort_of (clause_at t s.arguments)) (ap (λ h. takes (head_meant t h) (map sort_of (clause_at t s.arguments))) (sym e) ∙ f.sorts)
 
 -- the sides of an equality that is made of terms of the table
 sides_are : (t : TableView) (id : TermId) (x : Sides) → IsTermIn t id → IsIn t x.left → IsIn t x.right → term_at t id ≡ pair Equal (term_at t x.left) (term_at t x.right)

@@ -24,13 +24,6 @@ pub told : (b : Bool) (P Q : Type 0) → (b ≡ true → P) → (b ≡ false →
 told true P Q f g = f refl
 told false P Q f g = g refl
 
--- what two tests say of each other
-pub tests_same : (a b : Bool) → beq a b ≡ true → a ≡ b
-tests_same true true e = refl
-tests_same true false e = absurd (true≢false (sym e))
-tests_same false true e = absurd (true≢false (sym e))
-tests_same false false e = refl
-
 pub tests_apart : (a b : Bool) → beq a b ≡ false → a ≡ false → b ≡ true
 tests_apart true b e f = absurd (true≢false f)
 tests_apart false true e f = refl

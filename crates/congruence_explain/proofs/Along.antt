@@ -17,6 +17,7 @@ use Rattle.spec_derivations.specs.Lemmas.{is_equality}
 use Rattle.term_core.specs.declared.ids.TermId.{TermId}
 use Rattle.term_core.specs.Tables.{TableView, term_at, IsIn}
 use Rattle.term_core.proofs.TermsExtend.{term_at-kept}
+use Rattle.term_core.proofs.Numbers.{same_id}
 use Rattle.term_clauses.specs.Stating.{Widens}
 use Rattle.explain_forest.specs.declared.types.Edge.{Edge}
 use Rattle.explain_forest.specs.declared.types.Step.{Step}
@@ -36,7 +37,7 @@ use Rattle.congruence_explain.specs.Steps.{Setting, Notes, IsNeeded, Shows, Grow
 use Rattle.congruence_explain.proofs.Terms.{claim_same}
 use Rattle.congruence_explain.proofs.Marks.{marked-there}
 use Rattle.congruence_explain.proofs.Shown.{grows_marked, shows_last}
-use Rattle.congruence_explain.proofs.Facts.{id_same, number_term, says_turned, linked_sorts, edge_joins, edge_in}
+use Rattle.congruence_explain.proofs.Facts.{number_term, says_turned, linked_sorts, edge_joins, edge_in}
 
 -- a step along an edge says what this does
 pub step_says : (ts : Truths) (es : List Edge) (s : Step) → IsAlong es s → says ts s.label s.from s.to ≡ edge_says ts (numbered es s.edge)
@@ -112,7 +113,7 @@ module _ (t : TableView) (ts : Truths) (v : ForestState) (f : Facts) (b : IsBasi
           let test : (x.0 == y.0) ≡ true = grind (arith, nat_tests) in
           let empty : steps ≡ [] = (λ i. path v.edges x.0 (sym e i)) ∙ path-none v.edges x.0 in
           let whole : map (term_said t) (path_clause ts steps x y) ≡ equal_terms (term_at t x) (term_at t x) ∷ [] =
-          (λ i. map (term_said t) (path_clause ts (empty i) x (id_same y x (sym e) i))) in
+          (λ i. map (term_said t) (path_clause ts (empty i) x (same_id y x (sym e) i))) in
           subst (λ c. IsRight (if c then rules.EqReflexive else rules.EqTransitive) [] none (map (term_said t) (path_clause ts steps x y))) (sym test)
           (subst (λ c. IsRight rules.EqReflexive [] none c) (sym whole) (term_at t x, refl))
       go (inr d) =

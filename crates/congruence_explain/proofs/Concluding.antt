@@ -20,6 +20,7 @@ use Rattle.term_core.specs.declared.ids.TermId.{TermId}
 use Rattle.term_core.specs.declared.ids.Lit.{Lit}
 use Rattle.term_core.specs.Tables.{TableView, term_at, IsIn, AreIn, clause_at, literal_at, AreDifferent, Extends, Shape, shape_term}
 use Rattle.term_core.proofs.TermsExtend.{Extends-self, IsIn-kept, literal_at-kept}
+use Rattle.term_core.proofs.Numbers.{same_id}
 use Rattle.clause_literals.specs.Literals.{lit_complement}
 use Rattle.clause_literals.proofs.LiteralLists.{negation_twice}
 use Rattle.clause_literals.proofs.TableLiterals.{literals_apart}
@@ -47,7 +48,7 @@ use Rattle.congruence_explain.specs.Basis.{IsBasis, AreLinkedIn, IsEqualityIn, H
 use Rattle.congruence_explain.specs.Steps.{Start, derived, begun, spoken, Explains, literals_logged, steps_since, Setting, setting, HasPut, all_denied, apart, IsDenial, IsCollected, IsExplained, others_of, AreNumbersFrom}
 use Rattle.congruence_explain.proofs.Terms.{claims_in, literals_put}
 use Rattle.congruence_explain.proofs.Shown.{derives_more, by_clause, within_more, denied_more}
-use Rattle.congruence_explain.proofs.Facts.{id_same, reason_at, argument_term, argument_made, held_made, held_atom, truth_made, truths_in}
+use Rattle.congruence_explain.proofs.Facts.{reason_at, argument_term, argument_made, held_made, held_atom, truth_made, truths_in}
 
 -- a table with a log that is right, where nothing came
 pub derives_none : (terms : List Term) (t : TableView) (log : List Logged) → IsLogOf t log → Derives terms (derived t log) (derived t log)
@@ -166,7 +167,7 @@ one_equality t differ e a c x y p q =
     let same : equal_terms (term_at t a) (term_at t c) ≡ equal_terms (term_at t x) (term_at t y) = sym p.is ∙ q.is in
     let one : term_at t a ≡ term_at t x = cc in
     let other : term_at t c ≡ term_at t y = cc in
-    (id_same a x (differ a.0 x.0 p.one_there q.one_there one), id_same c y (differ c.0 y.0 p.other_there q.other_there other))
+    (same_id a x (differ a.0 x.0 p.one_there q.one_there one), same_id c y (differ c.0 y.0 p.other_there q.other_there other))
 
 -- what is so of all edges is so of that of a number
 numbered_all : (P : Edge → Type 0) (es : List Edge) → All P es → (k : ℕ) → k < length es → P (numbered es k)
@@ -210,7 +211,7 @@ module _ (t : TableView) (ts : Truths) (v : ForestState) (f : Facts) (b : IsBasi
   truths_linked linked =
       let h = truths_in t ts v f b in
       let own = subst (λ (us : Truths). Linked v.edges us.true_term.0 us.false_term.0) b.truths linked in
-      let different : ts.true_term.0 ≢ ts.false_term.0 = λ e. let same : of True [] ≡ of False [] = sym h.true_is ∙ ap (term_at t) (id_same ts.true_term ts.false_term e) ∙ h.false_is in cc in
+      let different : ts.true_term.0 ≢ ts.false_term.0 = λ e. let same : of True [] ≡ of False [] = sym h.true_is ∙ ap (term_at t) (same_id ts.true_term ts.false_term e) ∙ h.false_is in cc in
       let low = ends_there v.terms v.edges b.ends ts.true_term.0 ts.false_term.0 own different in
       record {
         one = h.true_term;

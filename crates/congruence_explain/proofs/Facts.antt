@@ -17,6 +17,7 @@ use Rattle.term_core.specs.declared.ids.TermId.{TermId}
 use Rattle.term_core.specs.declared.ids.Lit.{Lit}
 use Rattle.term_core.specs.Tables.{TableView, term_at, IsIn, clause_at, head_meant, Shape, shape_term, Fits}
 use Rattle.term_core.proofs.TermsClosed.{argument_in}
+use Rattle.term_core.proofs.Numbers.{same_id}
 use Rattle.explain_forest.specs.declared.types.Edge.{Edge}
 use Rattle.explain_forest.specs.declared.types.Label.{Label}
 use Rattle.explain_forest.specs.declared.types.Label.TheVariants.{Held, Arguments}
@@ -32,10 +33,6 @@ use Rattle.proof_log.specs.Theories.{IsTermIn, IsAtomIn}
 use Rattle.congruence_explain.specs.declared.claims.Claim.TheVariants.{Equality, Atom}
 use Rattle.congruence_explain.specs.Claims.{term_claimed, IsClaimOf, joins, says, edge_says}
 use Rattle.congruence_explain.specs.Basis.{IsBasis, AreTruths}
-
--- numbers of terms are what they are of
-pub id_same : (a b : TermId) → a.0 ≡ b.0 → a ≡ b
-id_same a b e = ap (λ n. record { 0 = n }) e
 
 pub joins_turned : (a b x y : TermId) → joins a b x y ≡ joins b a x y
 joins_turned a b x y = (λ i. and_comm (a.0 == x.0) (b.0 == y.0) i || and_comm (a.0 == y.0) (b.0 == x.0) i) ∙ or_comm (b.0 == y.0 && a.0 == x.0) (b.0 == x.0 && a.0 == y.0)
@@ -56,7 +53,7 @@ joins_cases a b x y = first (cases_Bool (a.0 == x.0 && b.0 == y.0)) (cases_Bool 
     both a b x y e =
         let p : a.0 ≡ x.0 = grind (arith, nat_tests) in
         let q : b.0 ≡ y.0 = grind (arith, nat_tests) in
-        (id_same a x p, id_same b y q)
+        (same_id a x p, same_id b y q)
 
     first : ((a.0 == x.0 && b.0 == y.0) ≡ true) ⊎ ((a.0 == x.0 && b.0 == y.0) ≡ false) → ((a.0 == y.0 && b.0 == x.0) ≡ true) ⊎ ((a.0 == y.0 && b.0 == x.0) ≡ false)
         → (((a ≡ x) × (b ≡ y)) ⊎ ((a ≡ y) × (b ≡ x))) ⊎ (joins a b x y ≡ false)

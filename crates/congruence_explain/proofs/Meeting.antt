@@ -16,6 +16,7 @@ use Rattle.spec_rules.specs.Rules.{IsRight}
 use Rattle.term_core.specs.declared.ids.TermId.{TermId}
 use Rattle.term_core.specs.Tables.{TableView, term_at, IsIn, AreIn, clause_at, head_meant, AreDifferent, Extends}
 use Rattle.term_core.proofs.TermsExtend.{term_at-kept, clause_at-kept, IsIn-kept, AreIn-kept}
+use Rattle.term_core.proofs.Numbers.{same_id}
 use Rattle.explain_forest.specs.Forest.{ForestState, root, numbered, older}
 use Rattle.explain_forest.proofs.Linking.{older-linked}
 use Rattle.congruence_relation.specs.declared.Truths.{Truths}
@@ -28,7 +29,7 @@ use Rattle.congruence_explain.specs.Claims.{no_term_id, term_said, literal_said,
 use Rattle.congruence_explain.specs.Basis.{IsBasis, AreLinkedOr, IsByArguments}
 use Rattle.congruence_explain.specs.Steps.{setting, Notes, Shows, TellsPairs, TellsEdge}
 use Rattle.congruence_explain.proofs.Shown.{grows_both, grows_steps, shows_each, shows_last}
-use Rattle.congruence_explain.proofs.Facts.{id_same, reason_at, listed_term, listed_is, listed_fits, argument_term, argument_made, edge_in}
+use Rattle.congruence_explain.proofs.Facts.{reason_at, listed_term, listed_is, listed_fits, argument_term, argument_made, edge_in}
 use Rattle.congruence_explain.proofs.Along.{linked_in}
 use Rattle.congruence_explain.proofs.Pairs.{linked_at}
 
@@ -40,7 +41,7 @@ same_ids u differ (x ∷ xs) [] p q e = absurd (cc)
 same_ids u differ (x ∷ xs) (y ∷ ys) p q e =
     let one : term_at u x ≡ term_at u y = cc in
     let rest : clause_at u xs ≡ clause_at u ys = cc in
-    (λ i. id_same x y (differ x.0 y.0 (All-head (IsIn u) x xs p) (All-head (IsIn u) y ys q) one) i ∷ same_ids u differ xs ys (All-tail (IsIn u) x xs p) (All-tail (IsIn u) y ys q) rest i)
+    (λ i. same_id x y (differ x.0 y.0 (All-head (IsIn u) x xs p) (All-head (IsIn u) y ys q) one) i ∷ same_ids u differ xs ys (All-tail (IsIn u) x xs p) (All-tail (IsIn u) y ys q) rest i)
 
 -- each denied equality is of two that differ
 unequal_all_in : (terms : List Term) (t : TableView) (xs ys : List TermId) → ((i : ℕ) → i < length xs → (get_or xs i no_term_id).0 ≢ (get_or ys i no_term_id).0 → IsClaimOf terms t (Equality (get_or xs i no_term_id) (get_or ys i no_term_id)))
@@ -67,7 +68,7 @@ joined_all t rs (x ∷ xs) (y ∷ ys) e h = go (cases_eq x.0 y.0) (joined_all t 
     go (inl p) ih =
         let test : (x.0 == y.0) ≡ true = grind (arith, nat_tests) in
         let all : all_unequal (x ∷ xs) (y ∷ ys) ≡ all_unequal xs ys = ap (λ c. if c then all_unequal xs ys else unequal x y ∷ all_unequal xs ys) test in
-        (inl (ap (term_at t) (id_same x y p)), ih (λ m i. h m (subst (λ ms. Contains ms m) (sym all) i)))
+        (inl (ap (term_at t) (same_id x y p)), ih (λ m i. h m (subst (λ ms. Contains ms m) (sym all) i)))
     go (inr d) ih =
         let test : (x.0 == y.0) ≡ false = grind (arith, nat_tests) in
         let all : all_unequal (x ∷ xs) (y ∷ ys) ≡ unequal x y ∷ all_unequal xs ys = ap (λ c. if c then all_unequal xs ys else unequal x y ∷ all_unequal xs ys) test in (

@@ -14,12 +14,12 @@ use Rattle.term_core.specs.declared.ids.TermId.{TermId}
 use Rattle.term_core.specs.declared.nodes.Node.{Node}
 use Rattle.term_core.specs.declared.nodes.Head.TheVariants as heads
 use Rattle.term_core.specs.Tables.{TableView, term_at, IsIn, node_term, shape_term, positive_literal}
-use Rattle.term_core.proofs.TermsExtend.{term_at-kept, IsIn-kept}
+use Rattle.term_core.proofs.TermsExtend.{term_at-kept}
 use Rattle.term_core.proofs.TermsLiteral.{literal_of-negated}
 use Rattle.proof_log.specs.Logs.{IsFormulaIn}
-use Rattle.proof_log.specs.Theories.{IsTermIn}
 use Rattle.term_clauses.specs.Stating.{Widens}
-use Rattle.term_clauses.proofs.Parts.{symbols_same, formula_kept, sorted_kept, signed_in}
+use Rattle.term_clauses.proofs.Parts.{symbols_same, formula_kept, signed_in}
+use Rattle.term_clauses.proofs.Choosing.{term_kept}
 use Rattle.congruence_explain.specs.declared.claims.Claim.{Claim}
 use Rattle.congruence_explain.specs.declared.claims.Claim.TheVariants.{Equality, Atom}
 use Rattle.congruence_explain.specs.declared.claims.Said.{Said}
@@ -48,10 +48,6 @@ said_made terms t s h = go s.positive
     go : (p : Bool) → IsMadeOf terms (signed p (term_claimed t s.claim))
     go true = h.1
     go false = is_negation (term_claimed t s.claim) h.1
-
--- its terms are of the table's
-term_kept : (t u : TableView) → Widens t u → (id : TermId) → IsTermIn t id → IsTermIn u id
-term_kept t u wider id h = (IsIn-kept t u wider.terms id h.0, sorted_kept t u wider id h.0 h.1)
 
 module _ (t u : TableView) (wider : Widens t u) where
   -- a claim stays one

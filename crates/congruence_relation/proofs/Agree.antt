@@ -14,6 +14,7 @@ use Rattle.term_core.specs.declared.nodes.Head.TheVariants as heads
 use Rattle.term_core.specs.Symbols.{AreDeclared}
 use Rattle.term_core.specs.Tables.{TableView, declared_in, term_at, IsIn, AreIn, clause_at, literal_at, head_meant, HasHead, Shape, shape_term, Fits, AreDifferent}
 use Rattle.term_core.proofs.TermsApart.{one_shape}
+use Rattle.term_core.proofs.Numbers.{same_numbers}
 use Rattle.congruence_relation.specs.Relation.{Application, Facts, truth_of, IsEquality, States, decides, equates, IsCongruent, AreCongruent, stated, itself, turned, joined, by_arguments, none, more, IsDenied, IsRefuted, AreOf, terms_listed}
 
 -- Two terms are those of numbers of a table, which are congruent.
@@ -175,10 +176,6 @@ module _ (t : TableView) (f : Facts) (whole : AreOf t f) where
       }
 
   module _ (apart : AreDifferent t.terms) (declared : AreDeclared t.sorts t.symbols) where
-    -- numbers of one term are one
-    one_number : (a b : TermId) → IsIn t a → IsIn t b → term_at t a ≡ term_at t b → a ≡ b
-    one_number a b a_there b_there e = ap (λ n. record { 0 = n }) (apart a.0 b.0 a_there b_there e)
-
     -- heads that mean one head are one
     one_head : (s u : Shape) → HasHead t s.head → Fits t u → head_meant t s.head ≡ head_meant t u.head → s.head ≡ u.head
     one_head s u has fits e =
@@ -187,10 +184,10 @@ module _ (t : TableView) (f : Facts) (whole : AreOf t f) where
 
     -- numbers whose terms are one, or those of congruent numbers, are congruent
     numbers_of : (a b : TermId) (u v : Term) → IsIn t a → IsIn t b → term_at t a ≡ u → term_at t b ≡ v → (u ≡ v) ⊎ AreNumbered t f u v → IsCongruent f a b
-    numbers_of a b u v a_there b_there a_is b_is (inl e) = subst (IsCongruent f a) (one_number a b a_there b_there (a_is ∙ e ∙ sym b_is)) (itself a)
+    numbers_of a b u v a_there b_there a_is b_is (inl e) = subst (IsCongruent f a) (same_numbers t apart a b a_there b_there (a_is ∙ e ∙ sym b_is)) (itself a)
     numbers_of a b u v a_there b_there a_is b_is (inr n) =
-        subst (λ c. IsCongruent f c b) (one_number n.one a n.one_there a_there (n.one_is ∙ sym a_is))
-        (subst (IsCongruent f n.one) (one_number n.other b n.other_there b_there (n.other_is ∙ sym b_is)) n.congruent)
+        subst (λ c. IsCongruent f c b) (same_numbers t apart n.one a n.one_there a_there (n.one_is ∙ sym a_is))
+        (subst (IsCongruent f n.one) (same_numbers t apart n.other b n.other_there b_there (n.other_is ∙ sym b_is)) n.congruent)
 
     turn_numbered : (u v : Term) → (u ≡ v) ⊎ AreNumbered t f u v → (v ≡ u) ⊎ AreNumbered t f v u
     turn_numbered u v (inl e) = inl (sym e)
@@ -207,7 +204,7 @@ module _ (t : TableView) (f : Facts) (whole : AreOf t f) where
       one_is = n.one_is;
       other_is = m.other_is;
       congruent = joined n.one n.other m.other n.congruent
-          (subst (λ c. IsCongruent f c m.other) (one_number m.one n.other m.one_there n.other_there (m.one_is ∙ sym n.other_is)) m.congruent);
+          (subst (λ c. IsCongruent f c m.other) (same_numbers t apart m.one n.other m.one_there n.other_there (m.one_is ∙ sym n.other_is)) m.congruent);
     })
 
     -- of two equal terms either both are one, or they have congruent numbers

@@ -3,14 +3,12 @@ use Rattle.std.proofs.Common.{◌≡◌, ◌<◌, refl, sym, ap, ◌∙◌, true
 use Rattle.std.specs.Ordering.{is_lt, is_gt, ordering_then, ordering_reverse}
 use Rattle.std.specs.declared.cmp.Ordering.{Ordering}
 use Rattle.std.specs.Cmp.{then_flip}
-use Rattle.spec_numbers.specs.Fractions.{Fraction, IsReduced, minus, times, compare}
-use Rattle.spec_numbers.proofs.Field.{plus-reduced, times-reduced, opposite-reduced, inverse-reduced, times-comm}
+use Rattle.spec_numbers.specs.Fractions.{Fraction, IsReduced, times, compare}
+use Rattle.spec_numbers.proofs.Field.{plus-reduced, times-reduced, inverse-reduced, times-comm, minus-reduced}
 use Rattle.spec_numbers.proofs.Order.{compare-equal, compare-reversed, compare-trans, compare-plus, compare-times}
 use Rattle.spec_strains.specs.Deltas.{Delta, AreReduced, IsPositive, delta_plus, delta_minus, delta_times, delta_over, delta_at, delta_compare}
 
 -- lowest terms
-pub minus-reduced : (x y : Fraction) → IsReduced x → IsReduced y → IsReduced (minus x y)
-minus-reduced x y r q = plus-reduced x _ r.positive (opposite-reduced y q).positive
 
 pub sum_reduced : (x y : Delta) → AreReduced x → AreReduced y → AreReduced (delta_plus x y)
 unfolding delta_plus

@@ -3,30 +3,16 @@ use Rattle.std.proofs.Common.{◌≡◌, ◌<◌, pos, ◌*ℤ◌, sym, ap, ◌�
 use Rattle.std.specs.Ordering.{ordering_then}
 use Rattle.std.specs.Cmp.{tied_itself}
 use Rattle.std.proofs.lemmas.Cmp.{int_cmp_total}
-use Rattle.spec_numbers.specs.Fractions.{Fraction, IsReduced, zero_fraction, plus, minus, opposite, times, compare}
-use Rattle.spec_numbers.proofs.Field.{plus-comm, plus-assoc, plus-cross, plus-zero, plus-opposite, plus-reduced, zero-reduced, times-assoc, times-plus, times-plus_left, times-reduced, opposite-times}
+use Rattle.spec_numbers.specs.Fractions.{Fraction, IsReduced, plus, minus, opposite, times, compare}
+use Rattle.spec_numbers.proofs.Field.{plus-comm, plus-cross, plus-zero, plus-opposite, plus-reduced, times-assoc, times-plus, times-plus_left, times-reduced, opposite-times, minus-reduced, zero-times_of}
 use Rattle.spec_numbers.proofs.Order.{compare-plus, compare-times}
 use Rattle.spec_strains.specs.Deltas.{Delta, AreReduced, IsPositive, number, delta_plus, delta_times, delta_at, delta_compare}
-use Rattle.delta_num.proofs.Orders.{minus-reduced}
 
 -- values of a fraction, of sums and of products
-zero_times : (x : Fraction) → 0 < x.den → times zero_fraction x ≡ zero_fraction
-zero_times x p =
-    sym (plus-zero z reduced) ∙ ap (plus z) (sym (plus-opposite z reduced)) ∙ sym (plus-assoc z z (opposite z))
-    ∙ ap (λ t. plus t (opposite z)) (sym twice) ∙ plus-opposite z reduced
-  where
-    z : Fraction
-    z = times zero_fraction x
-
-    reduced : IsReduced z
-    reduced = times-reduced zero_fraction x zero-reduced.positive p
-
-    twice : z ≡ plus z z
-    twice = sym (ap (λ t. times t x) (plus-zero zero_fraction zero-reduced)) ∙ times-plus zero_fraction zero_fraction x p
 
 pub number_value : (x eps : Fraction) → IsReduced x → IsReduced eps → delta_at (number x) eps ≡ x
 unfolding delta_at
-number_value x eps r p = ap (plus x) (zero_times eps p.positive) ∙ plus-zero x r
+number_value x eps r p = ap (plus x) (zero-times_of eps p.positive) ∙ plus-zero x r
 
 pub sum_value : (x y : Delta) (eps : Fraction) → IsReduced eps → delta_at (delta_plus x y) eps ≡ plus (delta_at x eps) (delta_at y eps)
 unfolding delta_at delta_plus

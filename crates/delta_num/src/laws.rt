@@ -1,6 +1,6 @@
 //! Laws of numbers with an infinitesimal part: functions with empty bodies, whose clauses are proved of the definitions.
 
-ghost use Rattle.std.specs.Prelude.{◌≡◌, ◌≢◌, List, Contains, IfOk};
+ghost use Rattle.std.specs.Prelude.{◌≡◌, List, Contains, IfOk};
 ghost use Rattle.std.specs.Ordering.{ordering_reverse};
 ghost use Rattle.std.proofs.Common.{Less, Equal};
 ghost use Rattle.spec_numbers.specs.Fractions.{Fraction, IsReduced, plus, minus, times, compare};

@@ -1,11 +1,12 @@
 -- Roots of terms, and the arrays by which the code finds them.
-use Rattle.std.proofs.Common.{◌≡◌, ◌≢◌, ℕ, zero, suc, ◌<◌, ◌≤◌, ◌==◌, List, [], ◌∷◌, ◌++◌, ◌+◌, length, replicate, slice_index, if◌then◌else◌, refl, sym, ◌∙◌, ap, subst, arith, inl, inr, ◌⊎◌, length-set, zero-add}
+use Rattle.std.proofs.Common.{◌≡◌, ◌≢◌, ℕ, zero, suc, ◌<◌, ◌≤◌, ◌==◌, List, [], ◌∷◌, ◌++◌, ◌+◌, length, replicate, slice_index, if◌then◌else◌, refl, sym, ◌∙◌, ap, subst, arith, inl, inr, ◌⊎◌, length-set}
 use Rattle.std.specs.List.{range_with_len}
 use Rattle.std.proofs.lemmas.List.{length-replicate, get_or-replicate}
-use Rattle.std.proofs.lemmas.List.FromFn.{length-range_with_len, get_or-range_with_len}
+use Rattle.std.proofs.lemmas.List.FromFn.{length-range_with_len}
 use Rattle.std.proofs.lemmas.Grind.{common_steps}
 use Rattle.std.proofs.lemmas.Bool.{cases_eq}
 use Rattle.std.proofs.lemmas.Bool.Decides.{nat_tests}
+use Rattle.term_core.proofs.Numbers.{range-at}
 use Rattle.explain_forest.specs.declared.types.Edge.{Edge}
 use Rattle.explain_forest.specs.Forest.{root, Linked}
 use Rattle.explain_forest.specs.Kept.{AreApart, parents_by, stamps_by, height}
@@ -42,9 +43,6 @@ root-again n (e ∷ es) t ok = go (cases_eq (root es t) (root es e.a.0)) (λ s. 
 pub range-next : (a n : ℕ) → range_with_len a (suc n) ≡ range_with_len a n ++ (a + n) ∷ []
 range-next a zero = ap (λ k. k ∷ []) (omega arith)
 range-next a (suc n) = ap (λ l. a ∷ l) (range-next (a + 1) n ∙ ap (λ k. range_with_len (a + 1) n ++ k ∷ []) (omega arith))
-
-range-at : (n t : ℕ) → t < n → slice_index (range_with_len 0 n) t ≡ t
-range-at n t h = get_or-range_with_len 0 n t 0 h ∙ zero-add t
 
 blank-at : (n t : ℕ) → t < n → slice_index (replicate n 0) t ≡ 0
 blank-at n t h = get_or-replicate n t 0 0 h

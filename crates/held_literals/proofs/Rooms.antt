@@ -1,7 +1,7 @@
 -- Literals that are held once each, over watched terms, are at most twice as many.
-use Rattle.std.proofs.Common.{◌≡◌, ◌≢◌, ◌==◌, ◌&&◌, ◌*◌, ◌<◌, ◌≤◌, zero, suc, Bool, true, false, List, [], ◌∷◌, ◌++◌, length, get_or, All, Contains, inl, inr, refl, sym, ap, ◌∙◌, subst, arith, true≢false}
+use Rattle.std.proofs.Common.{◌≡◌, ◌≢◌, ◌==◌, ◌&&◌, ◌*◌, ◌<◌, ◌≤◌, zero, suc, Bool, true, false, List, [], ◌∷◌, ◌++◌, length, get_or, All, Contains, inl, inr, refl, sym, ap, ◌∙◌, subst, arith}
 use Rattle.std.specs.Bool.{Decides, beq}
-use Rattle.std.specs.Cmp.{IsEquivalence}
+use Rattle.std.specs.Cmp.{IsEquivalence, booleans_Decides}
 use Rattle.std.specs.List.{AllPairs}
 use Rattle.std.proofs.lemmas.Bool.Decides.{Decides-eqb, Decides-like, same_from_decides}
 use Rattle.std.proofs.lemmas.Bool.{and_parts}
@@ -16,12 +16,6 @@ use Rattle.held_literals.proofs.Marks.{early, last, place}
 same_lit : Lit → Lit → Bool
 same_lit a b = (a.term.0 == b.term.0) && beq a.positive b.positive
 
-bits : (a b : Bool) → beq a b ≡ true → a ≡ b
-bits true true e = refl
-bits false false e = refl
-bits true false e = absurd (true≢false (sym e))
-bits false true e = absurd (true≢false (sym e))
-
 bit_itself : (a : Bool) → beq a a ≡ true
 bit_itself true = refl
 bit_itself false = refl
@@ -35,7 +29,7 @@ unfolding same_lit
 one a b e =
     let h = and_parts (a.term.0 == b.term.0) (beq a.positive b.positive) e in
     let t = (Decides-eqb a.term.0 b.term.0).0 h.0 in
-    let s = bits a.positive b.positive h.1 in
+    let s = (booleans_Decides a.positive b.positive).0 h.1 in
     λ i. record { term = record { 0 = t i }; positive = s i }
 
 decides : (a b : Lit) → Decides (same_lit a b) (a ≡ b)

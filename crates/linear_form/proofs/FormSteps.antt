@@ -6,6 +6,7 @@ use Rattle.spec_numbers.specs.Bounds.{Overflow}
 use Rattle.spec_sorts.specs.Terms.{Term}
 use Rattle.spec_arithmetic.specs.Signs.{is_zero}
 use Rattle.spec_arithmetic.specs.Forms.{Answer, Form, Way, with_variable, unless_zero, all_joined, combined, opposites, opposite_form, each_number, changed}
+use Rattle.spec_arithmetic.proofs.Zero.{opposite-not_zero}
 use Rattle.ratio128.specs.declared.ratio.Ratio.{Ratio}
 use Rattle.ratio128.specs.Meant.{fraction}
 use Rattle.term_core.specs.declared.ids.TermId.{TermId}
@@ -15,7 +16,7 @@ use Rattle.linear_form.specs.declared.stop.Stop.TheVariants as stops
 use Rattle.linear_form.specs.Meant.{FormView, form_meant}
 use Rattle.linear_form.specs.Entries.{unless_dead, live, variables_meant}
 use Rattle.linear_form.specs.Making.{FailsBy, Comes, Makes}
-use Rattle.linear_form.proofs.Indexes.{opposite-not_zero, live-append, live_one, list_at}
+use Rattle.linear_form.proofs.Indexes.{live-append, live_one, list_at}
 use Rattle.linear_form.proofs.Joining.{fails_on}
 
 -- ---- joining

@@ -1,11 +1,11 @@
 -- What was found so far of the terms that are needed.
 use Rattle.std.proofs.Common.{◌≡◌, ℕ, ◌<◌, ◌⊎◌, inl, inr, List, [], ◌∷◌, ◌++◌, length, All, refl, sym, subst, arith}
-use Rattle.std.specs.Ordering.{nat_cmp, MatchOrdering}
-use Rattle.std.specs.Cmp.{ranks}
+use Rattle.std.specs.Ordering.{nat_cmp}
 use Rattle.std.specs.BTreeMap.Range.{IsLtBy}
 use Rattle.term_core.specs.Tables.{TableView}
 use Rattle.term_walks.specs.Orders.{In, Adds, Ascends}
-use Rattle.term_walks.proofs.Among.{in_either, in_second, all_in}
+use Rattle.term_walks.proofs.Among.{in_either, all_in}
+use Rattle.term_walks.proofs.Found.{less_by, waits}
 use Rattle.linear_form.specs.Walks.{needed_at, IsOrder}
 
 -- Those found ascend, and those that wait are below them.
@@ -29,12 +29,6 @@ found_first t root old new e adds before lt = record {
   where
     new_below : (q : ℕ) → In q new → q < root
     new_below q i = elim (adds.no_others q i) [ inl r ↦ absurd (subst (In q) e r) | inr a ↦ all_in (λ a. a < root) q (needed_at t root) before a ]
-
-less_by : (q k : ℕ) → IsLtBy nat_cmp q k → q < k
-less_by q k h = subst (λ o. MatchOrdering o (q < k) (q ≡ k) (k < q)) h (ranks q k)
-
-waits : (k : ℕ) (waiting rest : List ℕ) → waiting ≡ rest ++ k ∷ [] → In k waiting
-waits k waiting rest popped = subst (In k) (sym popped) (in_second k rest (k ∷ []) (inl refl))
 
 pub k_there : (t : TableView) (root k : ℕ) (waiting rest found : List ℕ) (top : ℕ) → IsFound t root waiting found top → waiting ≡ rest ++ k ∷ [] → k < length t.terms
 k_there t root k waiting rest found top f popped = f.there k (inl (waits k waiting rest popped))

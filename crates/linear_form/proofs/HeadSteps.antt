@@ -1,10 +1,10 @@
 -- What heads make of forms, step by step.
-use Rattle.std.proofs.Common.{◌≡◌, ◌≢◌, ℕ, ◌+◌, ◌<◌, ◌≤◌, Bool, true, false, List, [], ◌∷◌, map, length, drop, get_or, Option, Some, None, Result, Ok, Err, IfOk, IfErr, refl, sym, ◌∙◌, ap, subst, arith, true≢false}
+use Rattle.std.proofs.Common.{◌≡◌, ◌≢◌, ℕ, ◌+◌, ◌<◌, ◌≤◌, Bool, true, false, List, [], ◌∷◌, map, length, drop, get_or, Option, Some, None, Result, Ok, Err, IfOk, IfErr, refl, sym, ◌∙◌, ap, subst, arith}
 use Rattle.std.proofs.lemmas.List.{drop_all}
 use Rattle.std.proofs.lemmas.Bool.Decides.{Decides-eqb}
 use Rattle.std.specs.Prelude.{◌==◌}
 use Rattle.spec_text.specs.Answers.{◌>>=◌}
-use Rattle.spec_numbers.specs.Fractions.{Fraction, zero_fraction}
+use Rattle.spec_numbers.specs.Fractions.{Fraction}
 use Rattle.spec_numbers.specs.Bounds.{Overflow}
 use Rattle.spec_sorts.specs.Terms.{Term, Minus, Divide}
 use Rattle.spec_arithmetic.specs.Signs.{is_zero}
@@ -178,10 +178,6 @@ quotient_zero u f g h = quotient_none u f g (zero_number g.constant g.variables 
 
 pub quotient_number : (u : Term) (f g : Form) → g.variables ≡ [] → is_zero g.constant ≡ false → quotient_form u f g ≡ shared_out f g.constant
 quotient_number u f g e h = quotient_some u f g g.constant (a_number g.constant g.variables (is_zero g.constant) e h)
-
-pub not_zero : (x : Fraction) → is_zero x ≡ false → x ≢ zero_fraction
-unfolding is_zero
-not_zero x e h = true≢false (sym (ap is_zero h) ∙ e)
 
 -- a list of one
 pub one_form : (t : TableView) (fs : List FormView) (g : FormView) → length fs ≡ 1 → g ≡ get_or fs 0 g → forms_meant t fs ≡ form_meant t g ∷ []

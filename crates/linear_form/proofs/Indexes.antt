@@ -1,30 +1,20 @@
 -- Live entries, and the index of them.
 use Rattle.std.proofs.Common.{◌≡◌, ◌≢◌, ℕ, zero, suc, ◌+◌, ◌<◌, ◌≤◌, ◌⊎◌, inl, inr, Bool, true, false, List, [], ◌∷◌, ◌++◌, length, take, drop, get_or, Option, Some, None, nat_eq, refl, sym, ◌∙◌, ap, subst, arith, add-one, length-append, true≢false}
-use Rattle.std.proofs.Math.IntN.{neg_ℤ, neg_ℤ-neg_ℤ}
 use Rattle.std.proofs.Math.Seq.{drop-cons, get_or-append_seam}
 use Rattle.std.proofs.Math.ListN.{set, get_or-append}
 use Rattle.std.proofs.lemmas.List.{take-append-drop, set_split, length-take-le, length-set, get_or-take, get_or-set_same, get_or-set_other}
 use Rattle.std.proofs.lemmas.Bool.{cases_lt, cases_eq}
-use Rattle.std.proofs.lemmas.Bool.Decides.{eqb_tells, Decides-int_eq}
+use Rattle.std.proofs.lemmas.Bool.Decides.{eqb_tells}
 use Rattle.std.specs.Map.{lookup}
 use Rattle.std.specs.HashMap.{HashMap}
 use Rattle.std.specs.HashMap as hash
-use Rattle.spec_numbers.specs.Fractions.{Fraction, opposite}
+use Rattle.spec_numbers.specs.Fractions.{Fraction}
 use Rattle.spec_arithmetic.specs.Signs.{is_zero}
 use Rattle.spec_arithmetic.proofs.General.{same_some}
 use Rattle.ratio128.specs.declared.ratio.Ratio.{Ratio}
 use Rattle.ratio128.specs.Meant.{fraction}
 use Rattle.term_core.specs.declared.ids.TermId.{TermId}
 use Rattle.linear_form.specs.Entries.{unless_dead, live, LacksNumber, IsLiveAt, IsIndex}
-
--- a negative is 0 where the number is
-pub opposite-not_zero : (k : Fraction) → is_zero k ≡ false → is_zero (opposite k) ≡ false
-unfolding is_zero opposite
-opposite-not_zero k e = by (is_zero (opposite k)) refl
-  where
-    by : (b : Bool) → is_zero (opposite k) ≡ b → is_zero (opposite k) ≡ false
-    by false f = f
-    by true f = absurd (true≢false (sym ((Decides-int_eq k.num _).1 (sym (neg_ℤ-neg_ℤ k.num) ∙ ap neg_ℤ ((Decides-int_eq (neg_ℤ k.num) _).0 f))) ∙ e))
 
 -- entries before others
 dead_append : (b : Bool) (v : TermId) (k : Fraction) (xs ys : List (TermId × Fraction)) → unless_dead b v k (xs ++ ys) ≡ unless_dead b v k xs ++ ys

@@ -10,6 +10,7 @@ use Rattle.spec_sorts.specs.Terms.{Term, same_term}
 use Rattle.spec_sorts.proofs.SameTerms.{terms_decide}
 use Rattle.spec_arithmetic.specs.Signs.{is_zero}
 use Rattle.spec_arithmetic.specs.Forms.{Answer, Way, unless_zero, with_variable, joined}
+use Rattle.spec_arithmetic.proofs.Zero.{opposite-not_zero}
 use Rattle.ratio128.specs.declared.ratio.Ratio.{Ratio}
 use Rattle.ratio128.specs.Meant.{fraction, overflow}
 use Rattle.term_core.specs.declared.ids.TermId.{TermId}
@@ -21,7 +22,7 @@ use Rattle.linear_form.specs.declared.stop.Stop.TheVariants as stops
 use Rattle.linear_form.specs.Meant.{pair_meant}
 use Rattle.linear_form.specs.Entries.{unless_dead, live, variables_meant, HasVariables, LacksNumber, IsLiveAt}
 use Rattle.linear_form.specs.Making.{way_meant, FailsBy, Comes, Makes}
-use Rattle.linear_form.proofs.Indexes.{opposite-not_zero, live-append, list_at, set_at, own_id}
+use Rattle.linear_form.proofs.Indexes.{live-append, list_at, set_at, own_id}
 
 -- ---- why nothing comes
 

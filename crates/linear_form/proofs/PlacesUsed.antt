@@ -33,6 +33,3 @@ all_at P ids k d lt h = subst P (get_or-map (λ (a : TermId). a.0) ids k d 0 lt)
 
 pub number_at : (ids : List TermId) (k : ℕ) (d : TermId) → k < length ids → (get_or ids k d).0 ≡ get_or (numbers_of ids) k 0
 number_at ids k d lt = sym (get_or-map (λ (a : TermId). a.0) ids k d 0 lt)
-
-pub numbers_length : (ids : List TermId) → length (numbers_of ids) ≡ length ids
-numbers_length ids = length-map ids (λ (a : TermId). a.0)

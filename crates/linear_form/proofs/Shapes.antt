@@ -1,9 +1,8 @@
 -- Terms by their nodes: how many arguments they have.
-use Rattle.std.proofs.Common.{◌≡◌, ℕ, List, [], ◌∷◌, map, length, get_or, refl, sym, ap, ◌∙◌, arith}
+use Rattle.std.proofs.Common.{◌≡◌, ℕ, List, map, length, sym, ap, ◌∙◌}
 use Rattle.std.proofs.lemmas.List.{length-map}
 use Rattle.spec_sorts.specs.Terms.{Head, Term, app, of, list_of}
 use Rattle.spec_sorts.proofs.General.{list_of-terms_of}
-use Rattle.term_core.specs.declared.ids.TermId.{TermId}
 use Rattle.term_core.specs.Tables.{TableView, Shape, head_meant, term_at, shape_term}
 
 -- how many arguments a term has
@@ -17,10 +16,3 @@ counted h ts = ap (λ (us : List Term). length us) (list_of-terms_of ts)
 pub as_many : (t : TableView) (s : Shape) (e : Term) (h : Head) (us : List Term) → e ≡ shape_term t s → e ≡ of h us → length s.arguments ≡ length us
 as_many t s e h us means is =
     sym (length-map s.arguments (term_at t)) ∙ sym (counted (head_meant t s.head) (map (term_at t) s.arguments)) ∙ ap count (sym means ∙ is) ∙ counted h us
-
--- two arguments
-pub two_arguments : (ids : List TermId) (d : TermId) → length ids ≡ 2 → ids ≡ get_or ids 0 d ∷ get_or ids 1 d ∷ []
-two_arguments [] d n = absurd (omega (arith, n))
-two_arguments (a ∷ []) d n = absurd (omega (arith, n))
-two_arguments (a ∷ b ∷ []) d n = refl
-two_arguments (a ∷ b ∷ c ∷ ids) d n = absurd (omega (arith, n))

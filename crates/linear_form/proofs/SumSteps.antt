@@ -1,5 +1,5 @@
 -- Steps of weighted sums, and how a clause is judged by them.
-use Rattle.std.proofs.Common.{◌≡◌, ◌≢◌, ℕ, ◌+◌, ◌<◌, ◌≤◌, Bool, true, false, ◌||◌, List, [], ◌∷◌, length, drop, get_or, Result, Ok, Err, OnOk, ℤ, pos, negsuc, neg_ℤ, unsigned_abs, refl, sym, ◌∙◌, ap, subst, arith, true≢false}
+use Rattle.std.proofs.Common.{◌≡◌, ◌≢◌, ℕ, ◌+◌, ◌<◌, ◌≤◌, Bool, true, false, ◌||◌, List, [], ◌∷◌, length, drop, get_or, Result, Ok, Err, ℤ, pos, negsuc, neg_ℤ, unsigned_abs, refl, sym, ◌∙◌, ap, subst, arith, true≢false}
 use Rattle.std.specs.Prelude.{IsErrAnd}
 use Rattle.std.specs.Int.RustNames.{int_lt}
 use Rattle.std.proofs.lemmas.List.{drop_all}
@@ -107,11 +107,6 @@ module _ (t : TableView) (ps : List Part) (at : ℕ) where
   pub strict_end : length ps ≤ at → is_strict (parts_meant t (drop at ps)) ≡ false
   unfolding is_strict
   strict_end h = ap (λ l. is_strict (parts_meant t l)) (drop_all at ps h)
-
--- what holds of a success, by what held of one from below
-pub on_ok : {A E P Q : Type 0} (r : Result A E) → (P → Q) → OnOk r P → OnOk r Q
-on_ok (Ok a) f p = f p
-on_ok (Err e) f p = tt
 
 -- the form of a difference
 untermed_err : {A : Type 0} (t : Term) (a : Answer A) (w : Overflow) → a ≡ Err w → without_term (at_term t a) ≡ Err w

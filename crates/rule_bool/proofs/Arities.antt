@@ -1,7 +1,8 @@
 -- How many arguments a head takes, and that the literals of a scheme are of arguments that are there.
 use Rattle.std.proofs.Common.{◌≡◌, ℕ, ◌≤◌, true, List, [], ◌∷◌, length, map, refl, ◌∙◌, arith}
 use Rattle.std.proofs.lemmas.List.{length-map}
-use Rattle.spec_sorts.specs.Terms.{Sort, Truth, Not, Xor, Implies, Equal, Ite, sort_of}
+use Rattle.spec_sorts.specs.Terms.{Sort, Truth, Not, Xor, Implies, sort_of}
+use Rattle.spec_sorts.proofs.General.{equal_takes}
 use Rattle.spec_proofs.specs.declared.Rest.{Rest}
 use Rattle.spec_proofs.specs.declared.Rest.TheVariants.{One, Two}
 use Rattle.term_core.specs.declared.nodes.Head.{Head as NodeHead}
@@ -21,10 +22,6 @@ xor_takes _ e = cc
 implies_takes : (ss : List Sort) → takes Implies ss ≡ true → length ss ≡ 2
 implies_takes (Truth ∷ Truth ∷ []) e = refl
 implies_takes _ e = cc
-
-equal_takes : (ss : List Sort) → takes Equal ss ≡ true → length ss ≡ 2
-equal_takes (s ∷ t ∷ []) e = refl
-equal_takes _ e = cc
 
 -- a head has at least so many arguments
 least : (t : TableView) (h : NodeHead) (ss : List Sort) → takes (head_meant t h) ss ≡ true → arity h ≤ length ss

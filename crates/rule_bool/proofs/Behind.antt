@@ -10,6 +10,7 @@ use Rattle.spec_sorts.specs.Literals.{Clause}
 use Rattle.spec_rules.specs.Schemes.{signed}
 use Rattle.term_core.specs.declared.ids.TermId.{TermId}
 use Rattle.term_core.specs.Tables.{TableView, term_at, IsIn, AreIn, AreDifferent, clause_at}
+use Rattle.term_core.proofs.Numbers.{same_numbers}
 use Rattle.clause_literals.specs.Polarities.{IsSigned, HasNoSign}
 
 -- terms are one where they are with a sign
@@ -22,10 +23,6 @@ one_is : {X : Type 0} (x y : X) → x ∷ [] ≡ y ∷ [] → x ≡ y
 one_is x y e = cc
 
 module _ (t : TableView) where
-  -- numbers of one term are one
-  pub same_numbers : AreDifferent t.terms → (a b : TermId) → IsIn t a → IsIn t b → term_at t a ≡ term_at t b → a ≡ b
-  same_numbers differ a b a_in b_in e = let number : ℕ → TermId = λ n. record { 0 = n } in ap number (differ a.0 b.0 a_in b_in e)
-
   module _ (p : Bool) (arguments ids : List TermId) where
     -- other than one literal is none of one
     pub not_any_many : length ids ≢ 1 → Contains (map (λ u. signed p u ∷ []) (clause_at t arguments)) (clause_at t ids) → ⊥
@@ -53,7 +50,7 @@ module _ (t : TableView) where
             let u = from_image (λ (x : Term). signed p x ∷ []) (clause_at t arguments) (clause_at t ids) i in
             let a = from_image (term_at t) arguments u.0 u.1 in
             let same = signed_apart p u.0 (term_at t b) (one_is _ _ (u.2 ∙ ap (clause_at t) e) ∙ is.same) in
-            lacks (subst (λ (x : TermId). Contains arguments x) (same_numbers differ a.0 b (All-contains (IsIn t) arguments a.0 arguments_in a.1) is.there (a.2 ∙ same)) a.1)
+            lacks (subst (λ (x : TermId). Contains arguments x) (same_numbers t differ a.0 b (All-contains (IsIn t) arguments a.0 arguments_in a.1) is.there (a.2 ∙ same)) a.1)
 
         -- whether it is an argument
         pub any_by : AreDifferent t.terms → AreIn t arguments → (yes : Bool) → MatchBool yes (Contains arguments b) (Contains arguments b → ⊥)

@@ -25,7 +25,7 @@ use Rattle.spec_models.proofs.Numerals.{numeral_number, numeral_digits, front_al
 use Rattle.spec_arithmetic.specs.Signs.{is_zero}
 use Rattle.spec_arithmetic.specs.Contradictions.{Coefficient, given, malformed}
 use Rattle.spec_arithmetic.specs.Coefficients.{literal_coefficient, atom_coefficient, opposite_coefficient, coefficient_by, quotient_unless, quotient_coefficient, is_word_of, coefficient_of, coefficients_of}
-use Rattle.spec_arithmetic.proofs.Zero.{zero_num}
+use Rattle.spec_arithmetic.proofs.Zero.{zero_num, not_zero}
 use Rattle.ratio128.specs.declared.ratio.Ratio.{Ratio}
 use Rattle.ratio128.specs.Meant.{fraction}
 use Rattle.term_reader.proofs.Digits.{whole_over}
@@ -62,9 +62,6 @@ literal_malformed n l e = go (is_wide n) e
 zero_is : is_zero zero_fraction ≡ true
 unfolding is_zero
 zero_is = refl
-
-pub not_zero : (x : Fraction) → is_zero x ≡ false → x ≢ zero_fraction
-not_zero x h e = false≢true (sym h ∙ ap is_zero e ∙ zero_is)
 
 -- the test for 0
 pub zero_tested : (b : Bool) (x : Fraction) → IsReduced x → (IsTrue b → x ≡ zero_fraction) → (x ≡ zero_fraction → IsTrue b) → b ≡ is_zero x

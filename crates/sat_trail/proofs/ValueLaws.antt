@@ -10,6 +10,7 @@ use Rattle.std.proofs.lemmas.Map.Steps.{length-le_from_distinct_below}
 use Rattle.std.proofs.lemmas.Map.Made.{IsDistinct-from_AllPairs, is_member-Decides}
 use Rattle.term_core.specs.declared.ids.TermId.{TermId}
 use Rattle.term_core.specs.declared.ids.Lit.{Lit}
+use Rattle.term_core.proofs.Numbers.{same_id}
 use Rattle.clause_literals.specs.Literals.{lit_complement}
 use Rattle.sat_trail.specs.Trails.{no_lit, AreApart, IsUnassigned, HasValue}
 use Rattle.sat_trail.specs.Values.{HasValues}
@@ -32,10 +33,6 @@ signs true true = inl refl
 signs true false = inr refl
 signs false true = inr refl
 signs false false = inl refl
-
--- numbers of terms are terms
-same_term : (a b : TermId) → a.0 ≡ b.0 → a ≡ b
-same_term a b e = λ i. record { 0 = e i }
 
 by_term : (l m : Lit) → l.term.0 ≡ m.term.0 → l.positive ≡ m.positive → l ≡ m
 by_term l m e f = λ i. record { term = record { 0 = e i }; positive = f i }
@@ -100,7 +97,7 @@ module _ (held : List Lit) (values : List (Option Bool)) (h : HasValues held val
       pairs : AllPairs (λ (x y : ℕ). x ≢ y) (map number held)
       pairs i j d ij within e =
           let jl : j < length held = omega (arith, within, length-map held number) in
-          h.once i j no_lit ij jl (same_term _ _ (sym (get_or-map number held i no_lit d (omega (arith, ij, jl))) ∙ e ∙ get_or-map number held j no_lit d jl))
+          h.once i j no_lit ij jl (same_id _ _ (sym (get_or-map number held i no_lit d (omega (arith, ij, jl))) ∙ e ∙ get_or-map number held j no_lit d jl))
 
       below : (q : ℕ) → list_any (◌==◌ q) (map number held) ≡ true → q < length values
       below q e = go ((is_member-Decides Decides-eqb (map number held) q).0 e)
@@ -170,7 +167,7 @@ pop_values front held l values e g = record {
     h = subst (λ (x : List Lit). HasValues x values) e g
 
     apart : (m : Lit) → Contains front m → m.term.0 ≢ l.term.0
-    apart m (i, lt, is) q = h.once i (length front) m lt (omega (arith, length-append front (l ∷ []))) (same_term _ _ (ap number (get_or_append_left front (l ∷ []) m i lt ∙ is) ∙ q ∙ sym (ap number (get_or_push front l m (length front) refl))))
+    apart m (i, lt, is) q = h.once i (length front) m lt (omega (arith, length-append front (l ∷ []))) (same_id _ _ (ap number (get_or_append_left front (l ∷ []) m i lt ∙ is) ∙ q ∙ sym (ap number (get_or_push front l m (length front) refl))))
 
     gone : get_or (set values l.term.0 None) l.term.0 None ≡ None
     gone = elim (cases_lt l.term.0 (length values)) [

@@ -57,7 +57,7 @@ module _ (t : TableView) (held : List Lit) (different : AreDifferent t.terms) (t
   v = truths_of t held
 
   -- what holds as it stands is true
-  affirmed : (l : Lit) → Contains held l → l.positive ≡ true → v (term_at t l.term) ≡ true
+  pub affirmed : (l : Lit) → Contains held l → l.positive ≡ true → v (term_at t l.term) ≡ true
   affirmed l c e =
       let same : same_term (term_at t l.term) (term_at t l.term) ≡ true = (terms_decide (term_at t l.term) (term_at t l.term)).1 refl in
       list_any_at (λ m. affirms t m (term_at t l.term)) held c.0 l c.1 (subst (λ (x : Lit). affirms t x (term_at t l.term) ≡ true) (sym c.2) (both_true e same))

@@ -2,6 +2,7 @@
 use Rattle.std.proofs.Common.{◌≡◌, ℕ, ◌<◌, Bool, true, false, List, [], ◌∷◌, map, All, Contains, Option, Some, None, inl, inr, refl, sym, ◌∙◌, ap, subst}
 use Rattle.std.proofs.lemmas.List.{length-map}
 use Rattle.std.proofs.lemmas.List.Elements.{All-contains, All-map}
+use Rattle.std.proofs.lemmas.Option.{same_Some}
 use Rattle.spec_text.proofs.Members.{first, cases, none as no_member, only, to_image}
 use Rattle.spec_sorts.specs.Terms.{Term}
 use Rattle.spec_sorts.specs.Literals.{Literal}
@@ -31,7 +32,6 @@ use Rattle.simplex_atoms.specs.Atoms.{ground_of, setting_of}
 use Rattle.simplex_atoms.specs.Limits.{Limit, limit_of, limit_on, limits_where, limits_by}
 use Rattle.simplex_atoms.specs.Limits as limits
 use Rattle.simplex_atoms.specs.Standings.{owner_meant}
-use Rattle.simplex_atoms.proofs.Owning.{some_same}
 use Rattle.simplex_atoms.proofs.Numbered.{owner_mapped}
 use Rattle.simplex_reasons.specs.Stops.{IsStated}
 use Rattle.simplex_reasons.proofs.Pieces.{with_relation, reads}
@@ -143,7 +143,7 @@ module _ (t : TableView) (v : SimplexView) (is : IsOf v t) where
         → States b.literal place b.variable (side_in b.side) (pair_of b.value)
     states_bound b c place there =
         let stated = All-contains (IsStated v.atoms.placed) v.bounds.held b (bounds_stated v.atoms.placed v.theory.held v.bounds.held fits.bounds_are) c in
-        let same : stated.place ≡ place = some_same stated.place place (sym stated.there ∙ there) in
+        let same : stated.place ≡ place = same_Some stated.place place (sym stated.there ∙ there) in
         states_limit b.literal place there (limit_of b) (subst (λ p. Contains (limits_by p b.literal) (limit_of b)) same stated.states)
 
     -- the strongest bound on a side
@@ -172,7 +172,7 @@ module _ (t : TableView) (v : SimplexView) (is : IsOf v t) where
             let stated = All-contains (IsStated v.atoms.placed) v.bounds.held x (bounds_stated v.atoms.placed v.theory.held v.bounds.held fits.bounds_are) h.0 in (
               literal_at t x.literal,
               strongest_by_held side y x f,
-              subst (IsBound s (literal_at t x.literal) y (side_in side)) (some_same (pair_of x.value) b g) (states_strongest side y x f stated.place stated.there).0,
+              subst (IsBound s (literal_at t x.literal) y (side_in side)) (same_Some (pair_of x.value) b g) (states_strongest side y x f stated.place stated.there).0,
             )
 
     -- on each side

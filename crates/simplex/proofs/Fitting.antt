@@ -1,7 +1,8 @@
 -- The parts of simplex fit together as literals are held, marks are set, and back.
 use Rattle.std.proofs.Common.{◌≡◌, ◌+◌, ◌-◌, ◌<◌, ◌≤◌, ℕ, zero, suc, List, [], ◌∷◌, ◌++◌, length, map, take, get_or, All, Option, Some, None, refl, sym, ap, ◌∙◌, subst, arith}
-use Rattle.std.proofs.lemmas.List.{length-append, length-map, take-map}
+use Rattle.std.proofs.lemmas.List.{length-append, length-map, take-map, take-append-le, append-nil, take-take, get_or-take, length-take-le}
 use Rattle.std.proofs.lemmas.List.Elements.{All-take}
+use Rattle.std.proofs.Math.Seq.{take-length}
 use Rattle.term_core.specs.declared.ids.TermId.{TermId}
 use Rattle.term_core.specs.declared.ids.Lit.{Lit}
 use Rattle.term_core.specs.Tables.{TableView}
@@ -15,7 +16,7 @@ use Rattle.simplex_atoms.specs.Atoms.{AtomsView, AreRight}
 use Rattle.simplex.specs.declared.starts.Start.{Start}
 use Rattle.simplex_held.specs.Stated.{stated_by, all_stated, IsKnownIn}
 use Rattle.simplex.specs.Views.{SimplexView, Fits, IsOf, start_of, placed_count}
-use Rattle.simplex.proofs.Stated.{nothing_after, whole, early, first_of_first, stated_more, stated_first, first_states_less, count_first, stated_bounded}
+use Rattle.simplex.proofs.Stated.{stated_more, stated_first, first_states_less, count_first, stated_bounded}
 
 -- what is right with bounds is so with those of as many variables
 pub right_with : (t : TableView) (a : AtomsView) (b : BoardView) (x y : BoundsView) → x.variables ≡ y.variables → AreRight t a b x → AreRight t a b y
@@ -42,19 +43,6 @@ map_more : {A B : Type 0} (f : A → B) (xs : List A) (x : A) → map f (xs ++ x
 map_more f [] x = refl
 map_more f (y ∷ ys) x = ap (λ l. f y ∷ l) (map_more f ys x)
 
-first_at : {A : Type 0} (xs : List A) (k n : ℕ) (d : A) → k < n → get_or (take n xs) k d ≡ get_or xs k d
-first_at [] k zero d lt = absurd (omega (arith, lt))
-first_at [] k (suc n) d lt = refl
-first_at (x ∷ xs) k zero d lt = absurd (omega (arith, lt))
-first_at (x ∷ xs) zero (suc n) d lt = refl
-first_at (x ∷ xs) (suc k) (suc n) d lt = first_at xs k n d (omega (arith, lt))
-
-first_length : {A : Type 0} (xs : List A) (n : ℕ) → n ≤ length xs → length (take n xs) ≡ n
-first_length [] zero le = refl
-first_length [] (suc n) le = absurd (omega (arith, le))
-first_length (x ∷ xs) zero le = refl
-first_length (x ∷ xs) (suc n) le = ap suc (first_length xs n (omega (arith, le)))
-
 -- a start by what literals and terms there were
 abbrev start_from : List (ℕ × Place) → List Lit → List TermId → Start
 start_from p held watched = record { bounds = length (all_stated p held); placed = placed_count p watched }
@@ -78,8 +66,8 @@ module _ (v : SimplexView) (f : Fits v) where
     bounds_are = f.bounds_are;
     starts_are =
         let is : s ≡ start_of v.atoms.placed v.theory (mark_now v.theory) = λ i. record {
-          bounds = (b ∙ bounds_counted v f ∙ ap (λ ls. length (all_stated v.atoms.placed ls)) (sym (whole v.theory.held))) i;
-          placed = (c ∙ ap (placed_count v.atoms.placed) (sym (whole v.theory.watched))) i;
+          bounds = (b ∙ bounds_counted v f ∙ ap (λ ls. length (all_stated v.atoms.placed ls)) (sym (take-length v.theory.held))) i;
+          placed = (c ∙ ap (placed_count v.atoms.placed) (sym (take-length v.theory.watched))) i;
         } in
         (λ i. f.starts_are i ++ is i ∷ []) ∙ sym (map_more (start_of v.atoms.placed v.theory) v.theory.marks (mark_now v.theory));
     room = f.room;
@@ -124,7 +112,7 @@ module _ (v : SimplexView) (f : Fits v) (m : AreMarks v.theory.held v.theory.wat
     bounds_are = h.held ∙ ap (λ (bs : List Limit). bs ++ stated_by p l) f.bounds_are ∙ sym (stated_more p v.theory.held l);
     starts_are = f.starts_are ∙ each_mark (start_of p v.theory) (start_of p (with_held v.theory l)) v.theory.marks
         (λ k lt. ap (λ ls. start_from p ls (take (get_or v.theory.marks k no_mark).watched v.theory.watched))
-        (sym (early v.theory.held (l ∷ []) (get_or v.theory.marks k no_mark).held (m.held_in k lt))));
+        (sym (take-append-le (get_or v.theory.marks k no_mark).held v.theory.held (l ∷ []) (m.held_in k lt))));
     room = omega (
       arith,
       f.room,
@@ -161,12 +149,12 @@ module _ (v : SimplexView) (f : Fits v) (m : AreMarks v.theory.held v.theory.wat
 
     same_start : (k : ℕ) → k < length (take kept v.theory.marks) → start_of p v.theory (get_or (take kept v.theory.marks) k no_mark) ≡ start_of p at (get_or (take kept v.theory.marks) k no_mark)
     same_start k l =
-        let small : k < kept = omega (arith, l, first_length v.theory.marks kept (omega (arith, lt))) in
-        let is = first_at v.theory.marks k kept no_mark small in
+        let small : k < kept = omega (arith, l, length-take-le kept v.theory.marks (omega (arith, lt))) in
+        let is = get_or-take kept v.theory.marks k no_mark small in
         let old = get_or (take kept v.theory.marks) k no_mark in
         let held : old.held ≤ back.held = omega (arith, m.held_order k kept (omega (arith, small)) lt, ap (λ (x : Mark). x.held) is) in
         let watched : old.watched ≤ back.watched = omega (arith, m.watched_order k kept (omega (arith, small)) lt, ap (λ (x : Mark). x.watched) is) in
-        sym (λ i. start_from p (first_of_first v.theory.held old.held back.held held i) (first_of_first v.theory.watched old.watched back.watched watched i))
+        sym (λ i. start_from p (take-take old.held back.held v.theory.held held i) (take-take old.watched back.watched v.theory.watched watched i))
 
     pub fits_back : (bounds : BoundsView) → bounds.held ≡ take (start_of p v.theory back).bounds v.bounds.held → bounds.variables ≡ v.bounds.variables
         → bounds.room + length bounds.held ≡ v.bounds.room + length v.bounds.held → Fits (gone bounds)
@@ -192,11 +180,11 @@ of_fewer t v w a b e n is o = record {
 -- the same of as many terms
 pub of_kept : (t : TableView) (v w : SimplexView) → w.atoms ≡ v.atoms → w.board ≡ v.board → w.bounds.variables ≡ v.bounds.variables
     → w.theory.watched ≡ v.theory.watched → IsOf v t → IsOf w t
-of_kept t v w a b e is = of_fewer t v w a b e (length v.theory.watched) (is ∙ sym (whole v.theory.watched))
+of_kept t v w a b e is = of_fewer t v w a b e (length v.theory.watched) (is ∙ sym (take-length v.theory.watched))
 
 -- no bound comes
 pub nothing_stated : (b : BoundsView) → HoldsStated b b []
-nothing_stated b = record { held = sym (nothing_after (map limit_of b.held)); variables = refl; room = omega arith }
+nothing_stated b = record { held = sym (append-nil (map limit_of b.held)); variables = refl; room = omega arith }
 
 pub gone_is : (v : TheoryView) (n kept : ℕ) → 0 < n → kept ≡ length v.marks - n → gone_back n v ≡ at_mark v kept
 gone_is v zero kept lt e = absurd (omega (arith, lt))

@@ -2,6 +2,7 @@
 use Rattle.std.proofs.Common.{◌≡◌, ◌*◌, ◌≤◌, ℕ, List, [], ◌∷◌, ◌++◌, length, map, take, get_or, All, Contains, Some, Result, Ok, Err, sym, ap, ◌∙◌, subst, arith}
 use Rattle.std.specs.Prelude.{IfErr, IsErrAnd}
 use Rattle.std.proofs.lemmas.List.Elements.{All-take, All-push, Contains-get_or, Contains-push}
+use Rattle.std.proofs.lemmas.List.{take-append-le}
 use Rattle.spec_text.proofs.Members.{to_image}
 use Rattle.spec_numbers.specs.Bounds.{Overflow}
 use Rattle.spec_sorts.specs.Terms.{Term}
@@ -27,7 +28,7 @@ use Rattle.sat_budget.specs.Budgets.{StopsBy}
 use Rattle.simplex_held.specs.Stated.{all_stated, IsKnownIn}
 use Rattle.simplex.specs.Views.{SimplexView, Fits, IsOf, start_of, placed_count}
 use Rattle.simplex.specs.Coming.{standing_of, IsStrainAt}
-use Rattle.simplex.proofs.Stated.{early, stated_same, count_same}
+use Rattle.simplex.proofs.Stated.{stated_same, count_same}
 use Rattle.simplex.proofs.Fitting.{each_mark, right_with}
 
 -- What comes of a term that is not watched where it may get a place.
@@ -88,7 +89,7 @@ fits_watched v w id m th (at, st, held, variables) room f =
       starts_are = st ∙ f.starts_are
           ∙ each_mark (start_of v.atoms.placed v.theory) (start_of v.atoms.placed (with_watched v.theory id)) v.theory.marks (λ k lt. sym (λ i. record {
             bounds = length (all_stated v.atoms.placed (take (get_or v.theory.marks k no_mark).held v.theory.held));
-            placed = placed_count v.atoms.placed (early v.theory.watched (id ∷ []) (get_or v.theory.marks k no_mark).watched (m.watched_in k lt) i);
+            placed = placed_count v.atoms.placed (take-append-le (get_or v.theory.marks k no_mark).watched v.theory.watched (id ∷ []) (m.watched_in k lt) i);
           }))
           ∙ sym (λ i. map (start_of (at i) (th i)) (th i).marks);
       room = omega (arith, room, counts);

@@ -1,10 +1,11 @@
 -- The bounds that literals state: of more literals, of the first ones, by other places, and how many they are.
-use Rattle.std.proofs.Common.{◌≡◌, ◌≢◌, ◌+◌, ◌*◌, ◌≤◌, ℕ, zero, suc, Bool, true, false, List, [], ◌∷◌, ◌++◌, length, take, cond, All, Contains, Option, Some, None, refl, sym, ap, ◌∙◌, subst, arith}
+use Rattle.std.proofs.Common.{◌≡◌, ◌≢◌, ◌+◌, ◌*◌, ◌≤◌, ℕ, zero, suc, Bool, true, false, List, [], ◌∷◌, ◌++◌, length, take, cond, All, Contains, Option, Some, None, refl, ap, ◌∙◌, arith}
 use Rattle.std.specs.List.{filter}
 use Rattle.std.specs.Option.{is_some}
-use Rattle.std.proofs.lemmas.List.{length-append}
-use Rattle.std.proofs.lemmas.List.Elements.{All-head, All-tail, All-filter, filter_passes, Contains-append_right}
+use Rattle.std.proofs.lemmas.List.{length-append, append-nil}
+use Rattle.std.proofs.lemmas.List.Elements.{All-head, All-tail, All-filter, filter_passes}
 use Rattle.std.proofs.lemmas.List.Kept.{AllPairs-filter}
+use Rattle.spec_text.proofs.Members.{in_filter}
 use Rattle.term_core.specs.declared.ids.TermId.{TermId}
 use Rattle.term_core.specs.declared.ids.Lit.{Lit}
 use Rattle.held_literals.specs.Room.{IsHeldOver}
@@ -23,29 +24,6 @@ joined : {A : Type 0} (xs ys zs : List A) → xs ++ (ys ++ zs) ≡ (xs ++ ys) ++
 joined [] ys zs = refl
 joined (x ∷ xs) ys zs = ap (λ l. x ∷ l) (joined xs ys zs)
 
-pub nothing_after : {A : Type 0} (xs : List A) → xs ++ [] ≡ xs
-nothing_after [] = refl
-nothing_after (x ∷ xs) = ap (λ l. x ∷ l) (nothing_after xs)
-
-pub whole : {A : Type 0} (xs : List A) → take (length xs) xs ≡ xs
-whole [] = refl
-whole (x ∷ xs) = ap (λ l. x ∷ l) (whole xs)
-
-pub early : {A : Type 0} (xs ys : List A) (k : ℕ) → k ≤ length xs → take k (xs ++ ys) ≡ take k xs
-early [] [] zero le = refl
-early [] (y ∷ ys) zero le = refl
-early [] ys (suc k) le = absurd (omega (arith, le))
-early (x ∷ xs) ys zero le = refl
-early (x ∷ xs) ys (suc k) le = ap (λ l. x ∷ l) (early xs ys k (omega (arith, le)))
-
-pub first_of_first : {A : Type 0} (xs : List A) (k n : ℕ) → k ≤ n → take k (take n xs) ≡ take k xs
-first_of_first [] zero n le = refl
-first_of_first [] (suc k) zero le = absurd (omega (arith, le))
-first_of_first [] (suc k) (suc n) le = refl
-first_of_first (x ∷ xs) zero n le = refl
-first_of_first (x ∷ xs) (suc k) zero le = absurd (omega (arith, le))
-first_of_first (x ∷ xs) (suc k) (suc n) le = ap (λ l. x ∷ l) (first_of_first xs k n (omega (arith, le)))
-
 -- what stands in front stays, and so many of what follows
 past : {A : Type 0} (xs ys : List A) (n k : ℕ) → k ≡ length xs + n → take k (xs ++ ys) ≡ xs ++ take n ys
 past [] ys n k e = ap (λ j. take j ys) (omega (arith, e))
@@ -61,7 +39,7 @@ stated_append p [] ms = refl
 stated_append p (l ∷ ls) ms = ap (λ bs. stated_by p l ++ bs) (stated_append p ls ms) ∙ joined (stated_by p l) (all_stated p ls) (all_stated p ms)
 
 pub stated_more : (p : List (ℕ × Place)) (ls : List Lit) (l : Lit) → all_stated p (ls ++ l ∷ []) ≡ all_stated p ls ++ stated_by p l
-stated_more p ls l = stated_append p ls (l ∷ []) ∙ ap (λ bs. all_stated p ls ++ bs) (nothing_after (stated_by p l))
+stated_more p ls l = stated_append p ls (l ∷ []) ∙ ap (λ bs. all_stated p ls ++ bs) (append-nil (stated_by p l))
 
 pub stated_same : (p q : List (ℕ × Place)) (ls : List Lit) → All (λ (l : Lit). place_in q l.term ≡ place_in p l.term) ls → all_stated q ls ≡ all_stated p ls
 stated_same p q [] same = refl
@@ -139,15 +117,6 @@ stated_twice p (l ∷ ls) = by (place_in p l.term) (stated_twice p ls)
     by None le = le
     by (Some place) le = omega (arith, le, length-append (limits_by place l) (all_stated p ls), two_where (relation_by place.kind l.positive) (is_positive numbers (number_of place.factor)) place l)
 
-there_still : {A : Type 0} (p : A → Bool) (xs : List A) (x : A) → Contains xs x → p x ≡ true → Contains (filter p xs) x
-there_still p [] x c has = absurd (omega (arith, c.1))
-there_still p (y ∷ ys) x (zero, lt, e) has = subst (λ b. Contains (cond b (y ∷ filter p ys) (filter p ys)) x) (sym (ap p e ∙ has)) (0, omega arith, e)
-there_still p (y ∷ ys) x (suc k, lt, e) has = by (p y) (there_still p ys x (k, omega (arith, lt), e) has)
-  where
-    by : (b : Bool) → Contains (filter p ys) x → Contains (cond b (y ∷ filter p ys) (filter p ys)) x
-    by true c = Contains-append_right (y ∷ []) (filter p ys) x c
-    by false c = c
-
 pub stated_bounded : (p : List (ℕ × Place)) (held : List Lit) (watched : List TermId) → IsHeldOver held watched → length (all_stated p held) ≤ 4 * placed_count p watched
 stated_bounded p held watched h =
     let passes = filter_passes (λ (l : Lit). has_place p l.term) held in
@@ -156,5 +125,5 @@ stated_bounded p held watched h =
       arith,
       stated_twice p held,
       bounded (with_place p held) (filter (has_place p) watched) (AllPairs-filter (λ l m. l ≢ m) (λ (l : Lit). has_place p l.term) held h.once)
-          (λ k d lt. there_still (has_place p) watched _ (over k d lt) (passes k d lt)),
+          (λ k d lt. in_filter (has_place p) watched _ (over k d lt) (passes k d lt)),
     )

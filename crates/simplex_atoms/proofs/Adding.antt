@@ -7,6 +7,7 @@ use Rattle.std.specs.Cmp.Lexicographic.{pointwise}
 use Rattle.std.specs.Map.{lookup, set_value}
 use Rattle.std.proofs.lemmas.Bool.Decides.{Decides-like, Decides-and, Decides-eqb, Decides-int_eq}
 use Rattle.std.proofs.lemmas.List.Sorted.{IsPermutation-map}
+use Rattle.std.proofs.lemmas.Option.{none-some, same_Some}
 use Rattle.spec_text.proofs.Members as members
 use Rattle.spec_tableaux.specs.Rows.{Entry}
 use Rattle.spec_tableaux.specs.Numbers.{Number}
@@ -16,7 +17,6 @@ use Rattle.ratio128.specs.contracts.ratio.RatioPartialEq.TheImpl.{ghosts}
 use Rattle.tableau.specs.Numbers.{number_of}
 use Rattle.simplex_atoms.specs.declared.sums.Multiple.{Multiple}
 use Rattle.simplex_atoms.specs.Sums.{pair_meant, pairs_meant, Sum, sum_by, sum_meant, sums_meant, IsNew}
-use Rattle.simplex_atoms.proofs.Owning.{some_same}
 
 -- pairs are equal exactly where they mean one entry
 
@@ -48,17 +48,14 @@ Kept = List (Vec (ℕ × Ratio) Global × Multiple)
 abbrev has_key : Vec (ℕ × Ratio) Global → Vec (ℕ × Ratio) Global → Bool
 has_key k v = pointwise equal_pairs k.items v.items
 
-none_some : (m : Multiple) → (let o : Option Multiple = None in o) ≡ Some m → ⊥
-none_some m e = cc
-
 -- what is found is kept
 pub found : (k : Vec (ℕ × Ratio) Global) (kept : Kept) (m : Multiple) → lookup (has_key k) kept ≡ Some m → Contains (sums_meant kept) (sum_by (pairs_meant k.items) m)
-found k [] m e = absurd (none_some m e)
+found k [] m e = absurd (none-some m e)
 found k (x ∷ kept) m e = by (has_key k x.0) refl (found k kept m)
   where
     by : (b : Bool) → has_key k x.0 ≡ b → (lookup (has_key k) kept ≡ Some m → Contains (sums_meant kept) (sum_by (pairs_meant k.items) m)) → Contains (sums_meant (x ∷ kept)) (sum_by (pairs_meant k.items) m)
     by true h rest =
-        let here : x.1 ≡ m = some_same x.1 m (sym (ap (λ b. cond b (Some x.1) (lookup (has_key k) kept)) h) ∙ e) in
+        let here : x.1 ≡ m = same_Some x.1 m (sym (ap (λ b. cond b (Some x.1) (lookup (has_key k) kept)) h) ∙ e) in
         let keys : pairs_meant x.0.items ≡ pairs_meant k.items = sym ((same_pairs k.items x.0.items).0 h) in
         subst (Contains (sums_meant (x ∷ kept))) (λ i. sum_by (keys i) (here i)) (members.first (sum_meant x) (sums_meant kept))
     by false h rest =
@@ -71,7 +68,7 @@ none_found k (x ∷ kept) e m c = by (has_key k x.0) refl (λ h. none_found k ke
   where
     by : (b : Bool) → has_key k x.0 ≡ b → (lookup (has_key k) kept ≡ None → Contains (sums_meant kept) (sum_by (pairs_meant k.items) m) → ⊥)
         → (sum_meant x ≡ sum_by (pairs_meant k.items) m) ⊎ Contains (sums_meant kept) (sum_by (pairs_meant k.items) m) → ⊥
-    by true h rest d = none_some x.1 (sym e ∙ ap (λ b. cond b (Some x.1) (lookup (has_key k) kept)) h)
+    by true h rest d = none-some x.1 (sym e ∙ ap (λ b. cond b (Some x.1) (lookup (has_key k) kept)) h)
     by false h rest (inl this) = true≢false (sym ((same_pairs k.items x.0.items).1 (ap (λ (s : Sum). s.entries) (sym this))) ∙ h)
     by false h rest (inr later) = rest (sym (ap (λ b. cond b (Some x.1) (lookup (has_key k) kept)) h) ∙ e) later
 

@@ -1,6 +1,7 @@
 -- What the code reads of an atom, and the form that it makes.
-use Rattle.std.proofs.Common.{◌≡◌, ◌≢◌, true, false, List, [], ◌∷◌, length, get_or, Option, Some, None, Result, Ok, Err, refl, sym, ◌∙◌, ap, subst, arith}
+use Rattle.std.proofs.Common.{◌≡◌, ◌≢◌, true, false, List, [], ◌∷◌, length, Option, Some, None, Result, Ok, Err, refl, sym, ◌∙◌, ap, subst}
 use Rattle.std.specs.Prelude.{IsErrAnd}
+use Rattle.std.proofs.lemmas.Option.{same_Some}
 use Rattle.spec_text.specs.Answers.{◌>>=◌}
 use Rattle.spec_sorts.specs.Terms.{Head, Equal, Less, AtMost, Term, of, pair}
 use Rattle.spec_arithmetic.specs.Contradictions.{are_numbers}
@@ -21,7 +22,6 @@ use Rattle.simplex_atoms.specs.declared.place.Kind.TheVariants as kinds
 use Rattle.simplex_atoms.specs.declared.stop.AtomStop.{AtomStop}
 use Rattle.simplex_atoms.specs.Stops.{of_fault, of_join}
 use Rattle.simplex_atoms.specs.Watching.{kind_by, constraint_meant, Forms}
-use Rattle.simplex_atoms.proofs.Owning.{some_same}
 
 -- nothing else than two arguments says anything
 pub other_counts : (h : Head) (ts : List Term) → length ts ≢ 2 → None ≡ constraint_by true (of h ts)
@@ -58,20 +58,13 @@ module _ (t : TableView) (left right a : TermId) (numbers : true ≡ are_numbers
   pub read : (h : NodeHead) (k : Kind) → kind_by h ≡ Some k → term_at t a ≡ pair (head_meant t h) (term_at t left) (term_at t right)
       → (let o : Option Constraint = Some (constraint_meant t (record { kind = k; atom = a; left = left; right = right })) in o) ≡ constraint_by true (pair (head_meant t h) (term_at t left) (term_at t right))
   unfolding constraint_by as_read
-  read heads.Less k h e = ap as_read (sym (some_same kinds.Less k h)) ∙ (λ i. where_true (numbers i) (saying below (e i) (term_at t left) (term_at t right)))
-  read heads.AtMost k h e = ap as_read (sym (some_same kinds.AtMost k h)) ∙ (λ i. where_true (numbers i) (saying at_most (e i) (term_at t left) (term_at t right)))
-  read heads.Equal k h e = ap as_read (sym (some_same kinds.Equal k h)) ∙ (λ i. where_true (numbers i) (saying equals (e i) (term_at t left) (term_at t right)))
+  read heads.Less k h e = ap as_read (sym (same_Some kinds.Less k h)) ∙ (λ i. where_true (numbers i) (saying below (e i) (term_at t left) (term_at t right)))
+  read heads.AtMost k h e = ap as_read (sym (same_Some kinds.AtMost k h)) ∙ (λ i. where_true (numbers i) (saying at_most (e i) (term_at t left) (term_at t right)))
+  read heads.Equal k h e = ap as_read (sym (same_Some kinds.Equal k h)) ∙ (λ i. where_true (numbers i) (saying equals (e i) (term_at t left) (term_at t right)))
   read h k e is = absurd (none_kind k e)
     where
       none_kind : (k : Kind) → (let o : Option Kind = None in o) ≡ Some k → ⊥
       none_kind k e = cc
-
--- two arguments
-pub two_arguments : (ids : List TermId) (d : TermId) → length ids ≡ 2 → ids ≡ get_or ids 0 d ∷ get_or ids 1 d ∷ []
-two_arguments [] d n = absurd (omega (arith, n))
-two_arguments (a ∷ []) d n = absurd (omega (arith, n))
-two_arguments (a ∷ b ∷ []) d n = refl
-two_arguments (a ∷ b ∷ c ∷ ids) d n = absurd (omega (arith, n))
 
 -- the form of a difference
 

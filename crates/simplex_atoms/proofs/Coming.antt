@@ -3,6 +3,7 @@ use Rattle.std.proofs.Common.{◌≡◌, ℕ, List, [], ◌∷◌, ◌++◌, len
 use Rattle.std.specs.Prelude.{All, Contains, IsErrAnd}
 use Rattle.std.proofs.lemmas.List.{length-map, map-append}
 use Rattle.std.proofs.lemmas.List.Elements.{All-nil, All-cons, All-head, All-tail, All-get_or, All-weaker}
+use Rattle.std.proofs.lemmas.Option.{same_Some}
 use Rattle.spec_text.proofs.Members as members
 use Rattle.spec_numbers.specs.Fractions.{Fraction}
 use Rattle.spec_sorts.specs.Terms.{Term}
@@ -29,7 +30,6 @@ use Rattle.simplex_atoms.specs.Owners.{owner_at, IsNumberOf}
 use Rattle.simplex_atoms.specs.Atoms.{ground_of, AreCounted}
 use Rattle.simplex_atoms.specs.Watching.{AreNumbered, constraint_meant}
 use Rattle.simplex_atoms.specs.Standings.{owner_meant, standing_in, ButForMemory, Leads, TellsOwners, IsVariableOf}
-use Rattle.simplex_atoms.proofs.Owning.{some_same}
 use Rattle.simplex_atoms.proofs.Numbered.{owner_mapped, numbered_entries, are_in}
 
 -- where no variable stands for a number, none stands for its term
@@ -43,7 +43,7 @@ term_new t os id tells there free y e = by (owner_at os y) refl (sym (owner_mapp
     by : (o : Option TermId) → owner_at os y ≡ o → owner_meant t o ≡ Some (term_at t id) → ⊥
     by None h k = none_some (term_at t id) k
     by (Some j) h k =
-        let numbers : j.0 ≡ id.0 = tells.0 j.0 id.0 (tells.1 y j h) there (some_same (term_at t j) (term_at t id) k) in
+        let numbers : j.0 ≡ id.0 = tells.0 j.0 id.0 (tells.1 y j h) there (same_Some (term_at t j) (term_at t id) k) in
         let same : j ≡ id = λ i. record { 0 = numbers i } in
         free y (h ∙ ap Some same)
 

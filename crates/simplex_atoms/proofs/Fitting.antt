@@ -1,16 +1,17 @@
 -- Atoms that fit a table, a board and bounds fit them as these grow.
 use Rattle.std.proofs.Common.{◌≡◌, ℕ, ◌≤◌, Bool, true, false, List, [], ◌∷◌, ◌++◌, length, cond, Option, Some, None, nat_eq, refl, sym, ◌∙◌, ap, subst, arith}
-use Rattle.std.proofs.Math.ListN.{get_or-append}
 use Rattle.std.proofs.lemmas.List.{length-append}
 use Rattle.std.proofs.lemmas.List.Elements.{All-nil, All-weaker}
 use Rattle.std.proofs.lemmas.Bool.{eqb-true}
-use Rattle.spec_sorts.specs.Terms.{Term, no_term}
+use Rattle.std.proofs.lemmas.Option.{same_Some}
+use Rattle.spec_sorts.specs.Terms.{Term}
 use Rattle.spec_arithmetic.specs.Forms.{Form}
 use Rattle.spec_tableaux.specs.Spaces.{Space, as_space}
 use Rattle.spec_tableaux.specs.Rows.{Entry, Row, Solves}
 use Rattle.spec_tableaux.specs.Numbers.{Number, numbers}
 use Rattle.term_core.specs.declared.ids.TermId.{TermId}
-use Rattle.term_core.specs.Tables.{TableView, term_at, IsIn, Extends}
+use Rattle.term_core.specs.Tables.{TableView, Extends}
+use Rattle.term_core.proofs.TermsExtend.{IsIn-kept, term_at-kept}
 use Rattle.simplex_bounds.specs.Held.{BoundsView}
 use Rattle.simplex_check.specs.Boards.{BoardView, empty_board}
 use Rattle.simplex_atoms.specs.declared.place.Place.{Place}
@@ -18,7 +19,7 @@ use Rattle.simplex_atoms.specs.Owners.{owner_at, AreOwned, AreOwnersIn}
 use Rattle.simplex_atoms.specs.Places.{Setting, IsFormOf, IsPlaced, place_in}
 use Rattle.simplex_atoms.specs.Sums.{sign_by, Sum}
 use Rattle.simplex_atoms.specs.Atoms.{AtomsView, Ground, ground_of, setting_of, Grows, IsMultiple, IsSum, AreSums, IsPlaceOf, ArePlaced, AreRight}
-use Rattle.simplex_atoms.proofs.Owning.{owner_kept, owner_first, owner_below, some_same}
+use Rattle.simplex_atoms.proofs.Owning.{owner_kept, owner_first, owner_below}
 
 pub solves_first : {A V : Type 0} (s : Space A V) (v : ℕ → V) (rs more : List (Row A)) → Solves s v (rs ++ more) → Solves s v rs
 solves_first s v [] more h = tt
@@ -73,21 +74,15 @@ placed_more s reach old new id place all one updates other p e = by (nat_eq id.0
     by : (b : Bool) → nat_eq id.0 other.0 ≡ b → IsPlaceOf s reach other p
     by true h =
         let same : id ≡ other = λ i. record { 0 = eqb-true id.0 other.0 h i } in
-        let mine : place ≡ p = some_same place p (sym (ap (λ b. cond b (Some place) (place_in old other)) h) ∙ sym (updates other.0) ∙ e) in
+        let mine : place ≡ p = same_Some place p (sym (ap (λ b. cond b (Some place) (place_in old other)) h) ∙ sym (updates other.0) ∙ e) in
         subst (λ (x : Place). IsPlaceOf s reach other x) mine (subst (λ (x : TermId). IsPlaceOf s reach x place) same one)
     by false h = all other p (sym (ap (λ b. cond b (Some place) (place_in old other)) h) ∙ sym (updates other.0) ∙ e)
 
 -- over a table that has grown
 
-term_stays : (old new : TableView) → Extends old new → (id : TermId) → IsIn old id → term_at new id ≡ term_at old id
-term_stays old new x id there = ap (λ (ts : List Term). term_at (record { sorts = []; symbols = []; terms = ts }) id) x.terms ∙ get_or-append old.terms x.more_terms no_term id.0 there
-
-is_in_stays : (old new : TableView) → Extends old new → (id : TermId) → IsIn old id → IsIn new id
-is_in_stays old new x id there = omega (arith, there, ap (λ (ts : List Term). length ts) x.terms, length-append old.terms x.more_terms)
-
 module _ (old new : TableView) (x : Extends old new) (g : Ground) (owners : AreOwnersIn old g.owners) where
   owned_before : {V : Type 0} (n : Term → V) (v : ℕ → V) → AreOwned new g.owners n v → AreOwned old g.owners n v
-  owned_before n v o y id e = o y id e ∙ ap n (term_stays old new x id (owners y id e))
+  owned_before n v o y id e = o y id e ∙ ap n (term_at-kept old new x id (owners y id e))
 
   form_after : (place : Place) (f : Form) → IsFormOf (setting_of old g) place f → IsFormOf (setting_of new g) place f
   form_after place f is = record {
@@ -101,8 +96,8 @@ module _ (old new : TableView) (x : Extends old new) (g : Ground) (owners : AreO
 
   place_after : (reach : ℕ) (id : TermId) (place : Place) → IsPlaceOf (setting_of old g) reach id place → IsPlaceOf (setting_of new g) reach id place
   place_after reach id place p = record {
-    is_in = is_in_stays old new x id p.is_in;
-    is = subst (λ (u : Term). IsPlaced (setting_of new g) place u) (sym (term_stays old new x id p.is_in)) (record {
+    is_in = IsIn-kept old new x id p.is_in;
+    is = subst (λ (u : Term). IsPlaced (setting_of new g) place u) (sym (term_at-kept old new x id p.is_in)) (record {
       constraint = p.is.constraint;
       says = p.is.says;
       kind = p.is.kind;
@@ -118,7 +113,7 @@ pub right_after : (old new : TableView) → Extends old new → (a : AtomsView) 
 right_after old new x a b bounds r = record {
   counted = r.counted;
   within = r.within;
-  owners_in = λ y id e. is_in_stays old new x id (r.owners_in y id e);
+  owners_in = λ y id e. IsIn-kept old new x id (r.owners_in y id e);
   once = r.once;
   grounded = r.grounded;
   sums = r.sums;

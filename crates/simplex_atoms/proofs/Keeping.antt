@@ -1,17 +1,17 @@
 -- Where values keep the bounds of a literal, a point keeps the literal.
-use Rattle.std.proofs.Common.{◌≡◌, ℕ, Bool, true, false, not, cond, List, [], ◌∷◌, Option, Some, None, Result, Ok, refl, sym, ◌∙◌, ap, subst, true≢false}
+use Rattle.std.proofs.Common.{◌≡◌, ℕ, Bool, true, false, not, cond, List, [], ◌∷◌, Option, Some, refl, sym, ◌∙◌, ap, subst, true≢false}
 use Rattle.std.proofs.lemmas.List.Elements.{All-head, All-tail}
+use Rattle.std.proofs.lemmas.Option.{none-some, same_Some}
 use Rattle.spec_numbers.specs.Fractions.{opposite}
 use Rattle.spec_sorts.specs.Terms.{Less, AtMost, Term, app, nil, cons, pair}
 use Rattle.spec_arithmetic.specs.Contradictions.{are_numbers}
-use Rattle.spec_arithmetic.specs.Forms.{Form, Fault}
+use Rattle.spec_arithmetic.proofs.General.{same_ok}
 use Rattle.spec_tableaux.specs.Fields.{is_positive}
-use Rattle.spec_tableaux.specs.Spaces.{Pair, IsSpace, IsOrdered}
+use Rattle.spec_tableaux.specs.Spaces.{Pair}
 use Rattle.spec_tableaux.specs.Rows.{Solves}
 use Rattle.spec_tableaux.specs.Numbers.{Number, numbers, fractions}
 use Rattle.spec_tableaux.proofs.Numbers.{numbers_are_ordered_field}
 use Rattle.spec_tableaux.proofs.Signs.{sum_zero_right, zero_product, opposite_zero}
-use Rattle.spec_tableaux.proofs.OrderedSpaces.{pairs_are_space, pairs_are_ordered}
 use Rattle.spec_simplex.specs.Constraints.{Relation, below, at_most, equals, at_least, above, Constraint, saying, where_true, constraint_by, form_of}
 use Rattle.spec_simplex.specs.Points.{Point, base_at, tilt_at, stands, Keeps}
 use Rattle.spec_simplex.proofs.PairOrder.{stands_below, stands_above, stands_equals}
@@ -20,20 +20,14 @@ use Rattle.tableau.specs.Numbers.{number_of}
 use Rattle.simplex_bounds.specs.declared.bounds.Side.{Side}
 use Rattle.simplex_bounds.specs.declared.bounds.Side.TheVariants.{Lower, Upper}
 use Rattle.spec_strains.specs.Points.{deltas}
+use Rattle.simplex_check.proofs.Points.{deltas_are_space, deltas_are_ordered}
 use Rattle.simplex_atoms.specs.declared.place.Kind.{Kind}
 use Rattle.simplex_atoms.specs.declared.place.Kind.TheVariants as kinds
 use Rattle.simplex_atoms.specs.declared.place.Place.{Place}
 use Rattle.simplex_atoms.specs.Owners.{AreOwned}
 use Rattle.simplex_atoms.specs.Places.{Setting, relation_meant, relation_by, IsPlaced}
 use Rattle.simplex_atoms.specs.Limits.{Limit, limit_on, limits_where, limits_by, IsKept, AreKept}
-use Rattle.simplex_atoms.proofs.Owning.{some_same}
 use Rattle.simplex_atoms.proofs.Values.{base_comes, tilt_comes}
-
-space : IsSpace deltas
-space = pairs_are_space numbers numbers_are_ordered_field
-
-ordered : IsOrdered deltas
-ordered = pairs_are_ordered numbers numbers_are_ordered_field
 
 -- a number without an infinitesimal part
 abbrev flat : Number → Pair Number
@@ -67,14 +61,14 @@ module _ (k c q : Number) (x : Pair Number) (z : numbers.is_zero k ≡ false) (e
   less_left : deltas.less (come k x c) deltas.origin ≡ cond (is_positive numbers k) (deltas.less x (flat q)) (deltas.less (flat q) x)
   less_left =
       ap (deltas.less (come k x c)) (sym (bound_nought k c q z e))
-      ∙ (λ i. deltas.less (space.plus_commutative (deltas.scale k x) (flat c) i) (space.plus_commutative (deltas.scale k (flat q)) (flat c) i))
-      ∙ ordered.less_plus (flat c) (deltas.scale k x) (deltas.scale k (flat q)) ∙ ordered.less_scale k x (flat q) z
+      ∙ (λ i. deltas.less (deltas_are_space.plus_commutative (deltas.scale k x) (flat c) i) (deltas_are_space.plus_commutative (deltas.scale k (flat q)) (flat c) i))
+      ∙ deltas_are_ordered.less_plus (flat c) (deltas.scale k x) (deltas.scale k (flat q)) ∙ deltas_are_ordered.less_scale k x (flat q) z
 
   less_right : deltas.less deltas.origin (come k x c) ≡ cond (is_positive numbers k) (deltas.less (flat q) x) (deltas.less x (flat q))
   less_right =
       ap (λ (o : Pair Number). deltas.less o (come k x c)) (sym (bound_nought k c q z e))
-      ∙ (λ i. deltas.less (space.plus_commutative (deltas.scale k (flat q)) (flat c) i) (space.plus_commutative (deltas.scale k x) (flat c) i))
-      ∙ ordered.less_plus (flat c) (deltas.scale k (flat q)) (deltas.scale k x) ∙ ordered.less_scale k (flat q) x z
+      ∙ (λ i. deltas.less (deltas_are_space.plus_commutative (deltas.scale k (flat q)) (flat c) i) (deltas_are_space.plus_commutative (deltas.scale k x) (flat c) i))
+      ∙ deltas_are_ordered.less_plus (flat c) (deltas.scale k (flat q)) (deltas.scale k x) ∙ deltas_are_ordered.less_scale k (flat q) x z
 
 -- strict bounds
 
@@ -105,8 +99,8 @@ less_from_left a x b h k = by (deltas.less x b) refl (deltas.less b x) refl
   where
     by : (p : Bool) → deltas.less x b ≡ p → (r : Bool) → deltas.less b x ≡ r → deltas.less x b ≡ true
     by true e r f = e
-    by false e true f = absurd (true≢false (sym (ordered.less_transitive a b x k f) ∙ h))
-    by false e false f = absurd (true≢false (sym k ∙ ap (deltas.less a) (sym (ordered.less_total x b e f)) ∙ h))
+    by false e true f = absurd (true≢false (sym (deltas_are_ordered.less_transitive a b x k f) ∙ h))
+    by false e false f = absurd (true≢false (sym k ∙ ap (deltas.less a) (sym (deltas_are_ordered.less_total x b e f)) ∙ h))
 
 -- what is not below a is above b, where a is
 less_from_right : (a x b : Pair Number) → deltas.less x a ≡ false → deltas.less b a ≡ true → deltas.less b x ≡ true
@@ -114,8 +108,8 @@ less_from_right a x b h k = by (deltas.less b x) refl (deltas.less x b) refl
   where
     by : (p : Bool) → deltas.less b x ≡ p → (r : Bool) → deltas.less x b ≡ r → deltas.less b x ≡ true
     by true e r f = e
-    by false e true f = absurd (true≢false (sym (ordered.less_transitive x b a f k) ∙ h))
-    by false e false f = absurd (true≢false (sym k ∙ ap (λ (y : Pair Number). deltas.less y a) (ordered.less_total b x e f) ∙ h))
+    by false e true f = absurd (true≢false (sym (deltas_are_ordered.less_transitive x b a f k) ∙ h))
+    by false e false f = absurd (true≢false (sym k ∙ ap (λ (y : Pair Number). deltas.less y a) (deltas_are_ordered.less_total b x e f) ∙ h))
 
 under_upper : (q : Number) (x : Pair Number) → deltas.less (record { base = q; tilt = numbers.opposite numbers.one }) x ≡ false → deltas.less x (flat q) ≡ true
 under_upper q x h = less_from_left _ x (flat q) h (tilt_decides q (numbers.opposite numbers.one) numbers.zero one_is_below)
@@ -160,27 +154,24 @@ module _ (place : Place) (l : Lit) (v : ℕ → Pair Number) (z : numbers.is_zer
   kept_stands equals up p h =
       let upper = limit_on place l Upper false in
       let same : x ≡ goal =
-      ordered.less_total x goal (head Lower false (upper ∷ []) h) (All-head (IsKept v) upper [] (All-tail (IsKept v) (limit_on place l Lower false) (upper ∷ []) h)) in
+      deltas_are_ordered.less_total x goal (head Lower false (upper ∷ []) h) (All-head (IsKept v) upper [] (All-tail (IsKept v) (limit_on place l Lower false) (upper ∷ []) h)) in
       (stands_equals value).1
       (ap (λ (y : Pair Number). come (number_of place.factor) y (number_of place.constant)) same
       ∙ bound_nought (number_of place.factor) (number_of place.constant) (number_of place.bound) z e)
 
 -- what a literal says of the form of its atom
 
-no_constraint : (c : Constraint) → (let o : Option Constraint = None in o) ≡ Some c → ⊥
-no_constraint c e = cc
-
-kind_below : (k : Kind) → below ≡ relation_meant k → k ≡ kinds.Less
+pub kind_below : (k : Kind) → below ≡ relation_meant k → k ≡ kinds.Less
 kind_below kinds.Less e = refl
 kind_below kinds.AtMost e = cc
 kind_below kinds.Equal e = cc
 
-kind_at_most : (k : Kind) → at_most ≡ relation_meant k → k ≡ kinds.AtMost
+pub kind_at_most : (k : Kind) → at_most ≡ relation_meant k → k ≡ kinds.AtMost
 kind_at_most kinds.Less e = cc
 kind_at_most kinds.AtMost e = refl
 kind_at_most kinds.Equal e = cc
 
-positively : (k : Kind) → relation_by k true ≡ Some (relation_meant k)
+pub positively : (k : Kind) → relation_by k true ≡ Some (relation_meant k)
 positively kinds.Less = refl
 positively kinds.AtMost = refl
 positively kinds.Equal = refl
@@ -188,19 +179,19 @@ positively kinds.Equal = refl
 -- an atom's constraint, and that of its negation, have one form
 less_agrees : (b : Bool) (s u : Term) (c d : Constraint) (k : Kind) → where_true b (saying below (pair Less s u) s u) ≡ Some c → c.relation ≡ relation_meant k
     → where_true b (saying at_least (pair Less s u) s u) ≡ Some d → (relation_by k false ≡ Some d.relation) × (form_of d ≡ form_of c)
-less_agrees false s u c d k p r q = absurd (no_constraint c p)
+less_agrees false s u c d k p r q = absurd (none-some c p)
 less_agrees true s u c d k p r q =
-    let mine = some_same (saying below (pair Less s u) s u) c p in
-    let other = some_same (saying at_least (pair Less s u) s u) d q in
+    let mine = same_Some (saying below (pair Less s u) s u) c p in
+    let other = same_Some (saying at_least (pair Less s u) s u) d q in
     let kind = kind_below k (ap (λ (x : Constraint). x.relation) mine ∙ r) in
     (ap (λ j. relation_by j false) kind ∙ ap (λ (x : Constraint). Some x.relation) other, sym (ap form_of other) ∙ ap form_of mine)
 
 at_most_agrees : (b : Bool) (s u : Term) (c d : Constraint) (k : Kind) → where_true b (saying at_most (pair AtMost s u) s u) ≡ Some c → c.relation ≡ relation_meant k
     → where_true b (saying above (pair AtMost s u) s u) ≡ Some d → (relation_by k false ≡ Some d.relation) × (form_of d ≡ form_of c)
-at_most_agrees false s u c d k p r q = absurd (no_constraint c p)
+at_most_agrees false s u c d k p r q = absurd (none-some c p)
 at_most_agrees true s u c d k p r q =
-    let mine = some_same (saying at_most (pair AtMost s u) s u) c p in
-    let other = some_same (saying above (pair AtMost s u) s u) d q in
+    let mine = same_Some (saying at_most (pair AtMost s u) s u) c p in
+    let other = same_Some (saying above (pair AtMost s u) s u) d q in
     let kind = kind_at_most k (ap (λ (x : Constraint). x.relation) mine ∙ r) in
     (ap (λ j. relation_by j false) kind ∙ ap (λ (x : Constraint). Some x.relation) other, sym (ap form_of other) ∙ ap form_of mine)
 
@@ -209,24 +200,21 @@ negatively : (t : Term) (c d : Constraint) (k : Kind) → constraint_by true t �
 unfolding constraint_by
 negatively (app Less (cons s (cons u nil))) c d k p r q = less_agrees (are_numbers s u) s u c d k p r q
 negatively (app AtMost (cons s (cons u nil))) c d k p r q = at_most_agrees (are_numbers s u) s u c d k p r q
-negatively t c d k p r q = absurd (no_constraint d q)
+negatively t c d k p r q = absurd (none-some d q)
 
 agree : (t : Term) (b : Bool) (c d : Constraint) (k : Kind) → constraint_by true t ≡ Some c → c.relation ≡ relation_meant k → constraint_by b t ≡ Some d
     → (relation_by k b ≡ Some d.relation) × (form_of d ≡ form_of c)
 agree t true c d k p r q =
-    let same = some_same c d (sym p ∙ q) in
+    let same = same_Some c d (sym p ∙ q) in
     (positively k ∙ ap Some (sym r ∙ ap (λ (x : Constraint). x.relation) same), ap form_of (sym same))
 agree t false c d k p r q = negatively t c d k p r q
-
-ok_same : (f g : Form) → (let r : Result Form Fault = Ok f in r) ≡ Ok g → f ≡ g
-ok_same f g e = cc
 
 -- the law
 pub kept : (s : Setting) (place : Place) (atom : Term) → IsPlaced s place atom → (p : Point) (v : ℕ → Pair Number) → AreOwned s.table s.owners p v → Solves deltas v s.listed
     → (l : Lit) → AreKept v (limits_by place l) → Keeps p (record { atom = atom; positive = l.positive })
 kept s place atom is p v o h l bounds d says f has =
     let both = agree atom l.positive is.constraint d place.kind is.says is.kind says in
-    let form : f ≡ is.form = ok_same f is.form (sym has ∙ both.1 ∙ is.has) in
+    let form : f ≡ is.form = same_ok f is.form (sym has ∙ both.1 ∙ is.has) in
     let Bounds : Option Relation → Type 0 = λ r. AreKept v (limits_where r (is_positive numbers (number_of place.factor)) place l) in
     let there = kept_stands place l v is.is.factor is.is.bound d.relation _ refl (subst Bounds both.0 bounds) in
     let base = ap (base_at p) form ∙ base_comes s place is.form is.is p v o h in

@@ -5,6 +5,7 @@ use Rattle.std.specs.Int.RustNames.{int_lt}
 use Rattle.std.proofs.lemmas.Bool.Decides.{nat_tests}
 use Rattle.std.proofs.lemmas.List.Elements.{All-nil, All-cons, All-contains}
 use Rattle.spec_numbers.specs.Fractions.{Fraction, IsReduced, times, opposite}
+use Rattle.spec_numbers.proofs.Signs.{size_same}
 use Rattle.spec_arithmetic.specs.Signs.{size}
 use Rattle.spec_tableaux.specs.Fields.{is_positive}
 use Rattle.spec_tableaux.specs.Numbers.{Number, numbers, fractions}
@@ -25,10 +26,6 @@ use Rattle.simplex_atoms.specs.Limits.{Limit, limit_on, limits_where, limits_by,
 pub size_reduced : (x : Fraction) → IsReduced x → IsReduced (size x)
 unfolding size
 size_reduced x r = record { positive = r.positive; coprime = r.coprime }
-
-size_same : (z : ℤ) → int_lt z (pos 0) ≡ false → pos (unsigned_abs z) ≡ z
-size_same (pos n) e = refl
-size_same (negsuc n) e = absurd (true≢false e)
 
 size_turned : (z : ℤ) → int_lt (neg_ℤ z) (pos 0) ≡ false → pos (unsigned_abs z) ≡ neg_ℤ z
 size_turned (pos n) e = zero_of n e

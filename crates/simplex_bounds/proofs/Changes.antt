@@ -1,13 +1,14 @@
 -- How entries change: one more, and the last one gone.
 use Rattle.std.proofs.Common.{◌≡◌, ℕ, zero, suc, ◌+◌, ◌<◌, ◌≤◌, List, [], ◌∷◌, ◌++◌, length, take, cond, Option, Some, refl, sym, ◌∙◌, ap, subst, arith, slice_index_or, slice_set, append-nil, append_assoc}
 use Rattle.std.proofs.lemmas.List.{map-append, length-set}
+use Rattle.spec_tableaux.proofs.Steps.{same_eqb}
 use Rattle.simplex_bounds.specs.declared.bounds.Bound.{Bound}
 use Rattle.simplex_bounds.specs.declared.limits.Limits.{Limits}
 use Rattle.simplex_bounds.specs.declared.held.Entry.{Entry}
 use Rattle.simplex_bounds.specs.Held.{lesser, IsLeastCrossed}
 use Rattle.simplex_bounds.specs.Limits.{unlimited, limit_at, with_limit, tightened, are_crossed, limits_in}
 use Rattle.simplex_bounds.specs.Kept.{bounds_of, IsEntry, AreEntries, AreKept}
-use Rattle.simplex_bounds.proofs.Strongest.{limits_more, limits_other, limits_back, limit_is, one_changed, itself}
+use Rattle.simplex_bounds.proofs.Strongest.{limits_more, limits_other, limits_back, limit_is, one_changed}
 use Rattle.simplex_bounds.proofs.Crossings.{crossed_step}
 
 pub entries_more : (before : List Bound) (es : List Entry) (e : Entry) → AreEntries before es → IsEntry (before ++ bounds_of es) e → AreEntries before (es ++ e ∷ [])
@@ -78,7 +79,7 @@ kept_more ls es new e l t before k h i u f b q n =
     let tight : t ≡ tightened (limits_in (bounds_of es) x) e.bound = u ∙ ap (λ l. tightened l e.bound) is in
     let size : length (slice_set ls x t) ≡ length ls = length-set ls x t in
     let after = bounds_more es e in
-    let limits = one_changed ls x t (limits_in (bounds_of es)) (limits_in (bounds_of es ++ e.bound ∷ [])) h k.strongest_by (tight ∙ sym (limits_more (bounds_of es) e.bound x (itself x))) (limits_other (bounds_of es) e.bound) in
+    let limits = one_changed ls x t (limits_in (bounds_of es)) (limits_in (bounds_of es ++ e.bound ∷ [])) h k.strongest_by (tight ∙ sym (limits_more (bounds_of es) e.bound x (same_eqb x))) (limits_other (bounds_of es) e.bound) in
     let crossed : e.crossed ≡ cond (are_crossed (tightened (limits_in (bounds_of es) x) e.bound)) (Some (lesser before x)) before = q ∙ ap (λ t. cond (are_crossed t) (Some (lesser before x)) before) tight in
     let entry : IsEntry (bounds_of es) e = record {
       found_by = f ∙ ap (limit_at e.bound.side) is ∙ limit_is e.bound.side x (bounds_of es);

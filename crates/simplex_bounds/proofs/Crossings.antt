@@ -5,6 +5,7 @@ use Rattle.std.proofs.lemmas.Bool.{eqb-true}
 use Rattle.std.proofs.lemmas.Bool.Decides.{nat_tests}
 use Rattle.spec_tableaux.specs.Ranges.{is_crossed, crosses}
 use Rattle.spec_tableaux.specs.LeastVariable.{IsLeast}
+use Rattle.spec_tableaux.proofs.Steps.{same_eqb}
 use Rattle.simplex_bounds.specs.declared.bounds.Bound.{Bound}
 use Rattle.simplex_bounds.specs.declared.bounds.Side.{Side}
 use Rattle.simplex_bounds.specs.declared.bounds.Side.TheVariants.{Lower, Upper}
@@ -14,7 +15,7 @@ use Rattle.spec_strains.specs.Points.{deltas}
 use Rattle.simplex_bounds.specs.Held.{stronger, is_tighter, value_in, ranges_in, lesser, IsLeastCrossed}
 use Rattle.simplex_bounds.specs.Limits.{limit_at, with_limit, tightened, are_crossed, limits_in}
 use Rattle.simplex_bounds.proofs.Orders.{less_transitive}
-use Rattle.simplex_bounds.proofs.Strongest.{limits_more, limits_other, itself}
+use Rattle.simplex_bounds.proofs.Strongest.{limits_more, limits_other}
 
 -- bounds that cross do so when one of them is tightened
 pub still_crossed : (l : Limits) (b : Bound) → are_crossed l ≡ true → are_crossed (tightened l b) ≡ true
@@ -82,7 +83,7 @@ least_stays p q x z l o t h = record { holds = holds (x == z) refl; least = λ y
 -- the least variable whose bounds cross once a bound is held
 pub crossed_step : (held : List Bound) (b : Bound) (before : Option ℕ) → IsLeastCrossed held before
     → IsLeastCrossed (held ++ b ∷ []) (cond (are_crossed (tightened (limits_in held b.variable) b)) (Some (lesser before b.variable)) before)
-crossed_step held b before l = by before (are_crossed (tightened (limits_in held b.variable) b)) l (ap are_crossed (limits_more held b b.variable (itself b.variable)))
+crossed_step held b before l = by before (are_crossed (tightened (limits_in held b.variable) b)) l (ap are_crossed (limits_more held b b.variable (same_eqb b.variable)))
   where
     p : ℕ → Bool
     p = is_crossed deltas (ranges_in held)
@@ -94,7 +95,7 @@ crossed_step held b before l = by before (are_crossed (tightened (limits_in held
     other y e = ap are_crossed (limits_other held b y e)
 
     tighter : p b.variable ≡ true → q b.variable ≡ true
-    tighter h = ap are_crossed (limits_more held b b.variable (itself b.variable)) ∙ still_crossed (limits_in held b.variable) b h
+    tighter h = ap are_crossed (limits_more held b b.variable (same_eqb b.variable)) ∙ still_crossed (limits_in held b.variable) b h
 
     by : (before : Option ℕ) (r : Bool) → IsLeastCrossed held before → q b.variable ≡ r → IsLeastCrossed (held ++ b ∷ []) (cond r (Some (lesser before b.variable)) before)
     by None true n h = none_before p q b.variable n other h

@@ -1,6 +1,7 @@
 -- The strongest bounds are held, and their ranges are kept where each bound is.
 use Rattle.std.proofs.Common.{◌≡◌, ℕ, ◌⊎◌, inl, inr, ◌↔◌, Bool, true, false, not, ◌&&◌, ◌||◌, ◌==◌, cond, List, [], ◌∷◌, Contains, Option, Some, None, refl, sym, ◌∙◌, ap, subst}
-use Rattle.std.proofs.lemmas.Bool.{eqb-true, eq-eqb}
+use Rattle.std.proofs.lemmas.Bool.{eqb-true, eq-eqb, not-true, and_parts, or_parts}
+use Rattle.std.proofs.Math.Bool.{or_assoc}
 use Rattle.spec_text.proofs.Members.{first, later, cases, none as no_member}
 use Rattle.spec_tableaux.specs.Spaces.{Pair}
 use Rattle.spec_tableaux.specs.Numbers.{Number}
@@ -23,13 +24,9 @@ same : (s : Side) → same_side s s ≡ true
 same Lower = refl
 same Upper = refl
 
-both : (p q : Bool) → (p && q) ≡ true → (p ≡ true) × (q ≡ true)
-both true q h = (refl, h)
-both false q h = absurd (cc)
-
 -- a bound of a side and a variable
 pub is_one : (s : Side) (y : ℕ) (b : Bound) → is_of s y b ≡ true → (b.side ≡ s) × (b.variable ≡ y)
-is_one s y b h = let p = both (same_side s b.side) (b.variable == y) h in (sides s b.side p.0, eqb-true b.variable y p.1)
+is_one s y b h = let p = and_parts (same_side s b.side) (b.variable == y) h in (sides s b.side p.0, eqb-true b.variable y p.1)
 
 pub own : (b : Bound) → is_of b.side b.variable b ≡ true
 own b = (λ i. same b.side i && eq-eqb b.variable b.variable refl i)
@@ -112,10 +109,6 @@ beyond_stronger s x (Some a) b e =
     by false false true e f g = absurd (let m = tighter_split s (pair_of a.value) (pair_of b.value) x g e in cc)
     by false false false e f g = f
 
-or_assoc : (p q r : Bool) → ((p || q) || r) ≡ (p || (q || r))
-or_assoc true q r = refl
-or_assoc false q r = refl
-
 beyond_after : (s : Side) (y : ℕ) (x : Pair Number) (o : Option Bound) (bs : List Bound) → beyond s x (strongest_after o s y bs) ≡ (beyond s x o || beyond_any s y x bs)
 unfolding beyond_any
 beyond_after s y x o [] = or_false (beyond s x o)
@@ -180,11 +173,6 @@ upper_is : (bs : List Bound) (y : ℕ) (x : Pair Number) → above deltas x (ran
 unfolding beyond
 upper_is bs y x = above_is x (strongest Upper y bs) ∙ beyond_after Upper y x None bs
 
-within : (p q : Bool) → not (p || q) ≡ true → (p ≡ false) × (q ≡ false)
-within true q h = absurd (cc)
-within false true h = absurd (cc)
-within false false h = (refl, refl)
-
 -- values keep the ranges where they keep each bound, and the other way round
 pub ranges_kept : (bs : List Bound) (v : ℕ → Pair Number) → ((y : ℕ) → is_within deltas (ranges_in bs) v y ≡ true) ↔ ((b : Bound) → Contains bs b → Keeps v b)
 ranges_kept bs v = (to, from)
@@ -193,7 +181,7 @@ ranges_kept bs v = (to, from)
     to h b m = by b.side refl
       where
         parts : (below deltas (v b.variable) (ranges_in bs b.variable).lower ≡ false) × (above deltas (v b.variable) (ranges_in bs b.variable).upper ≡ false)
-        parts = within (below deltas (v b.variable) (ranges_in bs b.variable).lower) (above deltas (v b.variable) (ranges_in bs b.variable).upper) (h b.variable)
+        parts = or_parts (below deltas (v b.variable) (ranges_in bs b.variable).lower) (above deltas (v b.variable) (ranges_in bs b.variable).upper) (not-true _ (h b.variable))
 
         of : (s : Side) → b.side ≡ s → is_of s b.variable b ≡ true
         of s e = ap (λ s. is_of s b.variable b) (sym e) ∙ own b

@@ -3,10 +3,10 @@ use Rattle.std.proofs.Common.{◌≡◌, Bool, true, false, ◌&&◌, ◌==◌, 
 use Rattle.std.specs.Ordering.{int_eq}
 use Rattle.std.proofs.lemmas.Bool.Decides.{Decides-int_eq, Decides-eqb, Decides-and}
 use Rattle.ratio128.specs.declared.ratio.Ratio.{Ratio}
-use Rattle.spec_tableaux.specs.Spaces.{Pair, IsOrdered, as_space}
+use Rattle.spec_tableaux.specs.Spaces.{Pair, as_space}
 use Rattle.spec_tableaux.specs.Numbers.{Number, numbers}
-use Rattle.spec_tableaux.proofs.Numbers.{number_is, numbers_are_ordered_field}
-use Rattle.spec_tableaux.proofs.OrderedSpaces.{field_is_ordered, pairs_are_ordered}
+use Rattle.spec_tableaux.proofs.Numbers.{number_is, numbers_are_ordered_field, numbers_are_ordered}
+use Rattle.spec_tableaux.proofs.OrderedSpaces.{pairs_are_ordered}
 use Rattle.tableau.specs.Numbers.{number_of}
 use Rattle.spec_strains.specs.Points.{deltas}
 
@@ -20,14 +20,11 @@ less_total = (pairs_are_ordered numbers numbers_are_ordered_field).less_total
 abbrev pub below : Number → Number → Bool
 below = (as_space numbers).less
 
-ordered : IsOrdered (as_space numbers)
-ordered = field_is_ordered numbers numbers_are_ordered_field
-
 -- of one base the tilts decide
 pub by_tilt : (x y : Pair Number) → x.base ≡ y.base → deltas.less x y ≡ below x.tilt y.tilt
 by_tilt x y e =
-    let first : below x.base y.base ≡ false = ap (λ b. below x.base b) (sym e) ∙ ordered.less_irreflexive x.base in
-    let second : below y.base x.base ≡ false = ap (λ b. below b x.base) (sym e) ∙ ordered.less_irreflexive x.base in
+    let first : below x.base y.base ≡ false = ap (λ b. below x.base b) (sym e) ∙ numbers_are_ordered.less_irreflexive x.base in
+    let second : below y.base x.base ≡ false = ap (λ b. below b x.base) (sym e) ∙ numbers_are_ordered.less_irreflexive x.base in
     (λ i. cond (first i) true (cond (second i) false (below x.tilt y.tilt)))
 
 -- of two bases they do
@@ -37,7 +34,7 @@ by_base x y n = by (below x.base y.base) (below y.base x.base) refl refl
     by : (p q : Bool) → below x.base y.base ≡ p → below y.base x.base ≡ q → cond p true (cond q false (below x.tilt y.tilt)) ≡ p
     by true q e f = refl
     by false true e f = refl
-    by false false e f = absurd (n (ordered.less_total x.base y.base e f))
+    by false false e f = absurd (n (numbers_are_ordered.less_total x.base y.base e f))
 
 -- fractions of the same parts are one number, and others are two
 pub same_parts : (a b : Ratio) → (int_eq a.num b.num && (a.den == b.den)) ≡ true → number_of a ≡ number_of b

@@ -1,7 +1,8 @@
 -- The strongest bounds after one more.
 use Rattle.std.proofs.Common.{◌≡◌, ℕ, ◌<◌, Bool, true, false, ◌&&◌, ◌==◌, cond, List, [], ◌∷◌, ◌++◌, length, Option, None, refl, sym, ◌∙◌, subst, slice_set, slice_index_or}
-use Rattle.std.proofs.lemmas.Bool.{eqb-true, eqb-false, eq-eqb}
+use Rattle.std.proofs.lemmas.Bool.{eqb-true, eqb-false}
 use Rattle.std.proofs.lemmas.List.{get_or-set_same, get_or-set_other}
+use Rattle.spec_tableaux.proofs.Steps.{same_eqb}
 use Rattle.simplex_bounds.specs.declared.bounds.Bound.{Bound}
 use Rattle.simplex_bounds.specs.declared.bounds.Side.{Side}
 use Rattle.simplex_bounds.specs.declared.bounds.Side.TheVariants.{Lower, Upper}
@@ -42,10 +43,6 @@ one_changed ls x t old new h k e o y = by (x == y) refl
     by true g = subst (λ z. slice_index_or (slice_set ls x t) z unlimited ≡ new z) (eqb-true x y g) (get_or-set_same ls x t unlimited h ∙ e)
     by false g = get_or-set_other ls x y t unlimited (λ m. eqb-false x y g (sym m)) ∙ k y ∙ sym (o y g)
 
--- a bound's variable is itself
-pub itself : (x : ℕ) → (x == x) ≡ true
-itself x = eq-eqb x x refl
-
 -- what a bound found is put back
 pub put_back : (s : Side) (l : Limits) (t : Option Bound) → with_limit s (limit_at s l) (with_limit s t l) ≡ l
 put_back Lower l t = refl
@@ -57,5 +54,5 @@ limit_is Upper y bs = refl
 
 pub limits_back : (bs : List Bound) (b : Bound) → with_limit b.side (strongest b.side b.variable bs) (limits_in (bs ++ b ∷ []) b.variable) ≡ limits_in bs b.variable
 limits_back bs b =
-    (λ i. with_limit b.side (sym (limit_is b.side b.variable bs) i) (limits_more bs b b.variable (itself b.variable) i))
+    (λ i. with_limit b.side (sym (limit_is b.side b.variable bs) i) (limits_more bs b b.variable (same_eqb b.variable) i))
     ∙ put_back b.side (limits_in bs b.variable) (stronger (limit_at b.side (limits_in bs b.variable)) b)

@@ -11,16 +11,7 @@ use Rattle.spec_tableaux.proofs.Steps.{same_eqb}
 use Rattle.tableau.specs.Views.{row_at, no_row}
 use Rattle.spec_strains.specs.Points.{deltas}
 use Rattle.spec_strains.specs.Strains.{coefficient_in}
-
-or_true : (q : Bool) → (q || true) ≡ true
-or_true true = refl
-or_true false = refl
-
--- the variable of a row is basic
-basic_at : (rs : List (Row Number)) (k : ℕ) → k < length rs → is_basic (row_at rs k).basic rs ≡ true
-basic_at [] k h = absurd (omega arith)
-basic_at (r ∷ rs) zero h = ap (λ q. q || is_basic r.basic rs) (same_eqb r.basic)
-basic_at (r ∷ rs) (suc k) h = ap (λ q. r.basic == (row_at rs k).basic || q) (basic_at rs k (omega arith)) ∙ or_true (r.basic == (row_at rs k).basic)
+use Rattle.tableau.proofs.Exchanging.{basic_at}
 
 pub basic_of : (rs : List (Row Number)) (k b : ℕ) → k < length rs → b ≡ (row_at rs k).basic → is_basic b rs ≡ true
 basic_of rs k b h e = ap (λ z. is_basic z rs) e ∙ basic_at rs k h

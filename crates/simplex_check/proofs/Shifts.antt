@@ -1,7 +1,7 @@
 -- Nonbasic variables that move, and exchanges.
-use Rattle.std.proofs.Common.{◌≡◌, ℕ, ◌<◌, Bool, true, false, List, [], ◌∷◌, length, map, Result, Ok, Err, OnOk, refl, sym, ◌∙◌, ap, arith, cond, ◌==◌, not, subst}
+use Rattle.std.proofs.Common.{◌≡◌, ℕ, ◌<◌, Bool, true, false, List, [], ◌∷◌, length, map, Err, refl, sym, ◌∙◌, ap, arith, cond, ◌==◌, subst}
 use Rattle.std.proofs.lemmas.List.{length-map}
-use Rattle.std.proofs.lemmas.Bool.{and_parts}
+use Rattle.std.proofs.lemmas.Bool.{and_parts, not-true}
 use Rattle.std.proofs.lemmas.Bool.Decides.{nat_tests}
 use Rattle.spec_numbers.specs.Bounds.{Overflow}
 use Rattle.spec_strains.specs.Deltas.{delta_subtracted, delta_divided}
@@ -70,11 +70,7 @@ entering_known t b x i p = entry_known t.variables x (row_of b t.rows).entries (
 
 -- a basic variable that is out of its bounds violates one
 pub violates_out : (ranges : Ranges) (t : State Number (Pair Number)) (b : ℕ) → is_out deltas ranges t b ≡ true → Violates ranges t b
-violates_out ranges t b h = not_true _ (and_parts (is_basic b t.rows) _ h).1
-  where
-    not_true : (q : Bool) → not q ≡ true → q ≡ false
-    not_true true e = absurd (cc)
-    not_true false e = refl
+violates_out ranges t b h = not-true _ (and_parts (is_basic b t.rows) _ h).1
 
 pub violates_at : (ranges : Ranges) (t : State Number (Pair Number)) (y : ℕ) (range : Range (Pair Number)) (v : Pair Number) → keeps range v ≡ false → range ≡ ranges y → v ≡ t.point y → Violates ranges t y
 violates_at ranges t y range v k r e = subst (λ r. keeps r (t.point y) ≡ false) r (subst (λ v. keeps range v ≡ false) e k)
@@ -106,11 +102,6 @@ strains_entering ranges t b x d p w e o h = move x d (enters b p w e) h
 
 pub strains_rows : (ranges : Ranges) (t : State Number (Pair Number)) (b x : ℕ) → IsPivot numbers t.rows b x → (o : Overflow) → StrainsExchange t.rows b x o → Strains ranges t o
 strains_rows ranges t b x p o h = rows b x p h
-
--- what holds where a call succeeds, for another reason
-pub on_ok : {T E : Type 0} (P Q : Type 0) (r : Result T E) → (P → Q) → OnOk r P → OnOk r Q
-on_ok P Q (Ok x) f h = f h
-on_ok P Q (Err e) f h = tt
 
 -- a value and what it lacks
 pub reached_by : (a b d : Pair Number) → d ≡ minus deltas a b → a ≡ deltas.plus b d

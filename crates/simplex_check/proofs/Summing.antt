@@ -1,7 +1,8 @@
 -- Sums of entries, taken from the first on, and points that grow.
-use Rattle.std.proofs.Common.{◌≡◌, ℕ, suc, ◌<◌, Bool, true, false, ◌==◌, ◌||◌, List, [], ◌∷◌, ◌++◌, length, Result, Ok, Err, IfErr, IsErrAnd, refl, sym, ◌∙◌, ap, subst, append_assoc}
+use Rattle.std.proofs.Common.{◌≡◌, ℕ, suc, ◌<◌, Bool, true, false, ◌==◌, ◌||◌, List, [], ◌∷◌, ◌++◌, length, Err, refl, sym, ◌∙◌, ap, subst, append_assoc}
 use Rattle.std.proofs.Math.ListN.{get_or-append}
 use Rattle.std.proofs.Math.Seq.{get_or-append_seam}
+use Rattle.std.proofs.lemmas.List.{append-nil}
 use Rattle.spec_numbers.specs.Bounds.{Overflow}
 use Rattle.spec_strains.specs.Deltas.{delta_added, delta_scaled}
 use Rattle.spec_tableaux.specs.Spaces.{Space, IsSpace, Pair}
@@ -38,12 +39,8 @@ summed_more v whole rest more e sum q new s r p n = record {
   sum_is = n ∙ (λ i. deltas.plus (s.sum_is i) (p i)) ∙ sym (sum_push deltas deltas_are_space v s.before e);
 }
 
-append_nil : {A : Type 0} (xs : List A) → xs ++ [] ≡ xs
-append_nil [] = refl
-append_nil (x ∷ xs) = ap (λ z. x ∷ z) (append_nil xs)
-
 pub summed_all : (v : ℕ → Pair Number) (whole rest : List (Entry Number)) (sum : Pair Number) → Summed v whole rest sum → rest ≡ [] → sum ≡ sum_of deltas v whole
-summed_all v whole rest sum s r = s.sum_is ∙ ap (sum_of deltas v) (sym (s.whole_is ∙ ap (λ z. s.before ++ z) r ∙ append_nil s.before))
+summed_all v whole rest sum s r = s.sum_is ∙ ap (sum_of deltas v) (sym (s.whole_is ∙ ap (λ z. s.before ++ z) r ∙ append-nil s.before))
 
 pub strains_product : (v : ℕ → Pair Number) (whole rest more : List (Entry Number)) (e : Entry Number) (sum value : Pair Number) (o : Overflow) → Summed v whole rest sum → rest ≡ e ∷ more
     → value ≡ v e.variable → delta_scaled e.coefficient.fraction (delta_in value) ≡ Err o → StrainsValue v whole o
@@ -103,8 +100,3 @@ sum_added t u vs ws es x is e g k o l s = subst (λ (b : BoardView). IsBoard b) 
 
     last : point_in (vs ++ x ∷ []) t.variables ≡ x
     last = ap (point_in (vs ++ x ∷ [])) (sym l) ∙ get_or-append_seam vs x [] deltas.origin
-
--- an error that is told as it came
-pub told : {T E : Type 0} (p : E → Type 0) (r : Result T E) (w : E) → IsErrAnd r (λ e. e ≡ w) → p w → IfErr r p
-told p (Ok x) w g h = tt
-told p (Err e) w g h = subst p (sym g) h

@@ -1,5 +1,5 @@
 -- Variables that may violate a bound.
-use Rattle.std.proofs.Common.{◌≡◌, ℕ, ◌<◌, ◌≤◌, Bool, true, false, List, [], ◌∷◌, length, All, inl, inr, refl, sym, ◌∙◌, ap, arith, ◌==◌, ◌||◌, ◌&&◌, not, subst, Less, Equal, Greater}
+use Rattle.std.proofs.Common.{◌≡◌, ℕ, ◌<◌, ◌≤◌, Bool, true, false, List, [], ◌∷◌, All, inl, inr, refl, sym, ◌∙◌, ap, arith, ◌==◌, ◌||◌, ◌&&◌, not, subst, Less, Equal, Greater}
 use Rattle.std.specs.Prelude.{◌⊎◌}
 use Rattle.std.specs.Ordering.{match_ordering, nat_cmp}
 use Rattle.std.specs.declared.cmp.Ordering.{Ordering}
@@ -8,6 +8,7 @@ use Rattle.std.proofs.lemmas.Bool.{and_parts}
 use Rattle.std.proofs.lemmas.Bool.Decides.{nat_tests}
 use Rattle.std.proofs.lemmas.Cmp.{ranked}
 use Rattle.std.proofs.lemmas.List.Elements.{All-head, All-tail}
+use Rattle.std.proofs.Math.Bool.{or-true}
 use Rattle.spec_tableaux.specs.Spaces.{Pair}
 use Rattle.spec_tableaux.specs.Rows.{is_basic, exchanged, pivot_of, row_of}
 use Rattle.spec_tableaux.specs.SolvedForms.{IsPivot}
@@ -20,10 +21,6 @@ use Rattle.spec_strains.specs.Points.{deltas, Ranges, BoardState}
 use Rattle.simplex_check.specs.Changes.{Lead, is_changed}
 use Rattle.simplex_check.specs.Suspects.{is_among, Suspect, SuspectBut}
 use Rattle.simplex_check.specs.declared.changes.Change.{Change}
-
-or_true : (q : Bool) → (q || true) ≡ true
-or_true true = refl
-or_true false = refl
 
 same_number : (k x : ℕ) → nat_cmp k x ≡ Equal → k ≡ x
 same_number k x e = ranked k x Equal (sym e)
@@ -45,10 +42,10 @@ among_kept (x ∷ xs) k z h = by (among_kept xs k z) (nat_cmp k x)
   where
     at : (is_among z xs ≡ true → is_among z (insert_key nat_cmp xs k) ≡ true) → (q : Bool) → (x == z) ≡ q → is_among z (x ∷ insert_key nat_cmp xs k) ≡ true
     at f true e = ap (λ q. q || is_among z (insert_key nat_cmp xs k)) e
-    at f false e = ap (λ q. x == z || q) (f (ap (λ q. q || is_among z xs) (sym e) ∙ h)) ∙ or_true (x == z)
+    at f false e = ap (λ q. x == z || q) (f (ap (λ q. q || is_among z xs) (sym e) ∙ h)) ∙ or-true (x == z)
 
     by : (is_among z xs ≡ true → is_among z (insert_key nat_cmp xs k) ≡ true) → (o : Ordering) → is_among z (match_ordering o (k ∷ x ∷ xs) (x ∷ xs) (x ∷ insert_key nat_cmp xs k)) ≡ true
-    by f Less = ap (λ q. k == z || q) h ∙ or_true (k == z)
+    by f Less = ap (λ q. k == z || q) h ∙ or-true (k == z)
     by f Equal = h
     by f Greater = at f (x == z) refl
 
@@ -59,7 +56,7 @@ among_added (x ∷ xs) k = by (among_added xs k) (nat_cmp k x) refl
     by : is_among k (insert_key nat_cmp xs k) ≡ true → (o : Ordering) → nat_cmp k x ≡ o → is_among k (match_ordering o (k ∷ x ∷ xs) (x ∷ xs) (x ∷ insert_key nat_cmp xs k)) ≡ true
     by f Less e = ap (λ q. q || is_among k (x ∷ xs)) (same_eqb k)
     by f Equal e = ap (λ q. q || is_among k xs) (ap (λ z. x == z) (same_number k x e) ∙ same_eqb x)
-    by f Greater e = ap (λ q. x == k || q) f ∙ or_true (x == k)
+    by f Greater e = ap (λ q. x == k || q) f ∙ or-true (x == k)
 
 -- numbers that are all above
 pub all_above : (k : ℕ) (xs : List ℕ) → All (λ q. nat_cmp k q ≡ Less) xs → (z : ℕ) → is_among z xs ≡ true → k < z
@@ -69,10 +66,6 @@ all_above k (x ∷ xs) a z h = by (all_above k xs (All-tail (λ q. nat_cmp k q �
     by : (is_among z xs ≡ true → k < z) → (x ≡ z) ⊎ (is_among z xs ≡ true) → k < z
     by f (inl e) = subst (λ z. k < z) e (less_number k x (All-head (λ q. nat_cmp k q ≡ Less) x xs a))
     by f (inr m) = f m
-
-pub nothing_there : (xs : List ℕ) → (0 < length xs → ⊥) → xs ≡ []
-nothing_there [] h = refl
-nothing_there (x ∷ xs) h = absurd (h (omega arith))
 
 -- the first change is noted, and the others are still to be
 pub noted_more : (z : ℕ) (c : Change) (rest more : List Change) (old new : List ℕ) → rest ≡ c ∷ more → (is_among z old ≡ true → is_among z new ≡ true) → is_among c.variable new ≡ true

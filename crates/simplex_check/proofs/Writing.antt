@@ -1,6 +1,7 @@
 -- Changes that are written.
 use Rattle.std.proofs.Common.{◌≡◌, ℕ, ◌<◌, Bool, true, false, List, [], ◌∷◌, ◌++◌, length, map, slice_set, refl, sym, ◌∙◌, ap, arith, cond, ◌==◌, ◌||◌, subst}
 use Rattle.std.proofs.lemmas.Bool.Decides.{nat_tests}
+use Rattle.std.proofs.Math.Bool.{or-true}
 use Rattle.delta_num.specs.declared.delta.Delta.{Delta}
 use Rattle.spec_tableaux.specs.Spaces.{Pair}
 use Rattle.spec_tableaux.specs.Numbers.{Number}
@@ -39,18 +40,14 @@ pub come_push : (w : ℕ → Pair Number) (cs : List Change) (c : Change) → Co
 come_push w [] c h k = (k, tt)
 come_push w (d ∷ cs) c h k = (h.0, come_push w cs c h.1 k)
 
-or_true : (q : Bool) → (q || true) ≡ true
-or_true true = refl
-or_true false = refl
-
 pub changed_push : (y : ℕ) (cs : List Change) (c : Change) → is_changed y cs ≡ true → is_changed y (cs ++ c ∷ []) ≡ true
 changed_push y [] c h = absurd (cc)
 changed_push y (d ∷ cs) c h = by (λ k. changed_push y cs c k) (y == d.variable) refl
   where
     by : (is_changed y cs ≡ true → is_changed y (cs ++ c ∷ []) ≡ true) → (q : Bool) → (y == d.variable) ≡ q → (y == d.variable || is_changed y (cs ++ c ∷ [])) ≡ true
     by f true e = ap (λ p. p || is_changed y (cs ++ c ∷ [])) e
-    by f false e = ap (λ p. y == d.variable || p) (f (ap (λ p. p || is_changed y cs) (sym e) ∙ h)) ∙ or_true (y == d.variable)
+    by f false e = ap (λ p. y == d.variable || p) (f (ap (λ p. p || is_changed y cs) (sym e) ∙ h)) ∙ or-true (y == d.variable)
 
 pub changed_last : (y : ℕ) (cs : List Change) (c : Change) → c.variable ≡ y → is_changed y (cs ++ c ∷ []) ≡ true
 changed_last y [] c e = ap (λ p. p || false) (ap (λ z. y == z) e ∙ same_eqb y)
-changed_last y (d ∷ cs) c e = ap (λ p. y == d.variable || p) (changed_last y cs c e) ∙ or_true (y == d.variable)
+changed_last y (d ∷ cs) c e = ap (λ p. y == d.variable || p) (changed_last y cs c e) ∙ or-true (y == d.variable)

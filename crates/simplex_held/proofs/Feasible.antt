@@ -1,6 +1,7 @@
 -- Where values keep the bounds of held literals, the point of the terms keeps the literals.
 use Rattle.std.proofs.Common.{◌≡◌, ℕ, false, List, map, Contains, Option, Some, None, Ok, refl, sym, ◌∙◌, subst}
 use Rattle.std.proofs.lemmas.List.Elements.{All-contains, All-map}
+use Rattle.std.proofs.lemmas.Option.{none-some}
 use Rattle.spec_tableaux.specs.Spaces.{Pair}
 use Rattle.spec_tableaux.specs.Rows.{Solves}
 use Rattle.spec_tableaux.specs.Numbers.{Number, numbers}
@@ -28,7 +29,7 @@ use Rattle.simplex_atoms.proofs.Keeping.{kept}
 use Rattle.simplex_held.specs.Stated.{IsKnownIn}
 use Rattle.simplex_held.specs.Keeping.{KeepsHeld}
 use Rattle.simplex_held.proofs.Stating.{all_from, held_as_bound}
-use Rattle.simplex_held.proofs.Forms.{nothing_some, form_same, says_nothing}
+use Rattle.simplex_held.proofs.Forms.{form_same, says_nothing}
 use Rattle.simplex_held.proofs.Owners.{point_of, owned}
 
 -- what solves the rows in solved form solves those that were added
@@ -72,7 +73,7 @@ module _ (t : TableView) (a : AtomsView) (b : BoardView) (bounds : BoundsView) (
   placed l h c f = by (place_in a.placed l.term) refl (All-contains (λ (l : Lit). IsKnownIn t a.placed l.term) held l k.known h)
     where
       by : (o : Option Place) → place_in a.placed l.term ≡ o → IsWatched o (constraint_of (positive_literal (term_at t l.term))) → IsAt t a b l c
-      by None e w = absurd (nothing_some c (sym (says_nothing (term_at t l.term) l.positive w) ∙ f))
+      by None e w = absurd (none-some c (sym (says_nothing (term_at t l.term) l.positive w) ∙ f))
       by (Some place) e w =
           let is = (k.right.are_placed l.term place e).is in
           record { place = place; there = e; is = is; has = form_same (term_at t l.term) l.positive is.constraint c is.says f ∙ is.has }

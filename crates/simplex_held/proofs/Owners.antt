@@ -1,5 +1,6 @@
 -- The point of the terms: each that a variable stands for has the value of the variable.
 use Rattle.std.proofs.Common.{◌≡◌, ℕ, zero, suc, Bool, true, false, cond, List, [], ◌∷◌, Option, Some, None, refl, sym, ◌∙◌, ap, true≢false}
+use Rattle.std.proofs.lemmas.Option.{none-some}
 use Rattle.spec_sorts.specs.Terms.{Term, same_term}
 use Rattle.spec_sorts.proofs.SameTerms.{one_term, term_itself}
 use Rattle.spec_tableaux.specs.Spaces.{Pair}
@@ -20,12 +21,9 @@ abbrev pub point_of : TableView → List (Option TermId) → (ℕ → Pair Numbe
 point_of t [] v u = deltas.origin
 point_of t (o ∷ os) v u = cond (stands_for t o u) (v zero) (point_of t os (λ y. v (suc y)) u)
 
-none_some : (id : TermId) → (let o : Option TermId = None in o) ≡ Some id → ⊥
-none_some id e = cc
-
 nobody : (y : ℕ) (id : TermId) → owner_at [] y ≡ Some id → ⊥
-nobody zero id e = none_some id e
-nobody (suc y) id e = none_some id e
+nobody zero id e = none-some id e
+nobody (suc y) id e = none-some id e
 
 here : (t : TableView) (p : Option TermId) (u : Term) → stands_for t p u ≡ true → (x : TermId) × (p ≡ Some x) × (term_at t x ≡ u)
 here t None u g = absurd (true≢false (sym g))

@@ -1,5 +1,6 @@
 -- Values that keep bounds at a number in the place of the infinitesimal keep them as numbers.
 use Rattle.std.proofs.Common.{◌≡◌, ℕ, zero, suc, Bool, true, false, not, ◌||◌, List, [], ◌∷◌, map, Contains, Option, Some, None, refl, sym, ◌∙◌, ap, subst, true≢false}
+use Rattle.std.proofs.lemmas.Bool.{not-true, or_parts}
 use Rattle.spec_tableaux.specs.Fields.{is_positive}
 use Rattle.spec_tableaux.specs.Spaces.{Pair, as_space}
 use Rattle.spec_tableaux.specs.Rows.{Row, Solves}
@@ -18,7 +19,6 @@ use Rattle.simplex_numbers.specs.Values.{bound_at, flat, IsInward, KeepsAt}
 use Rattle.spec_strains.specs.Halves.{at_number, is_less}
 use Rattle.simplex_numbers.proofs.Orders.{level_stays}
 use Rattle.simplex_numbers.proofs.Rows.{base_at, rows_at}
-use Rattle.simplex_numbers.proofs.Keeping.{kept_sides}
 
 -- values solve rows as numbers where they do as pairs
 pub flat_solves : (e : Number) (v : ℕ → Pair Number) (rs : List (Row Number)) → Solves deltas v rs → Solves deltas (λ y. flat (at_number e (v y))) rs
@@ -62,5 +62,5 @@ module _ (e : Number) (p : is_positive numbers e ≡ true) where
     pub flat_within : KeepsAt e (ranges_in held) v → (y : ℕ) → is_within deltas (ranges_in held) (λ z. flat (at_number e (v z))) y ≡ true
     flat_within h y =
         let x = at_number e (v y) in
-        let sides = kept_sides (below (as_space numbers) x (bound_at e (ranges_in held y).lower)) (above (as_space numbers) x (bound_at e (ranges_in held y).upper)) (h y) in
+        let sides = or_parts (below (as_space numbers) x (bound_at e (ranges_in held y).lower)) (above (as_space numbers) x (bound_at e (ranges_in held y).upper)) (not-true _ (h y)) in
         (λ i. not (below_kept x (strongest Lower y held) (of_strongest Lower y) sides.0 i || above_kept x (strongest Upper y held) (of_strongest Upper y) sides.1 i))

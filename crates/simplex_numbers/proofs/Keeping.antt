@@ -1,10 +1,11 @@
 -- Values that keep bounds as pairs keep them at a number at which what is off a bound stays off it.
 use Rattle.std.proofs.Common.{◌≡◌, ℕ, Bool, true, false, not, ◌||◌, Option, Some, None, Result, Ok, Err, IfOk, refl, ◌∙◌, ap}
+use Rattle.std.proofs.lemmas.Bool.{not-true, or_parts}
 use Rattle.spec_tableaux.specs.Spaces.{Pair, as_space}
 use Rattle.spec_tableaux.specs.Ranges.{Range, below, above}
 use Rattle.spec_tableaux.specs.Numbers.{Number, numbers}
-use Rattle.spec_tableaux.proofs.Numbers.{numbers_are_ordered_field}
-use Rattle.spec_tableaux.proofs.OrderedSpaces.{field_is_ordered, pairs_are_ordered}
+use Rattle.spec_tableaux.proofs.Numbers.{numbers_are_ordered_field, numbers_are_ordered}
+use Rattle.spec_tableaux.proofs.OrderedSpaces.{pairs_are_ordered}
 use Rattle.ratio128.specs.declared.ratio.Ratio.{Ratio}
 use Rattle.ratio128.specs.declared.wide.Wide.{Wide}
 use Rattle.tableau.specs.Numbers.{number_of}
@@ -22,7 +23,7 @@ not_greater e x y h stays = by (deltas.less x y) refl
     by true less = asymmetric (at_number e x) (at_number e y) (stays less)
     by false same =
         ap (λ (z : Pair Number). is_less (at_number e y) (at_number e z)) ((pairs_are_ordered numbers numbers_are_ordered_field).less_total x y same h)
-        ∙ (field_is_ordered numbers numbers_are_ordered_field).less_irreflexive (at_number e y)
+        ∙ numbers_are_ordered.less_irreflexive (at_number e y)
 
 lower_kept : (e : Number) (o : Option (Pair Number)) (x : Pair Number) → below deltas x o ≡ false → StaysAbove e o x → below (as_space numbers) (at_number e x) (bound_at e o) ≡ false
 lower_kept e None x h stays = refl
@@ -32,16 +33,10 @@ upper_kept : (e : Number) (o : Option (Pair Number)) (x : Pair Number) → above
 upper_kept e None x h stays = refl
 upper_kept e (Some b) x h stays = not_greater e x b h stays
 
--- neither below the lower bound nor above the upper one
-pub kept_sides : (p q : Bool) → not (p || q) ≡ true → (p ≡ false) × (q ≡ false)
-kept_sides true q h = absurd (cc)
-kept_sides false true h = absurd (cc)
-kept_sides false false h = (refl, refl)
-
 range_kept : (e : Number) (r : Range (Pair Number)) (x : Pair Number) → keeps r x ≡ true → StaysOff e r x
     → not (below (as_space numbers) (at_number e x) (range_at e r).lower || above (as_space numbers) (at_number e x) (range_at e r).upper) ≡ true
 range_kept e r x h off =
-    let sides = kept_sides (below deltas x r.lower) (above deltas x r.upper) h in
+    let sides = or_parts (below deltas x r.lower) (above deltas x r.upper) (not-true _ h) in
     (λ i. not (lower_kept e r.lower x sides.0 off.0 i || upper_kept e r.upper x sides.1 off.1 i))
 
 -- at each number that is smaller too

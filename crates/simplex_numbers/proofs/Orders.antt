@@ -2,17 +2,14 @@
 use Rattle.std.proofs.Common.{◌≡◌, Bool, true, false, cond, refl, sym, ◌∙◌, ap, true≢false}
 use Rattle.spec_numbers.specs.Fractions.{gcd, plus, times, opposite, inverse}
 use Rattle.spec_tableaux.specs.Fields.{is_positive}
-use Rattle.spec_tableaux.specs.Spaces.{Pair, IsOrdered, as_space, pairs}
+use Rattle.spec_tableaux.specs.Spaces.{Pair, pairs}
 use Rattle.spec_tableaux.specs.Numbers.{Number, numbers, fractions}
-use Rattle.spec_tableaux.proofs.Numbers.{numbers_are_ordered_field as l}
-use Rattle.spec_tableaux.proofs.OrderedSpaces.{field_is_ordered, pairs_are_ordered}
+use Rattle.spec_tableaux.proofs.Numbers.{numbers_are_ordered_field as l, numbers_are_ordered as o}
+use Rattle.spec_tableaux.proofs.OrderedSpaces.{pairs_are_ordered}
 use Rattle.spec_tableaux.proofs.Groups.{inner_two}
 use Rattle.spec_tableaux.proofs.Signs.{sum_zero_right, zero_product, opposite_sum, opposite_product, opposite_zero, difference_opposite, difference_scale, difference_self, product_sign}
 use Rattle.simplex_numbers.specs.Values.{StaysLess, IsSmaller}
 use Rattle.spec_strains.specs.Halves.{at_number, is_less, gap, steepness, IsSteeper, two, meeting, halfway}
-
-o : IsOrdered (as_space numbers)
-o = field_is_ordered numbers l
 
 -- signs
 

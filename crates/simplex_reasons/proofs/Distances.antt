@@ -1,16 +1,16 @@
 -- What sums of distances from bounds are.
-use Rattle.std.proofs.Common.{◌≡◌, ◌↔◌, ℕ, Bool, true, false, not, cond, ◌==◌, List, [], ◌∷◌, Option, Some, None, refl, sym, ◌∙◌, ap, subst, ◌&&◌, ◌||◌, arith}
+use Rattle.std.proofs.Common.{◌≡◌, ◌↔◌, ℕ, Bool, true, false, not, cond, ◌==◌, List, [], ◌∷◌, Option, Some, None, refl, sym, ◌∙◌, ap, subst, ◌||◌, arith}
 use Rattle.std.proofs.lemmas.Bool.Decides.{nat_tests}
+use Rattle.std.proofs.lemmas.Bool.{and_parts, not-true}
 use Rattle.spec_numbers.specs.Fractions.{opposite}
 use Rattle.spec_tableaux.specs.Fields.{is_positive}
-use Rattle.spec_tableaux.specs.Spaces.{Pair, minus, as_space, IsSpace, IsOrdered}
+use Rattle.spec_tableaux.specs.Spaces.{Pair, minus, as_space}
 use Rattle.spec_tableaux.specs.Rows.{Entry, Row, Holds, Solves, sum_of, row_of, is_basic}
 use Rattle.spec_tableaux.specs.SolvedForms.{IsTidy, IsSolved}
 use Rattle.spec_tableaux.specs.Ranges.{AreStopped, stopping_bound, is_within, is_crossed, below, above, crosses}
 use Rattle.spec_tableaux.specs.LeastVariable.{State, IsSettled, Says, stuck, goes_up}
 use Rattle.spec_tableaux.specs.Numbers.{Number, numbers, fractions}
 use Rattle.spec_tableaux.proofs.Numbers.{numbers_are_ordered_field}
-use Rattle.spec_tableaux.proofs.OrderedSpaces.{pairs_are_space, pairs_are_ordered}
 use Rattle.spec_tableaux.proofs.Signs.{opposite_twice}
 use Rattle.spec_tableaux.proofs.Sums.{opposite_scale}
 use Rattle.spec_tableaux.proofs.Explanations.{row_explains, stuck_is_stopped}
@@ -25,12 +25,7 @@ use Rattle.simplex_bounds.specs.Held.{strongest, value_in, range_in, ranges_in}
 use Rattle.simplex_atoms.specs.Limits.{side_by}
 use Rattle.simplex_reasons.specs.Stops.{stop_of, AreAllStopped, value_of, all_beyond}
 use Rattle.spec_causes.specs.Reasons.{directed, with_basic, unit_entries}
-
-pub space : IsSpace deltas
-space = pairs_are_space numbers numbers_are_ordered_field
-
-pub ordered : IsOrdered deltas
-ordered = pairs_are_ordered numbers numbers_are_ordered_field
+use Rattle.simplex_check.proofs.Points.{deltas_are_space, deltas_are_ordered}
 
 -- minus one, by which values are negated
 abbrev minus_one : Number
@@ -42,22 +37,22 @@ turned true x = x
 turned false x = deltas.scale minus_one x
 
 twice : (x : Pair Number) → deltas.scale minus_one (deltas.scale minus_one x) ≡ x
-twice x = sym (opposite_scale deltas space minus_one x) ∙ ap (λ k. deltas.scale k x) (opposite_twice numbers numbers_are_ordered_field numbers.one) ∙ space.one_scale x
+twice x = sym (opposite_scale deltas deltas_are_space minus_one x) ∙ ap (λ k. deltas.scale k x) (opposite_twice numbers numbers_are_ordered_field numbers.one) ∙ deltas_are_space.one_scale x
 
 minus_turned : (x y : Pair Number) → deltas.scale minus_one (minus deltas x y) ≡ minus deltas y x
-minus_turned x y = space.scale_plus minus_one x _ ∙ ap (deltas.plus (deltas.scale minus_one x)) (twice y) ∙ space.plus_commutative _ y
+minus_turned x y = deltas_are_space.scale_plus minus_one x _ ∙ ap (deltas.plus (deltas.scale minus_one x)) (twice y) ∙ deltas_are_space.plus_commutative _ y
 
 turned_plus : (up : Bool) (x y : Pair Number) → deltas.plus (turned up x) (turned up y) ≡ turned up (deltas.plus x y)
 turned_plus true x y = refl
-turned_plus false x y = sym (space.scale_plus minus_one x y)
+turned_plus false x y = sym (deltas_are_space.scale_plus minus_one x y)
 
 turned_origin : (up : Bool) → deltas.origin ≡ turned up deltas.origin
 turned_origin true = refl
-turned_origin false = sym (space.scale_origin minus_one)
+turned_origin false = sym (deltas_are_space.scale_origin minus_one)
 
 directed_scale : (up : Bool) (c : Number) (x : Pair Number) → deltas.scale (directed up c) x ≡ turned up (deltas.scale c x)
 directed_scale true c x = refl
-directed_scale false c x = opposite_scale deltas space c x
+directed_scale false c x = opposite_scale deltas deltas_are_space c x
 
 -- the stop of an entry is at the bound that stops its variable
 stop_bound : (held : List Bound) (up : Bool) (e : Entry Number) → value_in (stop_of held up e) ≡ stopping_bound deltas (ranges_in held e.variable) up e.coefficient
@@ -108,15 +103,15 @@ row_beyond : (held : List Bound) (up : Bool) (v q : ℕ → Pair Number) (r : Ro
 row_beyond held up v q r s hq hv =
     let g = value_of (stop_of held up (record { variable = r.basic; coefficient = minus_one })) in
     (λ i. deltas.plus (basic_beyond up (q r.basic) g i) (all_beyond_is held up v q r.entries s i))
-    ∙ turned_plus up (minus deltas g (q r.basic)) (sum_of deltas (λ y. minus deltas (q y) (v y)) r.entries) ∙ ap (turned up) (row_explains deltas space q v r g hq hv)
+    ∙ turned_plus up (minus deltas g (q r.basic)) (sum_of deltas (λ y. minus deltas (q y) (v y)) r.entries) ∙ ap (turned up) (row_explains deltas deltas_are_space q v r g hq hv)
 
 -- a greater value minus a lesser one is above the origin
 above_origin : (x y : Pair Number) → deltas.less x y ≡ true → deltas.less deltas.origin (minus deltas y x) ≡ true
 above_origin x y h =
-    (λ i. deltas.less (sym (none x) i) (space.plus_commutative y (deltas.scale minus_one x) i)) ∙ ordered.less_plus (deltas.scale minus_one x) x y ∙ h
+    (λ i. deltas.less (sym (none x) i) (deltas_are_space.plus_commutative y (deltas.scale minus_one x) i)) ∙ deltas_are_ordered.less_plus (deltas.scale minus_one x) x y ∙ h
   where
     none : (x : Pair Number) → deltas.plus (deltas.scale minus_one x) x ≡ deltas.origin
-    none x = ap (deltas.plus (deltas.scale minus_one x)) (sym (space.one_scale x)) ∙ sym (space.sum_scale minus_one numbers.one x) ∙ ap (λ t. deltas.scale t x) (numbers_are_ordered_field.sum_opposite numbers.one) ∙ space.zero_scale x
+    none x = ap (deltas.plus (deltas.scale minus_one x)) (sym (deltas_are_space.one_scale x)) ∙ sym (deltas_are_space.sum_scale minus_one numbers.one x) ∙ ap (λ t. deltas.scale t x) (numbers_are_ordered_field.sum_opposite numbers.one) ∙ deltas_are_space.zero_scale x
 
 minus_one_below : is_positive numbers minus_one ≡ false
 unfolding numbers fractions opposite
@@ -195,24 +190,16 @@ row_named b (r ∷ rs) = by (r.basic == b) refl (row_named b rs)
 named_holds : (q : ℕ → Pair Number) (b : ℕ) (rs : List (Row Number)) → is_basic b rs ≡ true → Solves deltas q rs → Holds deltas q (record { basic = b; entries = (row_of b rs).entries })
 named_holds q b rs i h = record { is = ap q (sym (row_named b rs)) ∙ (row_holds deltas q b rs i h).is }
 
-both_true : (p q : Bool) → p && q ≡ true → (p ≡ true) × (q ≡ true)
-both_true true q h = (refl, h)
-both_true false q h = absurd (cc)
-
-not_true : (p : Bool) → not p ≡ true → p ≡ false
-not_true true h = absurd (cc)
-not_true false h = refl
-
 -- where the rule is stuck
 pub stuck_contradicts : (held : List Bound) (listed : List (Row Number)) (t : State Number (Pair Number)) (b : ℕ) → IsSolved numbers t.rows
     → ((v : ℕ → Number) → Solves (as_space numbers) v t.rows ↔ Solves (as_space numbers) v listed) → IsSettled deltas (ranges_in held) t → Says deltas (ranges_in held) t (stuck b)
     → Contradicts held (goes_up deltas (ranges_in held) t b) listed (with_basic b (row_of b t.rows).entries)
 stuck_contradicts held listed t b solved same settled says =
     let up = goes_up deltas (ranges_in held) t b in
-    let out = both_true (is_basic b t.rows) (not (is_within deltas (ranges_in held) t.point b)) says.1.holds in
+    let out = and_parts (is_basic b t.rows) (not (is_within deltas (ranges_in held) t.point b)) says.1.holds in
     row_contradicts held up listed t.point (record { basic = b; entries = (row_of b t.rows).entries })
-    (is_out_by held b (t.point b) up refl (not_true _ out.1))
-    (stuck_is_stopped deltas space ordered (ranges_in held) t b solved settled says) (tidy_row deltas b t.rows solved.tidy)
+    (is_out_by held b (t.point b) up refl (not-true _ out.1))
+    (stuck_is_stopped deltas deltas_are_space deltas_are_ordered (ranges_in held) t b solved settled says) (tidy_row deltas b t.rows solved.tidy)
     (named_holds t.point b t.rows out.0 settled.solves) (λ q h. named_holds q b t.rows out.0 (pairs_solve t.rows listed same q h))
 
 pub one_above : is_positive numbers numbers.one ≡ true
@@ -224,7 +211,7 @@ unfolding numbers fractions opposite
 one_not_zero = refl
 
 unit_holds : (q : ℕ → Pair Number) (y : ℕ) → Holds deltas q (record { basic = y; entries = unit_entries y })
-unit_holds q y = record { is = sym (space.plus_commutative (deltas.scale numbers.one (q y)) deltas.origin ∙ space.plus_origin _ ∙ space.one_scale (q y)) }
+unit_holds q y = record { is = sym (deltas_are_space.plus_commutative (deltas.scale numbers.one (q y)) deltas.origin ∙ deltas_are_space.plus_origin _ ∙ deltas_are_space.one_scale (q y)) }
 
 crossing_by : (held : List Bound) (listed : List (Row Number)) (y : ℕ) (u : Option Bound) → strongest Upper y held ≡ u → crosses deltas (value_in (strongest Lower y held)) (value_in u) ≡ true
     → Contradicts held true listed (with_basic y (unit_entries y))

@@ -11,21 +11,21 @@ use Rattle.term_core.specs.declared.ids.Lit.{Lit}
 use Rattle.simplex_bounds.specs.declared.bounds.Bound.{Bound}
 use Rattle.spec_strains.specs.Points.{deltas, BoardState, Ranges}
 use Rattle.spec_strains.specs.Runs.{Ran}
+use Rattle.simplex_check.proofs.Points.{deltas_are_ordered}
 use Rattle.simplex_atoms.specs.declared.place.Place.{Place}
 use Rattle.simplex_atoms.specs.Places.{place_in}
 use Rattle.simplex_atoms.specs.Limits.{limit_of, limits_by, one_of, limits_meant}
 use Rattle.simplex_reasons.specs.Stops.{IsStated, AreStated}
 use Rattle.simplex_reasons.specs.Held.{AreReached, IsUnder, Fits}
-use Rattle.simplex_reasons.proofs.Distances.{ordered}
 use Rattle.simplex_reasons.proofs.Pieces.{LimitLaws}
 
 makes_settled : (ranges : Ranges) (t : BoardState) (es : List (ℕ × ℕ)) (u : BoardState) → IsSettled deltas ranges t → Makes deltas ranges t es u → IsSettled deltas ranges u
 makes_settled ranges t [] u s m = subst (IsSettled deltas ranges) m s
-makes_settled ranges t (e ∷ es) u s m = makes_settled ranges m.1.0 es u (exchange_settled deltas ordered ranges t m.1.0 e.0 e.1 s m.0 m.1.1) m.1.2
+makes_settled ranges t (e ∷ es) u s m = makes_settled ranges m.1.0 es u (exchange_settled deltas deltas_are_ordered ranges t m.1.0 e.0 e.1 s m.0 m.1.1) m.1.2
 
 -- where no bounds cross, nonbasic variables keep theirs after the exchanges
 pub ran_settled : (ranges : Ranges) (t u : BoardState) (old new : List (ℕ × ℕ)) → ((y : ℕ) → is_crossed deltas ranges y ≡ false) → Ran ranges t u old new → IsSettled deltas ranges u
-ran_settled ranges t u old new n r = makes_settled ranges r.start r.made u (settles_settled deltas ordered ranges t r.start n r.settles) r.makes
+ran_settled ranges t u old new n r = makes_settled ranges r.start r.made u (settles_settled deltas deltas_are_ordered ranges t r.start n r.settles) r.makes
 
 -- each of the bounds that a literal states can be held
 

@@ -2,6 +2,7 @@
 use Rattle.std.proofs.Common.{◌≡◌, ℕ, Bool, true, false, not, cond, List, Option, Some, None, refl, sym, ◌∙◌, ap, subst, true≢false}
 use Rattle.std.specs.Prelude.{Contains}
 use Rattle.std.proofs.lemmas.List.Elements.{All-contains}
+use Rattle.std.proofs.lemmas.Option.{none-some, same_Some}
 use Rattle.spec_numbers.specs.Fractions.{Fraction, IsReduced, zero_fraction, times, opposite}
 use Rattle.spec_numbers.proofs.Field.{opposite-reduced}
 use Rattle.spec_text.proofs.Members.{none}
@@ -38,6 +39,7 @@ use Rattle.simplex_atoms.proofs.Weighing.{weighs, size_reduced}
 use Rattle.simplex_explain.specs.declared.weighted.Weighted.{Weighted}
 use Rattle.simplex_reasons.specs.Stops.{IsStated, AreStated, stopping_side, stop_of, IsStopped, value_of, beyond}
 use Rattle.spec_causes.specs.Reasons.{directed}
+use Rattle.simplex_atoms.proofs.Keeping.{kind_below, kind_at_most, positively}
 use Rattle.simplex_reasons.specs.Reasons.{Footing, weight_by, IsReason}
 
 -- What bounds are that literals state.
@@ -47,38 +49,10 @@ pub record LimitLaws : Type 0 where
 
 -- what a literal of a placed atom says
 
-same_some : {A : Type 0} (x y : A) → (let o : Option A = Some x in o) ≡ Some y → x ≡ y
-same_some {A = B} x y e = ap from e
-  where
-    from : Option B → B
-    from None = x
-    from (Some z) = z
-
-no_relation : (r : Relation) → (let o : Option Relation = None in o) ≡ Some r → ⊥
-no_relation r e = cc
-
-no_constraint : (c : Constraint) → (let o : Option Constraint = None in o) ≡ Some c → ⊥
-no_constraint c e = cc
-
-kind_below : (k : Kind) → below ≡ relation_meant k → k ≡ kinds.Less
-kind_below kinds.Less e = refl
-kind_below kinds.AtMost e = cc
-kind_below kinds.Equal e = cc
-
-kind_at_most : (k : Kind) → at_most ≡ relation_meant k → k ≡ kinds.AtMost
-kind_at_most kinds.Less e = cc
-kind_at_most kinds.AtMost e = refl
-kind_at_most kinds.Equal e = cc
-
 kind_equals : (k : Kind) → equals ≡ relation_meant k → k ≡ kinds.Equal
 kind_equals kinds.Less e = cc
 kind_equals kinds.AtMost e = cc
 kind_equals kinds.Equal e = refl
-
-positively : (k : Kind) → relation_by k true ≡ Some (relation_meant k)
-positively kinds.Less = refl
-positively kinds.AtMost = refl
-positively kinds.Equal = refl
 
 -- the constraint with another relation
 abbrev pub with_relation : Relation → Constraint → Constraint
@@ -86,27 +60,27 @@ with_relation r c = saying r c.atom c.left c.right
 
 less_reads : (b : Bool) (s u : Term) (c : Constraint) (k : Kind) (r : Relation) → where_true b (saying below (pair Less s u) s u) ≡ Some c → c.relation ≡ relation_meant k
     → relation_by k false ≡ Some r → where_true b (saying at_least (pair Less s u) s u) ≡ Some (with_relation r c)
-less_reads false s u c k r p q e = absurd (no_constraint c p)
+less_reads false s u c k r p q e = absurd (none-some c p)
 less_reads true s u c k r p q e =
-    let mine = same_some (saying below (pair Less s u) s u) c p in
+    let mine = same_Some (saying below (pair Less s u) s u) c p in
     let kind = kind_below k (ap (λ (x : Constraint). x.relation) mine ∙ q) in
-    let relation : at_least ≡ r = same_some at_least r (sym (ap (λ j. relation_by j false) kind) ∙ e) in
+    let relation : at_least ≡ r = same_Some at_least r (sym (ap (λ j. relation_by j false) kind) ∙ e) in
     (λ i. Some (with_relation (relation i) (mine i)))
 
 at_most_reads : (b : Bool) (s u : Term) (c : Constraint) (k : Kind) (r : Relation) → where_true b (saying at_most (pair AtMost s u) s u) ≡ Some c → c.relation ≡ relation_meant k
     → relation_by k false ≡ Some r → where_true b (saying above (pair AtMost s u) s u) ≡ Some (with_relation r c)
-at_most_reads false s u c k r p q e = absurd (no_constraint c p)
+at_most_reads false s u c k r p q e = absurd (none-some c p)
 at_most_reads true s u c k r p q e =
-    let mine = same_some (saying at_most (pair AtMost s u) s u) c p in
+    let mine = same_Some (saying at_most (pair AtMost s u) s u) c p in
     let kind = kind_at_most k (ap (λ (x : Constraint). x.relation) mine ∙ q) in
-    let relation : above ≡ r = same_some above r (sym (ap (λ j. relation_by j false) kind) ∙ e) in
+    let relation : above ≡ r = same_Some above r (sym (ap (λ j. relation_by j false) kind) ∙ e) in
     (λ i. Some (with_relation (relation i) (mine i)))
 
 equal_reads : (b : Bool) (s u : Term) (c : Constraint) (k : Kind) (r : Relation) → where_true b (saying equals (pair Equal s u) s u) ≡ Some c → c.relation ≡ relation_meant k → relation_by k false ≡ Some r → ⊥
-equal_reads false s u c k r p q e = no_constraint c p
+equal_reads false s u c k r p q e = none-some c p
 equal_reads true s u c k r p q e =
-    let kind = kind_equals k (ap (λ (x : Constraint). x.relation) (same_some (saying equals (pair Equal s u) s u) c p) ∙ q) in
-    no_relation r (sym (ap (λ j. relation_by j false) kind) ∙ e)
+    let kind = kind_equals k (ap (λ (x : Constraint). x.relation) (same_Some (saying equals (pair Equal s u) s u) c p) ∙ q) in
+    none-some r (sym (ap (λ j. relation_by j false) kind) ∙ e)
 
 negatively : (t : Term) (c : Constraint) (k : Kind) (r : Relation) → constraint_by true t ≡ Some c → c.relation ≡ relation_meant k → relation_by k false ≡ Some r
     → constraint_by false t ≡ Some (with_relation r c)
@@ -114,12 +88,12 @@ unfolding constraint_by
 negatively (app Less (cons s (cons u nil))) c k r p q e = less_reads (are_numbers s u) s u c k r p q e
 negatively (app AtMost (cons s (cons u nil))) c k r p q e = at_most_reads (are_numbers s u) s u c k r p q e
 negatively (app Equal (cons s (cons u nil))) c k r p q e = absurd (equal_reads (are_numbers s u) s u c k r p q e)
-negatively t c k r p q e = absurd (no_constraint c p)
+negatively t c k r p q e = absurd (none-some c p)
 
 pub reads : (t : Term) (b : Bool) (c : Constraint) (k : Kind) (r : Relation) → constraint_by true t ≡ Some c → c.relation ≡ relation_meant k → relation_by k b ≡ Some r
     → constraint_by b t ≡ Some (with_relation r c)
 reads t true c k r p q e =
-    let relation : c.relation ≡ r = q ∙ same_some (relation_meant k) r (sym (positively k) ∙ e) in
+    let relation : c.relation ≡ r = q ∙ same_Some (relation_meant k) r (sym (positively k) ∙ e) in
     p ∙ (λ i. Some (with_relation (relation i) c))
 reads t false c k r p q e = negatively t c k r p q e
 
@@ -260,7 +234,7 @@ module _ (laws : LimitLaws) (t : TableView) (s : Setting) (f : Footing) (up : Bo
   states : Contains (limits_by place l) (limit_of reason.bound)
   states =
       let own = All-contains (IsStated f.placed) f.held reason.bound stated is_held.0 in
-      subst (λ q. Contains (limits_by q l) (limit_of reason.bound)) (same_some own.place place (sym own.there ∙ reason.there)) own.states
+      subst (λ q. Contains (limits_by q l) (limit_of reason.bound)) (same_Some own.place place (sym own.there ∙ reason.there)) own.states
 
   is_placed : IsPlaced s place (term_at t l.term)
   is_placed = placed l place reason.there

@@ -1,6 +1,7 @@
 -- Rows that are grounded have a solution for all values of terms.
 use Rattle.std.proofs.Common.{◌≡◌, ℕ, suc, ◌<◌, Bool, true, false, cond, ◌==◌, List, [], ◌∷◌, Option, Some, None, refl, sym, ◌∙◌, ap, arith}
 use Rattle.std.proofs.lemmas.Bool.Decides.{nat_tests}
+use Rattle.std.proofs.lemmas.Option.{none-some}
 use Rattle.spec_sorts.specs.Terms.{Term}
 use Rattle.spec_tableaux.specs.Spaces.{as_space}
 use Rattle.spec_tableaux.specs.Rows.{Row, Solves, sum_of}
@@ -36,16 +37,13 @@ below_stays owners from (r ∷ rs) to v g y h =
     let first : y < r.basic = omega (arith, h, g.0) in
     below_stays owners (suc r.basic) rs to (set r.basic (sum_of (as_space numbers) v r.entries) v) g.3 y (omega (arith, first)) ∙ set_other r.basic (sum_of (as_space numbers) v r.entries) v y (apart y r.basic first)
 
-none_some : (id : TermId) → (let o : Option TermId = None in o) ≡ Some id → ⊥
-none_some id e = cc
-
 -- a term's variable is not that of a row
 not_basic : (owners : List (Option TermId)) (b y : ℕ) (id : TermId) → owner_at owners b ≡ None → owner_at owners y ≡ Some id → (y == b) ≡ false
 not_basic owners b y id n o = by (y == b) refl
   where
     by : (q : Bool) → (y == b) ≡ q → q ≡ false
     by false e = refl
-    by true e = let same : y ≡ b = grind (arith, nat_tests) in absurd (none_some id (sym n ∙ ap (owner_at owners) (sym same) ∙ o))
+    by true e = let same : y ≡ b = grind (arith, nat_tests) in absurd (none-some id (sym n ∙ ap (owner_at owners) (sym same) ∙ o))
 
 owned_stays : (owners : List (Option TermId)) (from : ℕ) (rs : List (Row Number)) (to : ℕ) (v : ℕ → Number) → AreGrounded owners from rs to → (y : ℕ) (id : TermId) → owner_at owners y ≡ Some id
     → following rs v y ≡ v y

@@ -1,12 +1,14 @@
 -- What the loop over a sum's entries tells.
-use Rattle.std.proofs.Common.{◌≡◌, ℕ, Bool, true, false, List, [], ◌∷◌, ◌++◌, Option, Some, None, Result, Ok, Err, ℤ, pos, negsuc, neg_ℤ, unsigned_abs, refl, sym, ◌∙◌, ap, subst, arith, true≢false, append_assoc}
-use Rattle.std.specs.Prelude.{Contains, IsErrAnd, IfErr}
+use Rattle.std.proofs.Common.{◌≡◌, ℕ, Bool, true, false, List, [], ◌∷◌, ◌++◌, Some, None, ℤ, pos, negsuc, neg_ℤ, unsigned_abs, refl, sym, ◌∙◌, ap, subst, arith, append_assoc}
+use Rattle.std.specs.Prelude.{Contains}
 use Rattle.std.specs.Int.RustNames.{int_lt}
 use Rattle.std.proofs.lemmas.Bool.Decides.{nat_tests}
 use Rattle.std.proofs.lemmas.List.{append-nil}
 use Rattle.std.proofs.lemmas.List.Elements.{All-contains, All-nil, All-cons}
+use Rattle.std.proofs.lemmas.Option.{none-some}
 use Rattle.spec_numbers.specs.Fractions.{opposite}
 use Rattle.spec_numbers.specs.Bounds.{Overflow}
+use Rattle.spec_numbers.proofs.Signs.{size_same}
 use Rattle.spec_text.proofs.Members.{first, later}
 use Rattle.spec_arithmetic.specs.Signs.{size}
 use Rattle.spec_tableaux.specs.Rows.{Entry}
@@ -21,11 +23,6 @@ use Rattle.simplex_explain.specs.declared.weighted.Weighted.{Weighted}
 use Rattle.simplex_reasons.specs.Stops.{IsStated, AreStated, stopping_side, IsStopped, AreAllStopped}
 use Rattle.simplex_reasons.specs.Reasons.{Footing, IsReason, AreReasonsFor, IsOfHeld, AreOfHeld, StrainsReason, StrainsReasons}
 
--- an error that is told as it came
-pub told : {T E : Type 0} (p : E → Type 0) (r : Result T E) (w : E) → IsErrAnd r (λ e. e ≡ w) → p w → IfErr r p
-told p (Ok x) w g h = tt
-told p (Err e) w g h = subst p (sym g) h
-
 -- sizes
 
 turned : (z : ℤ) → int_lt z (pos 0) ≡ true → pos (unsigned_abs z) ≡ neg_ℤ z
@@ -35,27 +32,20 @@ turned (pos n) e = none n e
     none n e = grind (arith, nat_tests)
 turned (negsuc n) e = refl
 
-same : (z : ℤ) → int_lt z (pos 0) ≡ false → pos (unsigned_abs z) ≡ z
-same (pos n) e = refl
-same (negsuc n) e = absurd (true≢false e)
-
 pub size_of_negative : (x y : Number) → numbers.is_negative x ≡ true → y ≡ numbers.opposite x → y.fraction ≡ size x.fraction
 unfolding numbers fractions size opposite
 size_of_negative x y h e = ap (λ (n : Number). n.fraction) e ∙ (λ i. record { num = sym (turned x.fraction.num h) i; den = x.fraction.den })
 
 pub size_of_other : (x : Number) → numbers.is_negative x ≡ false → x.fraction ≡ size x.fraction
 unfolding numbers fractions size
-size_of_other x h = λ i. record { num = sym (same x.fraction.num h) i; den = x.fraction.den }
+size_of_other x h = λ i. record { num = sym (size_same x.fraction.num h) i; den = x.fraction.den }
 
 -- a bound that is held has a place
-
-no_place : (p : Place) → (let o : Option Place = None in o) ≡ Some p → ⊥
-no_place p e = cc
 
 pub place_there : (placed : List (ℕ × Place)) (held : List Bound) (side : Side) (y : ℕ) (b : Bound) → AreStated placed held → strongest side y held ≡ Some b → place_in placed b.literal.term ≡ None → ⊥
 place_there placed held side y b stated is none =
     let own = All-contains (IsStated placed) held b stated (strongest_is_held side y held b is).0 in
-    no_place own.place (sym none ∙ own.there)
+    none-some own.place (sym none ∙ own.there)
 
 -- the loop
 

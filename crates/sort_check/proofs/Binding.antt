@@ -1,7 +1,7 @@
 -- Names that wait, and names that are bound.
 use Rattle.std.proofs.Common.{◌≡◌, ℕ, zero, suc, ◌+◌, ◌<◌, ◌≤◌, Bool, true, false, inl, inr, get_or, List, [], ◌∷◌, ◌++◌, length, map, take, drop, refl, ap, sym, ◌∙◌, arith, append_assoc, append-nil}
 use Rattle.std.specs.Prelude.{reverse, nat_le}
-use Rattle.std.proofs.lemmas.List.{map-append, take-map, drop-map, take_at, drop_at, length-map, length-append, length-take, length-drop, reverse-append, length-reverse, take_all, drop_all}
+use Rattle.std.proofs.lemmas.List.{map-append, take-map, drop-map, take_at, drop_at, length-map, length-append, length-take, length-drop, reverse-append, length-reverse, take_all, drop_all, take-take, get_or-take}
 use Rattle.spec_text.specs.Bytes.{Name}
 use Rattle.spec_reading.specs.Reading.{Bound, bound_names}
 use Rattle.term_core.specs.declared.ids.TermId.{TermId}
@@ -157,22 +157,6 @@ drop_one [] k d lt = absurd (omega (arith, lt))
 drop_one (x ∷ xs) zero d lt = refl
 drop_one (x ∷ xs) (suc k) d lt = drop_one xs k d (omega (arith, lt))
 
-take_less : {A : Type 0} (xs : List A) (k n : ℕ) → k ≤ n → take k (take n xs) ≡ take k xs
-take_less [] zero n le = refl
-take_less [] (suc k) zero le = absurd (omega (arith, le))
-take_less [] (suc k) (suc n) le = refl
-take_less (x ∷ xs) zero n le = refl
-take_less (x ∷ xs) (suc k) zero le = absurd (omega (arith, le))
-take_less (x ∷ xs) (suc k) (suc n) le = ap (λ ys. x ∷ ys) (take_less xs k n (omega (arith, le)))
-
--- what stands in the front of a list
-front_at : {A : Type 0} (xs : List A) (k n : ℕ) (d : A) → k < n → get_or (take n xs) k d ≡ get_or xs k d
-front_at [] k zero d lt = absurd (omega (arith, lt))
-front_at [] k (suc n) d lt = refl
-front_at (x ∷ xs) k zero d lt = absurd (omega (arith, lt))
-front_at (x ∷ xs) zero (suc n) d lt = refl
-front_at (x ∷ xs) (suc k) (suc n) d lt = front_at xs k n d (omega (arith, lt))
-
 reversed_one : {A : Type 0} (ys xs : List A) (k : ℕ) (d : A) → k < length xs → (ys ++ reverse (drop (suc k) xs)) ++ get_or xs k d ∷ [] ≡ ys ++ reverse (drop k xs)
 reversed_one ys xs k d lt =
     append_assoc ys (reverse (drop (suc k) xs)) (get_or xs k d ∷ [])
@@ -185,13 +169,13 @@ pub binding_goes_on : (from : ℕ) (v b u c : BindingsView) (k : ℕ) (n : Name)
 binding_goes_on from v b u c k n id d h long some count n_is id_is =
     let short : length (take k u.names) ≡ k = omega (arith, length-take k u.names, count) in
     let at_v : k < length v.names = omega (arith, count, h.high) in
-    let name_is : n ≡ get_or v.names k [] = n_is ∙ ap (λ ns. get_or ns k []) h.names ∙ front_at v.names k (length u.names) [] (omega (arith, count)) in
-    let term_is : id ≡ get_or v.terms k d = id_is ∙ ap (λ ns. get_or ns k d) h.terms ∙ front_at v.terms k (length u.names) d (omega (arith, count)) in
+    let name_is : n ≡ get_or v.names k [] = n_is ∙ ap (λ ns. get_or ns k []) h.names ∙ get_or-take (length u.names) v.names k [] (omega (arith, count)) in
+    let term_is : id ≡ get_or v.terms k d = id_is ∙ ap (λ ns. get_or ns k d) h.terms ∙ get_or-take (length u.names) v.terms k d (omega (arith, count)) in
     record {
       low = omega (arith, short, some, count);
       high = omega (arith, short, at_v);
-      names = ap (take k) h.names ∙ take_less v.names k (length u.names) (omega (arith, count)) ∙ ap (λ m. take m v.names) (sym short);
-      terms = ap (take k) h.terms ∙ take_less v.terms k (length u.names) (omega (arith, count)) ∙ ap (λ m. take m v.terms) (sym short);
+      names = ap (take k) h.names ∙ take-take k (length u.names) v.names (omega (arith, count)) ∙ ap (λ m. take m v.names) (sym short);
+      terms = ap (take k) h.terms ∙ take-take k (length u.names) v.terms (omega (arith, count)) ∙ ap (λ m. take m v.terms) (sym short);
       bound_names = (λ i. (h.bound_names i) ++ name_is i ∷ []) ∙ ap (λ m. (b.names ++ reverse (drop m v.names)) ++ get_or v.names k [] ∷ []) count ∙ reversed_one b.names v.names k [] at_v ∙ ap (λ m. b.names ++ reverse (drop m v.names)) (sym short);
       bound_terms = (λ i. (h.bound_terms i) ++ term_is i ∷ []) ∙ ap (λ m. (b.terms ++ reverse (drop m v.terms)) ++ get_or v.terms k d ∷ []) count ∙ reversed_one b.terms v.terms k d (omega (arith, at_v, long)) ∙ ap (λ m. b.terms ++ reverse (drop m v.terms)) (sym short);
     }

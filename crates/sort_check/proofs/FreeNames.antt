@@ -1,7 +1,8 @@
 -- Which names occur free in a text, where it binds some itself.
-use Rattle.std.proofs.Common.{◌≡◌, ℕ, ◌<◌, arith, Bool, true, false, cond, not, ◌&&◌, ◌||◌, List, [], ◌∷◌, ◌++◌, map, Option, Some, None, refl, sym, ap, ◌∙◌}
+use Rattle.std.proofs.Common.{◌≡◌, ℕ, ◌<◌, arith, Bool, true, false, cond, not, ◌&&◌, ◌||◌, List, [], ◌∷◌, ◌++◌, map, Some, None, refl, sym, ap, ◌∙◌}
 use Rattle.std.specs.Str.{bytes_eq}
 use Rattle.std.proofs.lemmas.Slice.Eq.{bytes_eq-Decides}
+use Rattle.std.proofs.lemmas.Option.{same_Some}
 use Rattle.spec_text.specs.declared.Kind.{Kind}
 use Rattle.spec_text.specs.Bytes.{Name, among}
 use Rattle.spec_text.specs.Shapes.{Word, is_symbol}
@@ -174,10 +175,6 @@ names_none (more (list at (more (atom x k n) none) end) rest) e = refl
 names_none (more (list at (more (atom x k n) (more t none)) end) rest) e = cc
 names_none (more (list at (more (atom x k n) (more t (more u us))) end) rest) e = refl
 
--- what is there by two equations is the same
-some_same : {A : Type 0} (a b : A) → (let o : Option A = Some a in o) ≡ Some b → a ≡ b
-some_same a b e = cc
-
 pub binding_more : (ns : List Name) (ts : Trees) (x : Word) (t : Tree) (left : Trees) → first_binding ts ≡ Some (x, (t, left)) → binding_mentions ns ts ≡ (mentions ns t || binding_mentions ns left)
 unfolding binding_mentions first_binding
 binding_more ns none x t left e = cc
@@ -186,7 +183,7 @@ binding_more ns (more (list at none end) rest) x t left e = cc
 binding_more ns (more (list at (more (list y us z) ts) end) rest) x t left e = cc
 binding_more ns (more (list at (more (atom y k n) none) end) rest) x t left e = cc
 binding_more ns (more (list at (more (atom y k n) (more u none)) end) rest) x t left e =
-    let same = some_same {A = Word × (Tree × Trees)} (record { at = y; kind = k; bytes = n }, (u, rest)) (x, (t, left)) e in
+    let same = same_Some {A = Word × (Tree × Trees)} (record { at = y; kind = k; bytes = n }, (u, rest)) (x, (t, left)) e in
     λ i. mentions ns (same i).1.0 || binding_mentions ns (same i).1.1
 binding_more ns (more (list at (more (atom y k n) (more u (more v vs))) end) rest) x t left e = cc
 
@@ -198,7 +195,7 @@ names_more (more (list at none end) rest) x t left e = cc
 names_more (more (list at (more (list y us z) ts) end) rest) x t left e = cc
 names_more (more (list at (more (atom y k n) none) end) rest) x t left e = cc
 names_more (more (list at (more (atom y k n) (more u none)) end) rest) x t left e =
-    let same = some_same {A = Word × (Tree × Trees)} (record { at = y; kind = k; bytes = n }, (u, rest)) (x, (t, left)) e in
+    let same = same_Some {A = Word × (Tree × Trees)} (record { at = y; kind = k; bytes = n }, (u, rest)) (x, (t, left)) e in
     λ i. (same i).0.bytes ∷ names_bound (same i).1.1
 names_more (more (list at (more (atom y k n) (more u (more v vs))) end) rest) x t left e = cc
 
@@ -209,7 +206,7 @@ let_more ns none bindings body e = cc
 let_more ns (more (atom x k n) ts) bindings body e = cc
 let_more ns (more (list x us y) none) bindings body e = cc
 let_more ns (more (list x us y) (more t none)) bindings body e =
-    let same = some_same {A = Trees × Tree} (us, t) (bindings, body) e in
+    let same = same_Some {A = Trees × Tree} (us, t) (bindings, body) e in
     λ i. binding_mentions ns (same i).0 || mentions (without ns (names_bound (same i).0)) (same i).1
 let_more ns (more (list x us y) (more t (more u ts))) bindings body e = cc
 

@@ -1,7 +1,8 @@
 -- What is left of a text while it is searched for bound names.
-use Rattle.std.proofs.Common.{◌≡◌, ℕ, ◌+◌, ◌<◌, ◌≤◌, arith, Bool, true, false, ◌||◌, List, [], ◌∷◌, ◌++◌, length, take, Some, refl, sym, ap, ◌∙◌, subst}
+use Rattle.std.proofs.Common.{◌≡◌, ℕ, ◌+◌, ◌<◌, ◌≤◌, arith, Bool, true, false, ◌||◌, List, [], ◌∷◌, ◌++◌, length, take, Some, sym, ap, ◌∙◌, subst}
 use Rattle.std.specs.Prelude.{Result, Ok, Err, IfOk, reverse}
 use Rattle.std.proofs.lemmas.List.{reverse-append, take_at}
+use Rattle.std.proofs.Math.Bool.{or_assoc}
 use Rattle.spec_text.specs.Bytes.{Name, among}
 use Rattle.spec_text.specs.Shapes.{Word}
 use Rattle.spec_text.specs.Trees.{Tree, Trees, none, more}
@@ -17,10 +18,6 @@ use Rattle.sort_check.specs.Mentions.{Rest, with_next, left_mentions, rest_menti
 use Rattle.sort_check.proofs.Definitions.{or_none}
 use Rattle.sort_check.proofs.Lets.{let_size}
 use Rattle.sort_check.proofs.FreeNames.{same_mentions, without_both, without_none, any_none, any_more, first_more, binding_more, let_more}
-
-or_assoc : (a b c : Bool) → ((a || b) || c) ≡ (a || (b || c))
-or_assoc true b c = refl
-or_assoc false b c = refl
 
 -- one more is pushed
 pub pushed : (ls ms : List Left) (l : Left) → ms ≡ ls ++ l ∷ [] → reverse ms ≡ l ∷ reverse ls

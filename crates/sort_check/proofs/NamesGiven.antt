@@ -2,7 +2,7 @@
 use Rattle.std.proofs.Common.{◌≡◌, Bool, true, false, not, ◌||◌, cond, List, [], ◌∷◌, ◌++◌, length, Option, Some, None, refl, ap, sym, ◌∙◌, subst, arith, append_assoc, append-nil}
 use Rattle.std.specs.Prelude.{Ok, Err}
 use Rattle.std.proofs.lemmas.List.{map-append, length-append}
-use Rattle.std.proofs.lemmas.Bool.{false≢true}
+use Rattle.std.proofs.lemmas.Bool.{false≢true, not-true}
 use Rattle.spec_text.specs.declared.Kind.TheVariants.{Numeral, Decimal, Text, Simple, Quoted, Reserved, Keyword}
 use Rattle.spec_text.specs.declared.Fault.TheVariants.{BadShape, Twice}
 use Rattle.spec_text.specs.Bytes.{Name}
@@ -15,7 +15,6 @@ use Rattle.spec_sorts.specs.Terms.{Term}
 use Rattle.spec_sorts.specs.Signatures.{Definition, Known, defined, Signature, known_as, is_some, definition, with_definitions}
 use Rattle.spec_sorts.proofs.Signatures.{sort_same}
 use Rattle.spec_sorts.specs.Theory.{is_of_theory}
-use Rattle.spec_reading.proofs.Closed.{not_true}
 use Rattle.spec_sorts.specs.Forms.{Next, a_keyword, a_value, a_name, is_name, named_words}
 use Rattle.spec_reading.specs.Names.{Setting, new_name, is_function, is_own}
 use Rattle.spec_reading.specs.Reading.{Annotated, naming, made_by}
@@ -195,7 +194,7 @@ pub new_is_free : (w : Setting) (f : Name → Bool) (x : Word) (n : Name) → ne
 new_is_free w f x n e =
     let a = went _ _ _ e in
     let b = went _ _ _ a.then in
-    record { same = answer (Ok x.bytes) n b.then; free = not_true (f x.bytes) (require_true (not (f x.bytes)) x.at Twice b.first b.was) }
+    record { same = answer (Ok x.bytes) n b.then; free = not-true (f x.bytes) (require_true (not (f x.bytes)) x.at Twice b.first b.was) }
 
 -- the code's test is that of the definition
 pub fresh_is : (w : Setting) (f : Name → Bool) (taken : Bool) (x : Word) → taken ≡ f x.bytes → new_name w (λ _. taken) x ≡ new_name w f x

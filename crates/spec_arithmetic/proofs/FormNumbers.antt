@@ -3,7 +3,7 @@ use Rattle.std.proofs.Common.{◌≡◌, true, false, List, [], ◌∷◌, map, 
 use Rattle.std.specs.List.{AllByRecursion}
 use Rattle.std.proofs.lemmas.Bool.{false≢true, and_parts}
 use Rattle.spec_numbers.specs.Fractions.{Fraction, zero_fraction, one_fraction, plus, times, opposite, inverse, IsReduced}
-use Rattle.spec_numbers.proofs.Field.{plus-reduced, times-reduced, opposite-reduced, inverse-reduced}
+use Rattle.spec_numbers.proofs.Field.{opposite-reduced, inverse-reduced, sum_reduced, product_reduced}
 use Rattle.spec_sorts.specs.Lists.{left}
 use Rattle.spec_sorts.specs.Terms.{Sort, Truth, Number, Declared, Symbol, Head, Minus, Plus, Times, Divide, Literal, Term, Terms, app, nil, cons, list_of, sort_of, sorts_of, head_takes, is_sorted, are_sorted}
 use Rattle.spec_sorts.specs.WellSorted.{AllHeads, IsHeadOver, IsWellSorted}
@@ -25,24 +25,18 @@ left_reduced : (d : Fraction) (f : Fraction → Fraction → Fraction) → ((p q
 left_reduced d f keeps p [] r rs = r
 left_reduced d f keeps p (q ∷ ps) r rs = left_reduced d f keeps (f p q) ps (keeps p q r rs.0) rs.1
 
-plus_keeps : (p q : Fraction) → IsReduced p → IsReduced q → IsReduced (plus p q)
-plus_keeps p q r s = plus-reduced p q r.positive s.positive
-
-times_keeps : (p q : Fraction) → IsReduced p → IsReduced q → IsReduced (times p q)
-times_keeps p q r s = times-reduced p q r.positive s.positive
-
 -- what a head gives at such numbers
 head_reduced : (symbols : List Symbol) (h : Head) (ps : List Fraction) (other : Fraction) → IsHeadOver symbols h → AllByRecursion IsReduced ps → IsReduced other → IsReduced (head_number h ps other)
 head_reduced symbols Plus [] other o rs r = r
-head_reduced symbols Plus (p ∷ ps) other o rs r = left_reduced zero_fraction plus plus_keeps p ps rs.0 rs.1
+head_reduced symbols Plus (p ∷ ps) other o rs r = left_reduced zero_fraction plus sum_reduced p ps rs.0 rs.1
 head_reduced symbols Times [] other o rs r = r
-head_reduced symbols Times (p ∷ ps) other o rs r = left_reduced one_fraction times times_keeps p ps rs.0 rs.1
+head_reduced symbols Times (p ∷ ps) other o rs r = left_reduced one_fraction times product_reduced p ps rs.0 rs.1
 head_reduced symbols Minus [] other o rs r = r
 head_reduced symbols Minus (p ∷ []) other o rs r = opposite-reduced p rs.0
-head_reduced symbols Minus (p ∷ q ∷ ps) other o rs r = plus_keeps p (opposite q) rs.0 (opposite-reduced q rs.1.0)
+head_reduced symbols Minus (p ∷ q ∷ ps) other o rs r = sum_reduced p (opposite q) rs.0 (opposite-reduced q rs.1.0)
 head_reduced symbols Divide [] other o rs r = r
 head_reduced symbols Divide (p ∷ []) other o rs r = r
-head_reduced symbols Divide (p ∷ q ∷ ps) other o rs r = times_keeps p (inverse q) rs.0 (inverse-reduced q rs.1.0)
+head_reduced symbols Divide (p ∷ q ∷ ps) other o rs r = product_reduced p (inverse q) rs.0 (inverse-reduced q rs.1.0)
 head_reduced symbols (Literal q) ps other o rs r = o
 head_reduced symbols h ps other o rs r = r
 

@@ -2,36 +2,16 @@
 use Rattle.std.proofs.Common.{◌≡◌, ◌<◌, Bool, true, false, List, [], ◌∷◌, Ok, refl, sym, ◌∙◌, ap, subst}
 use Rattle.spec_text.specs.Answers.{◌>>=◌}
 use Rattle.spec_text.proofs.AnswerLaws.{went}
-use Rattle.spec_numbers.specs.Fractions.{Fraction, zero_fraction, plus, times, opposite, minus, divide, inverse, IsReduced}
-use Rattle.spec_numbers.specs.Bounds.{Overflow, checked, added, subtracted, multiplied, divided}
+use Rattle.spec_numbers.specs.Fractions.{Fraction, zero_fraction, plus, times, opposite, divide, inverse, IsReduced}
+use Rattle.spec_numbers.specs.Bounds.{multiplied, divided}
 use Rattle.spec_numbers.proofs.Field.{plus-comm, plus-assoc, plus-swap, plus-cross, times-comm, times-assoc, times-plus, times-plus_left, opposite-plus, opposite-times, opposite-reduced, plus-reduced, times-reduced, zero-reduced, inverse-reduced}
+use Rattle.spec_numbers.proofs.Bounds.{added_is, subtracted_is, multiplied_is, divided_is}
 use Rattle.spec_sorts.specs.Terms.{Term, same_term}
 use Rattle.spec_sorts.proofs.SameTerms.{one_term}
 use Rattle.spec_arithmetic.specs.Signs.{is_zero}
 use Rattle.spec_arithmetic.specs.Forms.{Answer, Form, Way, adding, subtracting, unless_zero, with_variable, joined, all_joined, combined, opposites, opposite_form, each_number, changed, scaled, shared_out, variables_value, form_value}
 use Rattle.spec_arithmetic.proofs.General.{same_ok}
 use Rattle.spec_arithmetic.proofs.Zero.{plus-zero_left, opposite-zero, times-of_zero, times-zero}
-
--- operations within the bound are exact
-checked_ok : (t : Bool) (x : Fraction) (o : Overflow) (y : Fraction) → checked t x o ≡ Ok y → x ≡ y
-checked_ok true x o y e = cc
-checked_ok false x o y e = cc
-
-added_ok : (x y z : Fraction) → added x y ≡ Ok z → plus x y ≡ z
-unfolding added
-added_ok x y z e = checked_ok _ _ _ _ e
-
-subtracted_ok : (x y z : Fraction) → subtracted x y ≡ Ok z → minus x y ≡ z
-unfolding subtracted
-subtracted_ok x y z e = checked_ok _ _ _ _ e
-
-pub multiplied_ok : (x y z : Fraction) → multiplied x y ≡ Ok z → times x y ≡ z
-unfolding multiplied
-multiplied_ok x y z e = checked_ok _ _ _ _ e
-
-pub divided_ok : (x y z : Fraction) → divided x y ≡ Ok z → divide x y ≡ z
-unfolding divided
-divided_ok x y z e = checked_ok _ _ _ _ e
 
 -- The coefficient and the number of a variable are in lowest terms.
 pub record IsProperPair (n : Term → Fraction) (v : Term) (k : Fraction) : Type 0 where
@@ -53,15 +33,16 @@ pub record HasValue (n : Term → Fraction) (f : Form) (x : Fraction) : Type 0 w
   pub value : form_value n f ≡ x
   pub proper : IsProper n f
 
-value_reduced : (n : Term → Fraction) (es : List (Term × Fraction)) → AreProper n es → IsReduced (variables_value n es)
+-- the value of variables is in lowest terms
+pub variables_reduced : (n : Term → Fraction) (es : List (Term × Fraction)) → AreProper n es → IsReduced (variables_value n es)
 unfolding variables_value
-value_reduced n [] p = zero-reduced
-value_reduced n ((v, k) ∷ rest) p =
-    plus-reduced _ _ (times-reduced k (n v) p.0.coefficient.positive p.0.number.positive).positive (value_reduced n rest p.1).positive
+variables_reduced n [] p = zero-reduced
+variables_reduced n ((v, k) ∷ rest) p =
+    plus-reduced _ _ (times-reduced k (n v) p.0.coefficient.positive p.0.number.positive).positive (variables_reduced n rest p.1).positive
 
 pub form_value_reduced : (n : Term → Fraction) (f : Form) → IsProper n f → IsReduced (form_value n f)
 unfolding form_value
-form_value_reduced n f p = plus-reduced _ _ p.constant.positive (value_reduced n f.variables p.variables).positive
+form_value_reduced n f p = plus-reduced _ _ p.constant.positive (variables_reduced n f.variables p.variables).positive
 
 -- A way of joining that adds a turned number.
 pub record IsFair (way : Way) : Type 0 where
@@ -72,10 +53,10 @@ pub record IsFair (way : Way) : Type 0 where
   pub reduced : (x : Fraction) → IsReduced x → IsReduced (way.alone x)
 
 pub adding_fair : IsFair adding
-adding_fair = record { both = added_ok; over_plus = λ x y. refl; over_times = λ x y. refl; at_zero = refl; reduced = λ x r. r }
+adding_fair = record { both = added_is; over_plus = λ x y. refl; over_times = λ x y. refl; at_zero = refl; reduced = λ x r. r }
 
 pub subtracting_fair : IsFair subtracting
-subtracting_fair = record { both = subtracted_ok; over_plus = opposite-plus; over_times = opposite-times; at_zero = opposite-zero; reduced = opposite-reduced }
+subtracting_fair = record { both = subtracted_is; over_plus = opposite-plus; over_times = opposite-times; at_zero = opposite-zero; reduced = opposite-reduced }
 
 -- a variable whose coefficient is 0 may go
 with_variable_value : (n : Term → Fraction) (v : Term) (k : Fraction) (rest : List (Term × Fraction)) → IsReduced k → IsReduced (n v) → AreProper n rest
@@ -86,7 +67,7 @@ with_variable_value n v k rest rk rn p = by (is_zero k) refl
     by : (b : Bool) → is_zero k ≡ b
         → (variables_value n (unless_zero b v k rest) ≡ plus (times k (n v)) (variables_value n rest)) × AreProper n (unless_zero b v k rest)
     by true e = (
-      sym (plus-zero_left (variables_value n rest) (value_reduced n rest p))
+      sym (plus-zero_left (variables_value n rest) (variables_reduced n rest p))
           ∙ ap (λ t. plus t (variables_value n rest)) (sym (times-of_zero k (n v) e rk.positive rn.positive)),
       p,
     )
@@ -133,7 +114,7 @@ all_joined_value : (n : Term → Fraction) (way : Way) → IsFair way → (es fs
 unfolding all_joined variables_value
 all_joined_value n way fair es [] rs e p q =
     let r = same_ok _ _ e in (
-      ap (variables_value n) (sym r) ∙ sym (plus-zero_left (variables_value n es) (value_reduced n es p)) ∙ ap (λ t. plus t (variables_value n es)) (sym fair.at_zero),
+      ap (variables_value n) (sym r) ∙ sym (plus-zero_left (variables_value n es) (variables_reduced n es p)) ∙ ap (λ t. plus t (variables_value n es)) (sym fair.at_zero),
       subst (AreProper n) r p,
     )
 all_joined_value n way fair es ((v, k) ∷ fs) rs e p q =
@@ -211,12 +192,12 @@ changed_value n change c fair f r e p =
 
 -- a form multiplied by a number
 pub scaled_value : (n : Term → Fraction) (c : Fraction) (f r : Form) → scaled c f ≡ Ok r → 0 < c.den → IsProper n f → HasValue n r (times c (form_value n f))
-scaled_value n c f r e cp p = changed_value n (λ k. multiplied c k) c (record { each = multiplied_ok c; positive = cp }) f r e p
+scaled_value n c f r e cp p = changed_value n (λ k. multiplied c k) c (record { each = multiplied_is c; positive = cp }) f r e p
 
 -- a form divided by a number
 pub shared_value : (n : Term → Fraction) (f : Form) (d : Fraction) (r : Form) → shared_out f d ≡ Ok r → IsReduced d → IsProper n f → HasValue n r (divide (form_value n f) d)
 shared_value n f d r e dr p =
-    let fair : IsFactor (λ k. divided k d) (inverse d) = record { each = λ k m e. times-comm (inverse d) k ∙ divided_ok k d m e; positive = (inverse-reduced d dr).positive } in
+    let fair : IsFactor (λ k. divided k d) (inverse d) = record { each = λ k m e. times-comm (inverse d) k ∙ divided_is k d m e; positive = (inverse-reduced d dr).positive } in
     let h = changed_value n (λ k. divided k d) (inverse d) fair f r e p in
     record { value = h.value ∙ times-comm (inverse d) (form_value n f); proper = h.proper }
 

@@ -1,25 +1,27 @@
 -- The variables of a linear term's form are terms whose heads are none of arithmetic, so they have their own numbers.
-use Rattle.std.proofs.Common.{◌≡◌, ℕ, zero, suc, ◌≤◌, ◌+◌, Bool, true, false, not, ◌&&◌, ◌||◌, cond, length, ℤ, pos, negsuc, neg_ℤ, List, [], ◌∷◌, Option, Some, None, Ok, refl, sym, ◌∙◌, ap, subst, arith}
+use Rattle.std.proofs.Common.{◌≡◌, ℕ, suc, ◌≤◌, ◌+◌, Bool, true, false, not, ◌&&◌, ◌||◌, cond, length, List, [], ◌∷◌, Option, Some, None, Ok, refl, sym, ◌∙◌, ap, subst, arith, Contains}
 use Rattle.std.specs.Prelude.{nat_le}
-use Rattle.std.specs.Ordering.{int_eq}
 use Rattle.std.proofs.lemmas.Bool.{true≢false, false≢true, and_parts}
 use Rattle.std.proofs.lemmas.Bool.Decides.{nat_tests}
 use Rattle.spec_text.specs.Answers.{◌>>=◌}
 use Rattle.spec_text.proofs.AnswerLaws.{went}
-use Rattle.spec_numbers.specs.Fractions.{Fraction, zero_fraction, plus, times, opposite, inverse, minus, divide, IsReduced}
+use Rattle.spec_numbers.specs.Fractions.{Fraction, zero_fraction, plus, times, inverse, minus, divide, IsReduced}
 use Rattle.spec_numbers.specs.Bounds.{divided}
 use Rattle.spec_numbers.proofs.Field.{times-assoc, times-comm, times-one, times-inverse, times-reduced, inverse-reduced, zero-reduced}
+use Rattle.spec_numbers.proofs.Bounds.{divided_is}
 use Rattle.spec_text.specs.declared.Fault.{Fault}
 use Rattle.spec_text.specs.declared.Fault.TheVariants.{NotLinear, ZeroDivisor}
+use Rattle.spec_text.proofs.Members.{none, each_of}
 use Rattle.spec_sorts.specs.Terms.{Sort, Number, Symbol, Plus, Times, Minus, Divide, Literal, Term, Terms, app, nil, cons, list_of, head_takes, sorts_of, same_term}
 use Rattle.spec_sorts.specs.Values.{number_in}
 use Rattle.spec_sorts.specs.Theory.{keeps_constant, is_constant, are_constant, is_divisor, is_zero_divisor, count_of, product_fault, quotient_fault}
+use Rattle.spec_sorts.specs.Subsets.{arguments_of}
 use Rattle.spec_arithmetic.specs.Signs.{is_zero}
 use Rattle.spec_arithmetic.specs.Forms.{Answer, Form, Way, adding, subtracting, variable_form, unless_zero, with_variable, joined, all_joined, combined, opposites, opposite_form, each_number, changed, scaled, shared_out, factor_of, all_added, all_multiplied, divisor_of, divisor_by, quotient_form, form_by, at_term, form, forms, difference, variables_value, form_value}
 use Rattle.spec_arithmetic.specs.Numbers.{number_at, IsLinear, AreLinear, IsLinearOver}
 use Rattle.spec_arithmetic.proofs.General.{same_ok}
-use Rattle.spec_arithmetic.proofs.Zero.{times-of_zero}
-use Rattle.spec_arithmetic.proofs.FormValues.{divided_ok, subtracting_fair, combined_value, form_value_reduced}
+use Rattle.spec_arithmetic.proofs.Zero.{times-of_zero, opposite-not_zero}
+use Rattle.spec_arithmetic.proofs.FormValues.{subtracting_fair, combined_value, form_value_reduced}
 use Rattle.spec_arithmetic.proofs.Reals.{IsReal, AreReal, arguments_real, reals_parts, plus_takes, times_takes, minus_takes, divide_takes}
 use Rattle.spec_arithmetic.proofs.FormTerms.{at_ok}
 use Rattle.spec_arithmetic.proofs.FormNumbers.{takes, form_number}
@@ -236,15 +238,6 @@ divide_other x y rx ry ex ey = by (is_zero (divide x y)) refl
         absurd (false≢true (sym ex ∙ ap is_zero (sym back ∙ zero)))
     by false e = refl
 
-opposite_other : (x : Fraction) → is_zero x ≡ false → is_zero (opposite x) ≡ false
-unfolding is_zero opposite
-opposite_other x = negated x.num
-  where
-    negated : (z : ℤ) → int_eq z (pos 0) ≡ false → int_eq (neg_ℤ z) (pos 0) ≡ false
-    negated (pos zero) e = absurd (true≢false e)
-    negated (pos (suc n)) e = refl
-    negated (negsuc n) e = grind (arith, nat_tests)
-
 -- a form divided by a number other than 0
 quotient_changed : (t : Term) (f g r : Form) → quotient_form t f g ≡ Ok r → IsDivisor g → changed (λ k. divided k g.constant) f ≡ Ok r
 unfolding quotient_form
@@ -304,7 +297,7 @@ module _ (symbols : List Symbol) where
   minus_fits (cons t ts) [] f e a r = absurd a
   minus_fits (cons t nil) (g ∷ []) f e a r = subst (IsFit (app Minus (cons t nil))) (same_ok _ _ e) (record {
     own = weaker (is_constant t) (is_constant t && true) (opposite_form g) (λ s. (and_parts (is_constant t) true s).0) (opposite_own (is_constant t) g a.0.own);
-    divides = λ d z. let h = a.0.divides d z in record { bare = ap opposites h.bare; other = opposite_other g.constant h.other };
+    divides = λ d z. let h = a.0.divides d z in record { bare = ap opposites h.bare; other = opposite-not_zero g.constant h.other };
   })
   minus_fits (cons t nil) (g ∷ h ∷ hs) f e a r = absurd a.1
   minus_fits (cons t (cons u us)) (g ∷ []) f e a r = absurd a.1
@@ -337,7 +330,7 @@ module _ (symbols : List Symbol) where
             let parts = changed_parts (λ k. divided k h.constant) g f change in
             record {
               bare = no_each (λ k. divided k h.constant) g.variables f.variables parts.variables first.bare;
-              other = subst (λ q. is_zero q ≡ false) (divided_ok g.constant h.constant f.constant parts.constant) (divide_other g.constant h.constant n.0 n.1.0 first.other divisor.other);
+              other = subst (λ q. is_zero q ≡ false) (divided_is g.constant h.constant f.constant parts.constant) (divide_other g.constant h.constant n.0 n.1.0 first.other divisor.other);
             };
       }
   divide_fits (cons t (cons u nil)) (g ∷ h ∷ k ∷ ks) f e a n r l = absurd a.1.1
@@ -439,3 +432,13 @@ module _ (symbols : List Symbol) (n : Term → Fraction) (reduced : (u : Term) �
         sym same ∙ all.value ∙ (λ i. minus (number_in (sym left.value i)) (number_in (sym right.value i))),
         subst IsReduced same (form_value_reduced (number_at n) f all.proper),
       )
+
+-- the arguments of a linear term are linear
+members_linear : (ts : Terms) → AreLinear ts → (u : Term) → Contains (list_of ts) u → IsLinear u
+unfolding AreLinear
+members_linear nil l u u_in = absurd (none u u_in)
+members_linear (cons t ts) l u u_in = each_of IsLinear t (list_of ts) l.0 (members_linear ts l.1) u u_in
+
+pub argument_linear : (t : Term) → IsLinear t → (u : Term) → Contains (arguments_of t) u → IsLinear u
+unfolding IsLinear
+argument_linear (app h ts) l = members_linear ts l.1

@@ -33,7 +33,7 @@ AreParts n [] = Unit {0}
 AreParts n (p ∷ ps) = IsPart n p × AreParts n ps
 
 -- by what a part is multiplied
-size_positive : (c : Fraction) → is_zero c ≡ false → 0 < unsigned_abs c.num
+pub size_positive : (c : Fraction) → is_zero c ≡ false → 0 < unsigned_abs c.num
 unfolding is_zero
 size_positive c e = by c.num e
   where

@@ -1,7 +1,8 @@
 -- Laws of fractions beside those of a field: 0 and 1 on the left, and products with 0.
-use Rattle.std.proofs.Common.{◌≡◌, ℕ, ◌*◌, ◌<◌, true, pos, ◌*ℤ◌, refl, sym, ◌∙◌, ap, arith}
+use Rattle.std.proofs.Common.{◌≡◌, ℕ, ◌*◌, ◌<◌, true, pos, ◌*ℤ◌, refl, sym, ◌∙◌, ap, arith, ◌≢◌, zero, suc, false, ℤ, negsuc, neg_ℤ, true≢false}
 use Rattle.std.proofs.Math.Nat.{mul-pos}
-use Rattle.std.proofs.lemmas.Bool.Decides.{Decides-int_eq}
+use Rattle.std.proofs.lemmas.Bool.Decides.{Decides-int_eq, nat_tests}
+use Rattle.std.specs.Ordering.{int_eq}
 use Rattle.spec_numbers.specs.Fractions.{Fraction, lowest, zero_fraction, one_fraction, plus, times, opposite, IsReduced}
 use Rattle.spec_numbers.proofs.Signs.{zero-times}
 use Rattle.spec_numbers.proofs.Lowest.{lowest-cross, reduced-same}
@@ -37,3 +38,17 @@ times-of_zero k x e p q =
 pub times-zero : (x : Fraction) → 0 < x.den → times x zero_fraction ≡ zero_fraction
 unfolding is_zero
 times-zero x p = times-comm x zero_fraction ∙ times-of_zero zero_fraction x refl (omega arith) p
+
+-- what fails the test for 0 is another number, and so is its opposite
+pub not_zero : (x : Fraction) → is_zero x ≡ false → x ≢ zero_fraction
+unfolding is_zero
+not_zero x e h = true≢false (sym (ap is_zero h) ∙ e)
+
+pub opposite-not_zero : (x : Fraction) → is_zero x ≡ false → is_zero (opposite x) ≡ false
+unfolding is_zero opposite
+opposite-not_zero x = negated x.num
+  where
+    negated : (z : ℤ) → int_eq z (pos 0) ≡ false → int_eq (neg_ℤ z) (pos 0) ≡ false
+    negated (pos zero) e = absurd (true≢false e)
+    negated (pos (suc n)) e = refl
+    negated (negsuc n) e = grind (arith, nat_tests)

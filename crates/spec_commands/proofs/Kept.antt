@@ -100,7 +100,7 @@ module _ (limit : ℕ) where
       }
 
   -- what there is room for
-  roomy_ok : (at : ℕ) (ts : List Term) (s : Stack) (d : Taken) → roomy limit at ts s ≡ Ok d → (has_room limit (signature_of s) ts ≡ true) × (did s ≡ d)
+  pub roomy_ok : (at : ℕ) (ts : List Term) (s : Stack) (d : Taken) → roomy limit at ts s ≡ Ok d → (has_room limit (signature_of s) ts ≡ true) × (did s ≡ d)
   roomy_ok at ts s d e =
       let a = went (require (has_room limit (signature_of s) ts) at Full) _ d e in
       (require_true (has_room limit (signature_of s) ts) at Full a.first a.was, answer (Ok (did s)) d a.then)

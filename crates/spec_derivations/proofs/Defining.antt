@@ -2,15 +2,15 @@
 use Rattle.std.proofs.Common.{◌≡◌, Bool, true, false, cond, List, [], ◌∷◌, map, Contains, inl, inr, refl, sym, subst}
 use Rattle.std.specs.Prelude.{flat_map}
 use Rattle.std.proofs.lemmas.List.{append-nil}
-use Rattle.std.proofs.lemmas.List.Elements.{Contains-append_left, Contains-append_right, Contains-append_cases}
-use Rattle.spec_text.proofs.Members.{first, later, cases, none, only, to_image, from_image, in_flat}
+use Rattle.std.proofs.lemmas.List.Elements.{Contains-append_right, Contains-append_cases}
+use Rattle.spec_text.proofs.Members.{first, later, cases, none, only, from_image, in_flat}
 use Rattle.spec_sorts.specs.Terms.{Truth, Ite, Equal, Term, app, nil, cons, of, pair, negated, same_sort, sort_of}
 use Rattle.spec_sorts.specs.Subsets.{AreAmong, IsClosed}
 use Rattle.spec_sorts.specs.Literals.{Clause, Literal, literal_of, literals_of}
 use Rattle.spec_sorts.proofs.LeastSubterms.{least_of}
 use Rattle.spec_derivations.specs.Problems.{Problem, terms_of_problem, subterms_in}
 use Rattle.spec_derivations.specs.Base.{clauses_of, base_clauses, branch_equalities, choice_clauses, defining_clauses}
-use Rattle.spec_derivations.proofs.Over.{base_over}
+use Rattle.spec_derivations.proofs.Over.{base_over, bare_among}
 
 module _ (us : List Term) (closed : IsClosed us) (equalities : (w u : Term) → Contains us w → Contains (branch_equalities w) u → Contains us u) where
   -- a check that asserts all of them: a clause of rules without premises that one gives, and one that is a term alone, are base clauses of it
@@ -30,10 +30,6 @@ module _ (us : List Term) (closed : IsClosed us) (equalities : (w u : Term) → 
   wide_over : (c : Clause) (l : Literal) → Contains (base_clauses wide) c → Contains (literals_of c) l → Contains us l.atom
   wide_over c l i j = wide_among l.atom (base_over (λ ts. (least_of ts).there) (λ ts. (least_of ts).closed) wide c l i j)
 
-  -- the atom of one of the terms is one too
-  pub atom_among : (t : Term) → Contains us t → Contains us (literal_of t).atom
-  atom_among t i = wide_over (t ∷ []) (literal_of t) (Contains-append_left (map (λ u. u ∷ []) us) _ (t ∷ []) (to_image (λ u. u ∷ []) us t i)) (first (literal_of t) [])
-
   -- so are those of the clauses of a choice
   choice_over : (w : Term) (c : Clause) (u : Term) → Contains us w → Contains (choice_clauses w) c → Contains c u → Contains us (literal_of u).atom
   unfolding literal_of
@@ -43,7 +39,7 @@ module _ (us : List Term) (closed : IsClosed us) (equalities : (w u : Term) → 
       w = of Ite (c ∷ s ∷ t ∷ [])
 
       condition : Contains us (literal_of c).atom
-      condition = atom_among c (closed w w_in c (first c (s ∷ t ∷ [])))
+      condition = bare_among us closed c (closed w w_in c (first c (s ∷ t ∷ [])))
 
       branch : same_sort Truth (sort_of s) ≡ false → (v : Term) → Contains (pair Equal w s ∷ pair Equal w t ∷ []) v → Contains us v
       branch e v k = equalities w v w_in (subst (λ b. Contains (cond b [] (pair Equal w s ∷ pair Equal w t ∷ [])) v) (sym e) k)

@@ -8,6 +8,7 @@ use Rattle.spec_sorts.proofs.WellSorted.{same_sort_is}
 use Rattle.spec_sorts.specs.Values.{truth, all_true, any_true, Interpretation}
 use Rattle.spec_sorts.specs.Literals.{Clause}
 use Rattle.spec_sorts.specs.TermValues.{head_value}
+use Rattle.spec_sorts.proofs.General.{equal_takes}
 use Rattle.spec_rules.specs.Schemes.{yes, no}
 use Rattle.spec_rules.specs.Truths.{Truths, term_true_by}
 use Rattle.spec_derivations.specs.Base.{clauses_of}
@@ -26,10 +27,6 @@ xor_takes _ e = absurd (false≢true e)
 implies_takes : (ss : List Sort) → head_takes [] Implies ss ≡ true → length ss ≡ 2
 implies_takes (Truth ∷ Truth ∷ []) e = refl
 implies_takes _ e = absurd (false≢true e)
-
-equal_takes : (ss : List Sort) → head_takes [] Equal ss ≡ true → length ss ≡ 2
-equal_takes (s ∷ t ∷ []) e = refl
-equal_takes _ e = absurd (false≢true e)
 
 pub ite_takes : (ss : List Sort) → head_takes [] Ite ss ≡ true → length ss ≡ 3
 ite_takes (Truth ∷ s ∷ t ∷ []) e = refl

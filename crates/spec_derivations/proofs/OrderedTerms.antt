@@ -19,14 +19,14 @@ use Rattle.spec_derivations.proofs.Defining.{defining_over}
 use Rattle.spec_derivations.proofs.SearchTerms.{no_negation, equalities_spoken, spoken_atoms, spoken_sorted, search_over}
 
 -- An equality of numbers.
-record IsOfNumbers (w : Term) : Type 0 where
-  s : Term
-  t : Term
-  equality : w ≡ pair Equal s t
-  number : sort_of s ≡ Number
+pub record IsOfNumbers (w : Term) : Type 0 where
+  pub s : Term
+  pub t : Term
+  pub equality : w ≡ pair Equal s t
+  pub number : sort_of s ≡ Number
 
 -- such an equality alone has an order fact
-order_of : (w u : Term) → Contains (order_facts w) u → (o : IsOfNumbers w) × (u ≡ order_fact o.s o.t)
+pub order_of : (w u : Term) → Contains (order_facts w) u → (o : IsOfNumbers w) × (u ≡ order_fact o.s o.t)
 order_of (app Equal (cons s (cons t nil))) u i = go (same_sort Number (sort_of s)) refl i
   where
     go : (b : Bool) → same_sort Number (sort_of s) ≡ b → Contains (cond b (order_fact s t ∷ []) []) u → (o : IsOfNumbers (pair Equal s t)) × (u ≡ order_fact o.s o.t)

@@ -125,7 +125,7 @@ signed_atom false t = refl
 
 module _ (us : List Term) (closed : IsClosed us) where
   -- a term without its nots is among them
-  bare_among : (t : Term) → Contains us t → Contains us (literal_of t).atom
+  pub bare_among : (t : Term) → Contains us t → Contains us (literal_of t).atom
   unfolding literal_of
   bare_among (app Not (cons t nil)) i = bare_among t (closed (app Not (cons t nil)) i t (first t []))
   bare_among (app Not nil) i = i

@@ -45,12 +45,12 @@ symmetric_same (p ∷ []) (q ∷ r ∷ qs) c same h = cc
 symmetric_same [] qs c same h = absurd h
 symmetric_same (p ∷ q ∷ ps) qs c same h = absurd h
 
-chained_same : (ps qs : List Clause) (c : Clause) → map alone ps ≡ map alone qs → IsChained ps c → IsChained qs c
+pub chained_same : (ps qs : List Clause) (c : Clause) → map alone ps ≡ map alone qs → IsChained ps c → IsChained qs c
 chained_same ps qs (e ∷ []) same (t, u, is, some, led) = (t, u, is, some_same ps qs [] same some, subst (λ (rs : List (Option Term)). Lead rs t u) same led)
 chained_same ps qs [] same h = absurd h
 chained_same ps qs (e ∷ f ∷ c) same h = absurd h
 
-joined_same : (ps qs : List Clause) (c : Clause) → map alone ps ≡ map alone qs → IsJoined ps c → IsJoined qs c
+pub joined_same : (ps qs : List Clause) (c : Clause) → map alone ps ≡ map alone qs → IsJoined ps c → IsJoined qs c
 joined_same ps qs (e ∷ []) same (t, u, is, joined) = (t, u, is, subst (λ (rs : List (Option Term)). AreCongruent rs t u) same joined)
 joined_same ps qs [] same h = absurd h
 joined_same ps qs (e ∷ f ∷ c) same h = absurd h

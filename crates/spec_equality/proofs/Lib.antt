@@ -1,6 +1,6 @@
 -- The lemmas of this crate.
 pub mod Values
 pub mod Sound
-mod Alone
+pub mod Alone
 mod Taking
 mod Verdicts

@@ -1,9 +1,9 @@
 -- Fractions in lowest terms are a field. The laws of sums and products hold of all pairs.
 use Rattle.std.proofs.Common.{◌≡◌, ◌≢◌, ℕ, zero, suc, ◌*◌, ◌/◌, ◌<◌, true, ℤ, pos, negsuc, ◌+ℤ◌, ◌*ℤ◌, neg_ℤ, unsigned_abs, refl, sym, ◌∙◌, ap, arith}
 use Rattle.std.proofs.Math.IntN.{*ℤ_comm, +ℤ_comm}
-use Rattle.std.proofs.Math.Nat.{mul-pos, mul_comm, mul_assoc, mul-one}
+use Rattle.std.proofs.Math.Nat.{mul-pos, mul_comm, mul_assoc, mul-one, zero-div}
 use Rattle.std.proofs.lemmas.Int.{ints}
-use Rattle.spec_numbers.specs.Fractions.{Fraction, gcd, lowest, over, zero_fraction, one_fraction, plus, times, opposite, inverse, inverse_by, IsReduced}
+use Rattle.spec_numbers.specs.Fractions.{Fraction, gcd, lowest, over, zero_fraction, one_fraction, plus, times, opposite, inverse, inverse_by, IsReduced, minus}
 use Rattle.spec_numbers.proofs.Gcd.{gcd-comm}
 use Rattle.spec_numbers.proofs.Signs.{abs-signed, over-neg, abs-neg, zero-times}
 use Rattle.spec_numbers.proofs.Differences.{diff-same, diff-sum, diff-product, diff-neg, diff-pos}
@@ -112,9 +112,18 @@ pub times-reduced : (x y : Fraction) → 0 < x.den → 0 < y.den → IsReduced (
 unfolding times
 times-reduced x y p q = lowest-reduced _ _ (mul-pos p q)
 
+pub sum_reduced : (x y : Fraction) → IsReduced x → IsReduced y → IsReduced (plus x y)
+sum_reduced x y p q = plus-reduced x y p.positive q.positive
+
+pub product_reduced : (x y : Fraction) → IsReduced x → IsReduced y → IsReduced (times x y)
+product_reduced x y p q = times-reduced x y p.positive q.positive
+
 pub opposite-reduced : (x : Fraction) → IsReduced x → IsReduced (opposite x)
 unfolding opposite
 opposite-reduced x r = record { positive = r.positive; coprime = ap (λ n. gcd n x.den) (abs-neg x.num) ∙ r.coprime }
+
+pub minus-reduced : (x y : Fraction) → IsReduced x → IsReduced y → IsReduced (minus x y)
+minus-reduced x y r q = plus-reduced x _ r.positive (opposite-reduced y q).positive
 
 pub zero-reduced : IsReduced zero_fraction
 unfolding gcd
@@ -148,6 +157,17 @@ times-one x r = (λ i. lowest (times_whole x.num i) (mul-one x.den i)) ∙ reduc
 -- 0 is the one fraction whose numerator is 0
 pub zero_of : (x : Fraction) → IsReduced x → x.num ≡ pos 0 → x ≡ zero_fraction
 zero_of x r e = lowest_unique x zero_fraction r zero-reduced (times_whole x.num ∙ e ∙ sym (zero-times (pos x.den)))
+
+-- a product with 0 in front
+zero_over : (d : ℕ) → (lowest (pos 0) d).num ≡ pos 0
+zero_over d = ap pos (zero-div (gcd 0 d))
+
+zero_num : (x : Fraction) → (times zero_fraction x).num ≡ pos 0
+unfolding times
+zero_num x = ap (λ z. (lowest z (1 * x.den)).num) (zero-times x.num) ∙ zero_over (1 * x.den)
+
+pub zero-times_of : (x : Fraction) → 0 < x.den → times zero_fraction x ≡ zero_fraction
+zero-times_of x p = zero_of (times zero_fraction x) (times-reduced zero_fraction x zero-reduced.positive p) (zero_num x)
 
 pub plus-opposite : (x : Fraction) → IsReduced x → plus x (opposite x) ≡ zero_fraction
 unfolding plus opposite

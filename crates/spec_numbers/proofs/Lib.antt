@@ -6,3 +6,4 @@ pub mod Signs
 pub mod Lowest
 pub mod Field
 pub mod Order
+pub mod Bounds

@@ -1,5 +1,5 @@
 -- Integers by sign and size.
-use Rattle.std.proofs.Common.{rules, ◌≡◌, ℕ, zero, suc, ◌*◌, ◌/◌, Bool, true, false, not, ℤ, pos, negsuc, ◌*ℤ◌, neg_ℤ, unsigned_abs, refl, ◌∙◌, ap, arith}
+use Rattle.std.proofs.Common.{rules, ◌≡◌, ℕ, zero, suc, ◌*◌, ◌/◌, Bool, true, false, not, ℤ, pos, negsuc, ◌*ℤ◌, neg_ℤ, unsigned_abs, refl, ◌∙◌, ap, arith, true≢false}
 use Rattle.std.specs.Bool.{beq}
 use Rattle.std.proofs.lemmas.Bool.Decides.{nat_tests}
 use Rattle.std.specs.Int.RustNames.{int_lt}
@@ -11,6 +11,11 @@ pub signed-self : (z : ℤ) → z ≡ signed (int_lt z (pos 0)) (unsigned_abs z)
 signed-self (pos zero) = refl
 signed-self (pos (suc n)) = grind (arith, nat_tests)
 signed-self (negsuc n) = refl
+
+-- a size is the integer itself, where that is not negative
+pub size_same : (z : ℤ) → int_lt z (pos 0) ≡ false → pos (unsigned_abs z) ≡ z
+size_same (pos n) e = refl
+size_same (negsuc n) e = absurd (true≢false e)
 
 pub signed-mul : (b c : Bool) (m n : ℕ) → signed b m *ℤ signed c n ≡ signed (not (beq b c)) (m * n)
 signed-mul true true zero zero = first_of (omega (arith, ints), search rules)

@@ -3,6 +3,7 @@ use Rattle.std.proofs.Common.{◌≡◌, inl, inr, ℕ, zero, suc, ◌+◌, Bool
 use Rattle.std.specs.Prelude.{◌⊎◌, ◌&&◌, not, Ok}
 use Rattle.std.proofs.lemmas.Bool.{and_parts, false≢true}
 use Rattle.std.proofs.lemmas.List.Elements.{Contains-append_left, Contains-append_right, Contains-append_cases}
+use Rattle.std.proofs.lemmas.Option.{same_Some}
 use Rattle.spec_text.specs.declared.Kind.TheVariants.{Simple, Quoted}
 use Rattle.spec_text.specs.declared.Fault.TheVariants.{NumberWide}
 use Rattle.spec_text.specs.Bytes.{Name}
@@ -28,10 +29,6 @@ use Rattle.spec_proof_texts.specs.Meaning.{Told, numbered, constant_if, bare_ter
 use Rattle.spec_proof_texts.specs.ReadBack.{AreScriptNames}
 use Rattle.spec_proof_texts.proofs.Lookups.{numbered_in, symbol_found, head_same, tail_same}
 use Rattle.spec_proof_texts.proofs.Known.{number_term, number_terms, among_more}
-
--- what is the one of an option is the one
-pub the_same : {A : Type 0} {x y : A} → Some x ≡ Some y → x ≡ y
-the_same e = cc
 
 -- a name that no function of a theory has
 pub no_rule : (n : Name) → (is_of_theory n ≡ true → ⊥) → look_up theory n ≡ None
@@ -73,7 +70,7 @@ constant_of : (g : Signature) (n : Name) (t : Term) → bare_term (known_as g n)
 constant_of g n t e = go (known_as g n) refl e
   where
     by : (f : Symbol) (ss : List Sort) → f.parameters ≡ ss → known_as g n ≡ Some (declared f) → constant_if f ss ≡ Some t → Constant g n t
-    by f [] is here e = record { symbol_is = f; found = here; none = is; term = the_same e }
+    by f [] is here e = record { symbol_is = f; found = here; none = is; term = same_Some _ _ e }
     by f (s ∷ ss) is here e = cc
 
     go : (o : Option Known) → known_as g n ≡ o → bare_term o ≡ Some t → Constant g n t
@@ -140,12 +137,12 @@ module _ (g : Signature) (own : AreScriptNames g) (told : Told) where
 
     pub argument_read : (a : Argument) (t : Term) → term_told g told a ≡ Some t → (at : ℕ) → reading w s [] (moved at (argument_tree a)) ≡ Ok (plain t)
     unfolding reading require ◌>>=◌
-    argument_read (truth true) t e at = ap (λ u. Ok (plain u)) (the_same e)
-    argument_read (truth false) t e at = ap (λ u. Ok (plain u)) (the_same e)
+    argument_read (truth true) t e at = ap (λ u. Ok (plain u)) (same_Some _ _ e)
+    argument_read (truth false) t e at = ap (λ u. Ok (plain u)) (same_Some _ _ e)
     argument_read (number q) t e at = go (is_decimal q) refl e
       where
         go : (b : Bool) → is_decimal q ≡ b → cond b (Some (number_term q)) None ≡ Some t → reading w s [] (moved at (argument_tree (number q))) ≡ Ok (plain t)
-        go true is e = number_read s w at q is ∙ ap (λ u. Ok (plain u)) (the_same e)
+        go true is e = number_read s w at q is ∙ ap (λ u. Ok (plain u)) (same_Some _ _ e)
         go false is e = cc
     argument_read (symbol n) t e at = barred at n t (is_bare n) (symbol_applied n t e at)
     argument_read (defined n) t e at = joined (applied s [] at (defined_name n) at []) _ t (plain t) (defined_applied n t e at) refl
@@ -165,11 +162,11 @@ module _ (g : Signature) (own : AreScriptNames g) (told : Told) where
   -- they are among those that can stand in place
   module _ (us : List Term) (holds : Holds g told us) where
     pub argument_held : (a : Argument) (items : List Argument) (t : Term) → term_told g told a ≡ Some t → Contains (us ++ number_terms (a ∷ items)) t
-    argument_held (truth b) items t e = Contains-append_left us (number_terms items) t (subst (Contains us) (the_same e) (holds.truths b))
+    argument_held (truth b) items t e = Contains-append_left us (number_terms items) t (subst (Contains us) (same_Some _ _ e) (holds.truths b))
     argument_held (number q) items t e = go (is_decimal q) e
       where
         go : (b : Bool) → cond b (Some (number_term q)) None ≡ Some t → Contains (us ++ number_term q ∷ number_terms items) t
-        go true e = Contains-append_right us (number_term q ∷ number_terms items) t (subst (Contains (number_term q ∷ number_terms items)) (the_same e) (first (number_term q) (number_terms items)))
+        go true e = Contains-append_right us (number_term q ∷ number_terms items) t (subst (Contains (number_term q ∷ number_terms items)) (same_Some _ _ e) (first (number_term q) (number_terms items)))
         go false e = cc
     argument_held (symbol n) items t e =
         let c = constant_of g n t e in
@@ -197,12 +194,12 @@ module _ (g : Signature) (own : AreScriptNames g) (told : Told) where
   module _ (whole : (t : Term) → Contains told.terms t → filled [] t ≡ t) where
     argument_whole : (a : Argument) (t : Term) → term_told g told a ≡ Some t → filled [] t ≡ t
     unfolding filled
-    argument_whole (truth true) t e = subst (λ u. filled [] u ≡ u) (the_same e) refl
-    argument_whole (truth false) t e = subst (λ u. filled [] u ≡ u) (the_same e) refl
+    argument_whole (truth true) t e = subst (λ u. filled [] u ≡ u) (same_Some _ _ e) refl
+    argument_whole (truth false) t e = subst (λ u. filled [] u ≡ u) (same_Some _ _ e) refl
     argument_whole (number q) t e = go (is_decimal q) e
       where
         go : (b : Bool) → cond b (Some (number_term q)) None ≡ Some t → filled [] t ≡ t
-        go true e = subst (λ u. filled [] u ≡ u) (the_same e) refl
+        go true e = subst (λ u. filled [] u ≡ u) (same_Some _ _ e) refl
         go false e = cc
     argument_whole (symbol n) t e = subst (λ u. filled [] u ≡ u) (constant_of g n t e).term refl
     argument_whole (defined n) t e = whole t (numbered_in told.terms n t e)

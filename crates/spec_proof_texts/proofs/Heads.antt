@@ -18,6 +18,7 @@ use Rattle.spec_sorts.specs.Theory.{each_of, alike, choice, sorts_fit, exactly, 
 use Rattle.spec_sorts.specs.Signatures.{declared, Signature}
 use Rattle.spec_sorts.specs.HeadNames.{head_name}
 use Rattle.spec_sorts.specs.Forms.{Form, applies, head_form}
+use Rattle.spec_sorts.proofs.WellSorted.{less_takes, at_most_takes}
 use Rattle.spec_reading.specs.Names.{Setting}
 use Rattle.spec_reading.specs.Reading.{plain, with_sorts, applied, applied_as, reading, readings}
 use Rattle.spec_reading.proofs.Values.{by_form, rule_reads}
@@ -55,14 +56,6 @@ implies_sorts _ e = absurd (false≢true e)
 divide_sorts : (ss : List Sort) → head_takes [] Divide ss ≡ true → ss ≡ Number ∷ Number ∷ []
 divide_sorts (Number ∷ Number ∷ []) e = refl
 divide_sorts _ e = absurd (false≢true e)
-
-less_sorts : (ss : List Sort) → head_takes [] Less ss ≡ true → ss ≡ Number ∷ Number ∷ []
-less_sorts (Number ∷ Number ∷ []) e = refl
-less_sorts _ e = absurd (false≢true e)
-
-at_most_sorts : (ss : List Sort) → head_takes [] AtMost ss ≡ true → ss ≡ Number ∷ Number ∷ []
-at_most_sorts (Number ∷ Number ∷ []) e = refl
-at_most_sorts _ e = absurd (false≢true e)
 
 -- negation and difference
 minus_sorts : (ss : List Sort) → head_takes [] Minus ss ≡ true → (ss ≡ Number ∷ []) ⊎ (ss ≡ Number ∷ Number ∷ [])
@@ -117,8 +110,8 @@ module _ (g : Signature) (own : AreScriptNames g) (told : Told) (s : Signature) 
   head_read Times (t ∷ ts) takes some place at = rule_reads (record (at_least 1 (each_of Number) (λ us. of Times us)) { fault = product_fault }) at (t ∷ ts) (enough (length ts)) takes.takes takes.linear
   head_read Xor (t ∷ ts) takes some place at = two_of (λ us. applied s [] place (codes "xor") at us ≡ Ok (of Xor us)) (t ∷ ts) Truth Truth (xor_sorts (map sort_of (t ∷ ts)) takes.takes) (λ u v e. rule_reads (at_least 2 (each_of Truth) (λ us. left no_term (pair Xor) us)) at (u ∷ v ∷ []) refl (ap (all_same Truth) e) refl)
   head_read Implies (t ∷ ts) takes some place at = two_of (λ us. applied s [] place (codes "=>") at us ≡ Ok (of Implies us)) (t ∷ ts) Truth Truth (implies_sorts (map sort_of (t ∷ ts)) takes.takes) (λ u v e. rule_reads (at_least 2 (each_of Truth) (λ us. right no_term (pair Implies) us)) at (u ∷ v ∷ []) refl (ap (all_same Truth) e) refl)
-  head_read Less (t ∷ ts) takes some place at = two_of (λ us. applied s [] place (codes "<") at us ≡ Ok (of Less us)) (t ∷ ts) Number Number (less_sorts (map sort_of (t ∷ ts)) takes.takes) (λ u v e. rule_reads (at_least 2 (each_of Number) (λ us. each_pair (pair Less) (neighbours us))) at (u ∷ v ∷ []) refl (ap (all_same Number) e) refl)
-  head_read AtMost (t ∷ ts) takes some place at = two_of (λ us. applied s [] place (codes "<=") at us ≡ Ok (of AtMost us)) (t ∷ ts) Number Number (at_most_sorts (map sort_of (t ∷ ts)) takes.takes) (λ u v e. rule_reads (at_least 2 (each_of Number) (λ us. each_pair (pair AtMost) (neighbours us))) at (u ∷ v ∷ []) refl (ap (all_same Number) e) refl)
+  head_read Less (t ∷ ts) takes some place at = two_of (λ us. applied s [] place (codes "<") at us ≡ Ok (of Less us)) (t ∷ ts) Number Number (less_takes (map sort_of (t ∷ ts)) takes.takes) (λ u v e. rule_reads (at_least 2 (each_of Number) (λ us. each_pair (pair Less) (neighbours us))) at (u ∷ v ∷ []) refl (ap (all_same Number) e) refl)
+  head_read AtMost (t ∷ ts) takes some place at = two_of (λ us. applied s [] place (codes "<=") at us ≡ Ok (of AtMost us)) (t ∷ ts) Number Number (at_most_takes (map sort_of (t ∷ ts)) takes.takes) (λ u v e. rule_reads (at_least 2 (each_of Number) (λ us. each_pair (pair AtMost) (neighbours us))) at (u ∷ v ∷ []) refl (ap (all_same Number) e) refl)
   head_read Divide (t ∷ ts) takes some place at = go (t ∷ ts) takes.linear (divide_sorts (map sort_of (t ∷ ts)) takes.takes)
     where
       go : (us : List Term) → quotient_fault us ≡ None → map sort_of us ≡ Number ∷ Number ∷ [] → applied s [] place (codes "/") at us ≡ Ok (of Divide us)

@@ -4,7 +4,7 @@ mod Told
 mod Planned
 pub mod Names
 mod MovedArguments
-mod Written
+pub mod Written
 pub mod Lexed
 mod Numerals
 pub mod Lookups

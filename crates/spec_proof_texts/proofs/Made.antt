@@ -5,6 +5,7 @@ use Rattle.std.specs.Str.{bytes_eq}
 use Rattle.std.proofs.lemmas.Bool.{false≢true, or_parts}
 use Rattle.std.proofs.lemmas.List.Elements.{All-weaker, Contains-push_cases}
 use Rattle.std.proofs.lemmas.Slice.Eq.{bytes_eq-Decides}
+use Rattle.std.proofs.lemmas.Option.{same_Some}
 use Rattle.spec_text.specs.declared.Kind.TheVariants.{Keyword}
 use Rattle.spec_text.specs.declared.Fault.TheVariants.{BadShape, Reserved, Twice}
 use Rattle.spec_text.specs.Bytes.{Name}
@@ -28,7 +29,6 @@ use Rattle.spec_reading.proofs.Sound.{not_taken}
 use Rattle.spec_models.specs.Meaning.{IsSortIn, IsSymbolIn}
 use Rattle.spec_proof_texts.specs.ReadBack.{AreScriptNames}
 use Rattle.spec_proof_texts.proofs.Lookups.{extended, function_push, stays}
-use Rattle.spec_proof_texts.proofs.Arguments.{the_same}
 use Rattle.spec_proof_texts.proofs.Weights.{weight, weight_all}
 
 -- the name of a function that a script makes
@@ -186,7 +186,7 @@ sort_named_new g m r is h =
       where
         by : (o : Option Sort) → sort_as g n ≡ o → (b : Bool) → extended o b r ≡ Some s → IsSortIn (g ++ of_sort m r ∷ []) s
         by (Some x) is_x b e = sort_in_more g (of_sort m r ∷ []) s (h.sorts n s (is_x ∙ e))
-        by None is_x true e = subst (IsSortIn (g ++ of_sort m r ∷ [])) (the_same e) is
+        by None is_x true e = subst (IsSortIn (g ++ of_sort m r ∷ [])) (same_Some _ _ e) is
         by None is_x false e = cc
 
 -- nothing is named at first

@@ -8,7 +8,7 @@ use Rattle.std.proofs.lemmas.List.Elements.{All-nil, All-cons, All-head, All-tai
 use Rattle.std.proofs.lemmas.Slice.Eq.{bytes_eq-Decides}
 use Rattle.spec_text.specs.declared.Kind.{Kind}
 use Rattle.spec_text.specs.declared.Kind.TheVariants.{Numeral, Decimal, Text, Simple, Quoted, Reserved as word_kind, Keyword}
-use Rattle.spec_text.specs.declared.Fault.TheVariants.{BadShape, UnknownCommand, UnknownSort, Reserved, Full, WrongSort}
+use Rattle.spec_text.specs.declared.Fault.TheVariants.{BadShape, UnknownCommand, UnknownSort, Reserved, WrongSort}
 use Rattle.spec_text.specs.Bytes.{Name, among}
 use Rattle.spec_text.proofs.General.{bytes_itself}
 use Rattle.spec_text.specs.Lexicon.{simple_symbol, quoted_symbol}
@@ -19,9 +19,8 @@ use Rattle.spec_text.proofs.Tests.{symbol_bytes_in_bars}
 use Rattle.spec_text.proofs.Words.{IsWord, HasWords, HaveWords}
 use Rattle.spec_text.proofs.AnswerLaws.{answer, went}
 use Rattle.spec_text.proofs.ShapeLaws.{Holds, holds_in_turn}
-use Rattle.spec_sorts.specs.Terms.{Sort, Truth, Number, Declared, Symbol, Term, same_sort, sort_of}
+use Rattle.spec_sorts.specs.Terms.{Sort, Truth, Number, Declared, Symbol, same_sort, sort_of}
 use Rattle.spec_sorts.specs.Theory.{look_up}
-use Rattle.spec_sorts.specs.Subterms.{has_room}
 use Rattle.spec_sorts.specs.Signatures.{Definition, Declaration, of_sort, of_function, declared, Signature, sort_as, is_some, definition}
 use Rattle.spec_sorts.specs.Signatures as signatures
 use Rattle.spec_sorts.specs.Forms.{is_name, are_named}
@@ -32,9 +31,9 @@ use Rattle.spec_reading.specs.Definitions.{Parts, bound_parameters, parameters_i
 use Rattle.spec_reading.proofs.Values.{with_both}
 use Rattle.spec_reading.proofs.Sound.{not_taken, unknown}
 use Rattle.spec_commands.specs.Commands.{Command, SetLogic, SetOption, SetInfo, DeclareSort, DefineSort, DeclareFun, DefineFun, Assert, CheckSat, Echo, Exit, Verb, sets_logic, sets_option, sets_info, declares_sort, defines_sort, declares_const, declares_fun, defines_fun, asserts, checks, echoes, exits, verbs, is_numeral, one_at_most, first_name, first_tree, set_logic, set_option, set_info, declare_sort, define_sort, declare_const, declare_fun, define_fun, assertion, echo, alone, command_by, shaped, verb_of, command_as, command_of}
-use Rattle.spec_commands.specs.Stack.{Assertion, Stack, Key, Effect, done, unsupported, check, say, leave, Taken, did, empty_stack, signature_of, begun, with_declaration, with_definitions, with_assertion, key_named, truth_in, option_set, roomy, terms_defined, performed, step}
+use Rattle.spec_commands.specs.Stack.{Assertion, Stack, Key, Effect, done, unsupported, check, say, leave, Taken, did, empty_stack, signature_of, begun, with_declaration, with_definitions, with_assertion, key_named, truth_in, option_set, terms_defined, performed, step}
 use Rattle.spec_commands.specs.Checks.{Check, this_or, after_effect, after_command, current_at}
-use Rattle.spec_commands.proofs.Kept.{signature_last, signature_with}
+use Rattle.spec_commands.proofs.Kept.{signature_last, signature_with, roomy_ok}
 use Rattle.spec_models.specs.Values.{IsName}
 use Rattle.spec_models.specs.Meaning.{IsSortIn}
 use Rattle.spec_proof_texts.specs.ReadBack.{AreScriptNames}
@@ -328,11 +327,6 @@ definitions_both g q ds e =
     with_own w g (bound_parameters 0 b.first) q.body r d ds refl read (function_name script g (is_function g) q.name a.first refl a.was (not_taken script (is_function g) q.name a.first a.was)) (answer (Ok (r.made ++ d ∷ [])) ds k.then)
 
 module _ (limit at size extra : ℕ) where
-  roomy_is : (ts : List Term) (s : Stack) (d : Taken) → roomy limit at ts s ≡ Ok d → did s ≡ d
-  roomy_is ts s d e =
-      let a = went (require (has_room limit (signature_of s) ts) at Full) _ d e in
-      answer (Ok (did s)) d a.then
-
   option_named : (s : Stack) (k : Option Key) (b : Option Bool) (d : Taken) → option_set at s k b ≡ Ok d → IsNamed size s → IsNamed size d.stack
   option_named s (Some k) (Some b) d e h = subst (λ (x : Taken). IsNamed size x.stack) (answer (option_set at s (Some k) (Some b)) d e) (record { names = h.names; few = h.few })
   option_named s (Some k) None d e h = absurd (answer (refused at BadShape) d e)
@@ -350,13 +344,13 @@ module _ (limit at size extra : ℕ) where
       let g = signature_of s in
       let a = went (new_name script (is_sort g) x) _ d e in
       let n = a.first in
-      subst (λ (x : Taken). IsNamed (size + extra) x.stack) (roomy_is [] (begun (with_declaration s (of_sort n (Declared n)))) d a.then)
+      subst (λ (x : Taken). IsNamed (size + extra) x.stack) (roomy_ok limit at [] (begun (with_declaration s (of_sort n (Declared n)))) d a.then).1
       (one_more size extra s (of_sort n (Declared n)) (omega (arith, p.1, le)) (sort_named_new g n (Declared n) (declared_sort g n (name_of (is_sort g) x n p.0 a.was) (not_taken script (is_sort g) x n a.was)) h.names) h)
   performed_named parts le s (DefineSort x t) d p e h =
       let g = signature_of s in
       let a = went (new_name script (is_sort g) x) _ d e in
       let b = went (sort_in g t) _ d a.then in
-      subst (λ (x : Taken). IsNamed (size + extra) x.stack) (roomy_is [] (begun (with_declaration s (of_sort a.first b.first))) d b.then)
+      subst (λ (x : Taken). IsNamed (size + extra) x.stack) (roomy_ok limit at [] (begun (with_declaration s (of_sort a.first b.first))) d b.then).1
       (one_more size extra s (of_sort a.first b.first) (omega (arith, p, le)) (sort_named_new g a.first b.first (sort_in_more g (of_sort a.first b.first ∷ []) b.first (sort_is g t b.first h.names b.was)) h.names) h)
   performed_named parts le s (DeclareFun x ts t) d p e h =
       let g = signature_of s in
@@ -364,14 +358,14 @@ module _ (limit at size extra : ℕ) where
       let b = went (sorts_in g ts) _ d a.then in
       let c = went (sort_in g t) _ d b.then in
       let f : Symbol = record { name = a.first; parameters = b.first; result = c.first } in
-      subst (λ (x : Taken). IsNamed (size + extra) x.stack) (roomy_is [] (begun (with_declaration s (of_function (declared f)))) d c.then)
+      subst (λ (x : Taken). IsNamed (size + extra) x.stack) (roomy_ok limit at [] (begun (with_declaration s (of_function (declared f)))) d c.then).1
       (one_more size extra s (of_function (declared f)) (omega (arith, p.1, le))
       (symbol_named g f (function_name script g (is_function g) x a.first refl a.was (not_taken script (is_function g) x a.first a.was)) (unknown g a.first (not_taken script (is_function g) x a.first a.was)) (record { name = name_of (is_function g) x a.first p.0 a.was; parameters = sorts_are g ts b.first h.names b.was; result = sort_is g t c.first h.names c.was }) h.names) h)
   performed_named parts le s (DefineFun q) d p e h =
       let g = signature_of s in
       let a = went (definitions_in script g q) _ d e in
       let k = several_more size extra s a.first (omega (arith, (definitions_both g q a.first a.was).1, p, le)) ((definitions_both g q a.first a.was).0 h.names) h in
-      subst (λ (x : Taken). IsNamed (size + extra) x.stack) (roomy_is (terms_defined a.first) (begun (with_definitions s a.first)) d a.then) (record { names = k.names; few = k.few })
+      subst (λ (x : Taken). IsNamed (size + extra) x.stack) (roomy_ok limit at (terms_defined a.first) (begun (with_definitions s a.first)) d a.then).1 (record { names = k.names; few = k.few })
   performed_named parts le s (Assert t) d p e h =
       let g = signature_of s in
       let a = went (reading_of_sort script g [] Truth t) _ d e in
@@ -380,7 +374,7 @@ module _ (limit at size extra : ℕ) where
       let y = went (require (same_sort Truth (sort_of x.first.term)) (offset_of t) WrongSort) _ r x.then in
       let read = subst (λ (z : Reading). reading script g [] t ≡ Ok z) (answer (Ok x.first) r y.then) x.was in
       let k = several_more size extra s r.made (omega (arith, text_few script g [] t r read, p, le)) (text_named script g [] t r refl read h.names) h in
-      subst (λ (x : Taken). IsNamed (size + extra) x.stack) (roomy_is (r.term ∷ []) (begun (with_assertion (with_definitions s r.made) t r.term)) d a.then) (record { names = k.names; few = k.few })
+      subst (λ (x : Taken). IsNamed (size + extra) x.stack) (roomy_ok limit at (r.term ∷ []) (begun (with_assertion (with_definitions s r.made) t r.term)) d a.then).1 (record { names = k.names; few = k.few })
   performed_named parts le s (CheckSat place) d p e h = subst (λ (x : Taken). IsNamed (size + extra) x.stack) (answer (Ok _) d e) (record { names = h.names; few = omega (arith, h.few) })
   performed_named parts le s (Echo text) d p e h = subst (λ (x : Taken). IsNamed (size + extra) x.stack) (answer (Ok _) d e) (more_named size extra s h)
   performed_named parts le s Exit d p e h = subst (λ (x : Taken). IsNamed (size + extra) x.stack) (answer (Ok _) d e) (more_named size extra s h)

@@ -13,6 +13,7 @@ use Rattle.spec_text.specs.Lexicon.{Consists, IsNumeral, only_zero, digits}
 use Rattle.spec_numbers.specs.Fractions.{Fraction, lowest, gcd}
 use Rattle.spec_numbers.proofs.Gcd.{gcd-dvd_left, gcd-dvd_right}
 use Rattle.spec_numbers.proofs.Lowest.{lowest-positive}
+use Rattle.spec_text.proofs.Tests.{before_point, after_point}
 use Rattle.spec_sorts.specs.Numerals.{number_after, trimmed, before_trimmed, whole_digits, point_digits, digits_number, literal_value, is_wide}
 use Rattle.spec_sorts.specs.Terms.{same_fraction}
 use Rattle.spec_sorts.proofs.General.{number_along, trimmed_other}
@@ -77,7 +78,7 @@ number_last (suc k) a m =
     ∙ (λ i. front i * 10 + last i)
     ∙ omega (arith, goal, rest, more)
 
-length_last : (k m : ℕ) → length (last_digits k m) ≡ k
+pub length_last : (k m : ℕ) → length (last_digits k m) ≡ k
 length_last zero m = refl
 length_last (suc k) m = length-append (last_digits k (m / 10)) ((48 + m % 10) ∷ []) ∙ omega (arith, length_last k (m / 10))
 
@@ -88,25 +89,16 @@ trimmed_last (suc k) m ends =
     let test : (48 + m % 10 == 48) ≡ false = grind (arith, nat_tests, other) in
     trimmed_other (last_digits k (m / 10)) (48 + m % 10) test
 
--- digits up to a point, and those after it
-front_point : (xs ys : List ℕ) → Consists is_digit xs → front is_digit (xs ++ 46 ∷ ys) ≡ xs
-front_point [] ys h = refl
-front_point (x ∷ xs) ys h = rw h.0 (ap (λ (zs : List ℕ). x ∷ zs) (front_point xs ys h.1))
-
-drop_point : (xs ys : List ℕ) → drop (suc (length xs)) (xs ++ 46 ∷ ys) ≡ ys
-drop_point [] ys = refl
-drop_point (x ∷ xs) ys = drop_point xs ys
-
 whole_of : (k m : ℕ) (ds : List ℕ) → Consists is_digit ds → whole_digits (ds ++ behind_point k m) ≡ ds
 whole_of zero m ds h = ap (front is_digit) (append-nil ds) ∙ front_all ds h
-whole_of (suc k) m ds h = front_point ds (last_digits (suc k) m) h
+whole_of (suc k) m ds h = before_point ds (last_digits (suc k) m) h
 
 points_of : (k m : ℕ) (ds : List ℕ) → Consists is_digit ds → (0 < k → m % 10 ≢ 0) → point_digits (ds ++ behind_point k m) ≡ last_digits k m
 points_of zero m ds h ends =
     ap (λ w. point_digits w) (append-nil ds) ∙ ap (λ (w : List ℕ). trimmed (drop (suc (length w)) ds)) (front_all ds h) ∙ ap trimmed (drop_all (suc (length ds)) ds (omega arith))
 points_of (suc k) m ds h ends =
     ap (λ (w : List ℕ). trimmed (drop (suc (length w)) (ds ++ behind_point (suc k) m))) (whole_of (suc k) m ds h)
-    ∙ ap trimmed (drop_point ds (last_digits (suc k) m))
+    ∙ ap trimmed (after_point ds (last_digits (suc k) m))
     ∙ trimmed_last (suc k) m ends
 
 -- a number over a power of ten, which does not end with 0 but where that power is 1, is its decimal
@@ -230,7 +222,7 @@ pub decimal_written : (ds : List ℕ) (f : ℕ) (fs : List ℕ) → IsNumeral ds
 decimal_written ds f fs h rest e =
     let w : List ℕ = ds ++ 46 ∷ f ∷ fs in
     let all = numeral_consists ds h in
-    let front_is : whole_digits w ≡ ds = front_point ds (f ∷ fs) all in
-    let points_are : point_digits w ≡ trimmed (f ∷ fs) = ap (λ (x : List ℕ). trimmed (drop (suc (length x)) w)) front_is ∙ ap trimmed (drop_point ds (f ∷ fs)) in
+    let front_is : whole_digits w ≡ ds = before_point ds (f ∷ fs) all in
+    let points_are : point_digits w ≡ trimmed (f ∷ fs) = ap (λ (x : List ℕ). trimmed (drop (suc (length x)) w)) front_is ∙ ap trimmed (after_point ds (f ∷ fs)) in
     let number_is : digits_number w ≡ number_after (number_after 0 ds) (trimmed (f ∷ fs)) = (λ i. number_after 0 (front_is i ++ points_are i)) ∙ number_along 0 ds (trimmed (f ∷ fs)) in
     literal_written w e (λ some ends. trimmed_ends (number_after 0 ds) (f ∷ fs) rest (subst (λ (x : List ℕ). 0 < length x) points_are some) (ap (λ n. n % 10) (sym number_is) ∙ ends))

@@ -1,5 +1,5 @@
 -- Terms that can be read back whole: heads before them, what the heads of theories are read as, and arguments for parameters.
-use Rattle.std.proofs.Common.{◌≡◌, Bool, true, false, ◌&&◌, List, [], ◌∷◌, ◌++◌, map, cond, Option, Some, None, refl, sym, ap, subst}
+use Rattle.std.proofs.Common.{◌≡◌, Bool, true, false, ◌&&◌, List, [], ◌∷◌, ◌++◌, map, cond, Option, Some, None, refl, sym, subst}
 use Rattle.std.specs.Prelude.{not}
 use Rattle.std.specs.List.{AllByRecursion}
 use Rattle.std.specs.Str.{bytes_eq}
@@ -8,8 +8,9 @@ use Rattle.spec_text.specs.declared.Fault.{Fault}
 use Rattle.spec_text.specs.declared.Fault.TheVariants.{NotLinear, ZeroDivisor}
 use Rattle.spec_text.specs.Bytes.{Name}
 use Rattle.spec_sorts.specs.Lists.{left, right, neighbours, all_pairs}
-use Rattle.spec_sorts.specs.Terms.{Head, True, False, Not, And, Or, Xor, Implies, Equal, Ite, Minus, Plus, Times, Divide, Less, AtMost, Term, of, terms_of, list_of, no_term, pair}
+use Rattle.spec_sorts.specs.Terms.{Head, True, False, Not, And, Or, Xor, Implies, Equal, Ite, Minus, Plus, Times, Divide, Less, AtMost, Term, of, terms_of, no_term, pair}
 use Rattle.spec_sorts.specs.Theory.{look_up, alike, Rule, at_least, unequal, turned, each_pair, differences, is_divisor, is_zero_divisor, each_passes, divisors_fault, quotient_fault, theory}
+use Rattle.spec_sorts.proofs.General.{list_of-terms_of}
 use Rattle.spec_arithmetic.specs.Numbers.{IsLinearHead, IsLinear, AreLinear}
 use Rattle.spec_proof_texts.specs.Printable.{HasText}
 use Rattle.spec_readable.specs.Readable.{HasDecimals, HaveDecimals, IsReadableWhole}
@@ -17,10 +18,6 @@ use Rattle.spec_readable.specs.Readable.{HasDecimals, HaveDecimals, IsReadableWh
 -- each of terms
 abbrev pub Each : List Term → Type 0
 Each ts = AllByRecursion IsReadableWhole ts
-
-listed : (ts : List Term) → list_of (terms_of ts) ≡ ts
-listed [] = refl
-listed (t ∷ ts) = ap (λ (us : List Term). t ∷ us) (listed ts)
 
 each_listed : (ts : List Term) → Each ts → AreLinear (terms_of ts) × HaveDecimals (terms_of ts)
 unfolding AreLinear HaveDecimals
@@ -30,7 +27,7 @@ each_listed (t ∷ ts) a = let k = each_listed ts a.1 in ((a.0.0, k.0), (a.0.1, 
 -- a head before such terms
 pub before : (h : Head) (ts : List Term) → IsLinearHead h ts → HasText h → Each ts → IsReadableWhole (of h ts)
 unfolding IsLinear HasDecimals
-before h ts linear text a = let k = each_listed ts a in ((subst (IsLinearHead h) (sym (listed ts)) linear, k.0), (text, k.1))
+before h ts linear text a = let k = each_listed ts a in ((subst (IsLinearHead h) (sym (list_of-terms_of ts)) linear, k.0), (text, k.1))
 
 -- no term, where there should be some
 pub no_term_readable : IsReadableWhole no_term

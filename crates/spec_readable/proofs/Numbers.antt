@@ -1,28 +1,21 @@
 -- The value of a literal that is not too wide is a decimal, whatever its bytes are: digits write it too.
-use Rattle.std.proofs.Common.{◌≡◌, ◌≢◌, ℕ, zero, suc, ◌+◌, ◌-◌, ◌*◌, ◌/◌, ◌%◌, ◌^◌, ◌<◌, ◌≤◌, Bool, true, false, pos, List, [], ◌∷◌, ◌++◌, length, drop, length-append, refl, sym, ap, ◌∙◌, subst, arith}
+use Rattle.std.proofs.Common.{◌≡◌, ◌≢◌, ℕ, zero, suc, ◌+◌, ◌-◌, ◌*◌, ◌/◌, ◌%◌, ◌^◌, ◌<◌, ◌≤◌, Bool, true, false, pos, List, [], ◌∷◌, ◌++◌, length, drop, refl, sym, ap, ◌∙◌, subst, arith}
 use Rattle.std.specs.Prelude.{◌==◌, ◌||◌, nat_le}
 use Rattle.std.proofs.Math.Nat.{pow-suc, mul_comm}
 use Rattle.std.proofs.lemmas.Bool.{or_parts}
 use Rattle.std.proofs.lemmas.Bool.Decides.{nat_tests}
-use Rattle.spec_text.specs.Bytes.{is_digit, front}
+use Rattle.spec_text.specs.Bytes.{is_digit}
 use Rattle.spec_text.specs.Lexicon.{Consists, IsNumeral}
 use Rattle.spec_numbers.specs.Fractions.{lowest}
 use Rattle.spec_numbers.proofs.Lowest.{lowest-scale}
+use Rattle.spec_text.proofs.Tests.{before_point, after_point}
 use Rattle.spec_sorts.specs.Numerals.{number_after, trimmed, whole_digits, point_digits, digits_number, literal_value, is_wide}
 use Rattle.spec_sorts.proofs.General.{number_along, trimmed_other}
 use Rattle.spec_models.specs.Values.{numeral}
 use Rattle.spec_models.proofs.Numerals.{numeral_number, numeral_is, numeral_digits}
 use Rattle.spec_proof_texts.specs.Decimals.{last_digits, is_decimal}
 use Rattle.spec_proof_texts.proofs.Names.{last_digits_are}
-
--- digits up to a point, and those after it
-before_point : (xs ys : List ℕ) → Consists is_digit xs → front is_digit (xs ++ 46 ∷ ys) ≡ xs
-before_point [] ys h = refl
-before_point (x ∷ xs) ys h = rw h.0 (ap (λ (zs : List ℕ). x ∷ zs) (before_point xs ys h.1))
-
-after_point : (xs ys : List ℕ) → drop (suc (length xs)) (xs ++ 46 ∷ ys) ≡ ys
-after_point [] ys = refl
-after_point (x ∷ xs) ys = after_point xs ys
+use Rattle.spec_proof_texts.proofs.Written.{length_last}
 
 -- what a number has before its last digits
 abbrev leading : ℕ → ℕ → ℕ
@@ -36,10 +29,6 @@ leading_last (suc k) m =
     let before = leading_last k (m / 10) in
     let last : 48 + m % 10 - 48 ≡ m % 10 = omega arith in
     number_along (leading k (m / 10)) (last_digits k (m / 10)) ((48 + m % 10) ∷ []) ∙ (λ i. before i * 10 + last i) ∙ omega arith
-
-last_length : (k m : ℕ) → length (last_digits k m) ≡ k
-last_length zero m = refl
-last_length (suc k) m = length-append (last_digits k (m / 10)) ((48 + m % 10) ∷ []) ∙ omega (arith, last_length k (m / 10))
 
 -- a number that ends with 0, in units of a place, is a tenth of it in units of the place before
 place_before : (m k : ℕ) → m % 10 ≡ 0 → lowest (pos m) (10 ^ suc k) ≡ lowest (pos (m / 10)) (10 ^ k)
@@ -74,7 +63,7 @@ module _ (decimal : WriteDecimals) where
       number = leading_last (suc k) m
 
       long : length (last_digits (suc k) m) ≡ suc k
-      long = last_length (suc k) m
+      long = length_last (suc k) m
 
       whole : trimmed (last_digits (suc k) m) ≡ last_digits (suc k) m
       whole = let test : (48 + m % 10 == 48) ≡ false = grind (arith, nat_tests, ends) in trimmed_other (last_digits k (m / 10)) (48 + m % 10) test

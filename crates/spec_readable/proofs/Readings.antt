@@ -3,6 +3,7 @@ use Rattle.std.proofs.Common.{◌≡◌, ℕ, suc, Bool, true, false, List, [], 
 use Rattle.std.specs.Prelude.{not, Ok}
 use Rattle.std.specs.List.{AllByRecursion}
 use Rattle.std.specs.Str.{bytes_eq}
+use Rattle.std.proofs.lemmas.Bool.{not-true}
 use Rattle.spec_text.specs.declared.Kind.{Kind}
 use Rattle.spec_text.specs.declared.Kind.TheVariants.{Numeral, Decimal, Text, Simple, Quoted, Reserved as word_kind, Keyword}
 use Rattle.spec_text.specs.declared.Fault.{Fault}
@@ -21,7 +22,6 @@ use Rattle.spec_reading.specs.Names.{Setting}
 use Rattle.spec_reading.specs.Reading.{Bound, Reading, Readings, Bindings, plain, unless, by_rule, sorts_taken, by_known, applied_as, applied, literal, atom_term, Annotated, naming, made_by, annotated_as, reading, readings, let_reading, bindings_reading, annotated_reading}
 use Rattle.spec_reading.specs.Definitions.{Parts, bound_parameters, definitions_in}
 use Rattle.spec_reading.proofs.Values.{with_sorts_ok, by_rule_ok, by_form}
-use Rattle.spec_reading.proofs.Closed.{not_true}
 use Rattle.spec_reading.proofs.Kept.{with_none, with_two}
 use Rattle.spec_proof_texts.specs.Decimals.{is_decimal}
 use Rattle.spec_readable.specs.Readable.{IsReadableWhole, IsReadableDeclaration}
@@ -113,7 +113,7 @@ module _ (decimal : ReadDecimals) where
   literal_readable : (at : ℕ) (n : List ℕ) (u : Term) → literal at n ≡ Ok u → IsReadableWhole u
   literal_readable at n u e =
       let a = went _ _ _ e in
-      subst IsReadableWhole (answer (Ok _) u a.then) (before (Literal (literal_value n)) [] tt (decimal n (not_true (is_wide n) (require_true (not (is_wide n)) at NumberWide a.first a.was))) tt)
+      subst IsReadableWhole (answer (Ok _) u a.then) (before (Literal (literal_value n)) [] tt (decimal n (not-true (is_wide n) (require_true (not (is_wide n)) at NumberWide a.first a.was))) tt)
 
   atom_readable : (s : Signature) (b : Bound) (at : ℕ) (k : Kind) (n : Name) (u : Term) → atom_term s b at k n ≡ Ok u → Good s → EachBound b → IsReadableWhole u
   atom_readable s b at Numeral n u e h bound = literal_readable at n u e

@@ -4,7 +4,8 @@ use Rattle.std.proofs.lemmas.List.{append-nil}
 use Rattle.spec_text.proofs.Members.{none, each_of}
 use Rattle.spec_sorts.specs.Terms.{True, False, Not, Ite, Equal, AtMost, Times, Divide, Term, Terms, app, nil, cons, of, list_of, negated, pair}
 use Rattle.spec_sorts.specs.Subsets.{arguments_of}
-use Rattle.spec_arithmetic.specs.Numbers.{IsLinear, AreLinear}
+use Rattle.spec_arithmetic.specs.Numbers.{IsLinear}
+use Rattle.spec_arithmetic.proofs.Linear.{argument_linear}
 use Rattle.spec_derivations.specs.Problems.{Problem, terms_of_problem}
 use Rattle.spec_derivations.specs.Base.{branch_equalities}
 use Rattle.spec_derivations.specs.Orders.{order_fact, whole_terms}
@@ -33,15 +34,6 @@ members_decimal (cons t ts) d u u_in = each_of HasDecimals t (list_of ts) d.0 (m
 argument_decimal : (t : Term) → HasDecimals t → (u : Term) → Contains (arguments_of t) u → HasDecimals u
 unfolding HasDecimals
 argument_decimal (app h ts) d = members_decimal ts d.1
-
-members_linear : (ts : Terms) → AreLinear ts → (u : Term) → Contains (list_of ts) u → IsLinear u
-unfolding AreLinear
-members_linear nil l u u_in = absurd (none u u_in)
-members_linear (cons t ts) l u u_in = each_of IsLinear t (list_of ts) l.0 (members_linear ts l.1) u u_in
-
-argument_linear : (t : Term) → IsLinear t → (u : Term) → Contains (arguments_of t) u → IsLinear u
-unfolding IsLinear
-argument_linear (app h ts) l = members_linear ts l.1
 
 pub argument_readable : (t : Term) → IsReadableWhole t → (u : Term) → Contains (arguments_of t) u → IsReadableWhole u
 argument_readable t a u u_in = (argument_linear t a.0 u u_in, argument_decimal t a.1 u u_in)

@@ -2,23 +2,22 @@
 use Rattle.std.proofs.Common.{◌≡◌, ℕ, zero, suc, Bool, List, [], ◌∷◌, ◌++◌, map, All, Option, Some, None, refl, sym, subst}
 use Rattle.std.specs.Prelude.{Ok, Err}
 use Rattle.std.proofs.lemmas.List.Elements.{All-weaker}
-use Rattle.spec_text.specs.declared.Fault.TheVariants.{BadShape, WrongSort, Full}
+use Rattle.spec_text.specs.declared.Fault.TheVariants.{BadShape, WrongSort}
 use Rattle.spec_text.specs.Answers.{Answer, refused, require}
 use Rattle.spec_text.specs.Trees.{Tree, Trees, none, more, offset_of}
 use Rattle.spec_text.proofs.AnswerLaws.{answer, went}
-use Rattle.spec_sorts.specs.Terms.{Truth, Declared, Symbol, Term, same_sort, sort_of}
+use Rattle.spec_sorts.specs.Terms.{Truth, Declared, Symbol, same_sort, sort_of}
 use Rattle.spec_sorts.specs.Signatures.{Definition, Declaration, of_sort, of_function, declared, Signature}
 use Rattle.spec_sorts.specs.Signatures as signatures
-use Rattle.spec_sorts.specs.Subterms.{has_room}
 use Rattle.spec_reading.specs.Names.{script, new_name, is_sort, is_function}
 use Rattle.spec_reading.specs.Sorts.{sort_in, sorts_in}
 use Rattle.spec_reading.specs.Reading.{Reading, reading, reading_of_sort}
 use Rattle.spec_reading.specs.Definitions.{definitions_in}
 use Rattle.spec_commands.specs.Commands.{Command, SetLogic, SetOption, SetInfo, DeclareSort, DefineSort, DeclareFun, DefineFun, Assert, CheckSat, Echo, Exit, command_of}
-use Rattle.spec_commands.specs.Stack.{Assertion, Stack, Key, Effect, done, unsupported, check, say, leave, Taken, did, signature_of, assertions_of, begun, with_declaration, with_definitions, with_assertion, key_named, truth_in, option_set, roomy, terms_defined, performed, step}
+use Rattle.spec_commands.specs.Stack.{Assertion, Stack, Key, Effect, done, unsupported, check, say, leave, Taken, did, signature_of, assertions_of, begun, with_declaration, with_definitions, with_assertion, key_named, truth_in, option_set, terms_defined, performed, step}
 use Rattle.spec_commands.specs.Checks.{Check, this_or, after_effect, after_command, current_at}
 use Rattle.spec_commands.specs.Kept.{IsAsserted, IsKept}
-use Rattle.spec_commands.proofs.Kept.{signature_last, signature_with}
+use Rattle.spec_commands.proofs.Kept.{signature_last, signature_with, roomy_ok}
 use Rattle.spec_readable.specs.Readable.{IsReadableWhole, IsReadableDeclaration}
 use Rattle.spec_readable.proofs.Readings.{Good, append_each, ReadDecimals, text_readable, definition_readable}
 
@@ -53,11 +52,6 @@ module _ (decimal : ReadDecimals) where
   kept_readable limit s k h = All-weaker (IsAsserted limit (signature_of s)) (λ (a : Assertion). IsReadableWhole a.term) (λ a w. asserted_readable limit (signature_of s) a h w) (assertions_of s) k.assertions
 
   module _ (limit at : ℕ) where
-    roomy_is : (ts : List Term) (s : Stack) (d : Taken) → roomy limit at ts s ≡ Ok d → did s ≡ d
-    roomy_is ts s d e =
-        let a = went (require (has_room limit (signature_of s) ts) at Full) _ d e in
-        answer (Ok (did s)) d a.then
-
     option_good : (s : Stack) (k : Option Key) (b : Option Bool) (d : Taken) → option_set at s k b ≡ Ok d → GoodStack s → GoodStack d.stack
     option_good s (Some k) (Some b) d e h = subst (λ (x : Taken). GoodStack x.stack) (answer (option_set at s (Some k) (Some b)) d e) h
     option_good s (Some k) None d e h = absurd (answer (refused at BadShape) d e)
@@ -74,22 +68,22 @@ module _ (decimal : ReadDecimals) where
     performed_good s (DeclareSort x) d e h =
         let a = went (new_name script (is_sort (signature_of s)) x) _ d e in
         let sort : Declaration = of_sort a.first (Declared a.first) in
-        subst (λ (x : Taken). GoodStack x.stack) (roomy_is [] (begun (with_declaration s sort)) d a.then) (last_good s sort tt h)
+        subst (λ (x : Taken). GoodStack x.stack) (roomy_ok limit at [] (begun (with_declaration s sort)) d a.then).1 (last_good s sort tt h)
     performed_good s (DefineSort x t) d e h =
         let a = went (new_name script (is_sort (signature_of s)) x) _ d e in
         let b = went (sort_in (signature_of s) t) _ d a.then in
         let sort : Declaration = of_sort a.first b.first in
-        subst (λ (x : Taken). GoodStack x.stack) (roomy_is [] (begun (with_declaration s sort)) d b.then) (last_good s sort tt h)
+        subst (λ (x : Taken). GoodStack x.stack) (roomy_ok limit at [] (begun (with_declaration s sort)) d b.then).1 (last_good s sort tt h)
     performed_good s (DeclareFun x ts t) d e h =
         let a = went (new_name script (is_function (signature_of s)) x) _ d e in
         let b = went (sorts_in (signature_of s) ts) _ d a.then in
         let c = went (sort_in (signature_of s) t) _ d b.then in
         let symbol : Symbol = record { name = a.first; parameters = b.first; result = c.first } in
         let f : Declaration = of_function (declared symbol) in
-        subst (λ (x : Taken). GoodStack x.stack) (roomy_is [] (begun (with_declaration s f)) d c.then) (last_good s f tt h)
+        subst (λ (x : Taken). GoodStack x.stack) (roomy_ok limit at [] (begun (with_declaration s f)) d c.then).1 (last_good s f tt h)
     performed_good s (DefineFun p) d e h =
         let a = went (definitions_in script (signature_of s) p) _ d e in
-        subst (λ (x : Taken). GoodStack x.stack) (roomy_is (terms_defined a.first) (begun (with_definitions s a.first)) d a.then)
+        subst (λ (x : Taken). GoodStack x.stack) (roomy_ok limit at (terms_defined a.first) (begun (with_definitions s a.first)) d a.then).1
         (several_good s a.first (definition_readable decimal script (signature_of s) p a.first a.was h))
     performed_good s (Assert t) d e h =
         let sig = signature_of s in
@@ -98,7 +92,7 @@ module _ (decimal : ReadDecimals) where
         let x = went (reading script sig [] t) _ r a.was in
         let y = went (require (same_sort Truth (sort_of x.first.term)) (offset_of t) WrongSort) _ r x.then in
         let read = subst (λ (z : Reading). reading script sig [] t ≡ Ok z) (answer (Ok x.first) r y.then) x.was in
-        subst (λ (x : Taken). GoodStack x.stack) (roomy_is (r.term ∷ []) (begun (with_assertion (with_definitions s r.made) t r.term)) d a.then)
+        subst (λ (x : Taken). GoodStack x.stack) (roomy_ok limit at (r.term ∷ []) (begun (with_assertion (with_definitions s r.made) t r.term)) d a.then).1
         (several_good s r.made (text_readable decimal script sig [] t r read h tt).1)
     performed_good s (CheckSat place) d e h = subst (λ (x : Taken). GoodStack x.stack) (answer (Ok _) d e) h
     performed_good s (Echo text) d e h = subst (λ (x : Taken). GoodStack x.stack) (answer (Ok _) d e) h

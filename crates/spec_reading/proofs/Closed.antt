@@ -1,5 +1,5 @@
 -- A text has one value under all bindings that are the same for the names which occur free in it.
-use Rattle.std.proofs.Common.{◌≡◌, Bool, true, false, not, ◌||◌, List, [], ◌∷◌, ◌++◌, map, Some, cond, refl, sym, ap, ap₂, ◌∙◌}
+use Rattle.std.proofs.Common.{◌≡◌, Bool, true, false, ◌||◌, List, [], ◌∷◌, ◌++◌, map, Some, cond, refl, sym, ap, ap₂, ◌∙◌}
 use Rattle.std.specs.Str.{bytes_eq}
 use Rattle.std.proofs.lemmas.Bool.{false≢true}
 use Rattle.std.proofs.lemmas.Slice.Eq.{bytes_eq-Decides}
@@ -27,11 +27,6 @@ pub record Neither (a b : Bool) : Type 0 where
 pub neither_of : (a b : Bool) → (a || b) ≡ false → Neither a b
 neither_of true b h = absurd (false≢true (sym h))
 neither_of false b h = record { one = refl; two = h }
-
--- a test does not hold where its negation does
-pub not_true : (a : Bool) → not a ≡ true → a ≡ false
-not_true true h = absurd (false≢true h)
-not_true false h = refl
 
 -- the names of bindings
 abbrev keys : Bindings → List Name

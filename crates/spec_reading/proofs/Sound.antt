@@ -2,7 +2,7 @@
 use Rattle.std.proofs.Common.{◌≡◌, ℕ, suc, Bool, true, false, not, ◌||◌, List, [], ◌∷◌, ◌++◌, length, get_or, ◌+◌, arith, Option, Some, None, cond, refl, sym, ap, ◌∙◌, subst}
 use Rattle.std.specs.Prelude.{Ok}
 use Rattle.std.specs.Str.{bytes_eq}
-use Rattle.std.proofs.lemmas.Bool.{false≢true, and_parts}
+use Rattle.std.proofs.lemmas.Bool.{false≢true, and_parts, not-true}
 use Rattle.std.proofs.lemmas.List.{append_assoc, append-nil}
 use Rattle.std.proofs.lemmas.Slice.Eq.{bytes_eq-Decides}
 use Rattle.spec_text.specs.declared.Fault.TheVariants.{BadShape, Twice}
@@ -22,7 +22,7 @@ use Rattle.spec_reading.specs.Reading.{Bound, Reading, Annotated, naming, made_b
 use Rattle.spec_reading.specs.Definitions.{Parts, bound_parameters, definitions_in}
 use Rattle.spec_reading.specs.Agreement.{AgreesAt, Agrees, values_bound, IsSoundAfter, AreSoundAfter, AreSound}
 use Rattle.spec_reading.proofs.Values.{with_both, agrees_before, sound}
-use Rattle.spec_reading.proofs.Closed.{neither_of, not_true, closed, unbound}
+use Rattle.spec_reading.proofs.Closed.{neither_of, closed, unbound}
 use Rattle.spec_reading.proofs.Kept.{with_none, text_keeps}
 
 -- two names differ in either order
@@ -142,7 +142,7 @@ pub not_taken : (w : Setting) (taken : Name → Bool) (x : Word) (n : Name) → 
 not_taken w taken x n e =
     let a = went _ _ _ e in
     let b = went _ _ _ a.then in
-    subst (λ m. taken m ≡ false) (answer (Ok x.bytes) n b.then) (not_true (taken x.bytes) (require_true (not (taken x.bytes)) x.at Twice b.first b.was))
+    subst (λ m. taken m ≡ false) (answer (Ok x.bytes) n b.then) (not-true (taken x.bytes) (require_true (not (taken x.bytes)) x.at Twice b.first b.was))
 
 -- a name that is no function's is unknown
 pub unknown : (s : Signature) (n : Name) → is_function s n ≡ false → known_as s n ≡ None
@@ -170,7 +170,7 @@ made_fine w s t (x ∷ xs) ds e h a =
 -- the text of a reading has its value, where it may get a name
 has_value : (w : Setting) (s : Signature) (b : Bound) (at : ℕ) (t : Tree) (r : Reading) → reading w s b t ≡ Ok r → HasValue (with_definitions s r.made) (annotated_as w b at t r.term)
 has_value w s b at t r e may i m g vs =
-    sym (closed m (bound_names b) (values_bound i vs b) [] t (not_true _ (and_parts w.may_name (not (mentions (bound_names b) t)) may).1) (unbound i vs b))
+    sym (closed m (bound_names b) (values_bound i vs b) [] t (not-true _ (and_parts w.may_name (not (mentions (bound_names b) t)) may).1) (unbound i vs b))
     ∙ sound i vs m w s b t r e g
 
 -- the definitions that a text makes keep a signature fine

@@ -3,7 +3,7 @@ use Rattle.std.proofs.Common.{◌≡◌, ℕ, suc, ◌+◌, arith, Bool, true, f
 use Rattle.std.specs.Prelude.{Ok}
 use Rattle.std.specs.List.{AllByRecursion}
 use Rattle.std.specs.Str.{bytes_eq}
-use Rattle.std.proofs.lemmas.Bool.{false≢true, and_parts}
+use Rattle.std.proofs.lemmas.Bool.{false≢true, and_parts, not-true}
 use Rattle.std.proofs.lemmas.List.Elements.{All-from_recursion, recursion_from_All, All-weaker, Contains-append_left, Contains-push}
 use Rattle.spec_text.specs.declared.Kind.{Kind}
 use Rattle.spec_text.specs.declared.Kind.TheVariants.{Numeral, Decimal, Text, Simple, Quoted, Reserved as word_kind, Keyword}
@@ -27,7 +27,7 @@ use Rattle.spec_reading.specs.Reading.{Bound, Reading, Readings, Bindings, plain
 use Rattle.spec_reading.specs.Definitions.{Parts, bound_parameters, definitions_in}
 use Rattle.spec_reading.specs.WellSorted.{IsDefinedOver, IsDeclaredOver, AreWellSorted}
 use Rattle.spec_reading.proofs.Values.{with_both, with_sorts_ok, by_rule_ok, new_name_is, by_form}
-use Rattle.spec_reading.proofs.Closed.{neither_of, not_true, still_among}
+use Rattle.spec_reading.proofs.Closed.{neither_of, still_among}
 use Rattle.spec_reading.proofs.Kept.{with_none, with_two, text_keeps}
 
 -- bindings have the names that are read
@@ -295,7 +295,7 @@ module _ (symbols : List Symbol) where
 
   -- a text that may get a name has a term without parameters
   closed_sorted : (w : Setting) (s : Signature) (b : Bound) (at : ℕ) (t : Tree) (r : Reading) → reading w s b t ≡ Ok r → Over symbols (with_definitions s r.made) → (annotated_as w b at t r.term).may_name ≡ true → IsWellSorted symbols [] r.term
-  closed_sorted w s b at t r e h may = sorted symbols [] (bound_names b) w s b t r e h (all_bound b) (not_true _ (and_parts w.may_name (not (mentions (bound_names b) t)) may).1)
+  closed_sorted w s b at t r e h may = sorted symbols [] (bound_names b) w s b t r e h (all_bound b) (not-true _ (and_parts w.may_name (not (mentions (bound_names b) t)) may).1)
     where
       all_bound : (b : Bound) (n : Name) (u : Term) → among (bound_names b) n ≡ false → look_up b n ≡ Some u → IsWellSorted symbols [] u
       all_bound [] n u free is = cc

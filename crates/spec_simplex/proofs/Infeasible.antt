@@ -8,12 +8,12 @@ use Rattle.spec_arithmetic.specs.Signs.{is_zero, size}
 use Rattle.spec_arithmetic.specs.Forms.{Form, form_value}
 use Rattle.spec_arithmetic.proofs.Zero.{times-zero}
 use Rattle.spec_arithmetic.proofs.Differences.{zero-at_most}
-use Rattle.spec_arithmetic.proofs.FormValues.{form_value_reduced}
+use Rattle.spec_arithmetic.proofs.FormValues.{form_value_reduced, variables_reduced}
 use Rattle.spec_simplex.specs.Constraints.{Relation, below, at_most, equals, at_least, above}
 use Rattle.spec_simplex.specs.Points.{Point, bases, tilts, base_at, tilt_at, stands, Keeps}
 use Rattle.spec_simplex.specs.Weights.{Summand, IsSummand, signed_weight, weighted_sum, is_strict_by, has_strict, CannotHold, literals_in}
 use Rattle.spec_simplex.proofs.LowestForms.{AreNumbers, proper_of}
-use Rattle.spec_simplex.proofs.Reversed.{IsLowest, lowest_proper, variables_reduced, difference_lowest}
+use Rattle.spec_simplex.proofs.Reversed.{IsLowest, lowest_proper, difference_lowest}
 use Rattle.spec_simplex.proofs.Tidy.{zeros, zeros_reduced, zeros_value, cancelled}
 use Rattle.spec_simplex.proofs.PairSigns.{IsUpTo, zero_up_to, no_sum, level, IsLess, less_up_to, plus_up_to, plus_less, plus_less_right, times_up_to, times_less, zero_is, under_less, not_over_up_to, over_less, not_under_up_to}
 use Rattle.spec_simplex.proofs.Refuting.{AreNumeric, sum_numeric, opposite_moved}

@@ -6,11 +6,12 @@ use Rattle.spec_text.proofs.AnswerLaws.{went}
 use Rattle.spec_numbers.specs.Fractions.{Fraction, plus, times, opposite, inverse, IsReduced}
 use Rattle.spec_numbers.specs.Bounds.{multiplied, divided}
 use Rattle.spec_numbers.proofs.Field.{plus-reduced, times-reduced, opposite-reduced, one-reduced}
+use Rattle.spec_numbers.proofs.Bounds.{multiplied_is, divided_is}
 use Rattle.spec_sorts.specs.Terms.{Plus, Times, Minus, Divide, Literal, Term, Terms, app, nil, cons, same_term}
 use Rattle.spec_arithmetic.specs.Signs.{is_zero}
 use Rattle.spec_arithmetic.specs.Forms.{Answer, Form, Way, adding, subtracting, variable_form, unless_zero, with_variable, joined, all_joined, combined, opposites, opposite_form, each_number, changed, scaled, shared_out, factor_of, all_added, all_multiplied, divisor_of, quotient_form, form_by, at_term, form, forms}
 use Rattle.spec_arithmetic.proofs.General.{same_ok, same_some}
-use Rattle.spec_arithmetic.proofs.FormValues.{IsFair, multiplied_ok, divided_ok, adding_fair, subtracting_fair, AreProper}
+use Rattle.spec_arithmetic.proofs.FormValues.{IsFair, adding_fair, subtracting_fair, AreProper}
 use Rattle.spec_arithmetic.proofs.FormTerms.{at_ok}
 
 -- all coefficients are in lowest terms
@@ -154,19 +155,19 @@ scaled_safe : (c : Fraction) (f r : Form) → scaled c f ≡ Ok r → IsSafe f �
 scaled_safe c f r e s = changed_safe (λ k. multiplied c k) c (record { positive = positive; keeps = keeps }) f r e s
   where
     positive : (k m : Fraction) → multiplied c k ≡ Ok m → 0 < m.den → (0 < k.den) × (0 < c.den)
-    positive k m e p = let h = times_positive c k (subst (λ (q : Fraction). 0 < q.den) (sym (multiplied_ok c k m e)) p) in (h.1, h.0)
+    positive k m e p = let h = times_positive c k (subst (λ (q : Fraction). 0 < q.den) (sym (multiplied_is c k m e)) p) in (h.1, h.0)
 
     keeps : 0 < c.den → (k m : Fraction) → IsReduced k → multiplied c k ≡ Ok m → IsReduced m
-    keeps p k m r e = subst IsReduced (multiplied_ok c k m e) (times-reduced c k p r.positive)
+    keeps p k m r e = subst IsReduced (multiplied_is c k m e) (times-reduced c k p r.positive)
 
 shared_safe : (f : Form) (d : Fraction) (r : Form) → shared_out f d ≡ Ok r → IsSafe f → IsSafe r
 shared_safe f d r e s = changed_safe (λ k. divided k d) (inverse d) (record { positive = positive; keeps = keeps }) f r e s
   where
     positive : (k m : Fraction) → divided k d ≡ Ok m → 0 < m.den → (0 < k.den) × (0 < (inverse d).den)
-    positive k m e p = times_positive k (inverse d) (subst (λ (q : Fraction). 0 < q.den) (sym (divided_ok k d m e)) p)
+    positive k m e p = times_positive k (inverse d) (subst (λ (q : Fraction). 0 < q.den) (sym (divided_is k d m e)) p)
 
     keeps : 0 < (inverse d).den → (k m : Fraction) → IsReduced k → divided k d ≡ Ok m → IsReduced m
-    keeps p k m r e = subst IsReduced (divided_ok k d m e) (times-reduced k (inverse d) r.positive p)
+    keeps p k m r e = subst IsReduced (divided_is k d m e) (times-reduced k (inverse d) r.positive p)
 
 opposites_lowest : (es : List (Term × Fraction)) → AreLowest es → AreLowest (opposites es)
 opposites_lowest [] l = tt

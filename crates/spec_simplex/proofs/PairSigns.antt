@@ -1,15 +1,17 @@
 -- Signs of numbers with a tilt: sums, and products with sizes.
-use Rattle.std.proofs.Common.{◌≡◌, zero, suc, ◌<◌, Bool, true, false, ◌&&◌, ◌||◌, ℤ, pos, negsuc, ◌<ℤ◌, ◌≤ℤ◌, neg_ℤ, unsigned_abs, refl, sym, ◌∙◌, ap, subst, arith, true≢false}
+use Rattle.std.proofs.Common.{◌≡◌, ◌<◌, Bool, true, false, ◌&&◌, ◌||◌, ℤ, pos, negsuc, ◌<ℤ◌, ◌≤ℤ◌, neg_ℤ, unsigned_abs, refl, sym, ◌∙◌, ap, subst, arith, true≢false}
 use Rattle.std.specs.Ordering.{int_eq}
 use Rattle.std.specs.Int.RustNames.{int_lt}
 use Rattle.std.proofs.lemmas.Bool.{and_parts}
 use Rattle.std.proofs.lemmas.Bool.Decides.{nat_tests}
 use Rattle.std.proofs.lemmas.Int.{ints}
+use Rattle.std.proofs.Math.Bool.{or-true}
 use Rattle.spec_numbers.specs.Fractions.{Fraction, zero_fraction, plus, times, opposite, IsReduced}
 use Rattle.spec_numbers.proofs.Field.{plus-comm, plus-zero, zero_of, zero-reduced}
 use Rattle.spec_arithmetic.specs.Signs.{is_zero, is_above_zero, size}
 use Rattle.spec_arithmetic.proofs.Zero.{zero_num, times-zero, times-of_zero}
 use Rattle.spec_arithmetic.proofs.Differences.{IsAtMostZero, IsBelowZero, zero-at_most, below-at_most, plus-at_most, plus-below_left, plus-below_right, times-at_most, times-below}
+use Rattle.spec_arithmetic.proofs.Sums.{size_positive}
 use Rattle.spec_simplex.specs.Points.{is_below_zero, is_over, is_under}
 
 -- A number with a tilt is at most 0.
@@ -53,15 +55,6 @@ plus_less_right b s c t p q r h k =
 size_zero : (w : Fraction) → is_zero w ≡ true → is_zero (size w) ≡ true
 unfolding is_zero size
 size_zero w e = ap (λ z. int_eq (pos (unsigned_abs z)) (pos 0)) (zero_num w e)
-
-size_positive : (w : Fraction) → is_zero w ≡ false → 0 < unsigned_abs w.num
-unfolding is_zero
-size_positive w e = by w.num e
-  where
-    by : (z : ℤ) → int_eq z (pos 0) ≡ false → 0 < unsigned_abs z
-    by (pos zero) e = absurd (true≢false e)
-    by (pos (suc n)) e = omega arith
-    by (negsuc n) e = omega arith
 
 pub times_up_to : (w b t : Fraction) → 0 < w.den → 0 < b.den → 0 < t.den → IsUpTo b t → IsUpTo (times (size w) b) (times (size w) t)
 unfolding size
@@ -147,10 +140,6 @@ over_less b t r e = under_less (opposite b) (opposite t) r (over_opposite b t �
 pub not_under_up_to : (b t : Fraction) → IsReduced (opposite b) → is_under b t ≡ false → IsUpTo (opposite b) (opposite t)
 not_under_up_to b t r e = not_over_up_to (opposite b) (opposite t) r (under_opposite b t ∙ e)
 
-or_true : (b : Bool) → b || true ≡ true
-or_true true = refl
-or_true false = refl
-
 -- a number at most 0 is not above 0, nor 0 where it is below 0
 pub no_sum : (c : Fraction) (strict : Bool) → is_above_zero c || (is_zero c && strict) ≡ true → IsUpTo c zero_fraction → (strict ≡ true → IsLess c zero_fraction) → ⊥
 unfolding is_above_zero is_zero
@@ -168,7 +157,7 @@ no_sum c strict e h k = by (is_above_zero c) refl e
     not_above (level z b) f = true≢false (sym f ∙ ap is_above_zero z)
 
     not_zero : IsLess c zero_fraction → is_zero c ≡ true → ⊥
-    not_zero (less_base b) f = not_below b (ap (λ x. int_lt (pos 0) c.num || x) f ∙ or_true (int_lt (pos 0) c.num))
+    not_zero (less_base b) f = not_below b (ap (λ x. int_lt (pos 0) c.num || x) f ∙ or-true (int_lt (pos 0) c.num))
     not_zero (less_tilt z b) f = none b.num
       where
         none : pos 0 <ℤ pos 0 → ⊥

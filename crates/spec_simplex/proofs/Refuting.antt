@@ -15,6 +15,7 @@ use Rattle.spec_arithmetic.proofs.General.{same_ok, same_some}
 use Rattle.spec_arithmetic.proofs.Zero.{plus-zero_left}
 use Rattle.spec_arithmetic.proofs.FormValues.{AreProper, IsProper, adding_fair, combined_value, scaled_value, form_value_reduced}
 use Rattle.spec_arithmetic.proofs.FormTerms.{constant_value}
+use Rattle.spec_arithmetic.proofs.Sound.{without_ok}
 use Rattle.spec_simplex.specs.Constraints.{Relation, below, at_most, equals, at_least, above, Constraint, where_true, constraint_by}
 use Rattle.spec_simplex.specs.Weights.{Summand, IsSummand, signed_weight, weighted_sum, is_strict_by, has_strict, CannotHold, denials, arguments_of, IsTakenOrWide}
 use Rattle.spec_simplex.proofs.LowestForms.{AreLowest, AreNumbers, plus_positive, times_positive}
@@ -93,10 +94,6 @@ abbrev pub ArePartsOf : List Summand → List Part → Type 0
 ArePartsOf [] [] = Unit {0}
 ArePartsOf (x ∷ xs) (p ∷ ps) = IsPartOf x.constraint.relation x.form x.weight p × ArePartsOf xs ps
 ArePartsOf _ _ = ⊥
-
-without_ok : {A : Type 0} (a : Result A Fault) (r : A) → without_term a ≡ Ok r → a ≡ Ok r
-without_ok (Ok a) r e = cc
-without_ok (Err w) r e = cc
 
 part_of : (r : Relation) (atom s t : Term) (w : Fraction) (e f : Form) → difference atom s t ≡ Ok e → 0 < e.constant.den
     → difference (negation_by r atom s t).atom (negation_by r atom s t).left (negation_by r atom s t).right ≡ Ok f

@@ -1,25 +1,18 @@
 -- The difference of two terms has the opposite value with its sides exchanged.
-use Rattle.std.proofs.Common.{◌≡◌, ◌<◌, List, [], ◌∷◌, Ok, ℤ, neg_ℤ, refl, sym, ◌∙◌, ap, subst, arith}
+use Rattle.std.proofs.Common.{◌≡◌, ◌<◌, List, Ok, ℤ, neg_ℤ, refl, sym, ◌∙◌, ap, subst, arith}
 use Rattle.std.proofs.lemmas.Int.{ints}
 use Rattle.spec_text.specs.Answers.{◌>>=◌}
 use Rattle.spec_text.proofs.AnswerLaws.{went}
 use Rattle.spec_numbers.specs.Fractions.{Fraction, gcd, zero_fraction, plus, opposite, IsReduced}
 use Rattle.spec_numbers.specs.Bounds.{is_small, fits, sum_fits, subtracted}
-use Rattle.spec_numbers.proofs.Field.{plus-comm, plus-cross, plus-reduced, times-reduced, opposite-plus, zero-reduced}
+use Rattle.spec_numbers.proofs.Field.{plus-comm, plus-cross, plus-reduced, opposite-plus, zero-reduced}
 use Rattle.spec_sorts.specs.Terms.{Term}
 use Rattle.spec_arithmetic.specs.Forms.{Form, Fault, subtracting, all_joined, combined, at_term, form, difference, variables_value, form_value}
 use Rattle.spec_arithmetic.proofs.General.{same_ok}
 use Rattle.spec_arithmetic.proofs.Zero.{plus-zero_left}
-use Rattle.spec_arithmetic.proofs.FormValues.{subtracting_fair, AreProper, IsProper, combined_value}
+use Rattle.spec_arithmetic.proofs.FormValues.{subtracting_fair, AreProper, IsProper, combined_value, variables_reduced}
 use Rattle.spec_arithmetic.proofs.FormTerms.{at_ok}
 use Rattle.spec_simplex.proofs.LowestForms.{AreLowest, AreNumbers, proper_of, subtracting_even, all_joined_lowest, IsCombined, combined_parts, combined_positive, form_safe}
-
--- the value of variables is in lowest terms
-pub variables_reduced : (n : Term → Fraction) (vs : List (Term × Fraction)) → AreProper n vs → IsReduced (variables_value n vs)
-unfolding variables_value
-variables_reduced n [] p = zero-reduced
-variables_reduced n ((v, k) ∷ rest) p =
-    plus-reduced _ _ (times-reduced k (n v) p.0.coefficient.positive p.0.number.positive).positive (variables_reduced n rest p.1).positive
 
 -- variables as a form without a constant
 abbrev only : List (Term × Fraction) → Form

@@ -11,7 +11,7 @@ use Rattle.spec_sorts.specs.Terms.{Term}
 use Rattle.spec_arithmetic.specs.Signs.{is_zero, is_above_zero}
 use Rattle.spec_arithmetic.specs.Forms.{Form, constant_form, adding, combined, scaled, variables_value, form_value}
 use Rattle.spec_arithmetic.specs.Contradictions as c
-use Rattle.spec_arithmetic.specs.Contradictions.{is_nought, is_below, is_at_most, numbered, Part, parts_of, weight_by, summed, sum_of, is_strict_part, is_strict, is_none, cannot_hold, Failure, as_failure, taken_if, judged_last, judged_first, judged_parts, judged_pairs, la_generic}
+use Rattle.spec_arithmetic.specs.Contradictions.{is_nought, is_below, is_at_most, numbered, Part, parts_of, weight_by, summed, sum_of, is_strict_part, is_strict, cannot_hold, Failure, as_failure, taken_if, judged_last, judged_first, judged_parts, judged_pairs, la_generic}
 use Rattle.spec_arithmetic.proofs.General.{same_ok}
 use Rattle.spec_arithmetic.proofs.Zero.{plus-zero_left}
 use Rattle.spec_arithmetic.proofs.FormValues.{form_value_reduced}

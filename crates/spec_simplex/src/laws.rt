@@ -1,6 +1,6 @@
 //! Laws of constraints, points and weights: functions with empty bodies, whose clauses are proved of the definitions.
 
-ghost use Rattle.std.specs.Prelude.{◌≡◌, ◌↔◌, ◌<◌, ℕ, true, List, Ok, All, map};
+ghost use Rattle.std.specs.Prelude.{◌≡◌, ◌↔◌, ◌<◌, ℕ, true, List, Ok, All};
 ghost use Rattle.spec_numbers.specs.Fractions.{Fraction, IsReduced, zero_fraction};
 ghost use Rattle.spec_sorts.specs.Terms.{Symbol, Term};
 ghost use Rattle.spec_sorts.specs.Literals.{Literal};

@@ -1,35 +1,15 @@
 -- Where no operation overflows the bounded value is the value.
-use Rattle.std.proofs.Common.{◌≡◌, Bool, true, false, List, [], ◌∷◌, ap, ap₂, ◌∙◌}
+use Rattle.std.proofs.Common.{◌≡◌, List, [], ◌∷◌, ap, ap₂, ◌∙◌}
 use Rattle.std.specs.Prelude.{Result, Ok}
-use Rattle.spec_numbers.specs.Fractions.{Fraction, zero_fraction, one_fraction, plus, minus, opposite, times, divide}
-use Rattle.spec_numbers.specs.Bounds.{Overflow, checked, fits, sum_fits, added, subtracted, multiplied, divided}
+use Rattle.spec_numbers.specs.Fractions.{Fraction, zero_fraction, one_fraction, plus, minus, times, divide}
+use Rattle.spec_numbers.specs.Bounds.{Overflow, added, subtracted, multiplied, divided}
+use Rattle.spec_numbers.proofs.Bounds.{added_is, subtracted_is, multiplied_is, divided_is}
 use Rattle.spec_text.proofs.AnswerLaws.{answer, went}
 use Rattle.spec_sorts.specs.Lists.{left}
 use Rattle.spec_sorts.specs.Terms.{Head, Minus, Plus, Times, Divide, Parameter, Term, Terms, app, nil, cons}
 use Rattle.spec_sorts.specs.Values.{Value, number, number_in, Interpretation}
 use Rattle.spec_sorts.specs.TermValues.{by_numbers, head_value, value_at, values_at}
 use Rattle.spec_sorts.specs.BoundedValues.{folded, bounded_head, bounded_value, bounded_values}
-
--- what is checked is the result
-checked_is : (b : Bool) (x : Fraction) (o : Overflow) (r : Fraction) → checked b x o ≡ Ok r → x ≡ r
-checked_is true x o r e = answer (checked true x o) r e
-checked_is false x o r e = absurd (answer (checked false x o) r e)
-
-added_is : (x y r : Fraction) → added x y ≡ Ok r → plus x y ≡ r
-unfolding added
-added_is x y r e = checked_is (sum_fits x y) (plus x y) _ r e
-
-subtracted_is : (x y r : Fraction) → subtracted x y ≡ Ok r → minus x y ≡ r
-unfolding subtracted
-subtracted_is x y r e = checked_is (sum_fits x (opposite y)) (minus x y) _ r e
-
-multiplied_is : (x y r : Fraction) → multiplied x y ≡ Ok r → times x y ≡ r
-unfolding multiplied
-multiplied_is x y r e = checked_is (fits (times x y)) (times x y) _ r e
-
-divided_is : (x y r : Fraction) → divided x y ≡ Ok r → divide x y ≡ r
-unfolding divided
-divided_is x y r e = checked_is (fits (divide x y)) (divide x y) _ r e
 
 -- numbers taken to the left
 folded_is : (f : Fraction → Fraction → Result Fraction Overflow) (g : Fraction → Fraction → Fraction) → ((x y r : Fraction) → f x y ≡ Ok r → g x y ≡ r) → (d v : Value) (ws : List Value) (u : Value) → folded f v ws ≡ Ok u → left d (by_numbers g) (v ∷ ws) ≡ u

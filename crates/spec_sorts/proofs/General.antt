@@ -1,8 +1,9 @@
 -- Lists of arguments and their sorts, complements of literals, and digits one after the other.
-use Rattle.std.proofs.Common.{◌≡◌, ℕ, ◌+◌, ◌*◌, ◌-◌, Bool, true, false, cond, List, [], ◌∷◌, ◌++◌, map, refl, ap, ◌∙◌}
+use Rattle.std.proofs.Common.{◌≡◌, ℕ, ◌+◌, ◌*◌, ◌-◌, Bool, true, false, cond, List, [], ◌∷◌, ◌++◌, map, refl, ap, ◌∙◌, length}
 use Rattle.std.specs.Prelude.{◌==◌, not}
+use Rattle.std.proofs.lemmas.Bool.{false≢true}
 use Rattle.spec_sorts.specs.Numerals.{number_after, trimmed, before_trimmed}
-use Rattle.spec_sorts.specs.Terms.{Term, Terms, nil, cons, terms_of, list_of, sort_of, sorts_of}
+use Rattle.spec_sorts.specs.Terms.{Term, Terms, nil, cons, terms_of, list_of, sort_of, sorts_of, Sort, Equal, head_takes}
 use Rattle.spec_sorts.specs.Literals.{Literal, complement}
 
 -- the terms of a list are those of the list
@@ -14,6 +15,11 @@ list_of-terms_of (t ∷ ts) = λ i. t ∷ list_of-terms_of ts i
 pub sorts_listed : (ts : Terms) → sorts_of ts ≡ map sort_of (list_of ts)
 sorts_listed nil = refl
 sorts_listed (cons t ts) = ap (λ ss. sort_of t ∷ ss) (sorts_listed ts)
+
+-- an equality has two sides
+pub equal_takes : (ss : List Sort) → head_takes [] Equal ss ≡ true → length ss ≡ 2
+equal_takes (s ∷ t ∷ []) e = refl
+equal_takes _ e = absurd (false≢true e)
 
 -- a literal's complement has it as its complement
 pub complement-twice : (l : Literal) → complement (complement l) ≡ l

@@ -4,9 +4,9 @@ use Rattle.std.specs.List.{AllByRecursion}
 use Rattle.std.proofs.Math.Nat.{one-le-pow}
 use Rattle.std.proofs.lemmas.Bool.{false≢true, and_parts}
 use Rattle.std.proofs.lemmas.List.Elements.{All-contains, recursion_from_All}
-use Rattle.spec_numbers.specs.Fractions.{Fraction, IsReduced, plus, times, minus, opposite, inverse, divide, zero_fraction, one_fraction}
+use Rattle.spec_numbers.specs.Fractions.{Fraction, IsReduced, plus, times, inverse, divide, zero_fraction, one_fraction}
 use Rattle.spec_numbers.proofs.Lowest.{lowest-reduced}
-use Rattle.spec_numbers.proofs.Field.{plus-reduced, times-reduced, opposite-reduced, inverse-reduced}
+use Rattle.spec_numbers.proofs.Field.{sum_reduced, product_reduced, opposite-reduced, inverse-reduced, minus-reduced}
 use Rattle.spec_sorts.specs.Lists.{left}
 use Rattle.spec_sorts.specs.Numerals.{digits_number, literal_value}
 use Rattle.spec_sorts.specs.Terms.{Sort, Truth, Number, Symbol, Head, True, False, Not, And, Or, Xor, Implies, Equal, Ite, Minus, Plus, Times, Divide, Less, AtMost, Literal, Apply, Parameter, Term, Terms, app, nil, cons, all_same, has_parameter, sort_given, sort_of, second_sort, head_takes, sorts_of, is_sorted, are_sorted}
@@ -25,15 +25,6 @@ reduced_in : (v : Value) → HasSort Number v → IsReduced (number_in v)
 reduced_in (number q) h = h
 reduced_in (truth b) h = absurd h
 reduced_in (element n k) h = absurd h
-
-sum_reduced : (x y : Fraction) → IsReduced x → IsReduced y → IsReduced (plus x y)
-sum_reduced x y p q = plus-reduced x y p.positive q.positive
-
-difference_reduced : (x y : Fraction) → IsReduced x → IsReduced y → IsReduced (minus x y)
-difference_reduced x y p q = sum_reduced x (opposite y) p (opposite-reduced y q)
-
-product_reduced : (x y : Fraction) → IsReduced x → IsReduced y → IsReduced (times x y)
-product_reduced x y p q = times-reduced x y p.positive q.positive
 
 quotient_reduced : (x y : Fraction) → IsReduced x → IsReduced y → IsReduced (divide x y)
 quotient_reduced x y p q = product_reduced x (inverse y) p (inverse-reduced y q)
@@ -94,7 +85,7 @@ module _ (i : Interpretation) (symbols : List Symbol) (interprets : Interprets i
   minus_sort (Number ∷ []) (v ∷ []) e k = opposite-reduced (number_in v) (reduced_in v k.0)
   minus_sort (Number ∷ []) (v ∷ w ∷ vs) e k = absurd k.1
   minus_sort (Number ∷ []) [] e k = absurd k
-  minus_sort (Number ∷ Number ∷ []) (v ∷ w ∷ vs) e k = difference_reduced (number_in v) (number_in w) (reduced_in v k.0) (reduced_in w k.1.0)
+  minus_sort (Number ∷ Number ∷ []) (v ∷ w ∷ vs) e k = minus-reduced (number_in v) (number_in w) (reduced_in v k.0) (reduced_in w k.1.0)
   minus_sort (Number ∷ Number ∷ []) (v ∷ []) e k = absurd k.1
   minus_sort (Number ∷ Number ∷ []) [] e k = absurd k
   minus_sort _ vs e k = absurd (false≢true e)

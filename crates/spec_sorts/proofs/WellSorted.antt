@@ -1,5 +1,5 @@
 -- Well-sorted terms: sorts that are the same, heads before arguments, and arguments for parameters.
-use Rattle.std.proofs.Common.{◌≡◌, ℕ, zero, suc, true, ◌&&◌, List, [], ◌∷◌, map, get_or, Contains, refl, sym, ap, ◌∙◌}
+use Rattle.std.proofs.Common.{◌≡◌, ℕ, zero, suc, true, ◌&&◌, List, [], ◌∷◌, map, get_or, Contains, refl, sym, ap, ◌∙◌, ◌≢◌, false}
 use Rattle.std.specs.List.{AllByRecursion}
 use Rattle.std.proofs.lemmas.Bool.{false≢true, and_parts}
 use Rattle.std.proofs.lemmas.Slice.Eq.{bytes_eq-Decides}
@@ -23,6 +23,26 @@ pub same_sort_itself : (s : Sort) → same_sort s s ≡ true
 same_sort_itself Truth = refl
 same_sort_itself Number = refl
 same_sort_itself (Declared n) = (bytes_eq-Decides n n).1 refl
+
+-- a sort other than Bool
+pub other_sort : (s : Sort) → s ≢ Truth → same_sort Truth s ≡ false
+other_sort Truth e = absurd (e refl)
+other_sort s e = refl
+
+-- what a choice takes: a truth value, and two of one sort
+pub choice_takes : (c a b : Sort) → head_takes [] Ite (c ∷ a ∷ b ∷ []) ≡ true → (c ≡ Truth) × (a ≡ b)
+choice_takes Truth a b e = (refl, same_sort_is a b e)
+choice_takes Number a b e = absurd (false≢true e)
+choice_takes (Declared n) a b e = absurd (false≢true e)
+
+-- what comparisons take: two numbers
+pub less_takes : (ss : List Sort) → head_takes [] Less ss ≡ true → ss ≡ Number ∷ Number ∷ []
+less_takes (Number ∷ Number ∷ []) e = refl
+less_takes _ e = absurd (false≢true e)
+
+pub at_most_takes : (ss : List Sort) → head_takes [] AtMost ss ≡ true → ss ≡ Number ∷ Number ∷ []
+at_most_takes (Number ∷ Number ∷ []) e = refl
+at_most_takes _ e = absurd (false≢true e)
 
 -- the sorts of terms, from their list
 pub sorts_of_list : (ts : List Term) → sorts_of (terms_of ts) ≡ map sort_of ts

@@ -1,21 +1,23 @@
 -- Fractions in lowest terms are an ordered field.
-use Rattle.std.proofs.Common.{◌≡◌, ◌≢◌, ℕ, ◌*◌, ◌<◌, true, false, ℤ, pos, ◌<ℤ◌, ◌≤ℤ◌, neg_ℤ, refl, sym, ◌∙◌, ap, subst, arith, Less}
+use Rattle.std.proofs.Common.{◌≡◌, ◌≢◌, ◌<◌, true, false, ℤ, pos, ◌<ℤ◌, ◌≤ℤ◌, neg_ℤ, refl, sym, ◌∙◌, ap, subst, arith, Less}
 use Rattle.std.specs.Int.RustNames.{int_lt}
 use Rattle.std.specs.Ordering.{int_eq, int_cmp, MatchOrdering}
 use Rattle.std.specs.Cmp.{int_cmp_is, int_ranks}
 use Rattle.std.proofs.Math.Path.{to_path_p, PathP}
-use Rattle.std.proofs.Math.Nat.{ℕ_set, zero-div}
+use Rattle.std.proofs.Math.Nat.{ℕ_set}
 use Rattle.std.proofs.Math.IntN.{ℤ_set}
 use Rattle.std.proofs.Math.Bridge.{le_prop}
 use Rattle.std.proofs.lemmas.Int.{ints}
 use Rattle.std.proofs.lemmas.Bool.Decides.{nat_tests, Decides-int_eq}
-use Rattle.spec_numbers.specs.Fractions.{Fraction, IsReduced, gcd, lowest, zero_fraction, one_fraction, plus, times, opposite, inverse, compare}
+use Rattle.spec_numbers.specs.Fractions.{Fraction, IsReduced, zero_fraction, one_fraction, plus, times, opposite, inverse, compare}
 use Rattle.spec_numbers.proofs.Signs.{zero-times}
 use Rattle.spec_numbers.proofs.Integers.{times_whole}
 use Rattle.spec_numbers.proofs.Order.{compare-plus, compare-times, compare-trans}
-use Rattle.spec_numbers.proofs.Field.{zero_of, zero-reduced, plus-reduced, times-reduced, plus-comm, plus-assoc, plus-zero, plus-opposite, times-comm, times-assoc, times-one, times-inverse, times-plus_left}
+use Rattle.spec_numbers.proofs.Field.{zero_of, zero-reduced, plus-reduced, plus-comm, plus-assoc, plus-zero, plus-opposite, times-comm, times-assoc, times-one, times-inverse, times-plus_left, zero-times_of}
 use Rattle.spec_tableaux.specs.Fields.{IsOrderedField}
 use Rattle.spec_tableaux.specs.Numbers.{Number, numbers, fractions}
+use Rattle.spec_tableaux.specs.Spaces.{IsOrdered, as_space}
+use Rattle.spec_tableaux.proofs.OrderedSpaces.{field_is_ordered}
 
 fraction_set : IsSet Fraction
 fraction_set = hlevel (ℕ_set, ℤ_set)
@@ -61,16 +63,6 @@ negative_sum x y r q h k =
     ap (compare (plus x y)) (sym (plus-comm zero_fraction y ∙ plus-zero y q)) ∙ compare-plus x zero_fraction y r.positive zero-reduced.positive q.positive ∙ less_of_negative x h in
     negative_of_less (plus x y) (compare-trans (plus x y) y zero_fraction (plus-reduced x y r.positive q.positive).positive q.positive zero-reduced.positive first (less_of_negative y k))
 
-lowest_zero : (d : ℕ) → (lowest (pos 0) d).num ≡ pos 0
-lowest_zero d = ap pos (zero-div (gcd 0 d))
-
-times_zero_num : (k : Fraction) → (times zero_fraction k).num ≡ pos 0
-unfolding times
-times_zero_num k = ap (λ z. (lowest z (1 * k.den)).num) (zero-times k.num) ∙ lowest_zero (1 * k.den)
-
-times_zero : (k : Fraction) → 0 < k.den → times zero_fraction k ≡ zero_fraction
-times_zero k p = zero_of (times zero_fraction k) (times-reduced zero_fraction k zero-reduced.positive p) (times_zero_num k)
-
 above : (k : Fraction) → int_lt (opposite k).num (pos 0) ≡ true → pos 0 <ℤ k.num
 unfolding opposite
 above k h = positive k.num (negative_true (neg_ℤ k.num) h)
@@ -81,7 +73,7 @@ above k h = positive k.num (negative_true (neg_ℤ k.num) h)
 negative_product : (k x : Fraction) → IsReduced k → IsReduced x → int_lt (opposite k).num (pos 0) ≡ true → int_lt x.num (pos 0) ≡ true → int_lt (times k x).num (pos 0) ≡ true
 negative_product k x r q h e =
     negative_of_less (times k x)
-    ((λ i. compare (times-comm k x i) (sym (times_zero k r.positive) i))
+    ((λ i. compare (times-comm k x i) (sym (zero-times_of k r.positive) i))
     ∙ compare-times x zero_fraction k q.positive zero-reduced.positive r.positive (above k h) ∙ less_of_negative x e)
 
 no_sign : (x : Fraction) → IsReduced x → int_lt x.num (pos 0) ≡ false → int_lt (opposite x).num (pos 0) ≡ false → x ≡ zero_fraction
@@ -123,3 +115,7 @@ numbers_are_ordered_field = record {
   one_sign = λ a h. one_sign a.fraction h;
   negative_product = λ k a h e. negative_product k.fraction a.fraction k.reduced a.reduced h e;
 }
+
+-- so they are an ordered space over themselves
+pub numbers_are_ordered : IsOrdered (as_space numbers)
+numbers_are_ordered = field_is_ordered numbers numbers_are_ordered_field

@@ -1,6 +1,6 @@
 -- What an answer through two steps says of each, and where its fault stands.
 use Rattle.std.proofs.Common.{◌≡◌, ℕ, Bool, true, false, refl, sym, ap, ◌∙◌, subst}
-use Rattle.std.specs.Prelude.{Result, Ok, Err}
+use Rattle.std.specs.Prelude.{Result, Ok, Err, IsErrAnd, IfErr}
 use Rattle.spec_text.specs.declared.Fault.{Fault}
 use Rattle.spec_text.specs.Faults.{Located}
 use Rattle.spec_text.specs.Answers.{Answer, ◌>>=◌, require}
@@ -36,6 +36,11 @@ pub in_turn : {A B E : Type 0} (P : Result B E → Type 0) → ((e : E) → P (E
 unfolding ◌>>=◌
 in_turn P faulty (Ok x) f g = g x refl
 in_turn P faulty (Err e) f g = faulty e
+
+-- an error that is told as it came
+pub told : {T E : Type 0} (p : E → Type 0) (r : Result T E) (w : E) → IsErrAnd r (λ e. e ≡ w) → p w → IfErr r p
+told p (Ok x) w g h = tt
+told p (Err e) w g h = subst p (sym g) h
 
 pub require_true : (b : Bool) (at : ℕ) (f : Fault) (u : Unit {0}) → require b at f ≡ Ok u → b ≡ true
 unfolding require

@@ -1,6 +1,6 @@
--- Members of lists: of a list with an item before it or at its end, of images, and of what the items of a list give.
-use Rattle.std.proofs.Common.{◌≡◌, ℕ, zero, suc, ◌<◌, ◌⊎◌, inl, inr, List, [], ◌∷◌, ◌++◌, length, map, get_or, Contains, refl, sym, ap, ◌∙◌, subst, arith}
-use Rattle.std.specs.Prelude.{flat_map}
+-- Members of lists: of a list with an item before it or at its end, of images, of what the items of a list give, and of those that pass a test.
+use Rattle.std.proofs.Common.{◌≡◌, ℕ, zero, suc, ◌<◌, ◌⊎◌, inl, inr, List, [], ◌∷◌, ◌++◌, length, map, get_or, Contains, refl, sym, ap, ◌∙◌, subst, arith, Bool, true, false, cond}
+use Rattle.std.specs.Prelude.{flat_map, filter}
 use Rattle.std.proofs.lemmas.List.{length-map, get_or-map}
 use Rattle.std.proofs.lemmas.List.Elements.{Contains-append_left, Contains-append_right, Contains-append_cases, Contains-push_cases}
 
@@ -63,3 +63,15 @@ module _ {A B : Type 0} (f : A → List B) where
     | inl here ↦ (z, first z zs, here)
     | inr rest ↦ let r = from_flat zs y rest in (r.0, later z zs r.0 r.1, r.2)
   ]
+
+-- what passes a test is among those that do
+pub in_filter : {A : Type 0} (p : A → Bool) (xs : List A) (x : A) → Contains xs x → p x ≡ true → Contains (filter p xs) x
+in_filter p [] x c h = absurd (none x c)
+in_filter p (y ∷ ys) x c h = elim (cases y ys x c) [
+  | inl e ↦ subst (λ b. Contains (cond b (y ∷ filter p ys) (filter p ys)) x) (sym (ap p e ∙ h)) (subst (Contains (y ∷ filter p ys)) e (first y (filter p ys)))
+  | inr r ↦ passed (p y) (in_filter p ys x r h)
+]
+  where
+    passed : (b : Bool) → Contains (filter p ys) x → Contains (cond b (y ∷ filter p ys) (filter p ys)) x
+    passed true c = later y (filter p ys) x c
+    passed false c = c

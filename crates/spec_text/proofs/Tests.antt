@@ -1,5 +1,5 @@
 -- Tests of bytes, and runs of bytes that pass one.
-use Rattle.std.proofs.Common.{◌≡◌, ℕ, Bool, true, false, cond, List, [], ◌∷◌, ◌++◌, length, drop, sym, ap, ◌∙◌, refl, arith}
+use Rattle.std.proofs.Common.{◌≡◌, ℕ, Bool, true, false, cond, List, [], ◌∷◌, ◌++◌, length, drop, sym, ap, ◌∙◌, refl, arith, suc}
 use Rattle.std.specs.Prelude.{◌==◌, ◌&&◌, ◌||◌, not, codes}
 use Rattle.std.specs.Str.{bytes_eq}
 use Rattle.std.proofs.lemmas.Bool.{and_parts, not-true}
@@ -41,6 +41,15 @@ front_of_run test (b ∷ bs) rest h = rw h.0 (ap (λ (xs : List ℕ). b ∷ xs) 
 pub no_front : (test : ℕ → Bool) (rest : List ℕ) → BeginsWithout test rest → front test rest ≡ []
 no_front test [] h = refl
 no_front test (b ∷ bs) h = rw h refl
+
+-- digits up to a point, and those after it
+pub before_point : (xs ys : List ℕ) → Consists is_digit xs → front is_digit (xs ++ 46 ∷ ys) ≡ xs
+before_point [] ys h = refl
+before_point (x ∷ xs) ys h = rw h.0 (ap (λ (zs : List ℕ). x ∷ zs) (before_point xs ys h.1))
+
+pub after_point : (xs ys : List ℕ) → drop (suc (length xs)) (xs ++ 46 ∷ ys) ≡ ys
+after_point [] ys = refl
+after_point (x ∷ xs) ys = after_point xs ys
 
 pub front_is_run : (test : ℕ → Bool) (bs : List ℕ) → Consists test (front test bs)
 front_is_run test [] = tt

@@ -6,7 +6,7 @@ use Rattle.spec_numbers.specs.Fractions.{Fraction, IsReduced}
 use Rattle.spec_sorts.specs.Terms.{Sort, Truth, Number, Declared, Symbol, Equal, Ite, Apply, Term, Terms, app, nil, cons, of, list_of, sort_of, sorts_of, head_takes}
 use Rattle.spec_sorts.specs.Values.{Value, truth, number, element, same_value, is_true, HasSort, chosen}
 use Rattle.spec_sorts.proofs.SameTerms.{one_sorts}
-use Rattle.spec_sorts.proofs.WellSorted.{same_sort_is}
+use Rattle.spec_sorts.proofs.WellSorted.{same_sort_is, choice_takes}
 use Rattle.spec_congruence.specs.Congruence.{truth_term}
 use Rattle.spec_derivations.proofs.Obeying.{ite_takes, number_differs}
 use Rattle.spec_valuations.specs.Tables.{Valuation, values_by, IsFunctional, Obeys, AreListed, IsValuation}
@@ -40,12 +40,6 @@ head_in d (x ∷ xs) = x
 abbrev tail_in : {A : Type 0} → List A → List A
 tail_in [] = []
 tail_in (x ∷ xs) = xs
-
--- what a choice takes: a truth value, and two of one sort
-pub choice_takes : (c a b : Sort) → head_takes [] Ite (c ∷ a ∷ b ∷ []) ≡ true → (c ≡ Truth) × (a ≡ b)
-choice_takes Truth a b e = (refl, same_sort_is a b e)
-choice_takes Number a b e = absurd (false≢true e)
-choice_takes (Declared n) a b e = absurd (false≢true e)
 
 -- bits that follow from each other are one
 one_bit : (a b : Bool) → (a ≡ true → b ≡ true) → (b ≡ true → a ≡ true) → a ≡ b

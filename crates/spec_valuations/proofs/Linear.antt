@@ -1,23 +1,12 @@
 -- Where the terms of a check are linear, so are all that a search over linear arithmetic speaks of.
 use Rattle.std.proofs.Common.{All, Contains, true, false, subst, arith, refl}
-use Rattle.spec_text.proofs.Members.{none, each_of}
-use Rattle.spec_sorts.specs.Terms.{Equal, AtMost, Term, Terms, app, nil, cons, list_of, negated, pair}
-use Rattle.spec_sorts.specs.Subsets.{arguments_of}
+use Rattle.spec_sorts.specs.Terms.{Equal, AtMost, Term, negated, pair}
 use Rattle.spec_arithmetic.specs.Numbers.{IsLinear, AreLinear}
+use Rattle.spec_arithmetic.proofs.Linear.{argument_linear}
 use Rattle.spec_derivations.specs.Problems.{Problem, terms_of_problem}
 use Rattle.spec_derivations.specs.Base.{branch_equalities}
 use Rattle.spec_derivations.specs.Orders.{order_fact, whole_terms}
 use Rattle.spec_valuations.proofs.Speaking.{choice, truth_fact, both_have, all_branches, whole_have}
-
--- the arguments of a linear term
-members_linear : (ts : Terms) → AreLinear ts → (u : Term) → Contains (list_of ts) u → IsLinear u
-unfolding AreLinear
-members_linear nil l u u_in = absurd (none u u_in)
-members_linear (cons t ts) l u u_in = each_of IsLinear t (list_of ts) l.0 (members_linear ts l.1) u u_in
-
-argument_linear : (t : Term) → IsLinear t → (u : Term) → Contains (arguments_of t) u → IsLinear u
-unfolding IsLinear
-argument_linear (app h ts) l = members_linear ts l.1
 
 -- an equality, an order and a negation
 equality_linear : (s t : Term) → IsLinear s → IsLinear t → IsLinear (pair Equal s t)

@@ -14,7 +14,7 @@ use Rattle.spec_sorts.specs.TermValues.{less, at_most, head_value}
 use Rattle.spec_sorts.specs.Theory.{keeps_constant}
 use Rattle.spec_sorts.specs.Literals.{Literal as HeldLiteral, literal_of}
 use Rattle.spec_sorts.proofs.LeastSubterms.{least_of}
-use Rattle.spec_sorts.proofs.WellSorted.{same_sort_is}
+use Rattle.spec_sorts.proofs.WellSorted.{same_sort_is, less_takes, at_most_takes}
 use Rattle.spec_congruence.specs.Congruence.{signed}
 use Rattle.spec_arithmetic.specs.Numbers.{number_at}
 use Rattle.spec_arithmetic.specs.Contradictions.{are_numbers}
@@ -43,15 +43,6 @@ not_less x r e = none (subst IsBelowZero (plus-opposite x r) (less_true x x e)).
   where
     none : zero_fraction.num <ℤ pos 0 → ⊥
     none h = absurd (omega (arith, ints))
-
--- what comparisons take are two numbers
-less_two : (ss : List Sort) → head_takes [] Less ss ≡ true → ss ≡ Number ∷ Number ∷ []
-less_two (Number ∷ Number ∷ []) e = refl
-less_two _ e = absurd (false≢true e)
-
-at_most_two : (ss : List Sort) → head_takes [] AtMost ss ≡ true → ss ≡ Number ∷ Number ∷ []
-at_most_two (Number ∷ Number ∷ []) e = refl
-at_most_two _ e = absurd (false≢true e)
 
 -- Two terms of sort Real.
 record AreTwo (ts : Terms) : Type 0 where
@@ -239,10 +230,10 @@ module _ (symbols : List Symbol) (p : Problem) (terms : List Term) (held : List 
   numbers_obey Divide ts c k = λ i. arithmetic i Divide ts c refl (divide_takes (sorts_of ts) (takes Divide ts c))
   numbers_obey (Literal q) ts c k = λ i. number_obeys symbols a.number i (Literal q) ts refl (at_rest.sorted (app (Literal q) ts) c)
   numbers_obey Less ts c k =
-      let two = two_of ts (less_two (sorts_of ts) (takes Less ts c)) in
+      let two = two_of ts (less_takes (sorts_of ts) (takes Less ts c)) in
       subst (λ us. Contains terms (app Less us) → Obeys v (app Less us)) (sym two.same) (λ d. less_obeys two.s two.t d two.left two.right) c
   numbers_obey AtMost ts c k =
-      let two = two_of ts (at_most_two (sorts_of ts) (takes AtMost ts c)) in
+      let two = two_of ts (at_most_takes (sorts_of ts) (takes AtMost ts c)) in
       subst (λ us. Contains terms (app AtMost us) → Obeys v (app AtMost us)) (sym two.same) (λ d. up_to_obeys two.s two.t d two.left two.right) c
   numbers_obey h ts c k = absurd (false≢true k)
 

@@ -13,6 +13,7 @@ use Rattle.spec_sorts.specs.Theory.{keeps_constant}
 use Rattle.spec_sorts.specs.WellSorted.{IsWellSorted, IsFormulaOver}
 use Rattle.spec_sorts.specs.Subsets.{AreAmong, IsClosed}
 use Rattle.spec_sorts.proofs.General.{sorts_listed}
+use Rattle.spec_sorts.proofs.WellSorted.{other_sort}
 use Rattle.spec_congruence.specs.Congruence.{truth_term, signed, IsCongruent, IsFine}
 use Rattle.spec_equality.proofs.Values.{value_itself}
 use Rattle.spec_rules.specs.Truths.{Truths, literal_true, term_true_by}
@@ -30,7 +31,7 @@ use Rattle.spec_valuations.proofs.Joint.{is_valuation}
 use Rattle.spec_valuations.proofs.Choices.{chooses}
 use Rattle.spec_valuations.proofs.Closures.{AreHeld, are_classes}
 use Rattle.spec_valuations.proofs.Formulas.{core_joins, is_connective, truths_taken, formula_obeys}
-use Rattle.spec_valuations.proofs.Speaking.{choice, truth_fact, no_truth, choice_sorts}
+use Rattle.spec_valuations.proofs.Speaking.{choice, truth_fact, choice_sorts}
 
 -- an interpretation of which nothing is asked
 pub some_interpretation : Interpretation
@@ -158,7 +159,7 @@ module _ (symbols : List Symbol) (p : Problem) (terms : List Term) (held : List 
 
     -- what is in a list that stands there for other sorts than Bool
     chosen_in : {A : Type 0} (xs : List A) (x : A) → Contains xs x → Contains (cond (same_sort Truth (sort_of a)) [] xs) x
-    chosen_in xs x x_in = subst (λ y. Contains (cond y [] xs) x) (sym (no_truth (sort_of a) other)) x_in
+    chosen_in xs x x_in = subst (λ y. Contains (cond y [] xs) x) (sym (other_sort (sort_of a) other)) x_in
 
     equality_listed : (u : Term) → Contains (to_first ∷ to_second ∷ []) u → Contains terms u
     equality_listed u u_in = r.equalities (choice c a b) u c_in (chosen_in (to_first ∷ to_second ∷ []) u u_in)

@@ -1,18 +1,18 @@
 -- What holds of the terms of a check, of the facts and of the equalities of choices holds of all terms that a search speaks of.
-use Rattle.std.proofs.Common.{◌≡◌, ◌≢◌, Bool, true, false, not, cond, List, [], ◌∷◌, ◌++◌, inl, inr, get_or, All, Contains, refl, sym, subst}
+use Rattle.std.proofs.Common.{◌≡◌, Bool, true, false, not, cond, List, [], ◌∷◌, ◌++◌, inl, inr, get_or, All, Contains, refl, sym, subst}
 use Rattle.std.specs.Prelude.{flat_map}
 use Rattle.std.proofs.lemmas.List.Elements.{All-contains, Contains-append_cases, Contains-get_or}
-use Rattle.spec_text.proofs.Members.{none, only, each_of, from_flat}
-use Rattle.spec_sorts.specs.Terms.{Sort, Truth, Number, Symbol, Equal, Ite, Term, app, nil, cons, sort_of, same_sort, negated, pair}
+use Rattle.spec_text.proofs.Members.{none, each_of, from_flat}
+use Rattle.spec_sorts.specs.Terms.{Truth, Number, Symbol, Equal, Ite, Term, app, nil, cons, sort_of, same_sort, negated, pair}
 use Rattle.spec_sorts.specs.WellSorted.{IsWellSorted}
 use Rattle.spec_sorts.specs.Subsets.{arguments_of}
-use Rattle.spec_sorts.proofs.WellSorted.{same_sort_is}
+use Rattle.spec_sorts.proofs.WellSorted.{choice_takes}
 use Rattle.spec_congruence.specs.Congruence.{truth_term}
 use Rattle.spec_derivations.specs.Problems.{Problem, terms_of_problem, subterms_in}
 use Rattle.spec_derivations.specs.Base.{truth_facts, branch_equalities, spoken_terms, search_terms}
 use Rattle.spec_derivations.specs.Orders.{order_fact, order_facts, ordered_terms, whole_terms}
 use Rattle.spec_derivations.proofs.Below.{subterms_have, head_fits}
-use Rattle.spec_valuations.proofs.Joint.{choice_takes}
+use Rattle.spec_derivations.proofs.OrderedTerms.{order_of}
 
 -- a choice
 abbrev pub choice : Term → Term → Term → Term
@@ -21,27 +21,6 @@ choice c a b = app Ite (cons c (cons a (cons b nil)))
 -- the negation of a truth value is the other one
 abbrev pub truth_fact : Bool → Term
 truth_fact b = pair Equal (negated (truth_term b)) (truth_term (not b))
-
--- a sort other than Bool
-pub no_truth : (s : Sort) → s ≢ Truth → same_sort Truth s ≡ false
-no_truth Truth e = absurd (e refl)
-no_truth s e = refl
-
--- an equality of numbers
-record IsOfNumbers (w : Term) : Type 0 where
-  s : Term
-  t : Term
-  equality : w ≡ pair Equal s t
-  number : sort_of s ≡ Number
-
--- an order fact is that of such a term
-order_of : (w u : Term) → Contains (order_facts w) u → (o : IsOfNumbers w) × (u ≡ order_fact o.s o.t)
-order_of (app Equal (cons s (cons t nil))) u i = go (same_sort Number (sort_of s)) refl i
-  where
-    go : (b : Bool) → same_sort Number (sort_of s) ≡ b → Contains (cond b (order_fact s t ∷ []) []) u → (o : IsOfNumbers (pair Equal s t)) × (u ≡ order_fact o.s o.t)
-    go true e h = (record { s = s; t = t; equality = refl; number = sym (same_sort_is Number (sort_of s) e) }, sym (only (order_fact s t) u h))
-    go false e h = absurd (none u h)
-order_of _ u i = absurd (none u i)
 
 -- what two terms have each of them has
 pub both_have : (P : Term → Type 0) (t u : Term) → P t → P u → (x : Term) → Contains (t ∷ u ∷ []) x → P x

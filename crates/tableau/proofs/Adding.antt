@@ -5,7 +5,7 @@ use Rattle.std.proofs.lemmas.Bool.Decides.{nat_tests}
 use Rattle.std.proofs.lemmas.List.{length-map, length-append, get_or_past, get_or_push}
 use Rattle.spec_tableaux.specs.Spaces.{as_space}
 use Rattle.spec_tableaux.specs.Rows.{Entry, Row, coefficient_of, is_basic, flattened, with_row}
-use Rattle.spec_tableaux.specs.SolvedForms.{IsOver, AreOver, IsNonbasic}
+use Rattle.spec_tableaux.specs.SolvedForms.{IsOver, IsNonbasic}
 use Rattle.spec_tableaux.specs.Numbers.{Number, numbers}
 use Rattle.spec_tableaux.proofs.SolvedForms.{over_more}
 use Rattle.spec_tableaux.proofs.Growing.{row_added, added_solved, solves_more, over_flattened, over_rows, nonbasic_more}
@@ -14,12 +14,8 @@ use Rattle.tableau.specs.declared.table.Tableau.TheInside.{Inside}
 use Rattle.tableau.specs.Entries.{row_meant, rows_of}
 use Rattle.tableau.specs.Views.{IsTableau, with_sum, row_at, no_row, place, next_place}
 use Rattle.tableau.specs.Kept.{column_at, IsKept, AreColumns, ArePlaces, HasGrown, IsNoted, Forgets}
-use Rattle.tableau.proofs.Readying.{number_space}
+use Rattle.tableau.proofs.Readying.{number_space, are_over_more}
 use Rattle.tableau.proofs.Keeping.{over_entry}
-
-are_over_more : (p q : ℕ → Type 0) (rs : List (Row Number)) → ((y : ℕ) → p y → q y) → AreOver p rs → AreOver q rs
-are_over_more p q [] w o = tt
-are_over_more p q (r ∷ rs) w o = (over_more p q r.entries w o.0, are_over_more p q rs w o.1)
 
 below_apart : (n y : ℕ) → y < n → (y == n) ≡ false
 below_apart n y l = grind (arith, nat_tests)

@@ -4,6 +4,7 @@ use Rattle.std.specs.List.{list_any}
 use Rattle.std.proofs.lemmas.Bool.{or_parts, or_from}
 use Rattle.std.proofs.lemmas.Bool.Decides.{nat_tests}
 use Rattle.std.proofs.lemmas.List.{ext_get_or, get_or-set_same, get_or-set_other, length-map, length-set}
+use Rattle.std.proofs.lemmas.Option.{same_Some}
 use Rattle.spec_tableaux.specs.Rows.{Row, Pivot, coefficient_of, row_of, is_basic, put, minus_times, without, pivot_row, substituted_row, exchanged_row, exchanged, AreDistinct}
 use Rattle.spec_tableaux.specs.SolvedForms.{IsOver, AreOver, IsSolved, IsPivot}
 use Rattle.spec_tableaux.specs.Strains.{pivot_in}
@@ -136,7 +137,7 @@ stays_same p r n z = ap (λ b. cond b (pivot_row numbers p) (substituted_row num
         (minus_times numbers (without p.entering r.entries) (coefficient_of numbers p.entering r.entries) p.others))) z
 
 -- a variable that is basic in the row of a number has this place
-basic_at : (rs : List (Row Number)) (i : ℕ) → i < length rs → is_basic (row_at rs i).basic rs ≡ true
+pub basic_at : (rs : List (Row Number)) (i : ℕ) → i < length rs → is_basic (row_at rs i).basic rs ≡ true
 basic_at [] i l = absurd (omega arith)
 basic_at (r ∷ rs) zero l = let s : (r.basic == r.basic) ≡ true = grind (arith, nat_tests) in (λ i. s i || is_basic r.basic rs)
 basic_at (r ∷ rs) (suc k) l = either (r.basic == (row_at rs k).basic) (is_basic (row_at rs k).basic rs) (basic_at rs k (omega arith))
@@ -154,9 +155,6 @@ place_at (r ∷ rs) (suc k) l d =
     differ : (b : Bool) → (r.basic == (row_at rs k).basic) ≡ b → b ≡ false
     differ true e = let s : r.basic ≡ (row_at rs k).basic = grind (arith, nat_tests) in sym (basic_at rs k (omega arith)) ∙ ap (λ z. is_basic z rs) (sym s) ∙ d.0
     differ false e = refl
-
-some_is : (i k : ℕ) → Some i ≡ Some k → i ≡ k
-some_is i k e = cc
 
 module _ (rs : List (Row Number)) (ks : List ℕ) (number b x : ℕ) (solved : IsSolved numbers rs) (pivot : IsPivot numbers rs b x) (at : place b rs ≡ Some number) (low : number < length rs)
     (row : row_of b rs ≡ row_at rs number) (within : (k : ℕ) → Contains ks k → k < length rs)
@@ -182,7 +180,7 @@ module _ (rs : List (Row Number)) (ks : List ℕ) (number b x : ℕ) (solved : I
       other : (c : Bool) → ((row_at rs i).basic == b) ≡ c → c ≡ false
       other true e =
           let s : (row_at rs i).basic ≡ b = grind (arith, nat_tests) in
-          let t : number ≡ i = some_is number i (sym at ∙ ap (λ z. place z rs) (sym s) ∙ place_at rs i l solved.distinct) in
+          let t : number ≡ i = same_Some number i (sym at ∙ ap (λ z. place z rs) (sym s) ∙ place_at rs i l solved.distinct) in
           absurd (let k = parts.0 in grind (arith, nat_tests))
       other false e = refl
 

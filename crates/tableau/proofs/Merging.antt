@@ -1,5 +1,5 @@
 -- How two ordered lists of entries are merged.
-use Rattle.std.proofs.Common.{◌≡◌, ℕ, suc, ◌<◌, Bool, true, false, List, [], ◌∷◌, ◌++◌, refl, sym, ◌∙◌, ap, arith, cond, ◌==◌, subst, append_assoc, length}
+use Rattle.std.proofs.Common.{◌≡◌, ℕ, suc, ◌<◌, Bool, true, false, List, [], ◌∷◌, ◌++◌, refl, sym, ◌∙◌, ap, arith, cond, ◌==◌, subst, append_assoc}
 use Rattle.std.specs.Prelude.{nat_lt}
 use Rattle.std.proofs.lemmas.Bool.Decides.{nat_tests}
 use Rattle.spec_tableaux.specs.Fields.{Field}
@@ -90,10 +90,6 @@ pub above_all : {A : Type 0} (s : Field A) (at x : ℕ) (e : Entry A) (es rest :
 above_all s at x e es rest g t h =
     let u : IsTidy s at (e ∷ rest) = subst (IsTidy s at) g t in
     subst (IsOver (λ y. x < y)) (sym g) (h, above_from s (suc e.variable) x rest (omega arith) u.2)
-
-pub length-zero : {A : Type 0} (xs : List A) → length xs ≡ 0 → xs ≡ []
-length-zero [] h = refl
-length-zero (x ∷ xs) h = absurd (omega arith)
 
 -- an entry more was written
 pub push_step : {A : Type 0} (out new rest whole : List A) (q : A) → new ≡ out ++ q ∷ [] → out ++ q ∷ rest ≡ whole → new ++ rest ≡ whole

@@ -13,7 +13,8 @@ use Rattle.tableau.specs.Pivots.{IsReady, AreReady}
 pub number_space : IsSpace (as_space numbers)
 number_space = field_is_space numbers numbers_are_ordered_field
 
-are_over_more : (p q : ℕ → Type 0) (rs : List (Row Number)) → ((y : ℕ) → p y → q y) → AreOver p rs → AreOver q rs
+-- what rows are over, for another reason
+pub are_over_more : (p q : ℕ → Type 0) (rs : List (Row Number)) → ((y : ℕ) → p y → q y) → AreOver p rs → AreOver q rs
 are_over_more p q [] w o = tt
 are_over_more p q (r ∷ rs) w o = (over_more p q r.entries w o.0, are_over_more p q rs w o.1)
 

@@ -5,6 +5,7 @@ use Rattle.std.specs.List.{list_any, IsDistinct}
 use Rattle.std.proofs.lemmas.Map.Keys.{apart_from_distinct}
 use Rattle.std.proofs.lemmas.Bool.Decides.{nat_tests}
 use Rattle.std.proofs.lemmas.List.Elements.{Contains-append_left, Contains-push, Contains-push_cases}
+use Rattle.std.proofs.lemmas.Bool.{eqb-true}
 use Rattle.indexmap.specs.IndexSet.{insert_key}
 use Rattle.spec_tableaux.specs.Rows.{Row}
 use Rattle.spec_tableaux.specs.Numbers.{Number}
@@ -12,16 +13,13 @@ use Rattle.tableau.specs.Views.{IsColumn}
 use Rattle.tableau.specs.Kept.{AreColumns, column_at}
 use Rattle.indexmap.proofs.CallerLemmas.{Contains-list_any}
 
-one_number : (a b : ℕ) → nat_eq a b ≡ true → a ≡ b
-one_number a b e = grind (arith, nat_tests)
-
 -- a number that comes into the set, or was in it
 pub inserted : (old new : List ℕ) (n : ℕ) → new ≡ insert_key nat_eq old n → (k : ℕ) → Contains new k ↔ (Contains old k ⊎ (k ≡ n))
 inserted old new n e = go (list_any (nat_eq n) old) refl
   where
     go : (b : Bool) → list_any (nat_eq n) old ≡ b → (k : ℕ) → Contains new k ↔ (Contains old k ⊎ (k ≡ n))
     go true t k = subst (λ ks. Contains ks k ↔ (Contains old k ⊎ (k ≡ n))) (sym (e ∙ ap (λ c. if c then old else old ++ n ∷ []) t))
-        (λ i. inl i, λ i. elim i [ inl o ↦ o | inr is ↦ subst (Contains old) (sym is) (Contains-list_any nat_eq one_number old n t) ])
+        (λ i. inl i, λ i. elim i [ inl o ↦ o | inr is ↦ subst (Contains old) (sym is) (Contains-list_any nat_eq eqb-true old n t) ])
     go false t k = subst (λ ks. Contains ks k ↔ (Contains old k ⊎ (k ≡ n))) (sym (e ∙ ap (λ c. if c then old else old ++ n ∷ []) t)) (
       λ i. elim (Contains-push_cases old n k i) [ inl o ↦ inl o | inr is ↦ inr (sym is) ],
       λ i. elim i [ inl o ↦ Contains-append_left old (n ∷ []) k o | inr is ↦ subst (Contains (old ++ n ∷ [])) (sym is) (Contains-push old n) ],

@@ -1,11 +1,10 @@
 -- Choices between terms of another sort than Bool: their parts, their equalities with these, and their clauses.
-use Rattle.std.proofs.Common.{◌≡◌, ◌≢◌, true, false, if◌then◌else◌, List, [], ◌∷◌, length, get_or, Contains, refl, sym, ap, ◌∙◌, subst, arith}
-use Rattle.std.proofs.lemmas.Bool.{false≢true}
+use Rattle.std.proofs.Common.{◌≡◌, ◌≢◌, true, if◌then◌else◌, List, [], ◌∷◌, length, get_or, Contains, refl, sym, ap, ◌∙◌, subst, arith}
 use Rattle.spec_text.proofs.Members.{first, later}
 use Rattle.spec_text.specs.Trees.{none}
-use Rattle.spec_sorts.specs.Terms.{Sort, Truth, Number, Declared, Symbol, Ite, Equal, Term, app, nil, cons, of, pair, negated, sort_of, same_sort, head_takes}
+use Rattle.spec_sorts.specs.Terms.{Sort, Truth, Symbol, Ite, Equal, Term, app, nil, cons, of, pair, negated, sort_of, same_sort, head_takes}
 use Rattle.spec_sorts.specs.WellSorted.{IsWellSorted, IsFormulaOver}
-use Rattle.spec_sorts.proofs.WellSorted.{before, same_sort_is, same_sort_itself}
+use Rattle.spec_sorts.proofs.WellSorted.{before, same_sort_itself, other_sort, choice_takes}
 use Rattle.spec_sorts.specs.Literals.{Clause}
 use Rattle.spec_proofs.specs.declared.Rule.TheVariants.{IteThen, IteElse}
 use Rattle.spec_rules.specs.Rules.{IsRight}
@@ -21,12 +20,6 @@ use Rattle.term_clauses.specs.Stating.{Widens}
 use Rattle.term_clauses.specs.Choices.{AreComparable, equality_at, IsNoChoice, IsChoice}
 use Rattle.term_clauses.proofs.Parts.{formula_kept, sorted_kept}
 
--- a sort that is not Bool is known to be another
-other_sort : (s : Sort) → s ≢ Truth → same_sort Truth s ≡ false
-other_sort Truth differs = absurd (differs refl)
-other_sort Number differs = refl
-other_sort (Declared n) differs = refl
-
 -- a list of three
 pub three_of_length : {X : Type 0} (xs : List X) (d : X) → length xs ≡ 3 → xs ≡ get_or xs 0 d ∷ get_or xs 1 d ∷ get_or xs 2 d ∷ []
 three_of_length (x ∷ y ∷ z ∷ []) d e = refl
@@ -41,13 +34,7 @@ no_choice (app Ite (cons c (cons s (cons t nil)))) e = (
 )
 no_choice _ e = (refl, refl)
 
--- a choice is of a formula and two terms of one sort
-ite_takes : (a b c : Sort) → head_takes [] Ite (a ∷ b ∷ c ∷ []) ≡ true → (a ≡ Truth) × (b ≡ c)
-ite_takes Truth b c h = (refl, same_sort_is b c h)
-ite_takes Number b c h = absurd (false≢true h)
-ite_takes (Declared n) b c h = absurd (false≢true h)
-
--- and has their sort
+-- a choice has the sort of its two terms
 ite_sort : (c s t : Term) → sort_of (of Ite (c ∷ s ∷ t ∷ [])) ≡ sort_of s
 unfolding sort_of
 ite_sort c s t = refl
@@ -62,7 +49,7 @@ choice_made t id x whole condition_in first_in second_in means apart =
     let choice = of Ite (c ∷ s ∷ u ∷ []) in
     let sorted : IsWellSorted t.symbols [] choice = subst (IsWellSorted t.symbols []) means whole.1 in
     let part : (w : Term) → Contains (c ∷ s ∷ u ∷ []) w → IsWellSorted t.symbols [] w = argument_sorted t.symbols [] choice sorted in
-    let takes = ite_takes (sort_of c) (sort_of s) (sort_of u) (head_fits t.symbols [] Ite (cons c (cons s (cons u nil))) sorted) in
+    let takes = choice_takes (sort_of c) (sort_of s) (sort_of u) (head_fits t.symbols [] Ite (cons c (cons s (cons u nil))) sorted) in
     let own : sort_of (term_at t id) ≡ sort_of s = ap sort_of means ∙ ite_sort c s u in
     record {
       condition = (condition_in, record { term = part c (first c (s ∷ u ∷ [])); sort = takes.0 });

@@ -1,5 +1,6 @@
 -- The lemmas of this crate.
 pub mod NamesApart
+pub mod Numbers
 pub mod TermsExtend
 pub mod SymbolsNamed
 pub mod ShapesGrown
@@ -11,6 +12,7 @@ pub mod TermsLiteral
 pub mod TermsClosed
 pub mod FactsKept
 pub mod FactsOfNodes
+pub mod Free
 pub mod SortsTaken
 pub mod TermsDeclared
 pub mod TablePut

@@ -1,6 +1,6 @@
 -- Arguments that a head takes.
 use Rattle.std.proofs.Common.{◌≡◌, ℕ, suc, ◌+◌, ◌<◌, ◌≤◌, if◌then◌else◌, Bool, true, false, not, ◌&&◌, List, [], ◌∷◌, ◌++◌, length, map, Some, refl, sym, ap, ◌∙◌, subst, arith}
-use Rattle.std.proofs.lemmas.Bool.{false≢true}
+use Rattle.std.proofs.lemmas.Bool.{and_parts}
 use Rattle.std.proofs.lemmas.List.{map-append}
 use Rattle.std.proofs.lemmas.List.Elements.{All-head, All-tail, All-cons, All-nil, All-append}
 use Rattle.spec_text.specs.declared.Fault.{Fault}
@@ -31,15 +31,11 @@ passes_on test t rest after id is h e =
       ap (λ b. b && each_passes test (clause_at t after)) (sym e) ∙ ap (λ ids. each_passes test (clause_at t ids)) (sym is),
     )
 
-both_true : (a b : Bool) → (a && b) ≡ true → (a ≡ true) × (b ≡ true)
-both_true true b e = (refl, e)
-both_true false b e = absurd (false≢true e)
-
 -- terms whose sorts are one
 pub of_sorts : (t : TableView) (s : Sort) (ids : List TermId) → AreIn t ids → all_same s (map sort_of (clause_at t ids)) ≡ true → AreOf t s ids
 of_sorts t s [] there e = All-nil (IsOf t s)
 of_sorts t s (id ∷ ids) there e =
-    let both = both_true (same_sort s (sort_of (term_at t id))) (all_same s (map sort_of (clause_at t ids))) e in
+    let both = and_parts (same_sort s (sort_of (term_at t id))) (all_same s (map sort_of (clause_at t ids))) e in
     All-cons (IsOf t s) id ids (All-head (λ i. IsIn t i) id ids there, sym (same_sort_is s (sort_of (term_at t id)) both.0))
     (of_sorts t s ids (All-tail (λ i. IsIn t i) id ids there) both.1)
 

@@ -20,7 +20,7 @@ pub record IsFound (t : TableView) (root : ℕ) (waiting found : List ℕ) (top 
   pub below : (q : ℕ) → In q waiting → q < top
   pub filled : (ts : List Term) → FillsAll ts (number_term t root) → (k : ℕ) → In k waiting ⊎ In k found → FillsAll ts (number_term t k)
 
-less_by : (q k : ℕ) → IsLtBy nat_cmp q k → q < k
+pub less_by : (q k : ℕ) → IsLtBy nat_cmp q k → q < k
 less_by q k h = subst (λ o. MatchOrdering o (q < k) (q ≡ k) (k < q)) h (ranks q k)
 
 -- an argument of a number's term came
@@ -51,7 +51,7 @@ found_first t root ids old new e adds names lt = record {
     new_below : (q : ℕ) → In q new → q < root
     new_below q i = all_in (λ a. a < root) q ids names.before (from_ids q i)
 
-waits : (k : ℕ) (waiting rest : List ℕ) → waiting ≡ rest ++ k ∷ [] → In k waiting
+pub waits : (k : ℕ) (waiting rest : List ℕ) → waiting ≡ rest ++ k ∷ [] → In k waiting
 waits k waiting rest popped = subst (In k) (sym popped) (in_second k rest (k ∷ []) (inl refl))
 
 pub k_there : (t : TableView) (root k : ℕ) (waiting rest found : List ℕ) (top : ℕ) → IsFound t root waiting found top → waiting ≡ rest ++ k ∷ [] → k < length t.terms
@@ -106,7 +106,3 @@ found_end t root waiting found top f e = record {
   where
     only : (q : ℕ) → In q waiting ⊎ In q found → In q found
     only q h = elim h [ inl i ↦ absurd (subst (In q) e i) | inr j ↦ j ]
-
-pub none_left : (keys : List ℕ) → (0 < length keys → ⊥) → keys ≡ []
-none_left [] h = refl
-none_left (k ∷ keys) h = absurd (h (omega arith))

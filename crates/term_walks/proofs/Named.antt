@@ -16,8 +16,8 @@ use Rattle.term_walks.proofs.Among.{in_place, at_in, in_all}
 abbrev pub no_number : TermId
 no_number = record { 0 = 0 }
 
-numbers_long : (ids : List TermId) → length (numbers_of ids) ≡ length ids
-numbers_long ids = length-map ids (λ (id : TermId). id.0)
+pub numbers_length : (ids : List TermId) → length (numbers_of ids) ≡ length ids
+numbers_length ids = length-map ids (λ (id : TermId). id.0)
 
 number_at : (ids : List TermId) (k : ℕ) → k < length ids → get_or (numbers_of ids) k 0 ≡ (get_or ids k no_number).0
 number_at ids k lt = get_or-map (λ (id : TermId). id.0) ids k no_number 0 lt
@@ -25,7 +25,7 @@ number_at ids k lt = get_or-map (λ (id : TermId). id.0) ids k no_number 0 lt
 -- the number of one of these is among theirs
 pub in_numbers : (ids : List TermId) (id : TermId) → Contains ids id → In id.0 (numbers_of ids)
 in_numbers ids id c =
-    let lt : c.0 < length (numbers_of ids) = omega (arith, c.1, numbers_long ids) in
+    let lt : c.0 < length (numbers_of ids) = omega (arith, c.1, numbers_length ids) in
     let is : get_or (numbers_of ids) c.0 0 ≡ id.0 = number_at ids c.0 c.1 ∙ ap (λ (x : TermId). x.0) (get_or_default ids c.0 no_number id c.1 ∙ c.2) in
     subst (λ n. In n (numbers_of ids)) is (at_in (numbers_of ids) c.0 lt)
 
@@ -33,7 +33,7 @@ in_numbers ids id c =
 pub of_number : (ids : List TermId) (q : ℕ) → In q (numbers_of ids) → (id : TermId) × Contains ids id × (id.0 ≡ q)
 of_number ids q i =
     let p = in_place q (numbers_of ids) i in
-    let lt : p.0 < length ids = omega (arith, p.1, numbers_long ids) in
+    let lt : p.0 < length ids = omega (arith, p.1, numbers_length ids) in
     (get_or ids p.0 no_number, Contains-get_or ids p.0 no_number lt, sym (number_at ids p.0 lt) ∙ p.2)
 
 -- the arguments of what is written

@@ -10,17 +10,12 @@ use Rattle.std.proofs.lemmas.Bool.Decides.{Decides-eqb}
 use Rattle.std.proofs.lemmas.List.{length_push, length-set, length-map, get_or-set_same, get_or-set_other, get_or-map, get_or_append_left, get_or_past, get_or_push}
 use Rattle.std.proofs.lemmas.Map.Steps.{length-le_from_distinct_below}
 use Rattle.std.proofs.lemmas.Map.Made.{IsDistinct-from_AllPairs, is_member-Decides}
+use Rattle.std.proofs.lemmas.Option.{none-some, same_Some}
 use Rattle.term_core.specs.declared.ids.TermId.{TermId}
 use Rattle.variable_order.specs.Orders.{IsEmpty}
 use Rattle.variable_order.specs.Rows.{no_variable, IsAt}
 use Rattle.variable_order.specs.Kept.{view_of, ArePlaces}
 use Rattle.variable_order.specs.declared.places.Places.TheInside.{Inside}
-
-none_some : (k : ℕ) → None ≡ Some k → ⊥
-none_some k e = cc
-
-some_same : (j k : ℕ) → Some j ≡ Some k → j ≡ k
-some_same j k e = cc
 
 -- the number of the variable at a place
 abbrev at : List TermId → ℕ → ℕ
@@ -53,14 +48,14 @@ none_in row places h empty v i = go (get_or places v.0 None) refl
 
 -- the row of no variables
 pub placed_first : ArePlaces [] []
-placed_first = record { there = λ k lt. absurd (omega (arith, lt)); only = λ v k e. absurd (none_some k e) }
+placed_first = record { there = λ k lt. absurd (omega (arith, lt)); only = λ v k e. absurd (none-some k e) }
 
 module _ (row : List TermId) (places : List (Option ℕ)) (h : ArePlaces row places) where
   -- what is in the row is a variable
   pub known : (k : ℕ) → k < length row → at row k < length places
   known k lt = elim (cases_lt (at row k) (length places)) [
     | inl below ↦ below
-    | inr le ↦ absurd (none_some k (sym (get_or_past places (at row k) None le) ∙ h.there k lt))
+    | inr le ↦ absurd (none-some k (sym (get_or_past places (at row k) None le) ∙ h.there k lt))
   ]
 
   pub known_at : (k : ℕ) (v : TermId) → k < length row → v ≡ get_or row k no_variable → v.0 < length places
@@ -71,7 +66,7 @@ module _ (row : List TermId) (places : List (Option ℕ)) (h : ArePlaces row pla
 
   -- no variable stands twice
   apart : (i j : ℕ) → i < length row → j < length row → at row i ≡ at row j → i ≡ j
-  apart i j il jl e = some_same i j (sym (h.there i il) ∙ ap (λ v. get_or places v None) e ∙ h.there j jl)
+  apart i j il jl e = same_Some i j (sym (h.there i il) ∙ ap (λ v. get_or places v None) e ∙ h.there j jl)
 
   -- so there are no more than variables
   pub bounded : length row ≤ length places
@@ -101,7 +96,7 @@ module _ (row : List TermId) (places : List (Option ℕ)) (h : ArePlaces row pla
     there = λ k lt. get_or_append_left places (None ∷ []) None (at row k) (known k lt) ∙ h.there k lt;
     only = λ v k e. elim (cases_lt v (length places)) [
       | inl lt ↦ h.only v k (sym (get_or_append_left places (None ∷ []) None v lt) ∙ e)
-      | inr le ↦ absurd (none_some k (sym (past v le) ∙ e))
+      | inr le ↦ absurd (none-some k (sym (past v le) ∙ e))
     ];
   }
     where
@@ -120,7 +115,7 @@ module _ (row : List TermId) (places : List (Option ℕ)) (h : ArePlaces row pla
         there k kl = elim (cases_lt k (length row)) [
           | inl old ↦
               let same : at (row ++ v ∷ []) k ≡ at row k = ap (λ (x : TermId). x.0) (get_or_append_left row (v ∷ []) no_variable k old) in
-              let other : at row k ≢ v.0 = λ e. none_some k (sym none ∙ ap (λ t. get_or places t None) (sym e) ∙ h.there k old) in
+              let other : at row k ≢ v.0 = λ e. none-some k (sym none ∙ ap (λ t. get_or places t None) (sym e) ∙ h.there k old) in
               ap (λ t. get_or (set places v.0 (Some (length row))) t None) same ∙ get_or-set_other places v.0 (at row k) (Some (length row)) None other ∙ h.there k old
           | inr le ↦
               let is : k ≡ length row = omega (arith, le, kl, length_push row v) in
@@ -131,7 +126,7 @@ module _ (row : List TermId) (places : List (Option ℕ)) (h : ArePlaces row pla
         only : (u k : ℕ) → get_or (set places v.0 (Some (length row))) u None ≡ Some k → (k < length (row ++ v ∷ [])) × (at (row ++ v ∷ []) k ≡ u)
         only u k e = elim (cases_eq u v.0) [
           | inl same ↦
-              let is : length row ≡ k = some_same (length row) k (sym (get_or-set_same places v.0 (Some (length row)) None lt) ∙ ap (λ t. get_or (set places v.0 (Some (length row))) t None) (sym same) ∙ e) in
+              let is : length row ≡ k = same_Some (length row) k (sym (get_or-set_same places v.0 (Some (length row)) None lt) ∙ ap (λ t. get_or (set places v.0 (Some (length row))) t None) (sym same) ∙ e) in
               (omega (arith, is, length_push row v), ap (λ (x : TermId). x.0) (get_or_push row v no_variable k is) ∙ sym same)
           | inr other ↦
               let o = h.only u k (sym (get_or-set_other places v.0 u (Some (length row)) None other) ∙ e) in
@@ -177,7 +172,7 @@ module _ (front : List TermId) (v : TermId) (places : List (Option ℕ)) (h : Ar
 
       only : (u k : ℕ) → get_or (set places v.0 None) u None ≡ Some k → (k < length front) × (at front k ≡ u)
       only u k e = elim (cases_eq u v.0) [
-        | inl same ↦ absurd (none_some k (sym (get_or-set_same places v.0 None None last_known) ∙ ap (λ t. get_or (set places v.0 None) t None) (sym same) ∙ e))
+        | inl same ↦ absurd (none-some k (sym (get_or-set_same places v.0 None None last_known) ∙ ap (λ t. get_or (set places v.0 None) t None) (sym same) ∙ e))
         | inr other ↦
             let o = h.only u k (sym (get_or-set_other places v.0 u None None other) ∙ e) in
             let lt : k < length front = elim (cases_lt k (length front)) [
@@ -256,11 +251,11 @@ module _ (row : List TermId) (places : List (Option ℕ)) (h : ArePlaces row pla
       only : (u k : ℕ) → get_or moved u None ≡ Some k → (k < length swapped) × (at swapped k ≡ u)
       only u k e = elim (cases_eq u b.0) [
         | inl eb ↦
-            let is : i ≡ k = some_same i k (sym moved_b ∙ ap (λ t. get_or moved t None) (sym eb) ∙ e) in
+            let is : i ≡ k = same_Some i k (sym moved_b ∙ ap (λ t. get_or moved t None) (sym eb) ∙ e) in
             (omega (arith, is, il, count), ap (at swapped) (sym is) ∙ row_at_i ∙ sym eb)
         | inr nb ↦ elim (cases_eq u a.0) [
           | inl ea ↦
-              let is : j ≡ k = some_same j k (sym moved_a ∙ ap (λ t. get_or moved t None) (sym ea) ∙ e) in
+              let is : j ≡ k = same_Some j k (sym moved_a ∙ ap (λ t. get_or moved t None) (sym ea) ∙ e) in
               (omega (arith, is, jl, count), ap (at swapped) (sym is) ∙ row_at_j ∙ sym ea)
           | inr na ↦
               let o = h.only u k (sym (moved_other u na nb) ∙ e) in

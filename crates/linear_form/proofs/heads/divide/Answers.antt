@@ -2,11 +2,12 @@
 use Rattle.std.proofs.Common.{sym, ap, ◌∙◌}
 use Rattle.spec_arithmetic.specs.Signs.{is_zero}
 use Rattle.spec_arithmetic.specs.Forms.{shared_out}
+use Rattle.spec_arithmetic.proofs.Zero.{not_zero}
 use Rattle.ratio128.specs.Meant.{fraction}
 use Rattle.term_core.specs.Tables.{term_at}
 use Rattle.linear_form.specs.Meant.{form_meant}
 use Rattle.linear_form.proofs.FormSteps.{makes_as}
-use Rattle.linear_form.proofs.HeadSteps.{variable_made, meant_empty, meant_other, quotient_variables, quotient_zero, quotient_number, not_zero}
+use Rattle.linear_form.proofs.HeadSteps.{variable_made, meant_empty, meant_other, quotient_variables, quotient_zero, quotient_number}
 use Rattle.linear_form.proofs.heads.divide.Goals as goal
 
 pub returns-then-not-is_constant-clause-comes : goal.returns-then-not-is_constant-clause-comes

@@ -1,13 +1,13 @@
 -- That what is read says what the negation of the literal does.
 use Rattle.std.proofs.Common.{[], ◌∷◌, ◌≡◌, ◌≢◌, length, get_or, List, sym, ap, ◌∙◌, arith}
 use Rattle.std.proofs.lemmas.List.{length-map}
+use Rattle.spec_text.proofs.General.{two_of_length}
 use Rattle.spec_sorts.specs.Terms.{pair, of}
 use Rattle.spec_arithmetic.specs.Contradictions.{negation_of}
 use Rattle.term_core.specs.declared.ids.TermId.{TermId}
 use Rattle.term_core.specs.Tables.{term_at, head_meant, clause_at}
 use Rattle.linear_form.specs.Literals.{negation_meant}
 use Rattle.linear_form.proofs.Negations.{of_literal, bare_atom, other_counts, no_numbers, numbers_say}
-use Rattle.linear_form.proofs.Shapes.{two_arguments}
 use Rattle.linear_form.proofs.literals.negation_of.Goals as goal
 
 pub returns-in_default-clause-means : goal.returns-in_default-clause-means
@@ -37,7 +37,7 @@ returns-then-not-are_numbers-clause-means c =
     let n = c.node-node.result.now in
     let d : TermId = record { 0 = 0 } in
     let slice = c.as_slice.result.now in
-    let two : slice ≡ get_or slice 0 d ∷ get_or slice 1 d ∷ [] = two_arguments slice d (omega (arith, c.in-len2.len_at_least, c.in-len2.len_below)) in
+    let two : slice ≡ get_or slice 0 d ∷ get_or slice 1 d ∷ [] = two_of_length slice d (omega (arith, c.in-len2.len_at_least, c.in-len2.len_below)) in
     let means : term_at t l.term ≡ pair (head_meant t n.head) (term_at t (get_or slice 0 d)) (term_at t (get_or slice 1 d)) =
     c.node-node.ensures.means ∙ ap (λ (ids : List TermId). of (head_meant t n.head) (clause_at t ids)) (sym c.as_slice.ensures ∙ two) in
     no_numbers (head_meant t n.head) (term_at t (get_or slice 0 d)) (term_at t (get_or slice 1 d)) l.positive c.if-not-are_numbers.ensures
@@ -50,7 +50,7 @@ returns-clause-means c =
     let n = c.node-node.result.now in
     let d : TermId = record { 0 = 0 } in
     let slice = c.as_slice.result.now in
-    let two : slice ≡ get_or slice 0 d ∷ get_or slice 1 d ∷ [] = two_arguments slice d (omega (arith, c.in-len2.len_at_least, c.in-len2.len_below)) in
+    let two : slice ≡ get_or slice 0 d ∷ get_or slice 1 d ∷ [] = two_of_length slice d (omega (arith, c.in-len2.len_at_least, c.in-len2.len_below)) in
     let means : term_at t l.term ≡ pair (head_meant t n.head) (term_at t (get_or slice 0 d)) (term_at t (get_or slice 1 d)) =
     c.node-node.ensures.means ∙ ap (λ (ids : List TermId). of (head_meant t n.head) (clause_at t ids)) (sym c.as_slice.ensures ∙ two) in
     ap (negation_meant t) c.said_by.ensures ∙ numbers_say t (get_or slice 0 d) (get_or slice 1 d) l.term c.if-not-are_numbers.ensures n.head l.positive means

@@ -1,8 +1,8 @@
 -- The greatest that waits is found next.
 use Rattle.std.proofs.Common.{true≢false, [], ◌∷◌, ◌++◌, reverse, ap, sym, subst, ◌∙◌}
 use Rattle.std.proofs.lemmas.List.{reverse-append}
+use Rattle.spec_text.proofs.General.{nothing_left}
 use Rattle.term_walks.specs.Orders.{Adds}
-use Rattle.term_walks.proofs.Found.{none_left}
 use Rattle.linear_form.specs.Walks.{IsOrder}
 use Rattle.linear_form.proofs.FoundTerms.{IsFound, found_first, found_more, found_end, k_there, k_below}
 use Rattle.linear_form.proofs.needed.order_of.Goals as goal
@@ -38,4 +38,4 @@ terms-preserved c =
 pub returns : goal.returns
 returns c =
     let t = c.args.table.now in
-    subst (IsOrder t c.args.id.0) (sym c.reverse.ensures.items) (found_end t c.args.id.0 c.terms.waiting.keys (reverse c.terms.order.items) c.terms.top c.terms.invariant.found (none_left c.terms.waiting.keys (λ lt. true≢false (sym (c.in_default.ensures.variant.1 lt)))))
+    subst (IsOrder t c.args.id.0) (sym c.reverse.ensures.items) (found_end t c.args.id.0 c.terms.waiting.keys (reverse c.terms.order.items) c.terms.top c.terms.invariant.found (nothing_left c.terms.waiting.keys (λ lt. true≢false (sym (c.in_default.ensures.variant.1 lt)))))

@@ -1,7 +1,8 @@
 -- One place after the other comes.
 use Rattle.std.proofs.Common.{◌<◌, length, sym, subst, ◌∙◌}
 use Rattle.term_walks.specs.Orders.{numbers_of, In}
-use Rattle.linear_form.proofs.PlacesUsed.{places_more, all_more, all_at, number_at, numbers_length}
+use Rattle.term_walks.proofs.Named.{numbers_length}
+use Rattle.linear_form.proofs.PlacesUsed.{places_more, all_more, all_at, number_at}
 use Rattle.linear_form.proofs.plan.add_places.Goals as goal
 
 pub place_of-requires-clause-there : goal.place_of-requires-clause-there

@@ -1,9 +1,10 @@
 -- That the sum has the part, or why not.
+use Rattle.std.proofs.lemmas.Result.{on_ok_weaker}
 use Rattle.ratio128.specs.Meant.{fraction}
 use Rattle.linear_form.specs.Meant.{form_meant}
 use Rattle.linear_form.specs.Sums.{part_meant, added_part}
 use Rattle.linear_form.proofs.Joining.{comes_err}
-use Rattle.linear_form.proofs.SumSteps.{added_comes, added_fails, on_ok}
+use Rattle.linear_form.proofs.SumSteps.{added_comes, added_fails}
 use Rattle.linear_form.proofs.sums.add_part.Goals as goal
 
 pub returns-in_err-scaled-clause-comes : goal.returns-in_err-scaled-clause-comes
@@ -20,4 +21,4 @@ returns-clause-comes c = λ t differ sum part.
     (c.in_ok-scaled.ensures.comes t) (c.combine.ensures.comes t differ sum (c.in_ok-scaled.ensures.there t part))
 
 pub returns-clause-there : goal.returns-clause-there
-returns-clause-there c = on_ok c.combine.result (λ there t sum part. there t sum (c.in_ok-scaled.ensures.there t part)) c.combine.ensures.there
+returns-clause-there c = on_ok_weaker c.combine.result (λ there t sum part. there t sum (c.in_ok-scaled.ensures.there t part)) c.combine.ensures.there

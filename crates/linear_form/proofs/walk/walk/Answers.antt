@@ -3,7 +3,7 @@ use Rattle.std.proofs.Common.{rules, ◌≡◌, ◌+◌, ◌<◌, ◌≤◌, IfO
 use Rattle.std.proofs.lemmas.List.{get_or_default}
 use Rattle.linear_form.specs.Walks.{needed_at, IsKnown, AreKnown}
 use Rattle.term_walks.proofs.Among.{at_in}
-use Rattle.linear_form.proofs.PlacesUsed.{numbers_length}
+use Rattle.term_walks.proofs.Named.{numbers_length}
 use Rattle.linear_form.proofs.ReadyForms.{left_known, left_next, left_before, end_fits, end_root, ready_more}
 use Rattle.linear_form.proofs.walk.walk.Goals as goal
 

@@ -1,6 +1,6 @@
 -- The term that is put has no parameter.
 use Rattle.std.proofs.Common.{sym, ◌∙◌}
-use Rattle.log_tests.proofs.Free.{free_node, free_put}
+use Rattle.term_core.proofs.Free.{free_node, free_put}
 use Rattle.log_tests.proofs.tables.put.Goals as goal
 
 pub returns-in_ok-put : goal.returns-in_ok-put

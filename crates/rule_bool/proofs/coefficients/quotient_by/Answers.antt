@@ -1,6 +1,6 @@
 -- That the divisor is not 0.
+use Rattle.spec_arithmetic.proofs.Zero.{not_zero}
 use Rattle.ratio128.specs.Meant.{fraction}
-use Rattle.rule_bool.proofs.CoefficientsRead.{not_zero}
 use Rattle.rule_bool.proofs.coefficients.quotient_by.Goals as goal
 
 pub div-requires : goal.div-requires

@@ -1,11 +1,12 @@
 use Rattle.std.proofs.Common.{◌≡◌, ◌∷◌, length, map, rules, ap, ◌∙◌}
 use Rattle.std.proofs.lemmas.List.{nil_from_length}
+use Rattle.spec_text.proofs.AnswerLaws.{told}
 use Rattle.ratio128.specs.Meant.{overflow}
 use Rattle.tableau.specs.Entries.{entry_of, entries_of}
 use Rattle.simplex_bounds.specs.Deltas.{pair_of}
 use Rattle.spec_strains.specs.Points.{deltas, point_in}
 use Rattle.spec_strains.specs.Strains.{StrainsValue}
-use Rattle.simplex_check.proofs.Summing.{summed_none, summed_more, summed_all, strains_product, strains_sum, over_first, told}
+use Rattle.simplex_check.proofs.Summing.{summed_none, summed_more, summed_all, strains_product, strains_sum, over_first}
 use Rattle.simplex_check.proofs.sums.sum_at.Goals as goal
 
 pub loop-e-init : goal.loop-e-init

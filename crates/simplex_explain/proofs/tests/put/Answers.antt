@@ -1,6 +1,6 @@
 -- The term that is put has no parameter.
 use Rattle.std.proofs.Common.{sym, ◌∙◌}
-use Rattle.simplex_explain.proofs.Free.{free_node, free_put}
+use Rattle.term_core.proofs.Free.{free_node, free_put}
 use Rattle.simplex_explain.proofs.tests.put.Goals as goal
 
 pub returns-in_ok-put : goal.returns-in_ok-put

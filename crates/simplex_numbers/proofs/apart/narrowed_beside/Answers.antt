@@ -1,9 +1,9 @@
 -- Each step passes two neighbours more, and in the end all are clear of each other.
 use Rattle.std.proofs.Common.{◌<◌, length, arith, refl, inl, map}
+use Rattle.spec_text.proofs.AnswerLaws.{told}
 use Rattle.ratio128.specs.Meant.{overflow}
 use Rattle.tableau.specs.Numbers.{number_of}
 use Rattle.simplex_bounds.specs.Deltas.{pair_of}
-use Rattle.simplex_check.proofs.Summing.{told}
 use Rattle.spec_strains.specs.Halves.{StrainsApart}
 use Rattle.simplex_numbers.proofs.Orders.{irreflexive, smaller_smaller}
 use Rattle.simplex_numbers.proofs.Neighbours.{clear_more, half_more, strains_more, none_among}

@@ -1,12 +1,12 @@
 -- Half of the number at which a pair comes to another one keeps it less, and so does each that is not greater.
 use Rattle.std.proofs.Common.{◌≡◌, sym, ◌∙◌, ap, true≢false}
 use Rattle.spec_numbers.specs.Bounds.{divided}
+use Rattle.spec_text.proofs.AnswerLaws.{told}
 use Rattle.spec_tableaux.specs.Fields.{is_positive}
 use Rattle.spec_tableaux.specs.Numbers.{Number, numbers}
 use Rattle.ratio128.specs.Meant.{overflow}
 use Rattle.tableau.specs.Numbers.{number_of}
 use Rattle.simplex_bounds.specs.Deltas.{pair_of}
-use Rattle.simplex_check.proofs.Summing.{told}
 use Rattle.spec_strains.specs.Halves.{is_less, IsSteeper, meeting, halfway, StrainsOrder, half}
 use Rattle.simplex_numbers.proofs.Orders.{irreflexive, level_stays, rises_not_zero, two_not_zero, steep_less, half_above, half_stays, steep_stays}
 use Rattle.simplex_numbers.proofs.Epsilons.{half_or}

@@ -1,5 +1,6 @@
 -- The number serves a variable more at each step, and in the end all.
 use Rattle.std.proofs.Common.{arith, ◌∙◌, ap, inl, map, subst}
+use Rattle.spec_text.proofs.AnswerLaws.{told}
 use Rattle.spec_tableaux.specs.Fields.{is_positive}
 use Rattle.spec_tableaux.specs.Spaces.{Pair}
 use Rattle.spec_tableaux.specs.Ranges.{Range}
@@ -11,7 +12,6 @@ use Rattle.simplex_bounds.specs.Held.{ranges_in}
 use Rattle.spec_strains.specs.Points.{point_in}
 use Rattle.spec_strains.specs.Halves.{is_less, StrainsRange, StrainsNumber}
 use Rattle.spec_strains.specs.Halves as halves
-use Rattle.simplex_check.proofs.Summing.{told}
 use Rattle.simplex_reasons.proofs.Distances.{one_above}
 use Rattle.simplex_numbers.proofs.Orders.{irreflexive, not_above}
 use Rattle.simplex_numbers.proofs.Keeping.{off_after, kept_after}

@@ -1,5 +1,6 @@
 -- Where the rule is stuck, the bounds contradict the row.
 use Rattle.std.proofs.Common.{subst}
+use Rattle.spec_text.proofs.AnswerLaws.{told}
 use Rattle.spec_tableaux.specs.Rows.{row_of}
 use Rattle.spec_tableaux.specs.LeastVariable.{goes_up}
 use Rattle.tableau.specs.Views.{IsTableau}
@@ -11,7 +12,6 @@ use Rattle.simplex_reasons.specs.Reasons.{footing, StrainsReasons, OnWide}
 use Rattle.simplex_reasons.proofs.Distances.{stuck_contradicts}
 use Rattle.simplex_reasons.proofs.Pieces.{LimitLaws}
 use Rattle.simplex_reasons.proofs.Refuting.{refutes}
-use Rattle.simplex_reasons.proofs.Telling.{told}
 use Rattle.simplex_reasons.proofs.reasons.row_reasons.Goals as goal
 
 pub stuck_reasons-requires-clause-factors : goal.stuck_reasons-requires-clause-factors

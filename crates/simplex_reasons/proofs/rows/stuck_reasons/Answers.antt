@@ -1,5 +1,6 @@
 -- Where the rule is stuck, the bounds contradict the row.
 use Rattle.std.proofs.Common.{◌≡◌, List, sym, ◌∙◌, ap, subst}
+use Rattle.spec_text.proofs.AnswerLaws.{told}
 use Rattle.spec_tableaux.specs.Rows.{Entry, Row, row_of}
 use Rattle.spec_tableaux.specs.Ranges.{below}
 use Rattle.spec_tableaux.specs.LeastVariable.{goes_up}
@@ -12,7 +13,7 @@ use Rattle.simplex_check.specs.Boards.{state_of}
 use Rattle.spec_causes.specs.Reasons.{with_basic}
 use Rattle.simplex_reasons.specs.Reasons.{footing, StrainsReasons, OnWide}
 use Rattle.simplex_reasons.proofs.Distances.{row_contradiction}
-use Rattle.simplex_reasons.proofs.Telling.{told, of_held}
+use Rattle.simplex_reasons.proofs.Telling.{of_held}
 use Rattle.simplex_reasons.proofs.rows.stuck_reasons.Goals as goal
 
 pub reasons_for-requires-clause-stopped : goal.reasons_for-requires-clause-stopped

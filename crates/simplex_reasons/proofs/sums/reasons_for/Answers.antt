@@ -1,6 +1,7 @@
 -- The reason of an entry comes after those of the entries before it.
 use Rattle.std.proofs.Common.{◌≡◌, [], ◌∷◌, ◌++◌, List, rules, ap, sym, ◌∙◌, subst}
 use Rattle.std.proofs.lemmas.List.{nil_from_length}
+use Rattle.spec_text.proofs.AnswerLaws.{told}
 use Rattle.spec_tableaux.specs.Numbers.{Number, numbers}
 use Rattle.ratio128.specs.Meant.{overflow}
 use Rattle.tableau.specs.Numbers.{number_of}
@@ -9,7 +10,7 @@ use Rattle.simplex_explain.specs.declared.weighted.Weighted.{Weighted}
 use Rattle.simplex_reasons.specs.declared.stop.ReasonStop.TheVariants as stops
 use Rattle.spec_causes.specs.Reasons.{with_basic}
 use Rattle.simplex_reasons.specs.Reasons.{footing, IsReason, StrainsReason, StrainsReasons, OnWide}
-use Rattle.simplex_reasons.proofs.Telling.{told, Told, told_first, told_more, told_all, told_strain, first_strain}
+use Rattle.simplex_reasons.proofs.Telling.{Told, told_first, told_more, told_all, told_strain, first_strain}
 use Rattle.simplex_reasons.proofs.sums.reasons_for.Goals as goal
 
 pub returns-in_err-first-clause-wide : goal.returns-in_err-first-clause-wide

@@ -1,13 +1,14 @@
 -- The bound is the strongest on its side, and its literal has a place.
 use Rattle.std.proofs.Common.{refl, ap, sym, ◌∙◌}
 use Rattle.spec_numbers.specs.Bounds.{divided}
+use Rattle.spec_text.proofs.AnswerLaws.{told}
 use Rattle.spec_tableaux.specs.Numbers.{Number}
 use Rattle.ratio128.specs.Meant.{fraction, overflow}
 use Rattle.tableau.specs.Entries.{entry_of}
 use Rattle.simplex_bounds.specs.Held.{strongest}
 use Rattle.simplex_atoms.specs.Places.{relation_by}
 use Rattle.simplex_reasons.specs.Reasons.{footing, weight_by, StrainsReason}
-use Rattle.simplex_reasons.proofs.Telling.{place_there, told}
+use Rattle.simplex_reasons.proofs.Telling.{place_there}
 use Rattle.simplex_reasons.proofs.weights.reason_for.Goals as goal
 
 pub unreachable-requires-in_default-place : goal.unreachable-requires-in_default-place

@@ -1,8 +1,8 @@
 -- A definition before terms, by its parameters.
-use Rattle.std.proofs.Common.{◌≡◌, Bool, true, false, arith, length, map, List, [], ◌∷◌, refl, sym, ap, ◌∙◌, subst}
+use Rattle.std.proofs.Common.{◌≡◌, Bool, true, false, arith, length, map, List, [], sym, ap, ◌∙◌, subst}
 use Rattle.std.specs.Prelude.{Ok}
 use Rattle.std.proofs.lemmas.Bool.Decides.{nat_tests}
-use Rattle.std.proofs.lemmas.List.{length-map}
+use Rattle.std.proofs.lemmas.List.{length-map, nil_from_length}
 use Rattle.spec_sorts.specs.Terms.{sort_of, same_sorts, is_sorted, filled}
 use Rattle.spec_sorts.specs.Signatures.{Definition}
 use Rattle.spec_reading.specs.Reading.{sorts_taken}
@@ -51,11 +51,6 @@ returns-then-not-have_sorts c =
           (taken t m d ids c.deref.result.now c.have_sorts.result false is c.deref.ensures.value c.have_sorts.ensures c.if-not-have_sorts.true));
     }
 
--- no sorts where there are as many as of no parameters
-none_there : {X : Type 0} (xs : List X) → length xs ≡ 0 → xs ≡ []
-none_there [] e = refl
-none_there (x ∷ xs) e = absurd (omega (arith, e))
-
 pub returns-then-is_empty : goal.returns-then-is_empty
 returns-then-is_empty c =
     let t = c.args.table.now in
@@ -64,7 +59,7 @@ returns-then-is_empty c =
     let u = c.requires.usable in
     λ d is.
     let count : length ids ≡ length m.parameters.items = omega (arith, c.if-ids-len.false, c.len.ensures, m.parameters.ok.0) in
-    let sorts : sorts_taken u.0 ≡ [] = none_there (sorts_taken u.0) (long t m u.0 u.1 ∙ sym count ∙ grind (arith, nat_tests, c.is_empty.ensures, c.if-is_empty.true)) in
+    let sorts : sorts_taken u.0 ≡ [] = nil_from_length (sorts_taken u.0) (long t m u.0 u.1 ∙ sym count ∙ grind (arith, nat_tests, c.is_empty.ensures, c.if-is_empty.true)) in
     record {
       keeps = keeps_same t;
       ends = (

@@ -2,9 +2,8 @@
 use Rattle.std.proofs.Common.{◌≡◌, Bool, true, false, not, [], ◌∷◌, ◌++◌, All, refl, sym, ap, ◌∙◌, subst}
 use Rattle.std.specs.Prelude.{Err}
 use Rattle.std.proofs.lemmas.List.Elements.{All-nil}
-use Rattle.std.proofs.lemmas.Bool.{false≢true}
+use Rattle.std.proofs.lemmas.Bool.{false≢true, not-true}
 use Rattle.spec_reading.specs.Reading.{naming}
-use Rattle.spec_reading.proofs.Closed.{not_true}
 use Rattle.smt_sexpr.specs.Views.{word_view}
 use Rattle.spec_sorts.specs.Signatures.{with_definitions}
 use Rattle.sort_check.specs.Walks.{AllMean}
@@ -29,7 +28,7 @@ returns-then-not-term-clause-ends c =
     let x = word_view c.args.word in
     let t = c.args.table.now in
     λ s text h.
-    may_not w s t (annotated_meant t text c.args.term) x c.in-Ok.name.now (sym (fresh_is w (is_taken w s t (annotated_meant t text c.args.term) x) c.is_known-taken.result x (c.is_known-taken.ensures t s h)) ∙ sym c.in-Ok.ensures) (not_true c.args.term.may_name c.if-not-term.true)
+    may_not w s t (annotated_meant t text c.args.term) x c.in-Ok.name.now (sym (fresh_is w (is_taken w s t (annotated_meant t text c.args.term) x) c.is_known-taken.result x (c.is_known-taken.ensures t s h)) ∙ sym c.in-Ok.ensures) (not-true c.args.term.may_name c.if-not-term.true)
     ∙ ap (λ f. Err (located_of f)) (sym c.fault_at.ensures)
 
 pub returns-then-not-term-clause-widens : goal.returns-then-not-term-clause-widens

@@ -1,5 +1,5 @@
 use Rattle.std.proofs.Common.{rules, ◌≡◌, ◌++◌, [], ◌∷◌, ap, ◌∙◌, sym, arith, subst}
-use Rattle.std.proofs.lemmas.List.{map-append}
+use Rattle.std.proofs.lemmas.List.{map-append, nil_from_length}
 use Rattle.spec_tableaux.specs.Rows as definitions
 use Rattle.spec_tableaux.specs.Numbers.{numbers}
 use Rattle.tableau.specs.Numbers.{number_of}
@@ -7,7 +7,7 @@ use Rattle.tableau.specs.Entries.{entry_of, entries_of}
 use Rattle.ratio128.specs.Meant.{overflow}
 use Rattle.tableau.specs.Sums.{turned, AreAbove, StrainsCombined}
 use Rattle.tableau.proofs.Telling.{told_wide, combined_product, combined_sum}
-use Rattle.tableau.proofs.Merging.{step_first, step_second, step_both, above_all, length-zero}
+use Rattle.tableau.proofs.Merging.{step_first, step_second, step_both, above_all}
 use Rattle.tableau.proofs.Turns.{left_later}
 use Rattle.tableau.proofs.sums.merge_one.Goals as goal
 
@@ -17,7 +17,7 @@ returns-in_err-product-clause-wide c = told_wide (StrainsCombined c.args.minus (
 
 pub returns-in_default-clause-merges : goal.returns-in_default-clause-merges
 returns-in_default-clause-merges c =
-    let none : entries_of c.args.es.now ≡ [] = ap entries_of (length-zero c.args.es.now c.in_default.ensures.cases) in
+    let none : entries_of c.args.es.now ≡ [] = ap entries_of (nil_from_length c.args.es.now c.in_default.ensures.cases) in
     step_second numbers (turned c.args.minus) (number_of c.args.k) (entry_of c.args.g) (entries_of c.args.es.now) (entries_of c.args.out.now.items) (entries_of c.append.new.out.items)
     (subst (AreAbove c.args.g.variable) (sym none) tt)
     (c.in_ok-append.ensures ∙ ap (λ z. entries_of c.args.out.now.items ++ definitions.with_entry numbers c.args.g.variable z []) (c.turned_by.ensures ∙ ap (turned c.args.minus) c.in_ok-product.ensures.ok))

@@ -1,8 +1,9 @@
 -- The greatest that waits is found next.
 use Rattle.std.proofs.Common.{true≢false, [], ◌∷◌, ◌++◌, reverse, ap, sym, subst, ◌∙◌}
 use Rattle.std.proofs.lemmas.List.{reverse-append}
+use Rattle.spec_text.proofs.General.{nothing_left}
 use Rattle.term_walks.specs.Orders.{IsOrder}
-use Rattle.term_walks.proofs.Found.{IsFound, found_first, found_more, found_end, k_there, k_below, none_left}
+use Rattle.term_walks.proofs.Found.{IsFound, found_first, found_more, found_end, k_there, k_below}
 use Rattle.term_walks.proofs.order.order_of.Goals as goal
 
 pub terms-init : goal.terms-init
@@ -36,4 +37,4 @@ terms-preserved c =
 pub returns : goal.returns
 returns c =
     let t = c.args.table.now in
-    subst (IsOrder t c.args.root.0) (sym c.reverse.ensures.items) (found_end t c.args.root.0 c.terms.waiting.keys (reverse c.terms.order.items) c.terms.top c.terms.invariant.found (none_left c.terms.waiting.keys (λ lt. true≢false (sym (c.in_default.ensures.variant.1 lt)))))
+    subst (IsOrder t c.args.root.0) (sym c.reverse.ensures.items) (found_end t c.args.root.0 c.terms.waiting.keys (reverse c.terms.order.items) c.terms.top c.terms.invariant.found (nothing_left c.terms.waiting.keys (λ lt. true≢false (sym (c.in_default.ensures.variant.1 lt)))))

@@ -1,14 +1,15 @@
 -- The sides are where the literal says, or they are joined by it.
 use Rattle.std.proofs.Common.{true≢false, inl, refl, sym, ◌∙◌}
+use Rattle.std.specs.Cmp.{booleans_Decides}
 use Rattle.congruence_relation.specs.Relation.{equates}
-use Rattle.congruence_closure.proofs.Turning.{tests_same, tests_apart, ends_low, given_as_held}
+use Rattle.congruence_closure.proofs.Turning.{tests_apart, ends_low, given_as_held}
 use Rattle.congruence_closure.proofs.parts.Parts.give_sides.Goals as goal
 
 pub returns-then-linked-lit-clause-ok : goal.returns-then-linked-lit-clause-ok
 returns-then-linked-lit-clause-ok c = (
   refl,
   given_as_held c.args.self.now.now c.are_kept.ensures.kept c.args.lit c.requires.decided c.args.a c.args.b c.requires.sides c.same-linked.result c.same-linked.ensures
-      (tests_same c.same-linked.result c.args.lit.positive c.if-linked-lit.true),
+      ((booleans_Decides c.same-linked.result c.args.lit.positive).0 c.if-linked-lit.true),
 )
 
 pub join-requires-clause-a : goal.join-requires-clause-a

@@ -1,4 +1,5 @@
 use Rattle.std.proofs.Common.{◌≡◌, ℕ, ap, sym, ◌∙◌, refl}
+use Rattle.std.proofs.lemmas.Result.{on_ok_weaker}
 use Rattle.ratio128.specs.Meant.{overflow}
 use Rattle.spec_tableaux.specs.Ranges.{below, settled_value}
 use Rattle.spec_tableaux.specs.LeastVariable.{moved}
@@ -9,7 +10,7 @@ use Rattle.simplex_bounds.specs.Held.{ranges_in}
 use Rattle.simplex_check.specs.Boards.{state_of}
 use Rattle.spec_strains.specs.Strains.{Strains, StrainsMove}
 use Rattle.simplex_check.proofs.Following.{first_comes}
-use Rattle.simplex_check.proofs.Shifts.{violates_at, goal_at, gap_at, strains_difference, strains_settling, on_ok, reached_by}
+use Rattle.simplex_check.proofs.Shifts.{violates_at, goal_at, gap_at, strains_difference, strains_settling, reached_by}
 use Rattle.simplex_check.proofs.board.Board.settle_one.Goals as goal
 
 pub returns-in_err-d-clause-wide : goal.returns-in_err-d-clause-wide
@@ -30,8 +31,8 @@ pub returns-clause-settled : goal.returns-clause-settled
 returns-clause-settled c =
     let v = point_in c.args.self.now.values in
     let rs = c.args.self.now.tableau.rows in
-    on_ok ((y : ℕ) → point_in c.shift.new.self.values y ≡ moved deltas rs c.args.y (pair_of c.in_ok-d.d) v y)
-    (point_in c.shift.new.self.values c.args.y ≡ settled_value deltas (ranges_in c.args.bounds.now.held c.args.y) (v c.args.y)) c.shift.result
+    on_ok_weaker {P = (y : ℕ) → point_in c.shift.new.self.values y ≡ moved deltas rs c.args.y (pair_of c.in_ok-d.d) v y}
+    {Q = point_in c.shift.new.self.values c.args.y ≡ settled_value deltas (ranges_in c.args.bounds.now.held c.args.y) (v c.args.y)} c.shift.result
     (λ h. h c.args.y
     ∙ sym (first_comes rs c.args.y (pair_of c.in_ok-d.d) v (pair_of c.in-Some.bound) c.requires.nonbasic
     (reached_by (pair_of c.in-Some.bound) (pair_of c.value-value.result) (pair_of c.in_ok-d.d) c.in_ok-d.ensures.exact ∙ ap (λ z. deltas.plus z (pair_of c.in_ok-d.d)) c.value-value.ensures))
