@@ -1,12 +1,12 @@
 -- That each term which is printed for an answer can be read back: it is of a clause that the search began with, of a lemma, or of a clause that was learned.
-use Rattle.std.proofs.Common.{◌≡◌, ℕ, List, [], ◌∷◌, ◌++◌, length, All, Contains, inl, inr, refl, sym, subst, ◌+◌}
+use Rattle.std.proofs.Common.{ℕ, List, [], ◌∷◌, ◌++◌, length, All, Contains, inl, inr, sym, subst, ◌+◌}
 use Rattle.std.proofs.lemmas.Bool.{cases_lt}
 use Rattle.std.proofs.lemmas.List.{append-nil, get_or_past}
 use Rattle.std.proofs.lemmas.List.Elements.{All-contains, Contains-get_or, Contains-append_left, Contains-append_right, Contains-append_cases, Contains-push_cases}
 use Rattle.spec_text.proofs.Members.{first, none, only, to_image}
 use Rattle.spec_sorts.specs.Terms.{True, Not, Term, app, nil, cons, of}
 use Rattle.spec_sorts.specs.Literals.{Clause, Literal, literal_of, literals_of}
-use Rattle.spec_derivations.specs.Problems.{Problem, terms_of_problem}
+use Rattle.spec_derivations.specs.Problems.{Problem, known_terms}
 use Rattle.spec_derivations.specs.Derivations.{Inference, «assumption», by_rule, Derivation, conclusion, inference_at, conclusion_at, no_inference}
 use Rattle.spec_derivations.specs.Orders.{whole_terms, whole_clauses}
 use Rattle.spec_derivations.specs.Lemmas.{IsMadeOf, given, is_true, IsLemma}
@@ -36,13 +36,13 @@ AreOverSearchTerms = (p : Problem) (c : Clause) (l : Literal) → Contains (whol
 
 -- what lemmas and learned clauses are over can be read
 abbrev pub AreMadeReadable : Type 0
-AreMadeReadable = (p : Problem) → All IsReadableWhole (terms_of_problem p) → (t : Term) → IsMadeOf (whole_terms p) t → IsReadableWhole t
+AreMadeReadable = (p : Problem) → All IsReadableWhole (known_terms p) → (t : Term) → IsMadeOf (whole_terms p) t → IsReadableWhole t
 
 abbrev pub AreAtomsReadable : Type 0
-AreAtomsReadable = (p : Problem) → p.earlier ≡ [] → All IsReadableWhole (terms_of_problem p) → (t : Term) → IsAtomOf p t → IsReadableWhole t
+AreAtomsReadable = (p : Problem) → All IsReadableWhole (known_terms p) → (t : Term) → IsAtomOf p t → IsReadableWhole t
 
 module _ (made : AreMadeReadable) (atoms_in : AreAtomsReadable) (ts : List Term) (readable : All IsReadableWhole ts) where
-  whole : All IsReadableWhole (terms_of_problem (asserting ts))
+  whole : All IsReadableWhole (known_terms (asserting ts))
   whole = subst (All IsReadableWhole) (sym (append-nil ts)) readable
 
   made_readable : (t : Term) → IsMadeOf (whole_terms (asserting ts)) t → IsReadableWhole t
@@ -77,7 +77,7 @@ module _ (made : AreMadeReadable) (atoms_in : AreAtomsReadable) (ts : List Term)
 
     learned_readable : AreReadableLists (learned ++ [] ∷ [])
     learned_readable c i l j = elim (Contains-push_cases learned [] c i) [
-      | inl k ↦ atoms_in (asserting ts) refl whole l.atom (All-contains (λ (m : Literal). IsAtomOf (asserting ts) m.atom) c l (All-contains (IsOverAtoms (asserting ts)) learned c atoms k) j)
+      | inl k ↦ atoms_in (asserting ts) whole l.atom (All-contains (λ (m : Literal). IsAtomOf (asserting ts) m.atom) c l (All-contains (IsOverAtoms (asserting ts)) learned c atoms k) j)
       | inr e ↦ absurd (none l (subst (λ (ls : List Literal). Contains ls l) (sym e) j))
     ]
 

@@ -9,7 +9,7 @@ use Rattle.spec_sorts.specs.WellSorted.{IsWellSorted}
 use Rattle.spec_sorts.specs.Literals.{Clause}
 use Rattle.spec_sorts.specs.Subsets.{AreAmong, AreOnce}
 use Rattle.spec_proofs.specs.Resolution.{IsWithin}
-use Rattle.spec_derivations.specs.Examples.{asserting}
+use Rattle.spec_derivations.specs.Problems.{Problem}
 use Rattle.spec_derivations.specs.Orders.{ordered_terms, whole_terms, whole_clauses_of}
 use Rattle.term_core.specs.declared.ids.TermId.{TermId}
 use Rattle.term_core.specs.Tables.{TableView, term_at, AreIn, clause_at}
@@ -42,18 +42,18 @@ alone_more t roots k d lt =
 same_clauses : (us vs : List Term) (units : List Clause) → AreAmong us vs → IsWithin (units ++ flat_map whole_clauses_of us) (units ++ flat_map whole_clauses_of vs)
 same_clauses us vs units among = within_append units (flat_map whole_clauses_of us) units (flat_map whole_clauses_of vs) (λ c c_in. c_in) (within_flat whole_clauses_of us vs among)
 
--- the marked terms are those of a search of terms, each once
-pub record AreMarksOfSearch (t : TableView) (terms : List Term) (marks : List Bool) : Type 0 where
+-- the marked terms are those of a search of a problem, each once
+pub record AreMarksOfSearch (t : TableView) (p : Problem) (marks : List Bool) : Type 0 where
   pub short : length marks ≤ length t.terms
-  pub each : AreAmong (whole_terms (asserting terms)) (marked marks t.terms)
-  pub only : AreAmong (marked marks t.terms) (whole_terms (asserting terms))
+  pub each : AreAmong (whole_terms p) (marked marks t.terms)
+  pub only : AreAmong (marked marks t.terms) (whole_terms p)
   pub once : AreOnce (marked marks t.terms)
 
 -- the numbers are those of the clauses of the search
-pub has_clauses : (t u : TableView) (log : List Logged) (terms : List Term) (marks : List Bool) (steps : List StepId) → AreMarksOfSearch t terms marks → AreOnce (whole_terms (asserting terms)) → Says u log steps (alone terms ++ flat_marked whole_clauses_of marks t.terms) → HasClauses u log terms steps
-has_clauses t u log terms marks steps m once says =
-    let units = alone terms in
-    let all = whole_terms (asserting terms) in
+pub has_clauses : (t u : TableView) (log : List Logged) (p : Problem) (marks : List Bool) (steps : List StepId) → AreMarksOfSearch t p marks → AreOnce (whole_terms p) → Says u log steps (alone p.asserted ++ flat_marked whole_clauses_of marks t.terms) → HasClauses u log p steps
+has_clauses t u log p marks steps m once says =
+    let units = alone p.asserted in
+    let all = whole_terms p in
     let clauses = flat_marked whole_clauses_of marks t.terms in
     let same : map (stated u log) steps ≡ units ++ clauses = says.same in
     record {
@@ -67,17 +67,17 @@ has_clauses t u log terms marks steps m once says =
     }
 
 -- the marked subterms of the terms of which a search speaks are its terms
-pub marks_of_search : (t : TableView) (terms : List Term) (ids : List TermId) (marks : List Bool) → AreOrdered t terms ids → AreMarksOf t ids marks → AreMarksOfSearch t terms marks
-marks_of_search t terms ids marks ordered m = record {
+pub marks_of_search : (t : TableView) (p : Problem) (ids : List TermId) (marks : List Bool) → AreOrdered t p ids → AreMarksOf t ids marks → AreMarksOfSearch t p marks
+marks_of_search t p ids marks ordered m = record {
   short = m.short;
-  each = λ u u_in. m.each u (subterms_among (ordered_terms (asserting terms)) (clause_at t ids) ordered.each u u_in);
-  only = λ u u_in. subterms_among (clause_at t ids) (ordered_terms (asserting terms)) ordered.only u (m.only u u_in);
+  each = λ u u_in. m.each u (subterms_among (ordered_terms p) (clause_at t ids) ordered.each u u_in);
+  only = λ u u_in. subterms_among (clause_at t ids) (ordered_terms p) ordered.only u (m.only u u_in);
   once = m.once;
 }
 
 -- and their numbers are those of its terms, in a wider table too
-pub are_search_terms : (t u : TableView) → Widens t u → (terms : List Term) (ids : List TermId) (marks : List Bool) → AreMarksOfSearch t terms marks → All (IsWellSorted t.symbols []) (marked marks t.terms) → AreMarked marks ids → AreSearchTerms u terms ids
-are_search_terms t u wider terms ids marks m sorted listed =
+pub are_search_terms : (t u : TableView) → Widens t u → (p : Problem) (ids : List TermId) (marks : List Bool) → AreMarksOfSearch t p marks → All (IsWellSorted t.symbols []) (marked marks t.terms) → AreMarked marks ids → AreSearchTerms u p ids
+are_search_terms t u wider p ids marks m sorted listed =
     let there : AreIn t ids = λ k d lt. omega (arith, listed.below k d lt, m.short) in
     let old : clause_at t ids ≡ marked marks t.terms = listed.terms t.terms m.short in
     let same : clause_at u ids ≡ marked marks t.terms = clause_at-kept t u wider.terms ids there ∙ old in

@@ -6,7 +6,7 @@ use Rattle.spec_sorts.specs.Subterms.{subterms_of}
 use Rattle.spec_sorts.specs.Subsets.{AreAmong}
 use Rattle.spec_sorts.proofs.LeastSubterms.{least_of}
 use Rattle.spec_derivations.specs.Base.{spoken_terms, search_terms}
-use Rattle.spec_derivations.specs.Examples.{asserting}
+use Rattle.spec_derivations.specs.Problems.{Problem}
 use Rattle.spec_derivations.specs.Orders.{order_facts}
 use Rattle.term_core.specs.declared.ids.TermId.{TermId}
 use Rattle.term_core.specs.Tables.{TableView, clause_at}
@@ -19,12 +19,12 @@ pub subterms_among : (ts us : List Term) → AreAmong ts us → AreAmong (subter
 subterms_among ts us among = (least_of ts).least (subterms_of us) (λ t t_in. (least_of us).there t (among t t_in)) (least_of us).closed
 
 -- after the terms of any search, the order facts of its equalities of numbers
-pub are_ordered : (t u : TableView) (terms us : List Term) (some all : List TermId) → AreSpoken t terms some → AreAmong (subterms_of (clause_at t some)) us → AreAmong us (subterms_of (clause_at t some))
-    → HasMore t u some all (flat_map order_facts us) → AreOrdered u terms all
-are_ordered t u terms us some all spoken each only more =
-    let said = spoken_terms (asserting terms) in
+pub are_ordered : (t u : TableView) (p : Problem) (us : List Term) (some all : List TermId) → AreSpoken t p some → AreAmong (subterms_of (clause_at t some)) us → AreAmong us (subterms_of (clause_at t some))
+    → HasMore t u some all (flat_map order_facts us) → AreOrdered u p all
+are_ordered t u p us some all spoken each only more =
+    let said = spoken_terms p in
     let found = clause_at t some in
-    let wanted = search_terms (asserting terms) in
+    let wanted = search_terms p in
     let there : AreAmong wanted us = λ w w_in. each w (subterms_among said found spoken.each w w_in) in
     let back : AreAmong us wanted = λ w w_in. subterms_among found said spoken.only w (only w w_in) in
     record {

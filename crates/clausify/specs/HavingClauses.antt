@@ -1,21 +1,20 @@
--- The clauses of a search for terms in a log, over linear arithmetic too. Source: Tseitin 1968.
+-- The clauses of a search of a problem in a log, over linear arithmetic too. Source: Tseitin 1968.
 use Rattle.std.specs.Prelude.{◌≡◌, ◌<◌, List, length, map, All}
-use Rattle.spec_sorts.specs.Terms.{Term}
 use Rattle.spec_proofs.specs.Resolution.{IsWithin}
-use Rattle.spec_derivations.specs.Examples.{asserting}
+use Rattle.spec_derivations.specs.Problems.{Problem}
 use Rattle.spec_derivations.specs.Orders.{whole_clauses}
 use Rattle.term_core.specs.Tables.{TableView}
 use Rattle.proof_log.specs.declared.premises.StepId.{StepId}
 use Rattle.proof_log.specs.Logs.{Logged, stated}
 
--- The numbers are those of the clauses that a search of terms begins with and of no others, and are as many: those of any search, and
+-- The numbers are those of the clauses that a search of a problem begins with and of no others, and are as many: those of any search, and
 -- those of the orders of equalities of numbers. Where clauses repeat, which of them have how many numbers is left open.
-pub record HasClauses (t : TableView) (log : List Logged) (terms : List Term) (steps : List StepId) : Type 0 where
+pub record HasClauses (t : TableView) (log : List Logged) (p : Problem) (steps : List StepId) : Type 0 where
   -- each is a number of the log
   pub there : All (λ s. s.0 < length log) steps
   -- each clause of the search has a number
-  pub base : IsWithin (whole_clauses (asserting terms)) (map (stated t log) steps)
+  pub base : IsWithin (whole_clauses p) (map (stated t log) steps)
   -- each number has a clause of the search
-  pub only : IsWithin (map (stated t log) steps) (whole_clauses (asserting terms))
+  pub only : IsWithin (map (stated t log) steps) (whole_clauses p)
   -- there are as many numbers as clauses of the search, equal ones counted each
-  pub count : length steps ≡ length (whole_clauses (asserting terms))
+  pub count : length steps ≡ length (whole_clauses p)

@@ -5,7 +5,7 @@ use Rattle.spec_sorts.specs.Terms.{Number, Equal, AtMost, Term, pair, negated, s
 use Rattle.spec_sorts.specs.Literals.{Clause}
 use Rattle.spec_sorts.specs.Subsets.{AreAmong}
 use Rattle.spec_arithmetic.specs.Contradictions.{Coefficient, given}
-use Rattle.spec_derivations.specs.Examples.{asserting}
+use Rattle.spec_derivations.specs.Problems.{Problem}
 use Rattle.spec_derivations.specs.Orders.{order_facts, order_clauses, ordered_terms}
 use Rattle.ratio128.specs.declared.ratio.Ratio.{Ratio}
 use Rattle.ratio128.specs.Meant.{fraction}
@@ -44,12 +44,11 @@ order_clause t id a b = negated (term_at t id) ∷ order_at t a b ∷ []
 abbrev pub arguments_by : Ratio → List Coefficient
 arguments_by w = given (fraction w) ∷ given one_fraction ∷ []
 
--- The numbers are those of formulas: the terms of which a search over linear arithmetic of these asserted terms speaks with their
--- subterms.
-pub record AreOrdered (t : TableView) (terms : List Term) (ids : List TermId) : Type 0 where
+-- The numbers are those of formulas: the terms of which a search of a problem over linear arithmetic speaks with their subterms.
+pub record AreOrdered (t : TableView) (p : Problem) (ids : List TermId) : Type 0 where
   -- each is the number of a formula
   pub formulas : AreFormulasIn t ids
   -- each such term has a number
-  pub each : AreAmong (ordered_terms (asserting terms)) (clause_at t ids)
+  pub each : AreAmong (ordered_terms p) (clause_at t ids)
   -- each number has such a term
-  pub only : AreAmong (clause_at t ids) (ordered_terms (asserting terms))
+  pub only : AreAmong (clause_at t ids) (ordered_terms p)

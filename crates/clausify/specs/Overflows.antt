@@ -1,17 +1,15 @@
 -- Where the orders of an equality of numbers leave the bound on numbers.
-use Rattle.std.specs.Prelude.{List}
 use Rattle.spec_numbers.specs.Bounds.{Overflow}
-use Rattle.spec_sorts.specs.Terms.{Term}
 use Rattle.spec_causes.specs.Checks.{IsOverflowAmong}
-use Rattle.spec_derivations.specs.Examples.{asserting}
+use Rattle.spec_derivations.specs.Problems.{Problem}
 use Rattle.spec_derivations.specs.Orders.{whole_terms}
 use Rattle.ratio128.specs.Meant.{overflow}
 use Rattle.clausify.specs.declared.stop.ClauseStop.{ClauseStop}
 use Rattle.clausify.specs.declared.stop.ClauseStop.TheVariants as stops
 
--- such an equality among the terms of which a search of these asserted terms speaks
-abbrev pub IsOrderOverflow : List Term → Overflow → Type 0
-IsOrderOverflow terms o = IsOverflowAmong (whole_terms (asserting terms)) o
+-- such an equality among the terms of which a search of a problem speaks
+abbrev pub IsOrderOverflow : Problem → Overflow → Type 0
+IsOrderOverflow p o = IsOverflowAmong (whole_terms p) o
 
 -- a number that leaves the bound has a property; out of memory says nothing
 abbrev pub OnWide : (Overflow → Type 0) → ClauseStop → Type 0

@@ -4,10 +4,10 @@
 ghost use Rattle.std.specs.Prelude.{◌≤◌, [], length, flat_map, All, IfOk, OnOk};
 ghost use Rattle.spec_sorts.specs.WellSorted.{IsWellSorted};
 ghost use Rattle.spec_derivations.specs.Orders.{order_facts};
-ghost use Rattle.term_core.specs.Tables.{term_at, clause_at};
+ghost use Rattle.term_core.specs.Tables.{term_at};
 ghost use Rattle.proof_log.specs.Logs.{AreFormulasIn};
 ghost use Rattle.proof_log.specs.Theories.{IsTermIn};
-ghost use Rattle.term_clauses.specs.SpokenTerms.{HasMore};
+ghost use Rattle.term_clauses.specs.SpokenTerms.{problem_in, HasMore};
 ghost use Rattle.term_clauses.specs.Stating.{Widens};
 ghost use Rattle.term_clauses.specs.Marks.{marked};
 ghost use Rattle.clausify.specs.Orders.{AreOrdered};
@@ -19,18 +19,21 @@ use term_clauses::spoken::spoken_of;
 use term_core::{TermId, TermTable};
 use world_io::NoMemory;
 
-/// Lists formulas, after them the equalities that a search needs, and last the order fact of each equality of numbers
-/// among the subterms of all these. They come into the table.
+/// Lists formulas, those beside them first, after them the equalities that a search needs, and last the order fact of
+/// each equality of numbers among the subterms of all these. They come into the table.
 pub(crate) fn ordered_of(
     alloc: Global,
     table: &mut TermTable,
     roots: &[TermId],
+    beside: &[TermId],
 ) -> Result<Vec<TermId>, NoMemory>
-    requires { AreFormulasIn table.old roots.now }
+    requires roots { AreFormulasIn table.old roots.now }
+    requires beside { AreFormulasIn table.old beside.now }
     ensures wider { Widens table.old table.new }
-    ensures ordered { IfOk result (λ ids. AreOrdered table.new (clause_at table.old roots.now) ids.items) }
+    ensures ordered { IfOk result
+        (λ ids. AreOrdered table.new (problem_in table.old roots.now beside.now) ids.items) }
 {
-    let mut ids = spoken_of(alloc, table, roots)?;
+    let mut ids = spoken_of(alloc, table, roots, beside)?;
     let marks = marks_of(alloc, table, &ids)?;
     add_facts(alloc, table, &marks, &mut ids)?;
     Ok(ids)

@@ -10,6 +10,7 @@ ghost use Rattle.proof_log.specs.Theories.{IsTermIn};
 ghost use Rattle.term_clauses.specs.Growth.{Grows, AreAllMade};
 ghost use Rattle.term_clauses.specs.Stating.{listed, Tells};
 ghost use Rattle.term_clauses.specs.Marks.{marked};
+ghost use Rattle.term_clauses.specs.SpokenTerms.{problem_in};
 ghost use Rattle.clausify.specs.HavingClauses.{HasClauses};
 ghost use Rattle.clausify.specs.SearchTerms.{AreSearchTerms};
 ghost use Rattle.clausify.specs.Overflows.{IsOrderOverflow, OnWide};
@@ -30,7 +31,7 @@ use term_core::{TermId, TermTable};
 use world_io::NoMemory;
 
 /// Makes the clauses that a search for a term begins with, and lists the terms that they speak of: `clauses_of_all` for
-/// one term.
+/// one term, with none beside it.
 ///
 /// The term must be a formula, and the log one over the table. The equalities of the search, its orders, and negations
 /// that clauses need, come into the table.
@@ -51,23 +52,24 @@ pub fn clauses_of(
 ) -> Result<Stated, ClauseStop>
     requires root { IsFormulaIn table.old root }
     requires log { IsLogOf table.old log.old }
-    ensures clauses { IfOk result (λ x. HasClauses table.new log.new (clause_at table.old (root ∷ [])) x.steps) }
-    ensures terms { IfOk result (λ x. AreSearchTerms table.new (clause_at table.old (root ∷ [])) x.terms.items) }
+    ensures clauses { IfOk result (λ x. HasClauses table.new log.new (problem_in table.old (root ∷ []) []) x.steps) }
+    ensures terms { IfOk result (λ x. AreSearchTerms table.new (problem_in table.old (root ∷ []) []) x.terms.items) }
     ensures made { IfOk result (λ x. AreAllMade log.old log.new x.steps) }
     ensures grown { OnOk result (Grows (root ∷ []) table.old table.new log.old log.new) }
     ensures same { OnErr result ((table.new ≡ table.old) × (log.new ≡ log.old)) }
-    ensures wide { IfErr result (OnWide (IsOrderOverflow (clause_at table.old (root ∷ [])))) }
+    ensures wide { IfErr result (OnWide (IsOrderOverflow (problem_in table.old (root ∷ []) []))) }
 {
-    clauses_of_all(alloc, table, log, slice::from_ref(&root))
+    clauses_of_all(alloc, table, log, slice::from_ref(&root), &[])
 }
 
 /// Makes the clauses that a search for terms begins with, which say together that each of these is true, and lists the
 /// terms that they speak of.
 ///
-/// Each of the terms is assumed. The search speaks of them, of `(= (not true) false)` and `(= (not false) true)`, and
-/// of `(= (ite c s t) s)` and `(= (ite c s t) t)` for each choice `(ite c s t)` between terms of another sort than Bool
-/// among their subterms. For each equality `(= s t)` of numbers among the subterms of all these, it speaks of
-/// `(or (= s t) (not (<= s t)) (not (<= t s)))`. It speaks of all subterms of these terms too.
+/// Each of the terms is assumed. The search speaks of them, and of the terms beside them, which need not be true. It
+/// speaks of `(= (not true) false)` and `(= (not false) true)`, and of `(= (ite c s t) s)` and `(= (ite c s t) t)` for
+/// each choice `(ite c s t)` between terms of another sort than Bool among the subterms of both. For each equality
+/// `(= s t)` of numbers among the subterms of all these, it speaks of `(or (= s t) (not (<= s t)) (not (<= t s)))`. It
+/// speaks of all subterms of these terms too.
 ///
 /// Each term that it speaks of gets the clauses that rules without premises state of it, a shared one once. A term
 /// whose arguments are of sort Bool has those of its head. Such a choice has `(cl (not c) (= (ite c s t) s))` and
@@ -77,8 +79,8 @@ pub fn clauses_of(
 ///
 /// It gives the numbers of the clauses, and so of all that came into the log, in order, and the numbers of the terms.
 ///
-/// The terms must be formulas, and the log one over the table. The equalities, the orders, and negations that clauses
-/// need, come into the table.
+/// The terms and those beside them must be formulas, and the log one over the table. The equalities, the orders, and
+/// negations that clauses need, come into the table.
 ///
 /// Time and memory go in proportion to the number of the table's terms, to the lengths of the clauses, and to the forms
 /// of equalities' sides. But the rules `and_pos` and `or_neg` look for the argument that a clause has, so a term of n
@@ -93,19 +95,23 @@ pub fn clauses_of_all(
     table: &mut TermTable,
     log: &mut ProofLog,
     roots: &[TermId],
+    beside: &[TermId],
 ) -> Result<Stated, ClauseStop>
     requires roots { AreFormulasIn table.old roots.now }
+    requires beside { AreFormulasIn table.old beside.now }
     requires log { IsLogOf table.old log.old }
-    ensures clauses { IfOk result (λ x. HasClauses table.new log.new (clause_at table.old roots.now) x.steps) }
-    ensures terms { IfOk result (λ x. AreSearchTerms table.new (clause_at table.old roots.now) x.terms.items) }
+    ensures clauses { IfOk result
+        (λ x. HasClauses table.new log.new (problem_in table.old roots.now beside.now) x.steps) }
+    ensures terms { IfOk result
+        (λ x. AreSearchTerms table.new (problem_in table.old roots.now beside.now) x.terms.items) }
     ensures made { IfOk result (λ x. AreAllMade log.old log.new x.steps) }
     ensures grown { OnOk result (Grows roots.now table.old table.new log.old log.new) }
     ensures same { OnErr result ((table.new ≡ table.old) × (log.new ≡ log.old)) }
-    ensures wide { IfErr result (OnWide (IsOrderOverflow (clause_at table.old roots.now))) }
+    ensures wide { IfErr result (OnWide (IsOrderOverflow (problem_in table.old roots.now beside.now))) }
 {
     let terms = table.len();
     let clauses = log.len();
-    match stated_of(alloc, table, log, roots) {
+    match stated_of(alloc, table, log, roots, beside) {
         Ok(stated) => Ok(stated),
         Err(stop) => {
             log.cut(clauses);
@@ -121,18 +127,22 @@ fn stated_of(
     table: &mut TermTable,
     log: &mut ProofLog,
     roots: &[TermId],
+    beside: &[TermId],
 ) -> Result<Stated, ClauseStop>
     requires roots { AreFormulasIn table.old roots.now }
+    requires beside { AreFormulasIn table.old beside.now }
     requires log { IsLogOf table.old log.old }
-    ensures clauses { IfOk result (λ x. HasClauses table.new log.new (clause_at table.old roots.now) x.steps) }
-    ensures terms { IfOk result (λ x. AreSearchTerms table.new (clause_at table.old roots.now) x.terms.items) }
+    ensures clauses { IfOk result
+        (λ x. HasClauses table.new log.new (problem_in table.old roots.now beside.now) x.steps) }
+    ensures terms { IfOk result
+        (λ x. AreSearchTerms table.new (problem_in table.old roots.now beside.now) x.terms.items) }
     ensures made { IfOk result (λ x. AreAllMade log.old log.new x.steps) }
     ensures grows { Grows roots.now table.old table.new log.old log.new }
-    ensures wide { IfErr result (OnWide (IsOrderOverflow (clause_at table.old roots.now))) }
+    ensures wide { IfErr result (OnWide (IsOrderOverflow (problem_in table.old roots.now beside.now))) }
 {
     subterms_are_least();
     proof_log::laws::logs_stand_in_grown_tables();
-    let ordered = ordered_of(alloc, table, roots)?;
+    let ordered = ordered_of(alloc, table, roots, beside)?;
     let marks = marks_of(alloc, table, &ordered)?;
     let mut steps = Vec::new(alloc);
     assume_each(table, log, roots, &mut steps)?;

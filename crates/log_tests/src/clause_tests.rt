@@ -1,5 +1,6 @@
 //! The clauses that a search begins with, and the terms of which it speaks: those of each head, of shared subterms, of
-//! several terms, of choices between terms of another sort than Bool, and of equalities of numbers.
+//! several terms, of choices between terms of another sort than Bool, of equalities of numbers, and of terms beside
+//! those that are asserted.
 
 ghost use Rattle.proof_log.specs.Logs.{IsLogOf};
 ghost use Rattle.log_tests.specs.Tables.{AreFree};
@@ -73,8 +74,9 @@ const FIRST_CLAUSES: &str = "t;-f;-p-t-f;-p--tf;p--t-f;p-tf;-q-f-t;-q--ft;q--f-t
 /// The first six terms.
 const FIRST_TERMS: &str = "tf-tp-fq";
 
-/// Terms by their letters, and, with a space between each of these: their clauses, which end with a colon; the clauses
-/// after those of the first six terms; and the terms after these, in ascending order.
+/// Terms by their letters, with those beside them after a slash, and, with a space between each of these: the clauses
+/// of the former alone, which end with a colon; the clauses after those of the first six terms; and the terms after
+/// these, in ascending order.
 const CLAUSES: &str = "
 a a:  a
 t t:
@@ -95,7 +97,12 @@ ab a:b:  ab
 s| s:|: -|ab;|-a;|-b;-s|;-s|;s-|-|; ab|s
 y y: -ay;az;r;-yl;-ym;w;-zd;-zh;-ry-l-m;r-y;r--l;r--m;-wz-d-h;w-z;w--d;w--h; auvjyzl-lm-mrd-dh-hw
 k k: -bG;bk;F;-kA;-kC;P;-GI;-GN;-Fk-A-C;F-k;F--A;F--C;-PG-I-N;P-G;P--I;P--N; buvgkGA-AC-CFI-IN-NP
-yk y:k: -ay;az;r;-yl;-ym;w;-zd;-zh;-bG;bk;F;-kA;-kC;P;-GI;-GN;-ry-l-m;r-y;r--l;r--m;-wz-d-h;w-z;w--d;w--h;-Fk-A-C;F-k;F--A;F--C;-PG-I-N;P-G;P--I;P--N; abuvjyzgkGl-lm-mrd-dh-hwA-AC-CFI-IN-NP";
+yk y:k: -ay;az;r;-yl;-ym;w;-zd;-zh;-bG;bk;F;-kA;-kC;P;-GI;-GN;-ry-l-m;r-y;r--l;r--m;-wz-d-h;w-z;w--d;w--h;-Fk-A-C;F-k;F--A;F--C;-PG-I-N;P-G;P--I;P--N; abuvjyzgkGl-lm-mrd-dh-hwA-AC-CFI-IN-NP
+a/b a:  ab
+/a   a
+|/& |: -&a;-&b;&-a-b;-|ab;|-a;|-b; ab&|
+s/| s: -|ab;|-a;|-b;-s|;-s|;s-|-|; ab|s
+/y  -ay;az;r;-yl;-ym;w;-zd;-zh;-ry-l-m;r-y;r--l;r--m;-wz-d-h;w-z;w--d;w--h; auvjyzl-lm-mrd-dh-hw";
 
 /// Gives what a negation negates.
 fn negated(table: &TermTable, id: TermId) -> Option<TermId> {
@@ -154,13 +161,15 @@ fn print_terms(text: &mut Vec<u8>, table: &TermTable, ids: &[TermId]) -> Result<
     Ok(())
 }
 
-/// Prints the clauses of terms, and after a space the terms of which a search of them speaks; nothing where they are no
-/// formulas of the table, and an exclamation mark where an operation leaves the bound on numbers.
+/// Prints the clauses of terms, and after a space the terms of which a search of them speaks, with those beside them;
+/// nothing where some are no formulas of the table, and an exclamation mark where an operation leaves the bound on
+/// numbers.
 fn print(
     alloc: Global,
     table: &mut TermTable,
     log: &mut ProofLog,
     roots: &[TermId],
+    beside: &[TermId],
     text: &mut Vec<u8>,
 ) -> Result<(), NoMemory>
     requires free { AreFree table.old }
@@ -169,7 +178,10 @@ fn print(
     if !are_formulas_in(table, roots) {
         return Ok(());
     }
-    let stated = match clauses_of_all(alloc, table, log, roots) {
+    if !are_formulas_in(table, beside) {
+        return Ok(());
+    }
+    let stated = match clauses_of_all(alloc, table, log, roots, beside) {
         Ok(stated) => stated,
         Err(ClauseStop::Wide(_)) => return Ok(text.push(b'!')?),
         Err(ClauseStop::Memory) => return Err(NoMemory),
@@ -179,25 +191,28 @@ fn print(
     print_terms(text, table, &stated.terms)
 }
 
-/// Prints the clauses of terms in a new log.
+/// Prints the clauses of terms, with those beside them, in a new log.
 fn print_in_log(
     alloc: Global,
     table: &mut TermTable,
     roots: &[TermId],
+    beside: &[TermId],
     text: &mut Vec<u8>,
 ) -> Result<(), NoMemory>
     requires { AreFree table.old }
 {
     let mut log = ProofLog::new(alloc);
     empty_logs_are_right();
-    print(alloc, table, &mut log, roots, text)
+    print(alloc, table, &mut log, roots, beside, text)
 }
 
-/// Prints the clauses of the terms of letters in a new table and a new log.
+/// Prints the clauses of the terms of letters, with those beside them, in a new table and a new log.
 fn print_anew(alloc: Global, letters: &str, text: &mut Vec<u8>) -> Result<(), NoMemory> {
-    let roots = terms_of(alloc, LETTERS, letters)?;
+    let (own, others) = letters.split_once('/').unwrap_or((letters, ""));
+    let roots = terms_of(alloc, LETTERS, own)?;
+    let beside = terms_of(alloc, LETTERS, others)?;
     let mut table = table_of(alloc, LETTERS, TERMS)?;
-    print_in_log(alloc, &mut table, &roots, text)
+    print_in_log(alloc, &mut table, &roots, &beside, text)
 }
 
 /// Puts what is to be printed for a row, without the letters, after a text.

@@ -1,15 +1,17 @@
 -- What a search begins with.
-use Rattle.std.proofs.Common.{◌≡◌, ℕ, ◌+◌, ◌<◌, List, [], ◌∷◌, ◌++◌, length, get_or, map, All, Contains, inl, refl, sym, ap, ◌∙◌, subst, arith}
+use Rattle.std.proofs.Common.{◌≡◌, true, ℕ, ◌+◌, ◌<◌, List, [], ◌∷◌, ◌++◌, length, get_or, map, All, Contains, inl, refl, sym, ap, ◌∙◌, subst, arith}
 use Rattle.std.proofs.lemmas.List.{get_or_default, get_or-map, append-nil, length-map}
 use Rattle.std.proofs.lemmas.List.FromFn.{get_or-range_with_len}
-use Rattle.std.proofs.lemmas.List.Elements.{All-nil, All-map, All-contains, Contains-append_left, Contains-get_or}
+use Rattle.std.proofs.lemmas.List.Elements.{All-nil, All-append, All-map, All-contains, Contains-append_left, Contains-get_or}
 use Rattle.spec_text.proofs.Members.{to_image, from_image}
 use Rattle.spec_sorts.specs.Terms.{Term}
+use Rattle.spec_commands.specs.Stack.{is_in_reach}
+use Rattle.spec_arithmetic.specs.Numbers.{IsLinear}
 use Rattle.spec_sorts.specs.Subsets.{IsClosed}
 use Rattle.spec_sorts.specs.Literals.{Clause, Literal, literals_of}
 use Rattle.spec_proofs.specs.Resolution.{IsWithin}
-use Rattle.spec_derivations.specs.Problems.{Problem, terms_of_problem}
-use Rattle.spec_derivations.specs.Examples.{asserting}
+use Rattle.spec_derivations.specs.Problems.{Problem, terms_of_problem, known_terms}
+use Rattle.spec_derivations.specs.Examples.{speaking}
 use Rattle.search_loop.specs.Reach.{AreAnswered}
 use Rattle.spec_derivations.specs.Derivations.{AssumesAmong, conclusion, conclusion_at, inference_at, no_inference}
 use Rattle.spec_derivations.specs.Orders.{whole_terms, whole_clauses}
@@ -27,6 +29,8 @@ use Rattle.proof_log.specs.Theories.{IsTermIn}
 use Rattle.proof_log.proofs.Logged.{conclusion_there}
 use Rattle.proof_log.specs.Logs.{stated, AreFormulasIn}
 use Rattle.term_clauses.proofs.Parts.{formula_kept}
+use Rattle.term_clauses.proofs.Speaking.{problem_kept}
+use Rattle.term_clauses.specs.SpokenTerms.{problem_in}
 use Rattle.clausify.specs.HavingClauses.{HasClauses}
 use Rattle.term_clauses.specs.Growth.{AssumesOneOf, Grows, AreAllMade}
 use Rattle.clausify.specs.SearchTerms.{AreSearchTerms}
@@ -61,10 +65,20 @@ among_roots : (t : TableView) (roots : List TermId) (l : Logged) → AssumesOneO
 among_roots t roots (assumed id) i = to_image (term_at t) roots id i
 among_roots t roots (stepped r ps qs c) h = tt
 
-module _ (t u : TableView) (differ : AreDifferent u.terms) (roots : List TermId) (roots_in : AreFormulasIn t roots) (reached : AreAnswered (clause_at t roots)) (log old : List Logged) (none : old ≡ []) (steps : List StepId) (g : Grows roots t u old log) (h : HasClauses u log (clause_at t roots) steps) (m : AreAllMade old log steps)
-    (store : StoreView) (s : IsStoreOf u log steps store) (terms atoms : List TermId) (listed : AreSearchTerms u (clause_at t roots) terms) (chosen : AreAtomsAmong u terms atoms) where
+-- what is answered for both lists is answered for the known terms
+pub answered_both : (ts bs : List Term) → AreAnswered ts → AreAnswered bs → AreAnswered (known_terms (speaking ts bs))
+answered_both ts bs own others =
+    let all = subst AreAnswered (sym (append-nil ts)) own in
+    record {
+      reached = All-append (λ u. is_in_reach u ≡ true) bs (ts ++ []) others.reached all.reached;
+      linear = All-append IsLinear bs (ts ++ []) others.linear all.linear;
+    }
+
+module _ (t u : TableView) (differ : AreDifferent u.terms) (roots beside : List TermId) (roots_in : AreFormulasIn t roots) (beside_in : AreFormulasIn t beside) (reached : AreAnswered (known_terms (problem_in t roots beside)))
+    (log old : List Logged) (none : old ≡ []) (steps : List StepId) (g : Grows roots t u old log) (h : HasClauses u log (problem_in t roots beside) steps) (m : AreAllMade old log steps)
+    (store : StoreView) (s : IsStoreOf u log steps store) (terms atoms : List TermId) (listed : AreSearchTerms u (problem_in t roots beside) terms) (chosen : AreAtomsAmong u terms atoms) where
   abbrev problem : Problem
-  problem = asserting (clause_at t roots)
+  problem = problem_in t roots beside
 
   meant : clause_at u roots ≡ clause_at t roots
   meant = clause_at-kept t u g.table roots (λ k d lt. (roots_in k d lt).0)
@@ -178,9 +192,11 @@ module _ (t u : TableView) (differ : AreDifferent u.terms) (roots : List TermId)
   search_begins x log_same store_same terms_same learned = record {
     roots = roots;
     roots_in = λ k d lt. formula_kept t u (record { terms = g.table; declared = g.declared }) (get_or roots k d) (roots_in k d lt);
-    reached = subst AreAnswered (sym meant) reached;
-    meant = ap asserting meant;
-    listed = subst (AreSearchTerms u (clause_at u roots)) (sym terms_same) (subst (λ (ts : List Term). AreSearchTerms u ts terms) (sym meant) listed);
+    beside = beside;
+    beside_in = λ k d lt. formula_kept t u (record { terms = g.table; declared = g.declared }) (get_or beside k d) (beside_in k d lt);
+    meant = problem_kept t u g.table roots beside roots_in beside_in;
+    reached = reached;
+    listed = subst (AreSearchTerms u problem) (sym terms_same) listed;
     derived = subst (λ (xs : List Logged). HasDerived problem (derivation_in u xs) (images u x.store.clauses) (images u x.budget.learned)) (sym log_same)
         (subst (λ (y : StoreView). HasDerived problem (derivation_in u log) (images u y.clauses) (images u x.budget.learned)) (sym store_same)
         (subst (λ (ls : List (List Lit)). HasDerived problem (derivation_in u log) (images u store.clauses) (images u ls)) (sym learned) begun));

@@ -7,8 +7,6 @@ use Rattle.spec_sorts.specs.Subsets.{AreAmong, IsClosed}
 use Rattle.spec_sorts.specs.WellSorted.{IsWellSorted, IsFormulaOver}
 use Rattle.spec_sorts.specs.Literals.{Literal, literal_of}
 use Rattle.spec_derivations.specs.Problems.{Problem}
-use Rattle.spec_derivations.specs.Examples.{asserting}
-use Rattle.search_loop.specs.Reach.{AreAnswered}
 use Rattle.spec_derivations.specs.Orders.{whole_terms}
 use Rattle.spec_derivations.specs.Derivations.{Inference, «assumption», by_rule, Derivation, IsDerivation}
 use Rattle.spec_derivations.specs.Lemmas.{IsMadeOf, given, is_true, is_false, is_equality, is_negation, IsLemma}
@@ -17,6 +15,7 @@ use Rattle.term_core.specs.Tables.{TableView, declared_in, Extends, term_at, IsI
 use Rattle.term_core.specs.Symbols.{SymbolsView}
 use Rattle.term_core.proofs.TermsExtend.{IsIn-kept, term_at-kept, clause_at-kept}
 use Rattle.term_clauses.proofs.Parts.{formula_kept}
+use Rattle.term_clauses.proofs.Speaking.{problem_kept}
 use Rattle.clausify.specs.SearchTerms.{AreSearchTerms}
 use Rattle.sat_budget.specs.declared.limits.Limits.{Limits}
 use Rattle.proof_log.specs.Logs.{Logged, inference_of, derivation_in, IsLogOf}
@@ -45,7 +44,7 @@ lemma_more ts us among n (by_rule r ps arguments c) i = (i.0, λ k d lt. made_mo
 
 -- the terms of a search are those that it speaks of
 pub spoken : (t : TableView) (x : Search) (problem : Problem) → IsSearch t problem x → AreAmong (clause_at t x.terms.items) (whole_terms problem)
-spoken t x problem s = subst (λ (p : Problem). AreAmong (clause_at t x.terms.items) (whole_terms p)) s.meant s.listed.only
+spoken t x problem s = s.listed.only
 
 module _ (t u : TableView) (g : Extends t u) (declared : declared_in u ≡ declared_in t) where
   symbols : u.symbols ≡ t.symbols
@@ -87,13 +86,13 @@ module _ (t u : TableView) (g : Extends t u) (declared : declared_in u ≡ decla
     };
   }
 
-  pub listed_kept : (asked : List Term) (ids : List TermId) → AreSearchTerms t asked ids → AreSearchTerms u asked ids
-  listed_kept asked ids h =
+  pub listed_kept : (problem : Problem) (ids : List TermId) → AreSearchTerms t problem ids → AreSearchTerms u problem ids
+  listed_kept problem ids h =
       let same : clause_at t ids ≡ clause_at u ids = sym (clause_at-kept t u g ids (numbers_in ids h.there)) in
       record {
         there = λ k d lt. term_kept (get_or ids k d) (h.there k d lt);
-        each = subst (AreAmong (whole_terms (asserting asked))) same h.each;
-        only = subst (λ (ts : List Term). AreAmong ts (whole_terms (asserting asked))) same h.only;
+        each = subst (AreAmong (whole_terms problem)) same h.each;
+        only = subst (λ (ts : List Term). AreAmong ts (whole_terms problem)) same h.only;
         rising = h.rising;
       }
 
@@ -131,13 +130,14 @@ module _ (t u : TableView) (g : Extends t u) (declared : declared_in u ≡ decla
 
       pub search_grown : IsSearch u problem (record x { log = log; fed = n })
       search_grown =
-          let meant : clause_at u s.roots ≡ clause_at t s.roots = clause_at-kept t u g s.roots (λ k e lt. (s.roots_in k e lt).0) in
           record {
             roots = s.roots;
             roots_in = λ k e lt. formula_kept t u (record { terms = g; declared = declared }) (get_or s.roots k e) (s.roots_in k e lt);
-            reached = subst AreAnswered (sym meant) s.reached;
-            meant = ap asserting meant ∙ s.meant;
-            listed = subst (λ (ts : List Term). AreSearchTerms u ts x.terms.items) (sym meant) (listed_kept (clause_at t s.roots) x.terms.items s.listed);
+            beside = s.beside;
+            beside_in = λ k e lt. formula_kept t u (record { terms = g; declared = declared }) (get_or s.beside k e) (s.beside_in k e lt);
+            meant = problem_kept t u g s.roots s.beside s.roots_in s.beside_in ∙ s.meant;
+            reached = s.reached;
+            listed = listed_kept problem x.terms.items s.listed;
             derived = subst (λ (e : Derivation). HasDerived problem e (images u x.store.clauses) (images u x.budget.learned)) (sym is)
                 (subst (λ (cs : List (List Literal)). HasDerived problem (derivation_in t x.log ++ map (inference_of u) more) cs (images u x.budget.learned)) (sym (images_kept t u g x.store.clauses stored_in))
                 (subst (λ (ls : List (List Literal)). HasDerived problem (derivation_in t x.log ++ map (inference_of u) more) (images t x.store.clauses) ls) (sym (images_kept t u g x.budget.learned r.learned)) derived));

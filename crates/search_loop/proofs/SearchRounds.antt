@@ -2,7 +2,7 @@
 use Rattle.std.proofs.Common.{◌≡◌, ℕ, ◌+◌, ◌-◌, ◌*◌, ◌<◌, ◌≤◌, Bool, List, refl, sym, ap, ◌∙◌, subst, arith}
 use Rattle.std.specs.Prelude.{Option, Some}
 use Rattle.term_core.specs.declared.ids.Lit.{Lit}
-use Rattle.term_core.specs.Tables.{TableView, clause_at}
+use Rattle.term_core.specs.Tables.{TableView}
 use Rattle.clausify.specs.SearchTerms.{AreSearchTerms}
 use Rattle.term_core.proofs.TermsExtend.{Extends-self, Extends-trans}
 use Rattle.proof_log.specs.Logs.{Logged, derivation_in}
@@ -32,9 +32,11 @@ continues_same t x y log clauses budget vars terms = record {
   search = λ problem s. record {
     roots = s.roots;
     roots_in = s.roots_in;
-    reached = s.reached;
+    beside = s.beside;
+    beside_in = s.beside_in;
     meant = s.meant;
-    listed = subst (λ (ids : Ids). AreSearchTerms t (clause_at t s.roots) ids.items) (sym terms) s.listed;
+    reached = s.reached;
+    listed = subst (λ (ids : Ids). AreSearchTerms t problem ids.items) (sym terms) s.listed;
     derived = subst (λ (l : List Logged). HasDerived problem (derivation_in t l) (images t y.store.clauses) (images t y.budget.learned)) (sym log)
         (subst (λ (cs : List (List Lit)). HasDerived problem (derivation_in t x.log) (images t cs) (images t y.budget.learned)) (sym clauses)
         (subst (λ (b : BudgetView). HasDerived problem (derivation_in t x.log) (images t x.store.clauses) (images t b.learned)) (sym budget) s.derived));

@@ -4,25 +4,22 @@ use Rattle.std.proofs.lemmas.List.{length-map, map-append}
 use Rattle.std.proofs.lemmas.List.Elements.{All-map, Contains-get_or}
 use Rattle.spec_text.specs.Trees.{none as no_texts}
 use Rattle.spec_text.proofs.Members.{to_image}
-use Rattle.spec_sorts.specs.Terms.{Term}
 use Rattle.spec_sorts.specs.Literals.{Clause, Literal, literals_of}
 use Rattle.spec_proofs.specs.declared.Rule.TheVariants.{Resolution}
 use Rattle.spec_derivations.specs.Problems.{Problem, terms_of_problem}
-use Rattle.spec_derivations.specs.Examples.{asserting}
 use Rattle.spec_derivations.specs.Derivations.{Inference, Derivation, by_rule, conclusion_at, IsDerivation, AssumesAmong, IsDerivedFrom}
 use Rattle.spec_derivations.specs.Base.{base_clauses}
 use Rattle.spec_derivations.specs.Orders.{whole_terms}
-use Rattle.search_loop.specs.Reach.{AreAnswered}
 use Rattle.spec_derivations.specs.Learned.{IsNew}
 use Rattle.spec_derivations.specs.Spent.{IsConflict, IsAtomOf, IsOverAtoms, IsLearnedFrom, AreLearned}
 use Rattle.term_core.specs.declared.ids.TermId.{TermId}
 use Rattle.term_core.specs.declared.ids.Lit.{Lit}
 use Rattle.term_core.specs.Tables.{TableView, declared_in, AreDifferent, term_at, literal_at, clause_at, Extends}
-use Rattle.term_core.proofs.TermsExtend.{clause_at-kept}
 use Rattle.clause_literals.specs.Literals.{IsConsistent, AreOf}
 use Rattle.proof_log.specs.declared.premises.StepId.{StepId}
 use Rattle.proof_log.specs.Logs.{Logged, stepped, numbers_of, inference_of, derivation_in, IsLogOf}
 use Rattle.term_clauses.proofs.Parts.{formula_kept}
+use Rattle.term_clauses.proofs.Speaking.{problem_kept}
 use Rattle.clausify.specs.SearchTerms.{AreSearchTerms}
 use Rattle.sat_budget.specs.declared.limits.Reason.TheVariants.{Conflicts}
 use Rattle.sat_trail.specs.Trails.{AreApart, IsLeveled}
@@ -122,8 +119,7 @@ module _ (t u : TableView) (g : Extends t u) (differ : AreDifferent t.terms) (de
 
     -- what the atoms are, is a term that the search speaks of
     spoken : (id : TermId) → Contains x.atoms.items id → Contains (whole_terms problem) (term_at t id)
-    spoken id i = subst (λ (p : Problem). Contains (whole_terms p) (term_at t id)) s.meant
-        (s.listed.only (term_at t id) (to_image (term_at t) x.terms.items id (r.atoms_are.chosen.among id i)))
+    spoken id i = s.listed.only (term_at t id) (to_image (term_at t) x.terms.items id (r.atoms_are.chosen.among id i))
 
     atoms : All (λ (z : Literal). IsAtomOf problem z.atom) (map (literal_at t) d.clause)
     atoms = All-map (λ (z : Literal). IsAtomOf problem z.atom) (literal_at t) d.clause (λ k e lt.
@@ -183,15 +179,15 @@ module _ (t u : TableView) (g : Extends t u) (differ : AreDifferent t.terms) (di
 
   pub search_learned : (problem : Problem) → IsSearch t problem x → IsSearch u problem y
   search_learned problem s =
-      let meant : clause_at u s.roots ≡ clause_at t s.roots = clause_at-kept t u g s.roots (λ k e lt. (s.roots_in k e lt).0) in
       let e = derivation_in t x.log ++ by_rule Resolution (numbers_of l.logged.premises) no_texts learned_clause ∷ [] in
       record {
         roots = s.roots;
         roots_in = λ k e lt. formula_kept t u (record { terms = g; declared = declared }) (get_or s.roots k e) (s.roots_in k e lt);
-        reached = subst AreAnswered (sym meant) s.reached;
-        meant = ap asserting meant ∙ s.meant;
-        listed = subst (λ (ids : Ids). AreSearchTerms u (clause_at u s.roots) ids.items) (sym terms)
-            (subst (λ (ts : List Term). AreSearchTerms u ts x.terms.items) (sym meant) (listed_kept t u g declared (clause_at t s.roots) x.terms.items s.listed));
+        beside = s.beside;
+        beside_in = λ k e lt. formula_kept t u (record { terms = g; declared = declared }) (get_or s.beside k e) (s.beside_in k e lt);
+        meant = problem_kept t u g s.roots s.beside s.roots_in s.beside_in ∙ s.meant;
+        reached = s.reached;
+        listed = subst (λ (ids : Ids). AreSearchTerms u problem ids.items) (sym terms) (listed_kept t u g declared problem x.terms.items s.listed);
         derived = subst (λ (f : Derivation). HasDerived problem f (images u y.store.clauses) (images u y.budget.learned)) (sym (is t u g differ declared x r once leveled consistent same clash y.log d l))
             (subst (λ (cs : List (List Literal)). HasDerived problem e cs (images u y.budget.learned))
             (sym (last_image x.store.clauses y.store.clauses stored_in (a.clauses ∙ ap (λ (c : List Lit). x.store.clauses ++ c ∷ []) (clause_is t u g differ_then x y r clash d l noted a))))

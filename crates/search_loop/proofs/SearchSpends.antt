@@ -48,8 +48,10 @@ module _ (t : TableView) (x : Search) (b : BudgetView) (spends : Spends x.budget
     search = λ problem s. record {
       roots = s.roots;
       roots_in = s.roots_in;
-      reached = s.reached;
+      beside = s.beside;
+      beside_in = s.beside_in;
       meant = s.meant;
+      reached = s.reached;
       listed = s.listed;
       derived = subst (λ (ls : List (List Lit)). HasDerived problem (derivation_in t x.log) (images t x.store.clauses) (images t ls))
           (sym (ap (λ (y : BudgetView). y.learned) spends.1)) s.derived;

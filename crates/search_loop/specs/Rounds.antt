@@ -4,8 +4,7 @@ use Rattle.spec_sorts.specs.Literals.{Clause, Literal, literals_of}
 use Rattle.spec_proofs.specs.Resolution.{IsWithin}
 use Rattle.spec_proofs.specs.declared.Rule.TheVariants.{Resolution}
 use Rattle.spec_sorts.specs.Terms.{Term}
-use Rattle.spec_derivations.specs.Problems.{Problem, terms_of_problem}
-use Rattle.spec_derivations.specs.Examples.{asserting}
+use Rattle.spec_derivations.specs.Problems.{Problem, terms_of_problem, known_terms}
 use Rattle.search_loop.specs.Reach.{AreAnswered}
 use Rattle.spec_derivations.specs.Derivations.{Inference, «assumption», by_rule, Derivation, inference_at, conclusion, conclusion_at, AssumesAmong, IsDerivedFrom}
 use Rattle.spec_derivations.specs.Base.{base_clauses}
@@ -15,9 +14,10 @@ use Rattle.spec_derivations.specs.Learned.{AreNew}
 use Rattle.spec_derivations.specs.Spent.{IsLearnedFrom, IsOverAtoms, AreLearned, IsConflictBudgetSpent, IsConflict}
 use Rattle.term_core.specs.declared.ids.TermId.{TermId}
 use Rattle.term_core.specs.declared.ids.Lit.{Lit}
-use Rattle.term_core.specs.Tables.{TableView, declared_in, clause_at, literal_at, Extends}
+use Rattle.term_core.specs.Tables.{TableView, declared_in, literal_at, Extends}
 use Rattle.proof_log.specs.declared.premises.StepId.{StepId}
 use Rattle.proof_log.specs.Logs.{Logged, inference_of, derivation_in, stated, AreFormulasIn}
+use Rattle.term_clauses.specs.SpokenTerms.{problem_in}
 use Rattle.clausify.specs.SearchTerms.{AreSearchTerms}
 use Rattle.clause_store.specs.Stores.{IsAdded}
 use Rattle.sat_budget.specs.Budgets.{BudgetView}
@@ -106,12 +106,15 @@ pub record IsSearch (t : TableView) (p : Problem) (x : Search) : Type 0 where
   -- its terms are formulas of the table, by their numbers
   pub roots : List TermId
   pub roots_in : AreFormulasIn t roots
-  -- the search answers for them
-  pub reached : AreAnswered (clause_at t roots)
-  -- they are asserted, and nothing else is asked
-  pub meant : asserting (clause_at t roots) ≡ p
+  -- and so are those beside them
+  pub beside : List TermId
+  pub beside_in : AreFormulasIn t beside
+  -- its terms are asserted, and nothing else is asked
+  pub meant : problem_in t roots beside ≡ p
+  -- the search answers for both
+  pub reached : AreAnswered (known_terms p)
   -- its terms are those that a search of the problem speaks of
-  pub listed : AreSearchTerms t (clause_at t roots) x.terms.items
+  pub listed : AreSearchTerms t p x.terms.items
   -- so much is derived of it
   pub derived : HasDerived p (derivation_in t x.log) (images t x.store.clauses) (images t x.budget.learned)
 

@@ -1,10 +1,10 @@
 //! What a search begins with.
 
 ghost use Rattle.std.specs.Prelude.{◌≡◌, IfOk, IfErr};
-ghost use Rattle.spec_derivations.specs.Examples.{asserting};
 ghost use Rattle.search_loop.specs.Reach.{AreAnswered};
 ghost use Rattle.term_core.specs.Tables.{declared_in, Extends, clause_at};
 ghost use Rattle.proof_log.specs.Logs.{IsLogOf, AreOf, AreFormulasIn};
+ghost use Rattle.term_clauses.specs.SpokenTerms.{problem_in};
 ghost use Rattle.clausify.specs.Overflows.{OnWide, IsOrderOverflow};
 ghost use Rattle.search_loop.specs.Search.{IsStoreOf, IsBegun};
 ghost use Rattle.search_loop.specs.Rounds.{Begins};
@@ -54,7 +54,8 @@ fn trail_of(alloc: Global, table: &TermTable) -> Result<SatTrail, NoMemory>
     Ok(trail)
 }
 
-/// Begins a search: the clauses of all terms, in a new log and store, with a trail of no literals and a new budget.
+/// Begins a search: the clauses of all terms and of those beside them, in a new log and store, with a trail of no
+/// literals and a new budget. The terms are asserted; those beside them need not be true, and the search speaks of them.
 ///
 /// `Wide` comes where an operation leaves 128 bits that judges a clause of an equality's orders. Where memory runs out, the terms that
 /// it has put stay.
@@ -62,14 +63,17 @@ pub fn begin(
     alloc: Global,
     table: &mut TermTable,
     roots: &[TermId],
+    beside: &[TermId],
     limits: &Limits,
 ) -> Result<Search, ClauseStop>
     requires roots { AreFormulasIn table.old roots.now }
+    requires beside { AreFormulasIn table.old beside.now }
     requires answered { AreAnswered (clause_at table.old roots.now) }
+    requires answered_beside { AreAnswered (clause_at table.old beside.now) }
     ensures grown { Extends table.old table.new }
     ensures declared { declared_in table.new ≡ declared_in table.old }
-    ensures begins { IfOk result (Begins table.new (asserting (clause_at table.old roots.now)) limits.now) }
-    ensures wide { IfErr result (OnWide (IsOrderOverflow (clause_at table.old roots.now))) }
+    ensures begins { IfOk result (Begins table.new (problem_in table.old roots.now beside.now) limits.now) }
+    ensures wide { IfErr result (OnWide (IsOrderOverflow (problem_in table.old roots.now beside.now))) }
 {
     whole_clauses_are_over_whole_terms();
     whole_terms_are_known();
@@ -77,7 +81,7 @@ pub fn begin(
     what_is_marked_was_seen();
     reasons_stay_right();
     let mut log = ProofLog::new(alloc);
-    let Stated { steps, terms } = clauses_of_all(alloc, table, &mut log, roots)?;
+    let Stated { steps, terms } = clauses_of_all(alloc, table, &mut log, roots, beside)?;
     table.ids_are_unique();
     let atoms = atoms_of(alloc, table, &terms)?;
     let store = store_of(alloc, table, &log, steps.as_slice())?;

@@ -1,9 +1,9 @@
 -- That a search which rests has a model: its truths and classes are those of one.
-use Rattle.std.proofs.Common.{◌≡◌, ◌≢◌, ◌<◌, ℕ, true, List, [], length, get_or, map, All, Contains, sym, ap, ◌∙◌, subst}
+use Rattle.std.proofs.Common.{◌≡◌, ◌≢◌, ◌<◌, ℕ, true, List, [], ◌++◌, length, get_or, map, All, Contains, sym, ap, ◌∙◌, subst}
 use Rattle.std.specs.Prelude.{◌↔◌}
 use Rattle.std.specs.List.{list_any}
 use Rattle.std.proofs.lemmas.List.{append-nil, length-map, get_or-map}
-use Rattle.std.proofs.lemmas.List.Elements.{All-map, All-contains, Contains-get_or, All-nil}
+use Rattle.std.proofs.lemmas.List.Elements.{All-append, All-map, All-contains, Contains-get_or, All-nil}
 use Rattle.spec_text.proofs.Members.{none, to_image, from_image}
 use Rattle.spec_numbers.specs.Fractions.{Fraction, IsReduced}
 use Rattle.spec_sorts.specs.Terms.{Truth, Number, Symbol, Apply, Term, Terms, app, list_of, sort_of}
@@ -16,15 +16,15 @@ use Rattle.spec_rules.specs.Truths.{Truths, term_true_by}
 use Rattle.spec_arithmetic.specs.Numbers.{IsLinear}
 use Rattle.spec_simplex.specs.Numbers.{HoldsAt}
 use Rattle.spec_congruence.specs.Congruence.{signed, IsCongruent, IsFine}
-use Rattle.spec_derivations.specs.Problems.{Problem, terms_of_problem}
+use Rattle.spec_derivations.specs.Problems.{Problem, terms_of_problem, known_terms}
 use Rattle.spec_derivations.specs.Orders.{whole_terms, whole_clauses}
-use Rattle.search_loop.specs.Reach.{AreAnswered}
 use Rattle.spec_derivations.specs.Models.{AreInReach}
 use Rattle.spec_valuations.specs.Classes.{class_in, AreShared}
 use Rattle.spec_valuations.specs.Resting.{TheoryValues, values_of, RestsOnNumbers}
 use Rattle.term_core.specs.declared.ids.TermId.{TermId}
 use Rattle.term_core.specs.Tables.{TableView, AreDifferent, term_at, literal_at, clause_at, positive_literal}
 use Rattle.clause_literals.specs.Literals.{IsConsistent, AreOf, Means}
+use Rattle.proof_log.specs.Logs.{AreFormulasIn}
 use Rattle.proof_log.specs.Theories.{TheoryView, IsTermIn, IsAtomIn, terms_watched, literals_held}
 use Rattle.congruence_closure.specs.Closure.{TellClasses}
 use Rattle.congruence_closure.specs.Listed.{no_term_id}
@@ -80,20 +80,21 @@ module _ (t : TableView) (differ : AreDifferent t.terms) (x : Search) (v : Theor
       let means : Means t d.0 c = record { same = d.2; there = λ k e lt. clauses_in t x h.ready d.0 (get_or d.0 k e) d.1 (Contains-get_or d.0 k e lt) } in
       clause_met t x.trail.literals differ all_held consistent c d.0 means (h.satisfied d.0 d.1)
 
-  -- the terms are formulas
-  formulas : All (IsFormulaOver t.symbols) (terms_of_problem problem)
-  formulas = subst (λ (p : Problem). All (IsFormulaOver t.symbols) (terms_of_problem p)) s.meant
-      (subst (All (IsFormulaOver t.symbols)) (sym (append-nil (clause_at t s.roots))) (All-map (IsFormulaOver t.symbols) (term_at t) s.roots (λ k d lt. (s.roots_in k d lt).1)))
+  -- the terms are formulas, and so are those beside them
+  clause_formulas : (ids : List TermId) → AreFormulasIn t ids → All (IsFormulaOver t.symbols) (clause_at t ids)
+  clause_formulas ids ids_in = All-map (IsFormulaOver t.symbols) (term_at t) ids (λ k d lt. (ids_in k d lt).1)
 
-  pub reached : AreAnswered (terms_of_problem problem)
-  reached = subst (λ (p : Problem). AreAnswered (terms_of_problem p)) s.meant (subst AreAnswered (sym (append-nil (clause_at t s.roots))) s.reached)
+  formulas : All (IsFormulaOver t.symbols) (known_terms problem)
+  formulas = subst (λ (p : Problem). All (IsFormulaOver t.symbols) (known_terms p)) s.meant
+      (All-append (IsFormulaOver t.symbols) (clause_at t s.beside) (clause_at t s.roots ++ []) (clause_formulas s.beside s.beside_in)
+      (subst (All (IsFormulaOver t.symbols)) (sym (append-nil (clause_at t s.roots))) (clause_formulas s.roots s.roots_in)))
 
   pub nothing_assumed : All (λ u. term_true_by truths u ≡ true) problem.assumed
   nothing_assumed = subst (λ (p : Problem). All (λ u. term_true_by truths u ≡ true) p.assumed) s.meant (All-nil (λ u. term_true_by truths u ≡ true))
 
   -- no other terms are listed
   only : AreAmong terms (whole_terms problem)
-  only = subst (λ (p : Problem). AreAmong terms (whole_terms p)) s.meant s.listed.only
+  only = s.listed.only
 
   -- a function with parameters that is listed keeps apart from numbers
   abbrev pub KeepApart : (Term → Type 0) → Type 0
@@ -101,8 +102,8 @@ module _ (t : TableView) (differ : AreDifferent t.terms) (x : Search) (v : Theor
 
   -- classes by places, and numbers by which the literals hold
   module _ (place : (ts : List Term) (ns : List ℕ) (u : Term) → Contains ts u → (k : ℕ) × (k < length ts) × (get_or ts k u ≡ u) × (class_in ts ns u ≡ get_or ns k 0))
-      (apart_in_reach : (symbols : List Symbol) (p : Problem) → All (IsFormulaOver symbols) (terms_of_problem p) → AreInReach (terms_of_problem p) → KeepApart (Contains (whole_terms p)))
-      (linear_in : (p : Problem) → All IsLinear (terms_of_problem p) → (u : Term) → Contains (whole_terms p) u → IsLinear u)
+      (apart_in_reach : (symbols : List Symbol) (p : Problem) → All (IsFormulaOver symbols) (known_terms p) → AreInReach (known_terms p) → KeepApart (Contains (whole_terms p)))
+      (linear_in : (p : Problem) → All IsLinear (known_terms p) → (u : Term) → Contains (whole_terms p) u → IsLinear u)
       (number : Term → Fraction) (reduced : (u : Term) → IsReduced (number u)) (kept : All (HoldsAt number) held) where
     related : (a b : Term) → Contains terms a → Contains terms b → (class_in terms classes a ≡ class_in terms classes b) ↔ IsCongruent terms held a b
     related a b i j =
@@ -126,7 +127,7 @@ module _ (t : TableView) (differ : AreDifferent t.terms) (x : Search) (v : Theor
     given = record { truths = truths; class = class_in terms classes; number = number }
 
     apart : KeepApart (Contains terms)
-    apart f ts i = apart_in_reach t.symbols problem formulas reached.reached f ts (only (app (Apply f) ts) i)
+    apart f ts i = apart_in_reach t.symbols problem formulas s.reached.reached f ts (only (app (Apply f) ts) i)
 
     -- no argument of a function is a number
     no_argument : (f : Symbol) (ts : Terms) (u : Term) → Contains terms (app (Apply f) ts) → Contains (list_of ts) u → sort_of u ≢ Number
@@ -146,12 +147,12 @@ module _ (t : TableView) (differ : AreDifferent t.terms) (x : Search) (v : Theor
     pub rests : RestsOnNumbers t.symbols problem terms held given
     rests = record {
       formulas = formulas;
-      listed = subst (λ (p : Problem). AreAmong (whole_terms p) terms) s.meant s.listed.each;
+      listed = s.listed.each;
       only = only;
       shared = [];
       shares = nothing_shared;
       agree = record { same = λ a b i j. absurd (none a i) };
-      linear = λ u i. linear_in problem reached.linear u (only u i);
+      linear = λ u i. linear_in problem s.reached.linear u (only u i);
       met = met;
       truths = atom_held;
       fine = subst (λ (ts : List Term). IsFine ts held) (ap (clause_at t) h.terms) (subst (IsFine (terms_watched t v)) (ap (map (literal_at t)) h.held) fine);

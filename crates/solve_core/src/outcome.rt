@@ -91,7 +91,7 @@ fn decided(
     if let Some(wide) = first_overflow(alloc, table, roots)? {
         return strained(alloc, wide, limits);
     }
-    let mut search = match begin(alloc, table, roots, limits) {
+    let mut search = match begin(alloc, table, roots, &[], limits) {
         Ok(search) => search,
         Err(ClauseStop::Wide(wide)) => return strained(alloc, wide, limits),
         Err(ClauseStop::Memory) => return Err(NoMemory),

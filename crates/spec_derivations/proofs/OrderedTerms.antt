@@ -9,7 +9,7 @@ use Rattle.spec_sorts.specs.Subsets.{arguments_of, AreAmong}
 use Rattle.spec_sorts.specs.Literals.{Clause, Literal, literal_of, literals_of}
 use Rattle.spec_sorts.proofs.WellSorted.{same_sort_is, before}
 use Rattle.spec_sorts.proofs.LeastSubterms.{least_of}
-use Rattle.spec_derivations.specs.Problems.{Problem, terms_of_problem}
+use Rattle.spec_derivations.specs.Problems.{Problem, known_terms}
 use Rattle.spec_derivations.specs.Base.{truth_facts, branch_equalities, spoken_terms, search_terms, defining_clauses, search_clauses}
 use Rattle.spec_derivations.specs.Orders.{order_fact, order_facts, order_clauses, ordered_terms, whole_terms, whole_clauses_of, whole_clauses}
 use Rattle.spec_derivations.specs.Spent.{IsAtomOf, forth, back}
@@ -239,7 +239,7 @@ module _ (symbols : List Symbol) where
       (before symbols [] Or (pair Equal s t ∷ negated (pair AtMost s t) ∷ negated (pair AtMost t s) ∷ []) refl tt (w, (one.0, (two.0, tt)))) one two
 
   -- of terms over symbols such a search speaks of well-sorted terms
-  pub whole_sorted : (p : Problem) → All (IsFormulaOver symbols) (terms_of_problem p) → (t : Term) → Contains (whole_terms p) t → IsWellSorted symbols [] t
+  pub whole_sorted : (p : Problem) → All (IsFormulaOver symbols) (known_terms p) → (t : Term) → Contains (whole_terms p) t → IsWellSorted symbols [] t
   whole_sorted p formulas t i = go t (whole p t i)
     where
       go : (u : Term) → IsWhole p u → IsWellSorted symbols [] u

@@ -12,7 +12,7 @@ use Rattle.spec_sorts.specs.Subsets.{arguments_of, AreAmong, IsClosed}
 use Rattle.spec_sorts.specs.Literals.{Clause, Literal, literal_of, literals_of}
 use Rattle.spec_sorts.proofs.WellSorted.{same_sort_itself, before}
 use Rattle.spec_sorts.proofs.LeastSubterms.{least_of}
-use Rattle.spec_derivations.specs.Problems.{Problem, terms_of_problem, subterms_in, known_subterms}
+use Rattle.spec_derivations.specs.Problems.{Problem, terms_of_problem, subterms_in, known_terms, known_subterms}
 use Rattle.spec_derivations.specs.Base.{clauses_of, base_clauses, truth_facts, branch_equalities, choice_clauses, spoken_terms, search_terms, defining_clauses, search_clauses}
 use Rattle.spec_derivations.specs.Spent.{IsAtomOf, subterm, with_first, with_second}
 use Rattle.spec_derivations.proofs.Below.{subterms_have, argument_sorted, head_fits}
@@ -93,27 +93,27 @@ facts_bare =
 
 -- Why a search speaks of a term.
 pub data IsSpoken (p : Problem) : Term → Type 0 where
-  -- it is a subterm of the check's terms
-  below : (u : Term) → Contains (subterms_in p) u → IsSpoken p u
+  -- it is a subterm of the check's terms, or of those beside them
+  below : (u : Term) → Contains (known_subterms p) u → IsSpoken p u
   -- or of the two facts
   of_facts : (u : Term) → Contains (subterms_of truth_facts) u → IsSpoken p u
-  -- or the equality of a choice among the subterms with a branch
-  of_branch : (w u : Term) → Contains (subterms_in p) w → IsBranchOf w u → IsSpoken p u
+  -- or the equality of a choice among these subterms with a branch
+  of_branch : (w u : Term) → Contains (known_subterms p) w → IsBranchOf w u → IsSpoken p u
 
 module _ (p : Problem) where
   abbrev rest : List Term
-  rest = truth_facts ++ flat_map branch_equalities (subterms_in p)
+  rest = truth_facts ++ flat_map branch_equalities (known_subterms p)
 
   abbrev closed_in : (ts : List Term) → IsClosed (subterms_of ts)
   closed_in ts = (least_of ts).closed
 
   spoken_below : (t : Term) → IsSpoken p t → (u : Term) → Contains (arguments_of t) u → IsSpoken p u
-  spoken_below t (below _ i) u j = below u (closed_in (terms_of_problem p) t i u j)
+  spoken_below t (below _ i) u j = below u (closed_in (known_terms p) t i u j)
   spoken_below t (of_facts _ i) u j = of_facts u (closed_in truth_facts t i u j)
   spoken_below t (of_branch w _ i b) u j = elim b.equality [ inl e ↦ side b.s s_in e | inr e ↦ side b.t t_in e ]
     where
       there : (v : Term) → Contains (b.c ∷ b.s ∷ b.t ∷ []) v → IsSpoken p v
-      there v k = below v (closed_in (terms_of_problem p) w i v (subst (λ x. Contains (arguments_of x) v) (sym b.choice) k))
+      there v k = below v (closed_in (known_terms p) w i v (subst (λ x. Contains (arguments_of x) v) (sym b.choice) k))
 
       s_in : IsSpoken p b.s
       s_in = there b.s (later b.c (b.s ∷ b.t ∷ []) b.s (first b.s (b.t ∷ [])))
@@ -128,11 +128,11 @@ module _ (p : Problem) where
       ]
 
   spoken_each : (t : Term) → Contains (spoken_terms p) t → IsSpoken p t
-  spoken_each t i = elim (Contains-append_cases (terms_of_problem p) rest t i) [
-    | inl here ↦ below t ((least_of (terms_of_problem p)).there t here)
-    | inr more ↦ elim (Contains-append_cases truth_facts (flat_map branch_equalities (subterms_in p)) t more) [
+  spoken_each t i = elim (Contains-append_cases (known_terms p) rest t i) [
+    | inl here ↦ below t ((least_of (known_terms p)).there t here)
+    | inr more ↦ elim (Contains-append_cases truth_facts (flat_map branch_equalities (known_subterms p)) t more) [
       | inl fact ↦ of_facts t ((least_of truth_facts).there t fact)
-      | inr branch ↦ let w = from_flat branch_equalities (subterms_in p) t branch in of_branch w.0 t w.1 (branch_of w.0 t w.2)
+      | inr branch ↦ let w = from_flat branch_equalities (known_subterms p) t branch in of_branch w.0 t w.1 (branch_of w.0 t w.2)
     ]
   ]
 
@@ -143,20 +143,28 @@ module _ (p : Problem) where
   in_search : (t : Term) → Contains (spoken_terms p) t → Contains (search_terms p) t
   in_search = (least_of (spoken_terms p)).there
 
-  -- a search speaks of the check's subterms
+  -- a search speaks of the known subterms
+  pub known_spoken : AreAmong (known_subterms p) (search_terms p)
+  known_spoken = (least_of (known_terms p)).least (search_terms p) (λ t i. in_search t (Contains-append_left (known_terms p) rest t i)) (closed_in (spoken_terms p))
+
+  -- the check's subterms are among them
+  pub subterms_known : AreAmong (subterms_in p) (known_subterms p)
+  subterms_known = (least_of (terms_of_problem p)).least (known_subterms p)
+      (λ t i. (least_of (known_terms p)).there t (Contains-append_right p.beside (terms_of_problem p) t i)) (closed_in (known_terms p))
+
   pub subterms_spoken : AreAmong (subterms_in p) (search_terms p)
-  subterms_spoken = (least_of (terms_of_problem p)).least (search_terms p) (λ t i. in_search t (Contains-append_left (terms_of_problem p) rest t i)) (closed_in (spoken_terms p))
+  subterms_spoken t i = known_spoken t (subterms_known t i)
 
-  -- of the two facts
+  -- it speaks of the two facts
   pub facts_spoken : AreAmong truth_facts (search_terms p)
-  facts_spoken t i = in_search t (Contains-append_right (terms_of_problem p) rest t (Contains-append_left truth_facts (flat_map branch_equalities (subterms_in p)) t i))
+  facts_spoken t i = in_search t (Contains-append_right (known_terms p) rest t (Contains-append_left truth_facts (flat_map branch_equalities (known_subterms p)) t i))
 
-  -- and of the equalities of its choices, which are all among the check's subterms
+  -- and of the equalities of its choices, which are all among the known subterms
   pub equalities_spoken : (w u : Term) → Contains (search_terms p) w → Contains (branch_equalities w) u → Contains (search_terms p) u
   equalities_spoken w u i j = go w (spoken w i) j
     where
-      there : (v : Term) → Contains (subterms_in p) v → Contains (branch_equalities v) u → Contains (search_terms p) u
-      there v k l = in_search u (Contains-append_right (terms_of_problem p) rest u (Contains-append_right truth_facts (flat_map branch_equalities (subterms_in p)) u (in_flat branch_equalities (subterms_in p) v u k l)))
+      there : (v : Term) → Contains (known_subterms p) v → Contains (branch_equalities v) u → Contains (search_terms p) u
+      there v k l = in_search u (Contains-append_right (known_terms p) rest u (Contains-append_right truth_facts (flat_map branch_equalities (known_subterms p)) u (in_flat branch_equalities (known_subterms p) v u k l)))
 
       no_branches : (v x : Term) → Contains (branch_equalities (pair Equal v x)) u → ⊥
       no_branches v x l = none u l
@@ -169,20 +177,16 @@ module _ (p : Problem) where
         | inr e ↦ absurd (no_branches x b.t (subst (λ y. Contains (branch_equalities y) u) e l))
       ]
 
-  known_in : AreAmong (subterms_in p) (known_subterms p)
-  known_in = (least_of (terms_of_problem p)).least (known_subterms p)
-      (λ t i. (least_of (terms_of_problem p ++ p.earlier)).there t (Contains-append_left (terms_of_problem p) p.earlier t i)) (closed_in (terms_of_problem p ++ p.earlier))
-
   -- the terms of which a search speaks that stand for themselves, but for the truth values and the two facts, are atoms of the check
   pub spoken_atoms : (u : Term) → Contains (search_terms p) u → sort_of u ≡ Truth → (literal_of u ≡ record { atom = u; positive = true })
       → u ≢ of True [] → u ≢ of False [] → (Contains truth_facts u → ⊥) → IsAtomOf p u
   spoken_atoms u i sorted itself not_true not_false not_fact = go (spoken u i)
     where
       go : IsSpoken p u → IsAtomOf p u
-      go (below _ k) = subterm u (known_in u k) sorted not_true not_false
+      go (below _ k) = subterm u k sorted not_true not_false
       go (of_facts _ k) = absurd (facts_have IsBare facts_bare u k itself not_true not_false not_fact)
       go (of_branch w _ k h) =
-          let there : Contains (known_subterms p) (of Ite (h.c ∷ h.s ∷ h.t ∷ [])) = subst (λ x. Contains (known_subterms p) x) h.choice (known_in w k) in
+          let there : Contains (known_subterms p) (of Ite (h.c ∷ h.s ∷ h.t ∷ [])) = subst (λ x. Contains (known_subterms p) x) h.choice k in
           elim h.equality [
             | inl e ↦ subst (IsAtomOf p) (ap (λ x. pair Equal x h.s) (sym h.choice) ∙ sym e) (with_first h.c h.s h.t there h.other)
             | inr e ↦ subst (IsAtomOf p) (ap (λ x. pair Equal x h.t) (sym h.choice) ∙ sym e) (with_second h.c h.s h.t there h.other)
@@ -246,11 +250,11 @@ module _ (symbols : List Symbol) where
           (before symbols [] Equal (choice ∷ v ∷ []) same tt (choice_sorted, (argument_sorted symbols [] choice choice_sorted v i, tt)))
 
   -- of terms over symbols a search speaks of well-sorted terms
-  pub spoken_sorted : (p : Problem) → All (IsFormulaOver symbols) (terms_of_problem p) → (t : Term) → Contains (search_terms p) t → IsWellSorted symbols [] t
+  pub spoken_sorted : (p : Problem) → All (IsFormulaOver symbols) (known_terms p) → (t : Term) → Contains (search_terms p) t → IsWellSorted symbols [] t
   spoken_sorted p formulas t i = go t (spoken p t i)
     where
-      subterm_sorted : (u : Term) → Contains (subterms_in p) u → IsWellSorted symbols [] u
-      subterm_sorted = subterms_have (IsWellSorted symbols []) (argument_sorted symbols []) (terms_of_problem p) (All-weaker (IsFormulaOver symbols) (IsWellSorted symbols []) (λ u h. h.term) (terms_of_problem p) formulas)
+      subterm_sorted : (u : Term) → Contains (known_subterms p) u → IsWellSorted symbols [] u
+      subterm_sorted = subterms_have (IsWellSorted symbols []) (argument_sorted symbols []) (known_terms p) (All-weaker (IsFormulaOver symbols) (IsWellSorted symbols []) (λ u h. h.term) (known_terms p) formulas)
 
       go : (u : Term) → IsSpoken p u → IsWellSorted symbols [] u
       go u (below _ k) = subterm_sorted u k

@@ -4,7 +4,7 @@ use Rattle.spec_sorts.specs.Terms.{True, False, Ite, Equal, Truth, Term, app, ni
 use Rattle.spec_sorts.specs.Subterms.{subterms_of}
 use Rattle.spec_sorts.specs.Literals.{Clause}
 use Rattle.spec_rules.specs.Schemes.{clauses_by, schemes}
-use Rattle.spec_derivations.specs.Problems.{Problem, terms_of_problem, subterms_in}
+use Rattle.spec_derivations.specs.Problems.{Problem, known_terms, subterms_in, known_subterms}
 
 -- all clauses that a term gives by rules without premises; there are none where its arguments are not of sort Bool
 abbrev pub clauses_of : Term → List Clause
@@ -28,9 +28,9 @@ abbrev pub choice_clauses : Term → List Clause
 choice_clauses (app Ite (cons c (cons s (cons t nil)))) = if same_sort Truth (sort_of s) then [] else (negated c ∷ pair Equal (app Ite (cons c (cons s (cons t nil)))) s ∷ []) ∷ (c ∷ pair Equal (app Ite (cons c (cons s (cons t nil)))) t ∷ []) ∷ []
 choice_clauses t = []
 
--- the terms that a search speaks of: those of the check, the two equalities, and those of its choices
+-- the terms that a search speaks of: those of the check and those beside them, the two equalities, and those of the choices in these
 abbrev pub spoken_terms : Problem → List Term
-spoken_terms p = terms_of_problem p ++ (truth_facts ++ flat_map branch_equalities (subterms_in p))
+spoken_terms p = known_terms p ++ (truth_facts ++ flat_map branch_equalities (known_subterms p))
 
 -- with their subterms
 abbrev pub search_terms : Problem → List Term

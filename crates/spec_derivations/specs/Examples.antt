@@ -9,9 +9,13 @@ use Rattle.spec_rules.specs.Examples.{p, q, r, a, b, x, y, below}
 use Rattle.spec_derivations.specs.Problems.{Problem}
 use Rattle.spec_derivations.specs.Derivations.{Derivation, assumption, by_rule}
 
--- terms that are asserted, without others
+-- terms that are asserted, with others beside them
+abbrev pub speaking : List Term → List Term → Problem
+speaking ts bs = record { asserted = ts; assumed = []; beside = bs }
+
+-- without others
 abbrev pub asserting : List Term → Problem
-asserting ts = record { asserted = ts; assumed = []; earlier = [] }
+asserting ts = speaking ts []
 
 -- the disjunction of the constants, each as it stands or negated
 abbrev pub one_of : Bool → Bool → Bool → Term

@@ -1,4 +1,4 @@
--- What a search over linear arithmetic speaks of beside the terms of a check: the orders of the sides of each equality of numbers. Source: Alethe specification, rule `la_disequality`; which orders a search speaks of is own.
+-- What a search over linear arithmetic speaks of in addition: the orders of the sides of each equality of numbers. Source: Alethe specification, rule `la_disequality`; which orders a search speaks of is own.
 use Rattle.std.specs.Prelude.{List, [], ◌∷◌, ◌++◌, map, flat_map, if◌then◌else◌}
 use Rattle.spec_sorts.specs.Terms.{Number, Or, Equal, AtMost, Term, app, nil, cons, of, pair, negated, same_sort, sort_of}
 use Rattle.spec_sorts.specs.Subterms.{subterms_of}

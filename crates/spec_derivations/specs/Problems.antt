@@ -1,4 +1,4 @@
--- What a search is asked: terms that are to be true, and those that its clauses may speak of.
+-- What a search is asked: terms that are to be true, and those beside them of which it may speak.
 use Rattle.std.specs.Prelude.{List, ◌++◌}
 use Rattle.spec_sorts.specs.Terms.{Term}
 use Rattle.spec_sorts.specs.Subterms.{subterms_of}
@@ -11,8 +11,8 @@ pub record Problem : Type 0 where
   pub asserted : List Term
   -- those that are assumed for this check alone
   pub assumed : List Term
-  -- those of earlier checks, of which learned clauses may speak
-  pub earlier : List Term
+  -- those that need not be true, of which the search and learned clauses may speak
+  pub beside : List Term
 
 -- the terms that are to be true
 abbrev pub terms_of_problem : Problem → List Term
@@ -22,10 +22,14 @@ terms_of_problem p = p.asserted ++ p.assumed
 abbrev pub subterms_in : Problem → List Term
 subterms_in p = subterms_of (terms_of_problem p)
 
--- their subterms, and those of earlier checks
-abbrev pub known_subterms : Problem → List Term
-known_subterms p = subterms_of (terms_of_problem p ++ p.earlier)
+-- the terms beside them, and these
+abbrev pub known_terms : Problem → List Term
+known_terms p = p.beside ++ terms_of_problem p
 
--- a check after others of these terms
+-- the subterms of both
+abbrev pub known_subterms : Problem → List Term
+known_subterms p = subterms_of (known_terms p)
+
+-- a check with these terms beside it
 abbrev pub problem_of : Check → List Term → Problem
-problem_of c earlier = record { asserted = terms_asserted (assertions_of c.stack); assumed = terms_asserted c.assumptions; earlier = earlier }
+problem_of c beside = record { asserted = terms_asserted (assertions_of c.stack); assumed = terms_asserted c.assumptions; beside = beside }

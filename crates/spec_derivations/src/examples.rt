@@ -2,19 +2,19 @@
 //! the example; it computes nothing. The constants p, q and r have the sort Bool, a and b the sort Real, and x and
 //! y a declared one.
 
-ghost use Rattle.std.specs.Prelude.{◌≡◌, [], ◌∷◌};
+ghost use Rattle.std.specs.Prelude.{◌≡◌, [], ◌∷◌, Contains};
 ghost use Rattle.spec_sorts.specs.Terms.{True, Or, Equal, AtMost, of, pair, negated};
 ghost use Rattle.spec_rules.specs.Examples.{p, q, r, a, b, below};
 ghost use Rattle.spec_derivations.specs.Problems.{Problem};
-ghost use Rattle.spec_derivations.specs.Base.{base_clauses};
+ghost use Rattle.spec_derivations.specs.Base.{base_clauses, search_terms, search_clauses};
 ghost use Rattle.spec_derivations.specs.Orders.{order_clauses};
 ghost use Rattle.spec_derivations.specs.Spent.{IsAtomOf};
-ghost use Rattle.spec_derivations.specs.Examples.{asserting, p_or_not_q, p_then_q_else_r, not_not_not_p, same};
+ghost use Rattle.spec_derivations.specs.Examples.{speaking, asserting, p_or_not_q, p_then_q_else_r, not_not_not_p, same};
 ghost use Rattle.spec_derivations.specs.Examples.{below_or_same, chosen, equals_chosen, of_disjunction};
 
 /// States the base clauses of a disjunction, of a choice, and of three negations: the term alone, and what its
 /// rules without premises state. A constant has none of its own, and a single negation has none. What is assumed
-/// has no clause alone, and what earlier checks asked has none at all.
+/// has no clause alone, and a term beside these has none at all.
 pub fn base_clauses_are_stated()
     ensures disjunction { base_clauses (asserting (p_or_not_q ∷ []))
         ≡ (p_or_not_q ∷ [])
@@ -33,7 +33,7 @@ pub fn base_clauses_are_stated()
     ensures assumed { base_clauses (record {
       asserted = [];
       assumed = p_or_not_q ∷ [];
-      earlier = p_then_q_else_r ∷ [];
+      beside = p_then_q_else_r ∷ [];
     })
         ≡ (negated p_or_not_q ∷ p ∷ negated q ∷ [])
         ∷ (p_or_not_q ∷ negated p ∷ [])
@@ -71,11 +71,19 @@ pub fn order_clauses_are_stated()
     ensures orders { order_clauses (pair AtMost a b) ≡ [] }
 {}
 
-/// States what the clauses that a check learns may speak of: a constant of an earlier check, the equality of a choice
-/// between numbers with its first branch, and the orders of both. They speak of no truth value, and of no number as
+/// States what a search speaks of where a term stands beside those that are asserted: of it, and of the equalities of its
+/// choices. It is not asserted, so a constant brings no clause.
+pub fn terms_beside_are_spoken_of()
+    ensures itself { Contains (search_terms (speaking [] (equals_chosen ∷ []))) equals_chosen }
+    ensures choice { Contains (search_terms (speaking [] (equals_chosen ∷ []))) (of Equal (chosen ∷ a ∷ [])) }
+    ensures no_clause { search_clauses (speaking [] (p ∷ [])) ≡ search_clauses (asserting []) }
+{}
+
+/// States what the clauses that a check learns may speak of: a constant of a term beside its own, the equality of a
+/// choice between numbers with its first branch, and the orders of both. They speak of no truth value, and of no number as
 /// such.
 pub fn atoms_are_found()
-    ensures earlier { IsAtomOf (record { asserted = []; assumed = []; earlier = p_or_not_q ∷ [] }) p }
+    ensures beside { IsAtomOf (speaking [] (p_or_not_q ∷ [])) p }
     ensures choice { IsAtomOf (asserting (equals_chosen ∷ [])) (of Equal (chosen ∷ a ∷ [])) }
     ensures order { IsAtomOf (asserting (equals_chosen ∷ [])) (of AtMost (a ∷ chosen ∷ [])) }
     ensures no_truth_value { (k : Problem) → IsAtomOf k (of True []) → ⊥ }

@@ -6,18 +6,18 @@ ghost use Rattle.spec_sorts.specs.Terms.{True, False, Truth, Symbol, Term, of, s
 ghost use Rattle.spec_sorts.specs.WellSorted.{IsWellSorted, IsFormulaOver};
 ghost use Rattle.spec_sorts.specs.Subsets.{arguments_of};
 ghost use Rattle.spec_sorts.specs.Literals.{Clause, Literal, literal_of, literals_of};
-ghost use Rattle.spec_derivations.specs.Problems.{Problem, terms_of_problem, subterms_in};
+ghost use Rattle.spec_derivations.specs.Problems.{Problem, known_terms, known_subterms};
 ghost use Rattle.spec_derivations.specs.Base.{base_clauses, truth_facts, branch_equalities};
 ghost use Rattle.spec_derivations.specs.Base.{search_terms, search_clauses};
 ghost use Rattle.spec_derivations.specs.Orders.{order_facts, whole_terms, whole_clauses};
 ghost use Rattle.spec_derivations.specs.Spent.{IsAtomOf};
 
-/// States which terms a search speaks of. They are the subterms of the check's terms and of the two facts about truth
-/// values, and the equalities of choices with their branches. With a term its arguments are among them. Those of sort
-/// Bool that stand for themselves are atoms of the check, but for the truth values and the two facts. Of formulas over
-/// symbols they are well sorted.
+/// States which terms a search speaks of. They are the subterms of the check's terms, of those beside them and of the
+/// two facts about truth values, and the equalities of choices with their branches. With a term its arguments are among
+/// them. Those of sort Bool that stand for themselves are atoms of the check, but for the truth values and the two
+/// facts. Of formulas over symbols they are well sorted.
 pub fn search_terms_are_known()
-    ensures subterms { (p : Problem) (u : Term) → Contains (subterms_in p) u → Contains (search_terms p) u }
+    ensures subterms { (p : Problem) (u : Term) → Contains (known_subterms p) u → Contains (search_terms p) u }
     ensures closed { (p : Problem) (t u : Term) → Contains (search_terms p) t → Contains (arguments_of t) u
         → Contains (search_terms p) u }
     ensures facts { (p : Problem) (u : Term) → Contains truth_facts u → Contains (search_terms p) u }
@@ -26,7 +26,7 @@ pub fn search_terms_are_known()
     ensures atoms { (p : Problem) (u : Term) → Contains (search_terms p) u → sort_of u ≡ Truth
         → literal_of u ≡ record { atom = u; positive = true } → u ≢ of True [] → u ≢ of False []
         → (Contains truth_facts u → ⊥) → IsAtomOf p u }
-    ensures sorted { (symbols : List Symbol) (p : Problem) → All (IsFormulaOver symbols) (terms_of_problem p)
+    ensures sorted { (symbols : List Symbol) (p : Problem) → All (IsFormulaOver symbols) (known_terms p)
         → (t : Term) → Contains (search_terms p) t → IsWellSorted symbols [] t }
 {}
 
@@ -55,7 +55,7 @@ pub fn whole_terms_are_known()
     ensures atoms { (p : Problem) (u : Term) → Contains (whole_terms p) u → sort_of u ≡ Truth
         → literal_of u ≡ record { atom = u; positive = true } → u ≢ of True [] → u ≢ of False []
         → (Contains truth_facts u → ⊥) → (Contains (flat_map order_facts (whole_terms p)) u → ⊥) → IsAtomOf p u }
-    ensures sorted { (symbols : List Symbol) (p : Problem) → All (IsFormulaOver symbols) (terms_of_problem p)
+    ensures sorted { (symbols : List Symbol) (p : Problem) → All (IsFormulaOver symbols) (known_terms p)
         → (t : Term) → Contains (whole_terms p) t → IsWellSorted symbols [] t }
 {}
 

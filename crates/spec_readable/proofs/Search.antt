@@ -1,12 +1,11 @@
--- Where the terms of a check can be read back whole, so can all that a search speaks of, and what is made of that.
-use Rattle.std.proofs.Common.{◌≡◌, List, [], ◌∷◌, ◌++◌, All, Contains, true, false, subst, sym, arith, refl}
-use Rattle.std.proofs.lemmas.List.{append-nil}
+-- Where the terms of a check and those beside them can be read back whole, so can all that a search speaks of, and what is made of that.
+use Rattle.std.proofs.Common.{List, [], ◌∷◌, All, Contains, true, false, subst, arith, refl}
 use Rattle.spec_text.proofs.Members.{none, each_of}
 use Rattle.spec_sorts.specs.Terms.{True, False, Not, Ite, Equal, AtMost, Times, Divide, Term, Terms, app, nil, cons, of, list_of, negated, pair}
 use Rattle.spec_sorts.specs.Subsets.{arguments_of}
 use Rattle.spec_arithmetic.specs.Numbers.{IsLinear}
 use Rattle.spec_arithmetic.proofs.Linear.{argument_linear}
-use Rattle.spec_derivations.specs.Problems.{Problem, terms_of_problem}
+use Rattle.spec_derivations.specs.Problems.{Problem, known_terms}
 use Rattle.spec_derivations.specs.Base.{branch_equalities}
 use Rattle.spec_derivations.specs.Orders.{order_fact, whole_terms}
 use Rattle.spec_derivations.specs.Lemmas.{IsMadeOf, given, is_true, is_false, is_equality, is_negation}
@@ -60,7 +59,7 @@ branch_decimal t d = all_branches HasDecimals t (λ c a b e.
     let parts = argument_decimal (choice c a b) own in
     (equality_decimal (choice c a b) a own (parts a (1, omega arith, refl)), equality_decimal (choice c a b) b own (parts b (2, omega arith, refl))))
 
-pub whole_decimal : (p : Problem) → All HasDecimals (terms_of_problem p) → (t : Term) → Contains (whole_terms p) t → HasDecimals t
+pub whole_decimal : (p : Problem) → All HasDecimals (known_terms p) → (t : Term) → Contains (whole_terms p) t → HasDecimals t
 unfolding HasDecimals HaveDecimals
 whole_decimal p decimals = whole_have HasDecimals p (record {
   down = argument_decimal;
@@ -70,7 +69,7 @@ whole_decimal p decimals = whole_have HasDecimals p (record {
 }) (λ s t number d. fact_decimal s t d)
 
 -- what a search speaks of
-pub whole_readable : (p : Problem) → All IsReadableWhole (terms_of_problem p) → (t : Term) → Contains (whole_terms p) t → IsReadableWhole t
+pub whole_readable : (p : Problem) → All IsReadableWhole (known_terms p) → (t : Term) → Contains (whole_terms p) t → IsReadableWhole t
 whole_readable p each t t_in = (whole_linear p (λ k d lt. (each k d lt).0) t t_in, whole_decimal p (λ k d lt. (each k d lt).1) t t_in)
 
 -- a head of two arguments that refuses none
@@ -89,15 +88,15 @@ made_readable ts each _ (is_equality t u a b) = equality_readable t u (made_read
 made_readable ts each _ (is_negation t a) = before Not (t ∷ []) tt tt (made_readable ts each t a, tt)
 
 -- what literals of learned clauses may be over
-pub atom_readable : (p : Problem) → All IsReadableWhole (terms_of_problem p ++ p.earlier) → (t : Term) → IsAtomOf p t → IsReadableWhole t
-atom_readable p each _ (subterm t t_in sort not_true not_false) = subterms_have IsReadableWhole argument_readable (terms_of_problem p ++ p.earlier) each t t_in
+pub atom_readable : (p : Problem) → All IsReadableWhole (known_terms p) → (t : Term) → IsAtomOf p t → IsReadableWhole t
+atom_readable p each _ (subterm t t_in sort not_true not_false) = subterms_have IsReadableWhole argument_readable (known_terms p) each t t_in
 atom_readable p each _ (with_first c s t w_in other) =
     let w = of Ite (c ∷ s ∷ t ∷ []) in
-    let own = subterms_have IsReadableWhole argument_readable (terms_of_problem p ++ p.earlier) each w w_in in
+    let own = subterms_have IsReadableWhole argument_readable (known_terms p) each w w_in in
     equality_readable w s own (argument_readable w own s (1, omega arith, refl))
 atom_readable p each _ (with_second c s t w_in other) =
     let w = of Ite (c ∷ s ∷ t ∷ []) in
-    let own = subterms_have IsReadableWhole argument_readable (terms_of_problem p ++ p.earlier) each w w_in in
+    let own = subterms_have IsReadableWhole argument_readable (known_terms p) each w w_in in
     equality_readable w t own (argument_readable w own t (2, omega arith, refl))
 atom_readable p each _ (forth s t a number) =
     let own = argument_readable (pair Equal s t) (atom_readable p each (pair Equal s t) a) in
@@ -105,7 +104,3 @@ atom_readable p each _ (forth s t a number) =
 atom_readable p each _ (back s t a number) =
     let own = argument_readable (pair Equal s t) (atom_readable p each (pair Equal s t) a) in
     order_readable t s (own t (1, omega arith, refl)) (own s (0, omega arith, refl))
-
--- with no earlier check
-pub first_atom_readable : (p : Problem) → p.earlier ≡ [] → All IsReadableWhole (terms_of_problem p) → (t : Term) → IsAtomOf p t → IsReadableWhole t
-first_atom_readable p none_earlier each = atom_readable p (subst (λ (ts : List Term). All IsReadableWhole (terms_of_problem p ++ ts)) (sym none_earlier) (subst (All IsReadableWhole) (sym (append-nil (terms_of_problem p))) each))

@@ -1,6 +1,6 @@
 //! What the definitions imply. Each law is a function whose contract is the law; it computes nothing.
 
-ghost use Rattle.std.specs.Prelude.{◌≡◌, ◌++◌, ℕ, List, [], false, true, All, Ok, Contains};
+ghost use Rattle.std.specs.Prelude.{◌≡◌, ℕ, List, false, true, All, Ok, Contains};
 ghost use Rattle.spec_text.specs.Bytes.{Name};
 ghost use Rattle.spec_text.specs.Trees.{Tree};
 ghost use Rattle.spec_sorts.specs.Numerals.{literal_value, is_wide};
@@ -13,7 +13,7 @@ ghost use Rattle.spec_commands.specs.Stack.{Assertion, Stack, Taken, empty_stack
 ghost use Rattle.spec_commands.specs.Checks.{Check, asked, IsCurrent};
 ghost use Rattle.spec_commands.specs.Kept.{IsKept};
 ghost use Rattle.spec_arithmetic.specs.Numbers.{IsLinear};
-ghost use Rattle.spec_derivations.specs.Problems.{Problem, terms_of_problem, problem_of};
+ghost use Rattle.spec_derivations.specs.Problems.{Problem, terms_of_problem, known_terms, problem_of};
 ghost use Rattle.spec_derivations.specs.Orders.{whole_terms};
 ghost use Rattle.spec_derivations.specs.Lemmas.{IsMadeOf};
 ghost use Rattle.spec_derivations.specs.Spent.{IsAtomOf};
@@ -78,29 +78,27 @@ pub fn checks_are_readable()
         → AreReadable (signature_of c.stack) }
     ensures asked { (limit : ℕ) (text : List ℕ) (k : ℕ) (c : Check) → IsCurrent limit text k c
         → All (λ (a : Assertion). IsReadableWhole a.term) (asked c) }
-    ensures terms { (limit : ℕ) (text : List ℕ) (k : ℕ) (c : Check) (earlier : List Term) → IsCurrent limit text k c
-        → All IsReadableWhole (terms_of_problem (problem_of c earlier)) }
+    ensures terms { (limit : ℕ) (text : List ℕ) (k : ℕ) (c : Check) (beside : List Term) → IsCurrent limit text k c
+        → All IsReadableWhole (terms_of_problem (problem_of c beside)) }
 {
     read_numbers_are_decimals();
     spec_commands::assertions_have_their_texts_value();
 }
 
-/// States that where the terms of a check have decimals, so have all that a search over linear arithmetic speaks of.
-/// The same holds of terms that are readable whole.
+/// States that where the terms of a check and those beside them have decimals, so have all that a search over linear
+/// arithmetic speaks of. The same holds of terms that are readable whole.
 pub fn searched_terms_are_readable()
-    ensures decimals { (p : Problem) → All HasDecimals (terms_of_problem p)
+    ensures decimals { (p : Problem) → All HasDecimals (known_terms p)
         → (t : Term) → Contains (whole_terms p) t → HasDecimals t }
-    ensures whole { (p : Problem) → All IsReadableWhole (terms_of_problem p)
+    ensures whole { (p : Problem) → All IsReadableWhole (known_terms p)
         → (t : Term) → Contains (whole_terms p) t → IsReadableWhole t }
 {}
 
-/// States that where the terms of a check are readable whole, so is all that lemmas and learned clauses may be over.
-/// For learned clauses the terms of earlier checks have to be readable too, where there are some.
+/// States that where the terms of a check and those beside them are readable whole, so is all that lemmas and learned
+/// clauses may be over.
 pub fn search_makes_readable_terms()
-    ensures lemmas { (p : Problem) → All IsReadableWhole (terms_of_problem p)
+    ensures lemmas { (p : Problem) → All IsReadableWhole (known_terms p)
         → (t : Term) → IsMadeOf (whole_terms p) t → IsReadableWhole t }
-    ensures atoms { (p : Problem) → All IsReadableWhole (terms_of_problem p ++ p.earlier)
-        → (t : Term) → IsAtomOf p t → IsReadableWhole t }
-    ensures first_atoms { (p : Problem) → p.earlier ≡ [] → All IsReadableWhole (terms_of_problem p)
+    ensures atoms { (p : Problem) → All IsReadableWhole (known_terms p)
         → (t : Term) → IsAtomOf p t → IsReadableWhole t }
 {}

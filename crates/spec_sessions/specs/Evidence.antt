@@ -58,7 +58,7 @@ pub record IsModelOf (c : Check) (i : Interpretation) : Type 0 where
   -- each expression is true, as it is written
   pub each : All (IsTrueUnder i (signature_of c.stack)) (asked c)
 
--- the terms of a check, of which no earlier one counts: each search begins anew
+-- the terms of a check, with none beside them
 abbrev pub problem : Check → Problem
 problem c = problem_of c []
 

@@ -1,9 +1,9 @@
--- Where the terms of a check are linear, so are all that a search over linear arithmetic speaks of.
+-- Where the terms of a check and those beside them are linear, so are all that a search over linear arithmetic speaks of.
 use Rattle.std.proofs.Common.{All, Contains, true, false, subst, arith, refl}
 use Rattle.spec_sorts.specs.Terms.{Equal, AtMost, Term, negated, pair}
 use Rattle.spec_arithmetic.specs.Numbers.{IsLinear, AreLinear}
 use Rattle.spec_arithmetic.proofs.Linear.{argument_linear}
-use Rattle.spec_derivations.specs.Problems.{Problem, terms_of_problem}
+use Rattle.spec_derivations.specs.Problems.{Problem, known_terms}
 use Rattle.spec_derivations.specs.Base.{branch_equalities}
 use Rattle.spec_derivations.specs.Orders.{order_fact, whole_terms}
 use Rattle.spec_valuations.proofs.Speaking.{choice, truth_fact, both_have, all_branches, whole_have}
@@ -30,7 +30,7 @@ branch_linear t l = all_branches IsLinear t (λ c a b e.
     let parts = argument_linear (choice c a b) own in
     (equality_linear (choice c a b) a own (parts a (1, omega arith, refl)), equality_linear (choice c a b) b own (parts b (2, omega arith, refl))))
 
-pub whole_linear : (p : Problem) → All IsLinear (terms_of_problem p) → (t : Term) → Contains (whole_terms p) t → IsLinear t
+pub whole_linear : (p : Problem) → All IsLinear (known_terms p) → (t : Term) → Contains (whole_terms p) t → IsLinear t
 unfolding IsLinear AreLinear
 whole_linear p linear = whole_have IsLinear p (record {
   down = argument_linear;

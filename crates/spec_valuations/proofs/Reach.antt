@@ -1,4 +1,4 @@
--- Where the search reaches the terms of a check, functions with parameters keep apart from numbers in all terms that it speaks of.
+-- Where the search reaches the terms of a check and those beside them, functions with parameters keep apart from numbers in all terms that it speaks of.
 use Rattle.std.proofs.Common.{◌≡◌, ◌≢◌, true, false, not, ◌&&◌, List, [], ◌∷◌, map, All, Contains, refl, sym, ap, ◌∙◌, subst, arith}
 use Rattle.std.proofs.lemmas.Bool.{false≢true, and_parts}
 use Rattle.spec_text.proofs.Members.{first, later, none, each_of, to_image}
@@ -7,7 +7,7 @@ use Rattle.spec_sorts.specs.WellSorted.{IsWellSorted, IsFormulaOver}
 use Rattle.spec_sorts.specs.Subsets.{arguments_of}
 use Rattle.spec_sorts.proofs.SameTerms.{one_sorts}
 use Rattle.spec_commands.specs.Stack.{have_no_number, keeps_apart, head_in_reach, is_in_reach, are_in_reach}
-use Rattle.spec_derivations.specs.Problems.{Problem, terms_of_problem}
+use Rattle.spec_derivations.specs.Problems.{Problem, known_terms}
 use Rattle.spec_derivations.specs.Base.{branch_equalities}
 use Rattle.spec_derivations.specs.Orders.{order_fact, whole_terms}
 use Rattle.spec_derivations.specs.Models.{AreInReach}
@@ -53,7 +53,7 @@ branch_reached t r = all_branches (λ x. is_in_reach x ≡ true) t (λ c a b e.
     (pair_reached (choice c a b) a own (parts a (1, omega arith, refl)), pair_reached (choice c a b) b own (parts b (2, omega arith, refl))))
 
 -- and all terms that the search speaks of
-pub whole_reached : (p : Problem) → AreInReach (terms_of_problem p) → (t : Term) → Contains (whole_terms p) t → is_in_reach t ≡ true
+pub whole_reached : (p : Problem) → AreInReach (known_terms p) → (t : Term) → Contains (whole_terms p) t → is_in_reach t ≡ true
 unfolding is_in_reach are_in_reach
 whole_reached p reach = whole_have (λ t. is_in_reach t ≡ true) p (record {
   down = argument_reached;
@@ -93,7 +93,7 @@ module _ (ps : List Sort) (r : Sort) (e : keeps_apart ps r ≡ true) (ts : Terms
         λ u i. each (sort_of u) (later r (map sort_of (list_of ts)) (sort_of u) (to_image sort_of (list_of ts) u i)),
       )
 
-pub numbers_apart : (symbols : List Symbol) (p : Problem) → All (IsFormulaOver symbols) (terms_of_problem p) → AreInReach (terms_of_problem p) → (s : Symbol) (ts : Terms) → Contains (whole_terms p) (app (Apply s) ts) → list_of ts ≢ [] → (s.result ≢ Number) × ((u : Term) → Contains (list_of ts) u → sort_of u ≢ Number)
+pub numbers_apart : (symbols : List Symbol) (p : Problem) → All (IsFormulaOver symbols) (known_terms p) → AreInReach (known_terms p) → (s : Symbol) (ts : Terms) → Contains (whole_terms p) (app (Apply s) ts) → list_of ts ≢ [] → (s.result ≢ Number) × ((u : Term) → Contains (list_of ts) u → sort_of u ≢ Number)
 numbers_apart symbols p formulas reach s ts i some =
     let w : IsWellSorted symbols [] (app (Apply s) ts) = whole_sorted symbols p formulas (app (Apply s) ts) i in
     function_apart s.parameters s.result (reached_head (Apply s) ts (whole_reached p reach (app (Apply s) ts) i)) ts

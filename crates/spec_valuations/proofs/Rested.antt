@@ -17,7 +17,7 @@ use Rattle.spec_sorts.proofs.WellSorted.{other_sort}
 use Rattle.spec_congruence.specs.Congruence.{truth_term, signed, IsCongruent, IsFine}
 use Rattle.spec_equality.proofs.Values.{value_itself}
 use Rattle.spec_rules.specs.Truths.{Truths, literal_true, term_true_by}
-use Rattle.spec_derivations.specs.Problems.{Problem, terms_of_problem}
+use Rattle.spec_derivations.specs.Problems.{Problem, terms_of_problem, known_terms}
 use Rattle.spec_derivations.specs.Base.{clauses_of, choice_clauses, defining_clauses, branch_equalities, truth_facts}
 use Rattle.spec_derivations.proofs.Below.{head_fits, head_over}
 use Rattle.spec_derivations.proofs.Formulas.{is_core}
@@ -44,8 +44,8 @@ all_truths (cons t ts) f = both_true (ap (same_sort Truth) (f t (first t (list_o
 
 -- What a search has of its truths and classes where it rests, whatever theories it has.
 pub record IsAtRest (symbols : List Symbol) (p : Problem) (terms : List Term) (held : List HeldLiteral) (v : Truths) (class : Term → ℕ) : Type 0 where
-  -- the terms of the check are formulas over the symbols, and listed
-  pub formulas : All (IsFormulaOver symbols) (terms_of_problem p)
+  -- the terms of the check and those beside them are formulas over the symbols, and its own are listed
+  pub formulas : All (IsFormulaOver symbols) (known_terms p)
   pub asked : AreAmong (terms_of_problem p) terms
   -- listed terms are well sorted, with each its arguments are listed
   pub sorted : (t : Term) → Contains terms t → IsWellSorted symbols [] t
@@ -231,7 +231,7 @@ module _ (symbols : List Symbol) (p : Problem) (terms : List Term) (held : List 
       -- a term of the check that is true has the value true
       true_valued : (t : Term) → Contains (terms_of_problem p) t → is_so t ≡ true → value_at i [] t ≡ truth true
       true_valued t t_in e =
-          let formula = All-contains (IsFormulaOver symbols) (terms_of_problem p) t r.formulas t_in in
+          let formula = All-contains (IsFormulaOver symbols) (known_terms p) t r.formulas (Contains-append_right p.beside (terms_of_problem p) t t_in) in
           valued t (r.asked t t_in) ∙ ap (λ s. value_in s (is_so t) (point t) (class t)) formula.sort ∙ ap truth e
 
       pub asserted_valued : All (λ t. value_at i [] t ≡ truth true) p.asserted

@@ -1,4 +1,4 @@
--- What holds of the terms of a check, of the facts and of the equalities of choices holds of all terms that a search speaks of.
+-- What holds of the terms of a check, of those beside them, of the facts and of the equalities of choices holds of all terms that a search speaks of.
 use Rattle.std.proofs.Common.{◌≡◌, Bool, true, false, not, cond, List, [], ◌∷◌, ◌++◌, inl, inr, get_or, All, Contains, refl, sym, subst}
 use Rattle.std.specs.Prelude.{flat_map}
 use Rattle.std.proofs.lemmas.List.Elements.{All-contains, Contains-append_cases, Contains-get_or}
@@ -8,7 +8,7 @@ use Rattle.spec_sorts.specs.WellSorted.{IsWellSorted}
 use Rattle.spec_sorts.specs.Subsets.{arguments_of}
 use Rattle.spec_sorts.proofs.WellSorted.{choice_takes}
 use Rattle.spec_congruence.specs.Congruence.{truth_term}
-use Rattle.spec_derivations.specs.Problems.{Problem, terms_of_problem, subterms_in}
+use Rattle.spec_derivations.specs.Problems.{Problem, known_terms, known_subterms}
 use Rattle.spec_derivations.specs.Base.{truth_facts, branch_equalities, spoken_terms, search_terms}
 use Rattle.spec_derivations.specs.Orders.{order_fact, order_facts, ordered_terms, whole_terms}
 use Rattle.spec_derivations.proofs.Below.{subterms_have, head_fits}
@@ -39,27 +39,27 @@ all_branches P (app Ite (cons c (cons a (cons b nil)))) each u u_in = go (same_s
 all_branches P t each u u_in = absurd (none u u_in)
 
 module _ (P : Term → Type 0) (p : Problem) where
-  -- what the terms of the check, the facts, and the equalities of choices have
+  -- what the terms of the check and those beside them, the facts, and the equalities of choices have
   pub record EachHas : Type 0 where
     -- arguments have what a term has
     pub down : (t : Term) → P t → (u : Term) → Contains (arguments_of t) u → P u
-    -- the terms of the check
-    pub terms : All P (terms_of_problem p)
+    -- the terms of the check, and those beside them
+    pub terms : All P (known_terms p)
     -- the facts
     pub facts : (u : Term) → Contains truth_facts u → P u
     -- the equalities
-    pub branches : (t : Term) → Contains (subterms_in p) t → P t → (u : Term) → Contains (branch_equalities t) u → P u
+    pub branches : (t : Term) → Contains (known_subterms p) t → P t → (u : Term) → Contains (branch_equalities t) u → P u
 
   module _ (each : EachHas) where
-    pub known_have : (t : Term) → Contains (subterms_in p) t → P t
-    known_have = subterms_have P each.down (terms_of_problem p) each.terms
+    pub known_have : (t : Term) → Contains (known_subterms p) t → P t
+    known_have = subterms_have P each.down (known_terms p) each.terms
 
     spoken_have : (t : Term) → Contains (spoken_terms p) t → P t
-    spoken_have t t_in = elim (Contains-append_cases (terms_of_problem p) (truth_facts ++ flat_map branch_equalities (subterms_in p)) t t_in) [
-      | inl own ↦ All-contains P (terms_of_problem p) t each.terms own
-      | inr other ↦ elim (Contains-append_cases truth_facts (flat_map branch_equalities (subterms_in p)) t other) [
+    spoken_have t t_in = elim (Contains-append_cases (known_terms p) (truth_facts ++ flat_map branch_equalities (known_subterms p)) t t_in) [
+      | inl own ↦ All-contains P (known_terms p) t each.terms own
+      | inr other ↦ elim (Contains-append_cases truth_facts (flat_map branch_equalities (known_subterms p)) t other) [
         | inl fact ↦ each.facts t fact
-        | inr branch ↦ let x = from_flat branch_equalities (subterms_in p) t branch in each.branches x.0 x.1 (known_have x.0 x.1) t x.2
+        | inr branch ↦ let x = from_flat branch_equalities (known_subterms p) t branch in each.branches x.0 x.1 (known_have x.0 x.1) t x.2
       ]
     ]
 

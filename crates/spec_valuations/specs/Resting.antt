@@ -10,7 +10,7 @@ use Rattle.spec_congruence.specs.Congruence.{signed, IsCongruent, IsFine}
 use Rattle.spec_arithmetic.specs.Numbers.{number_at, IsLinear}
 use Rattle.spec_simplex.specs.Numbers.{HoldsAt}
 use Rattle.spec_rules.specs.Truths.{Truths, term_true_by}
-use Rattle.spec_derivations.specs.Problems.{Problem, terms_of_problem}
+use Rattle.spec_derivations.specs.Problems.{Problem, known_terms}
 use Rattle.spec_derivations.specs.Base.{search_terms, search_clauses}
 use Rattle.spec_derivations.specs.Orders.{whole_terms, whole_clauses}
 use Rattle.spec_valuations.specs.Tables.{Valuation}
@@ -18,8 +18,8 @@ use Rattle.spec_valuations.specs.Classes.{value_by, AreShared, Agrees}
 
 -- What a search over equality and functions has where it rests.
 pub record Rests (symbols : List Symbol) (p : Problem) (terms : List Term) (held : List Literal) (v : Truths) (class : Term → ℕ) : Type 0 where
-  -- the terms of the check are formulas over the symbols
-  pub formulas : All (IsFormulaOver symbols) (terms_of_problem p)
+  -- the terms of the check are formulas over the symbols, and so are those beside them
+  pub formulas : All (IsFormulaOver symbols) (known_terms p)
   -- all terms that the search speaks of are listed
   pub listed : AreAmong (search_terms p) terms
   -- and no others
@@ -50,8 +50,8 @@ values_of a = value_by (term_true_by a.truths) (number_at a.number) a.class
 
 -- What a search over equality, functions and linear arithmetic has where it rests, if its theories agree on shared terms. Source: Nelson and Oppen 1979.
 pub record RestsOnNumbers (symbols : List Symbol) (p : Problem) (terms : List Term) (held : List Literal) (a : TheoryValues) : Type 0 where
-  -- the terms of the check are formulas over the symbols
-  pub formulas : All (IsFormulaOver symbols) (terms_of_problem p)
+  -- the terms of the check are formulas over the symbols, and so are those beside them
+  pub formulas : All (IsFormulaOver symbols) (known_terms p)
   -- all terms that the search speaks of are listed
   pub listed : AreAmong (whole_terms p) terms
   -- and no others

@@ -17,10 +17,10 @@ use crate::laws::{resting_searches_have_models, searches_that_rest_on_numbers_ha
 /// States that a check has a model where a search of its terms rests that makes true what the check assumes. So where a
 /// search rests, `sat` is right.
 pub fn resting_searches_give_current_checks_models()
-    ensures { (limit : ℕ) (script : List ℕ) (k : ℕ) (c : Check) (earlier terms : List Term) (held : List Literal)
+    ensures { (limit : ℕ) (script : List ℕ) (k : ℕ) (c : Check) (beside terms : List Term) (held : List Literal)
         (v : Truths) (class : Term → ℕ) → IsCurrent limit script k c
-        → Rests (symbols_in (signature_of c.stack)) (problem_of c earlier) terms held v class
-        → All (λ t. term_true_by v t ≡ true) (problem_of c earlier).assumed
+        → Rests (symbols_in (signature_of c.stack)) (problem_of c beside) terms held v class
+        → All (λ t. term_true_by v t ≡ true) (problem_of c beside).assumed
         → (i : Interpretation) × MakesTrue limit i script k }
 {
     resting_searches_have_models();
@@ -32,10 +32,10 @@ pub fn resting_searches_give_current_checks_models()
 /// what the check assumes. Its theories agree on shared terms. So where it rests, `sat` is right. Source: Nelson and
 /// Oppen 1979.
 pub fn searches_that_rest_on_numbers_give_current_checks_models()
-    ensures { (limit : ℕ) (script : List ℕ) (k : ℕ) (c : Check) (earlier terms : List Term) (held : List Literal)
+    ensures { (limit : ℕ) (script : List ℕ) (k : ℕ) (c : Check) (beside terms : List Term) (held : List Literal)
         (a : TheoryValues) → IsCurrent limit script k c
-        → RestsOnNumbers (symbols_in (signature_of c.stack)) (problem_of c earlier) terms held a
-        → All (λ t. term_true_by a.truths t ≡ true) (problem_of c earlier).assumed
+        → RestsOnNumbers (symbols_in (signature_of c.stack)) (problem_of c beside) terms held a
+        → All (λ t. term_true_by a.truths t ≡ true) (problem_of c beside).assumed
         → (i : Interpretation) × MakesTrue limit i script k }
 {
     searches_that_rest_on_numbers_have_models();

@@ -9,7 +9,7 @@ ghost use Rattle.spec_sorts.specs.TermValues.{value_at};
 ghost use Rattle.spec_sorts.specs.Literals.{Literal};
 ghost use Rattle.spec_arithmetic.specs.Numbers.{IsLinear};
 ghost use Rattle.spec_rules.specs.Truths.{Truths, term_true_by};
-ghost use Rattle.spec_derivations.specs.Problems.{Problem, terms_of_problem};
+ghost use Rattle.spec_derivations.specs.Problems.{Problem, terms_of_problem, known_terms};
 ghost use Rattle.spec_derivations.specs.Orders.{whole_terms};
 ghost use Rattle.spec_derivations.specs.Models.{AreInReach};
 ghost use Rattle.spec_valuations.specs.Tables.{Valuation, IsModelBy, AreListed, IsValuation};
@@ -92,16 +92,17 @@ pub fn searches_that_rest_on_numbers_have_models()
         → All (λ t. value_at i [] t ≡ truth true) (terms_of_problem p) }
 {}
 
-/// States that where the search reaches the terms of a check, no function with parameters gives a number or takes one, in all
-/// terms that it speaks of.
+/// States that where the search reaches the terms of a check and those beside them, no function with parameters gives
+/// a number or takes one, in all terms that it speaks of.
 pub fn functions_in_reach_keep_numbers_apart()
-    ensures { (symbols : List Symbol) (p : Problem) → All (IsFormulaOver symbols) (terms_of_problem p)
-        → AreInReach (terms_of_problem p) → (s : Symbol) (ts : Terms) → Contains (whole_terms p) (app (Apply s) ts)
+    ensures { (symbols : List Symbol) (p : Problem) → All (IsFormulaOver symbols) (known_terms p)
+        → AreInReach (known_terms p) → (s : Symbol) (ts : Terms) → Contains (whole_terms p) (app (Apply s) ts)
         → list_of ts ≢ [] → (s.result ≢ Number) × ((u : Term) → Contains (list_of ts) u → sort_of u ≢ Number) }
 {}
 
-/// States that where the terms of a check are linear, so are all that a search over linear arithmetic speaks of.
+/// States that where the terms of a check and those beside them are linear, so are all that a search over linear
+/// arithmetic speaks of.
 pub fn terms_of_linear_checks_are_linear()
-    ensures { (p : Problem) → All IsLinear (terms_of_problem p)
+    ensures { (p : Problem) → All IsLinear (known_terms p)
         → (t : Term) → Contains (whole_terms p) t → IsLinear t }
 {}

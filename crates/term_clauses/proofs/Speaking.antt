@@ -9,12 +9,12 @@ use Rattle.spec_sorts.proofs.WellSorted.{before}
 use Rattle.spec_sorts.specs.Subterms.{subterms_of}
 use Rattle.spec_sorts.specs.Subsets.{AreAmong}
 use Rattle.spec_derivations.specs.Base.{truth_facts, branch_equalities, spoken_terms}
-use Rattle.spec_derivations.specs.Examples.{asserting}
+use Rattle.spec_derivations.specs.Examples.{speaking}
 use Rattle.term_core.specs.declared.ids.TermId.{TermId}
-use Rattle.term_core.specs.Tables.{TableView, term_at, AreIn, clause_at}
+use Rattle.term_core.specs.Tables.{TableView, term_at, AreIn, clause_at, Extends}
 use Rattle.term_core.proofs.TermsExtend.{clause_at-kept}
 use Rattle.proof_log.specs.Logs.{IsFormulaIn, AreFormulasIn}
-use Rattle.term_clauses.specs.SpokenTerms.{AreSpoken, HasMore}
+use Rattle.term_clauses.specs.SpokenTerms.{problem_in, AreSpoken, HasMore}
 use Rattle.term_clauses.specs.Stating.{Widens, Names}
 use Rattle.term_clauses.specs.Choices.{AreComparable, truth_term}
 use Rattle.term_clauses.proofs.Arguments.{literal_more}
@@ -22,7 +22,7 @@ use Rattle.term_clauses.proofs.Parts.{formula_kept}
 use Rattle.term_clauses.proofs.Within.{within_append, within_swapped, within_flat}
 
 -- formulas are the table's
-formulas_there : (t : TableView) (ids : List TermId) → AreFormulasIn t ids → AreIn t ids
+pub formulas_there : (t : TableView) (ids : List TermId) → AreFormulasIn t ids → AreIn t ids
 formulas_there t ids each k d lt = (each k d lt).0
 
 -- formulas are some in a wider table
@@ -71,33 +71,44 @@ truth_in t b id h = (h.0, subst (IsFormulaOver t.symbols) (sym h.1) (truth_formu
 pub formulas_comparable : (t : TableView) (a b : TermId) → IsFormulaIn t a → IsFormulaIn t b → AreComparable t a b
 formulas_comparable t a b f g = record { one = (f.0, f.1.term); other = (g.0, g.1.term); sort = f.1.sort ∙ sym g.1.sort }
 
--- the terms that are asserted, then the equalities of choices among their subterms, then the truth facts, are those of which a search speaks
-module _ (ts us : List Term) (each : AreAmong (subterms_of ts) us) (only : AreAmong us (subterms_of ts)) where
-  -- in that of the definition
-  plain : spoken_terms (asserting ts) ≡ ts ++ (truth_facts ++ flat_map branch_equalities (subterms_of ts))
-  plain = ap (λ (vs : List Term). vs ++ (truth_facts ++ flat_map branch_equalities (subterms_of vs))) (append-nil ts)
+-- the terms beside those that are asserted, then these, then the equalities of choices among their subterms, then the truth facts, are those of which a search speaks
+module _ (ts bs us : List Term) (each : AreAmong (subterms_of (bs ++ ts)) us) (only : AreAmong us (subterms_of (bs ++ ts))) where
+  abbrev told : List Term
+  told = bs ++ ts
 
-  spoken_each : AreAmong (spoken_terms (asserting ts)) (ts ++ (flat_map branch_equalities us ++ truth_facts))
+  -- in that of the definition
+  plain : spoken_terms (speaking ts bs) ≡ told ++ (truth_facts ++ flat_map branch_equalities (subterms_of told))
+  plain = ap (λ (vs : List Term). (bs ++ vs) ++ (truth_facts ++ flat_map branch_equalities (subterms_of (bs ++ vs)))) (append-nil ts)
+
+  spoken_each : AreAmong (spoken_terms (speaking ts bs)) (told ++ (flat_map branch_equalities us ++ truth_facts))
   spoken_each w w_in =
-      let all = flat_map branch_equalities (subterms_of ts) in
+      let all = flat_map branch_equalities (subterms_of told) in
       let some = flat_map branch_equalities us in
-      within_append ts (truth_facts ++ all) ts (some ++ truth_facts) (λ x x_in. x_in)
-      (λ x x_in. within_swapped truth_facts some x (within_append truth_facts all truth_facts some (λ y y_in. y_in) (within_flat branch_equalities (subterms_of ts) us each) x x_in))
+      within_append told (truth_facts ++ all) told (some ++ truth_facts) (λ x x_in. x_in)
+      (λ x x_in. within_swapped truth_facts some x (within_append truth_facts all truth_facts some (λ y y_in. y_in) (within_flat branch_equalities (subterms_of told) us each) x x_in))
       w (subst (λ (vs : List Term). Contains vs w) plain w_in)
 
-  spoken_only : AreAmong (ts ++ (flat_map branch_equalities us ++ truth_facts)) (spoken_terms (asserting ts))
+  spoken_only : AreAmong (told ++ (flat_map branch_equalities us ++ truth_facts)) (spoken_terms (speaking ts bs))
   spoken_only w w_in =
-      let all = flat_map branch_equalities (subterms_of ts) in
+      let all = flat_map branch_equalities (subterms_of told) in
       let some = flat_map branch_equalities us in
       subst (λ (vs : List Term). Contains vs w) (sym plain)
-      (within_append ts (some ++ truth_facts) ts (truth_facts ++ all) (λ x x_in. x_in)
-      (λ x x_in. within_append truth_facts some truth_facts all (λ y y_in. y_in) (within_flat branch_equalities us (subterms_of ts) only) x (within_swapped some truth_facts x x_in))
+      (within_append told (some ++ truth_facts) told (truth_facts ++ all) (λ x x_in. x_in)
+      (λ x x_in. within_append truth_facts some truth_facts all (λ y y_in. y_in) (within_flat branch_equalities us (subterms_of told) only) x (within_swapped some truth_facts x x_in))
       w w_in)
 
 -- numbers of them
-pub are_spoken : (t : TableView) (ts us : List Term) (ids : List TermId) → AreAmong (subterms_of ts) us → AreAmong us (subterms_of ts) → AreFormulasIn t ids → clause_at t ids ≡ ts ++ (flat_map branch_equalities us ++ truth_facts) → AreSpoken t ts ids
-are_spoken t ts us ids each only formulas same = record {
-  formulas = formulas;
-  each = λ w w_in. subst (λ (vs : List Term). Contains vs w) (sym same) (spoken_each ts us each only w w_in);
-  only = λ w w_in. spoken_only ts us each only w (subst (λ (vs : List Term). Contains vs w) same w_in);
-}
+module _ (t : TableView) (ts bs us : List Term) (ids : List TermId) where
+  pub are_spoken : AreAmong (subterms_of (bs ++ ts)) us → AreAmong us (subterms_of (bs ++ ts)) → AreFormulasIn t ids → clause_at t ids ≡ (bs ++ ts) ++ (flat_map branch_equalities us ++ truth_facts) → AreSpoken t (speaking ts bs) ids
+  are_spoken each only formulas same = record {
+    formulas = formulas;
+    each = λ w w_in. subst (λ (vs : List Term). Contains vs w) (sym same) (spoken_each ts bs us each only w w_in);
+    only = λ w w_in. spoken_only ts bs us each only w (subst (λ (vs : List Term). Contains vs w) same w_in);
+  }
+
+-- the terms that a search is asked are the same in a table with more
+pub problem_kept : (t u : TableView) → Extends t u → (roots beside : List TermId) → AreFormulasIn t roots → AreFormulasIn t beside → problem_in u roots beside ≡ problem_in t roots beside
+problem_kept t u g roots beside roots_in beside_in =
+    let own : clause_at u roots ≡ clause_at t roots = clause_at-kept t u g roots (λ k d lt. (roots_in k d lt).0) in
+    let others : clause_at u beside ≡ clause_at t beside = clause_at-kept t u g beside (λ k d lt. (beside_in k d lt).0) in
+    λ i. speaking (own i) (others i)

@@ -2,8 +2,9 @@
 use Rattle.std.specs.Prelude.{◌≡◌, ℕ, ◌<◌, List, ◌++◌, length, get_or}
 use Rattle.spec_sorts.specs.Terms.{Term}
 use Rattle.spec_sorts.specs.Subsets.{AreAmong}
+use Rattle.spec_derivations.specs.Problems.{Problem}
 use Rattle.spec_derivations.specs.Base.{spoken_terms}
-use Rattle.spec_derivations.specs.Examples.{asserting}
+use Rattle.spec_derivations.specs.Examples.{speaking}
 use Rattle.term_core.specs.declared.ids.TermId.{TermId}
 use Rattle.term_core.specs.Tables.{TableView, clause_at}
 use Rattle.proof_log.specs.Logs.{AreFormulasIn}
@@ -16,14 +17,18 @@ no_id = record { 0 = 0 }
 abbrev pub AreRising : List TermId → Type 0
 AreRising ids = (i j : ℕ) → i < j → j < length ids → (get_or ids i no_id).0 < (get_or ids j no_id).0
 
--- The numbers are those of formulas: the terms of which a search of these asserted terms speaks with their subterms.
-pub record AreSpoken (t : TableView) (terms : List Term) (ids : List TermId) : Type 0 where
+-- the problem that asserts the terms of numbers, with those of others beside them
+abbrev pub problem_in : TableView → List TermId → List TermId → Problem
+problem_in t roots beside = speaking (clause_at t roots) (clause_at t beside)
+
+-- The numbers are those of formulas: the terms of which a search of a problem speaks with their subterms.
+pub record AreSpoken (t : TableView) (p : Problem) (ids : List TermId) : Type 0 where
   -- each is the number of a formula
   pub formulas : AreFormulasIn t ids
   -- each such term has a number
-  pub each : AreAmong (spoken_terms (asserting terms)) (clause_at t ids)
+  pub each : AreAmong (spoken_terms p) (clause_at t ids)
   -- each number has such a term
-  pub only : AreAmong (clause_at t ids) (spoken_terms (asserting terms))
+  pub only : AreAmong (clause_at t ids) (spoken_terms p)
 
 -- All numbers are those of formulas: after the numbers that there were stand those of these terms.
 pub record HasMore (t u : TableView) (ids all : List TermId) (more : List Term) : Type 0 where

@@ -1,12 +1,13 @@
-//! The terms of which a search speaks, with their subterms: those of a check, and equalities that it needs.
+//! The terms of which a search speaks, with their subterms: those of a check and those beside them, and equalities that
+//! it needs.
 
 ghost use Rattle.std.specs.Prelude.{◌≤◌, [], ◌∷◌, length, flat_map, All, IfOk, OnOk};
 ghost use Rattle.spec_sorts.specs.WellSorted.{IsWellSorted};
 ghost use Rattle.spec_derivations.specs.Base.{truth_facts, branch_equalities};
-ghost use Rattle.term_core.specs.Tables.{term_at, clause_at};
+ghost use Rattle.term_core.specs.Tables.{term_at};
 ghost use Rattle.proof_log.specs.Logs.{AreFormulasIn};
 ghost use Rattle.proof_log.specs.Theories.{IsTermIn};
-ghost use Rattle.term_clauses.specs.SpokenTerms.{AreSpoken, HasMore};
+ghost use Rattle.term_clauses.specs.SpokenTerms.{problem_in, AreSpoken, HasMore};
 ghost use Rattle.term_clauses.specs.Stating.{Widens, Names};
 ghost use Rattle.term_clauses.specs.Marks.{marked};
 ghost use Rattle.term_clauses.specs.Choices.{AreComparable, equality_at, truth_term, truth_fact};
@@ -18,20 +19,23 @@ use std::alloc::Global;
 use term_core::{Head, Node, TermId, TermTable};
 use world_io::NoMemory;
 
-/// Lists formulas, and after them the equalities that a search needs: those of each choice between terms of another
-/// sort than Bool, among the formulas' subterms, with its two terms, and that the negation of each truth value is the
-/// other. They come into the table.
+/// Lists formulas, those beside them first, and after them the equalities that a search needs: those of each choice
+/// between terms of another sort than Bool, among the formulas' subterms, with its two terms, and that the negation of
+/// each truth value is the other. They come into the table.
 pub fn spoken_of(
     alloc: Global,
     table: &mut TermTable,
     roots: &[TermId],
+    beside: &[TermId],
 ) -> Result<Vec<TermId>, NoMemory>
-    requires { AreFormulasIn table.old roots.now }
+    requires roots { AreFormulasIn table.old roots.now }
+    requires beside { AreFormulasIn table.old beside.now }
     ensures wider { Widens table.old table.new }
-    ensures spoken { IfOk result (λ ids. AreSpoken table.new (clause_at table.old roots.now) ids.items) }
+    ensures spoken { IfOk result (λ ids. AreSpoken table.new (problem_in table.old roots.now beside.now) ids.items) }
 {
-    let marks = marks_of(alloc, table, roots)?;
-    let mut ids = Vec::from_slice(alloc, roots)?;
+    let mut ids = Vec::from_slice(alloc, beside)?;
+    ids.extend_from_slice(roots)?;
+    let marks = marks_of(alloc, table, &ids)?;
     add_branches(alloc, table, &marks, &mut ids)?;
     add_truth_facts(alloc, table, &mut ids)?;
     Ok(ids)

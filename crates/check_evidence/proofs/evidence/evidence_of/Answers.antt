@@ -40,7 +40,7 @@ returns-in_ok-plan-in-Unsat-clause-shown c = λ limits s kept readable symbols h
     let steps = subst (λ a. HasLogged (asserting asked) d a learned) c.in-Unsat.is h.learning.logged in
     let terms = asserted_readable (assertions_of s) (c.assertions_are_readable.ensures limits.terms s kept.stack readable) in
     let printed : (u : Term) → IsPrinted d n u → IsReadableWhole u =
-    printed_readable c.search_makes_readable_terms.ensures.lemmas c.search_makes_readable_terms.ensures.first_atoms asked terms c.whole_clauses_are_over_whole_terms.ensures d learned h.learning.learns.atoms steps n in
+    printed_readable c.search_makes_readable_terms.ensures.lemmas c.search_makes_readable_terms.ensures.atoms asked terms c.whole_clauses_are_over_whole_terms.ensures d learned h.learning.learns.atoms steps n in
     let planned = c.in_ok-plan-in-Unsat.ensures.plan in
     let is_proof : IsProofOf (check_on s) (proof_text (lines_of t.terms d p)) = record {
       terms = t.terms;

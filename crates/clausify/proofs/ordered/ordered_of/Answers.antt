@@ -3,8 +3,7 @@ use Rattle.std.proofs.Common.{[], Bool, List, All, sym, subst}
 use Rattle.spec_sorts.specs.WellSorted.{IsWellSorted}
 use Rattle.spec_derivations.specs.Orders.{order_facts}
 use Rattle.term_core.specs.declared.ids.TermId.{TermId}
-use Rattle.term_core.specs.Tables.{clause_at}
-use Rattle.term_clauses.specs.SpokenTerms.{HasMore}
+use Rattle.term_clauses.specs.SpokenTerms.{problem_in, HasMore}
 use Rattle.term_clauses.specs.Marks.{marked, AreMarksOf}
 use Rattle.term_clauses.proofs.Bases.{flat_marked, marked_sorted}
 use Rattle.clausify.proofs.OrderFacts.{are_ordered}
@@ -32,4 +31,4 @@ returns-clause-ordered c =
     let all = c.add_facts.new.ids.items in
     let more : HasMore u v some all (flat_marked order_facts marks u.terms) =
     subst (λ (ms : List Bool). HasMore u v some all (flat_marked order_facts ms u.terms)) c.deref-2.ensures.value c.in_ok-add_facts.ensures.more in
-    are_ordered u v (clause_at t c.args.roots.now) (marked marks u.terms) some all c.in_ok-ids.ensures.spoken m.each m.only more
+    are_ordered u v (problem_in t c.args.roots.now c.args.beside.now) (marked marks u.terms) some all c.in_ok-ids.ensures.spoken m.each m.only more

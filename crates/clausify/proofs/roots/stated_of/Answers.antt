@@ -3,7 +3,7 @@ use Rattle.std.proofs.Common.{◌≡◌, ◌++◌, List, [], Bool, All, sym, sub
 use Rattle.spec_sorts.specs.Terms.{Term}
 use Rattle.spec_sorts.specs.WellSorted.{IsWellSorted}
 use Rattle.spec_sorts.specs.Subsets.{AreAmong}
-use Rattle.spec_derivations.specs.Examples.{asserting}
+use Rattle.spec_derivations.specs.Problems.{Problem}
 use Rattle.spec_derivations.specs.Orders.{ordered_terms, whole_terms, whole_clauses_of}
 use Rattle.term_core.specs.declared.ids.TermId.{TermId}
 use Rattle.term_core.specs.Tables.{clause_at}
@@ -16,6 +16,7 @@ use Rattle.clausify.proofs.Overflowing.{passed_on, among_more}
 use Rattle.term_clauses.specs.Growth.{Grows, AreAllMade}
 use Rattle.term_clauses.specs.Stating.{Says}
 use Rattle.term_clauses.specs.Marks.{marked, AreMarksOf, AreMarked}
+use Rattle.term_clauses.specs.SpokenTerms.{problem_in}
 use Rattle.term_clauses.proofs.Growing.{Grows-wider, Grows-trans, Grows-weaker}
 use Rattle.term_clauses.proofs.Bases.{flat_marked, marked_sorted}
 use Rattle.clausify.proofs.Bases.{alone, AreMarksOfSearch, marks_of_search, has_clauses, are_search_terms, Says-none}
@@ -49,8 +50,8 @@ marks_are : (c : In_ok-marks) → AreMarksOf c.ordered_of.new.table c.in_ok-orde
 marks_are c = subst (λ (ids : List TermId). AreMarksOf c.ordered_of.new.table ids c.in_ok-marks.marks.items) c.deref.ensures.value c.in_ok-marks.ensures
 
 -- and so they are those of its terms
-search_marks : (c : In_ok-marks) → AreMarksOfSearch c.ordered_of.new.table (clause_at c.args.table.now c.args.roots.now) c.in_ok-marks.marks.items
-search_marks c = marks_of_search c.ordered_of.new.table (clause_at c.args.table.now c.args.roots.now) c.in_ok-ordered.ordered.items c.in_ok-marks.marks.items c.in_ok-ordered.ensures.ordered (marks_are c)
+search_marks : (c : In_ok-marks) → AreMarksOfSearch c.ordered_of.new.table (problem_in c.args.table.now c.args.roots.now c.args.beside.now) c.in_ok-marks.marks.items
+search_marks c = marks_of_search c.ordered_of.new.table (problem_in c.args.table.now c.args.roots.now c.args.beside.now) c.in_ok-ordered.ordered.items c.in_ok-marks.marks.items c.in_ok-ordered.ensures.ordered (marks_are c)
 
 -- which are well sorted
 sorted_marks : (c : In_ok-marks) → All (IsWellSorted c.ordered_of.new.table.symbols []) (marked c.in_ok-marks.marks.items c.ordered_of.new.table.terms)
@@ -82,11 +83,11 @@ returns-in_err-state_marked-clause-grows c =
 pub returns-in_err-state_marked-clause-wide : goal.returns-in_err-state_marked-clause-wide
 returns-in_err-state_marked-clause-wide c =
     let u = c.ordered_of.new.table in
-    let terms = clause_at c.args.table.now c.args.roots.now in
+    let p : Problem = problem_in c.args.table.now c.args.roots.now c.args.beside.now in
     let marks = c.deref-2.result.now in
     let m = search_marks (goal.at.returns-in_err-state_marked-clause-wide c).In_ok-marks in
-    let only = subst (λ (ms : List Bool). AreAmong (marked ms u.terms) (whole_terms (asserting terms))) (sym c.deref-2.ensures.value) m.only in
-    passed_on (IsOverflowAmong (marked marks u.terms)) (IsOverflowAmong (whole_terms (asserting terms))) c.from_residual-in_err-state_marked.result c.in_err-state_marked.field-0.0 c.from_residual-in_err-state_marked.ensures.1 (among_more (marked marks u.terms) (whole_terms (asserting terms)) only) c.in_err-state_marked.ensures.wide
+    let only = subst (λ (ms : List Bool). AreAmong (marked ms u.terms) (whole_terms p)) (sym c.deref-2.ensures.value) m.only in
+    passed_on (IsOverflowAmong (marked marks u.terms)) (IsOverflowAmong (whole_terms p)) c.from_residual-in_err-state_marked.result c.in_err-state_marked.field-0.0 c.from_residual-in_err-state_marked.ensures.1 (among_more (marked marks u.terms) (whole_terms p) only) c.in_err-state_marked.ensures.wide
 
 pub returns-in_err-terms-clause-grows : goal.returns-in_err-terms-clause-grows
 returns-in_err-terms-clause-grows c =
@@ -106,6 +107,7 @@ returns-clause-clauses c =
     let log = c.state_marked.new.log in
     let roots = c.args.roots.now in
     let terms = clause_at t roots in
+    let p : Problem = problem_in t roots c.args.beside.now in
     let marks = c.in_ok-marks.marks.items in
     let steps = c.state_marked.new.steps.items in
     let none = Says-none u c.args.log.now c.new-steps.result.items c.new-steps.ensures.items in
@@ -114,8 +116,8 @@ returns-clause-clauses c =
     subst (λ (ts : List Term). Says u c.assume_each.new.log c.assume_each.new.steps.items (alone ts)) same (c.in_ok-assume_each.ensures.tells.says [] none) in
     let stated : Says v log steps (alone terms ++ flat_marked whole_clauses_of marks u.terms) =
     subst (λ (ms : List Bool). Says v log steps (alone terms ++ flat_marked whole_clauses_of ms u.terms)) c.deref-2.ensures.value (c.in_ok-state_marked.ensures.tells.says (alone terms) assumed) in
-    subst (λ (ss : List StepId). HasClauses v log terms ss) (sym c.from.ensures)
-    (has_clauses u v log terms marks steps (search_marks (goal.at.returns-clause-clauses c).In_ok-marks) (c.subterms_are_least.ensures.once (ordered_terms (asserting terms))) stated)
+    subst (λ (ss : List StepId). HasClauses v log p ss) (sym c.from.ensures)
+    (has_clauses u v log p marks steps (search_marks (goal.at.returns-clause-clauses c).In_ok-marks) (c.subterms_are_least.ensures.once (ordered_terms p)) stated)
 
 pub returns-clause-terms : goal.returns-clause-terms
 returns-clause-terms c =
@@ -126,7 +128,7 @@ returns-clause-terms c =
     let g = c.state_marked.ensures.grows in
     let marks = c.in_ok-marks.marks.items in
     let ids = c.in_ok-terms.terms.items in
-    are_search_terms u v (record { terms = g.table; declared = g.declared }) (clause_at t c.args.roots.now) ids marks (search_marks at.In_ok-marks) (sorted_marks at.In_ok-marks)
+    are_search_terms u v (record { terms = g.table; declared = g.declared }) (problem_in t c.args.roots.now c.args.beside.now) ids marks (search_marks at.In_ok-marks) (sorted_marks at.In_ok-marks)
     (subst (λ (ms : List Bool). AreMarked ms ids) c.deref-3.ensures.value c.in_ok-terms.ensures)
 
 pub returns-clause-made : goal.returns-clause-made

@@ -3,6 +3,7 @@ use Rattle.std.proofs.Common.{◌≡◌, ◌∙◌, List, [], sym, ap, refl, sub
 use Rattle.std.proofs.lemmas.List.Elements.{All-nil}
 use Rattle.term_core.specs.declared.ids.TermId.{TermId}
 use Rattle.term_core.specs.declared.ids.Lit.{Lit}
+use Rattle.term_core.specs.Tables.{clause_at}
 use Rattle.clause_literals.specs.Literals.{AreOf}
 use Rattle.proof_log.specs.declared.premises.StepId.{StepId}
 use Rattle.sat_trail.specs.Trails.{empty}
@@ -11,7 +12,7 @@ use Rattle.search_loop.specs.declared.search.Search.{Search}
 use Rattle.search_loop.specs.Waiting.{AreWaiting}
 use Rattle.search_loop.specs.Search.{IsStoreOf, AreAllOf, AreAtomsAmong}
 use Rattle.search_loop.proofs.SearchDecisions.{decided_first}
-use Rattle.search_loop.proofs.SearchBegins.{store_known, covered, closed, search_begins}
+use Rattle.search_loop.proofs.SearchBegins.{answered_both, store_known, covered, closed, search_begins}
 use Rattle.search_loop.proofs.begin.begin.Goals as goal
 
 pub returns-in_err-steps-clause-grown : goal.returns-in_err-steps-clause-grown
@@ -28,6 +29,7 @@ returns-clause-begins c =
     let steps = c.in_ok-steps.field-0.steps in
     let terms = c.in_ok-steps.field-0.terms.items in
     let atoms = c.in_ok-atoms.atoms.items in
+    let answered = answered_both (clause_at t c.args.roots.now) (clause_at t c.args.beside.now) c.requires.answered c.requires.answered_beside in
     let stored : IsStoreOf u log steps store = subst (λ (xs : List StepId). IsStoreOf u log xs store) c.as_slice.ensures c.in_ok-store.ensures in
     let begun = c.in_ok-trail.ensures in
     let none : c.in_ok-budget.budget.learned ≡ [] = ap (λ b. b.learned) c.in_ok-budget.ensures in
@@ -44,12 +46,12 @@ returns-clause-begins c =
         decided = decided_first atoms store.clauses trail begun.same;
         atoms_are = record {
           there = made.terms.there;
-          closed = closed t u c.ids_are_unique.ensures c.args.roots.now c.requires.roots c.requires.answered log c.new-log.result c.new-log.ensures steps made.grown made.clauses made.made store stored terms atoms made.terms chosen;
+          closed = closed t u c.ids_are_unique.ensures c.args.roots.now c.args.beside.now c.requires.roots c.requires.beside answered log c.new-log.result c.new-log.ensures steps made.grown made.clauses made.made store stored terms atoms made.terms chosen;
           rising = made.terms.rising;
           chosen = chosen;
         };
         variables = λ k d lt. let there = (made.terms.there k d lt).0 in omega (arith, there, begun.vars);
-        covered = covered t u c.ids_are_unique.ensures c.args.roots.now c.requires.roots c.requires.answered log c.new-log.result c.new-log.ensures steps made.grown made.clauses made.made store stored terms atoms made.terms chosen;
+        covered = covered t u c.ids_are_unique.ensures c.args.roots.now c.args.beside.now c.requires.roots c.requires.beside answered log c.new-log.result c.new-log.ensures steps made.grown made.clauses made.made store stored terms atoms made.terms chosen;
         waiting = subst (λ (ls : List Lit). AreWaiting atoms ls c.in_ok-decider.decider) (sym begun.same.literals) waits;
         sized = c.in_ok-decider.ensures.1 ∙ c.vars.ensures;
         learned = subst (AreAllOf u) (sym none) (All-nil (AreOf u));
@@ -57,7 +59,7 @@ returns-clause-begins c =
       empty = begun.same.literals;
       level = begun.same.level;
       fed = refl;
-      search = search_begins t u c.ids_are_unique.ensures c.args.roots.now c.requires.roots c.requires.answered log c.new-log.result c.new-log.ensures steps made.grown made.clauses made.made store stored terms atoms made.terms chosen x refl refl refl none;
+      search = search_begins t u c.ids_are_unique.ensures c.args.roots.now c.args.beside.now c.requires.roots c.requires.beside answered log c.new-log.result c.new-log.ensures steps made.grown made.clauses made.made store stored terms atoms made.terms chosen x refl refl refl none;
       limits_are = (ap (λ b. b.limit) c.in_ok-budget.ensures, ap (λ b. b.pivots) c.in_ok-budget.ensures);
       unspent = ap (λ b. b.exchanges) c.in_ok-budget.ensures;
     }

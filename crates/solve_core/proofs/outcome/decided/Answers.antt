@@ -1,12 +1,19 @@
 -- That the answer shows what it should of the problem.
-use Rattle.std.proofs.Common.{◌∙◌, inl, inr}
+use Rattle.std.proofs.Common.{◌≡◌, true, ◌∙◌, inl, inr}
+use Rattle.std.proofs.lemmas.List.Elements.{All-nil}
 use Rattle.std.proofs.lemmas.Result.{IfOk-weaker}
+use Rattle.spec_arithmetic.specs.Numbers.{IsLinear}
+use Rattle.spec_commands.specs.Stack.{is_in_reach}
 use Rattle.spec_derivations.specs.Examples.{asserting}
 use Rattle.term_core.specs.Tables.{clause_at}
 use Rattle.term_core.proofs.TermsExtend.{Extends-self}
 use Rattle.solve_core.specs.Decisions.{IsJustified, IsStrainedBy}
 use Rattle.solve_core.proofs.SearchStrained.{strained_justified}
 use Rattle.solve_core.proofs.outcome.decided.Goals as goal
+
+-- nothing stands beside the terms
+pub begin-requires-clause-answered_beside : goal.begin-requires-clause-answered_beside
+begin-requires-clause-answered_beside c = record { reached = All-nil (λ u. is_in_reach u ≡ true); linear = All-nil IsLinear }
 
 pub returns-in_err-wide-clause-grown : goal.returns-in_err-wide-clause-grown
 returns-in_err-wide-clause-grown c = Extends-self c.args.table.now

@@ -7,15 +7,15 @@ use Rattle.spec_sorts.proofs.Members.{has_term-Decides}
 use Rattle.spec_rules.specs.Examples.{p, a, b}
 use Rattle.spec_derivations.specs.Problems.{Problem, known_subterms}
 use Rattle.spec_derivations.specs.Spent.{IsAtomOf, subterm, with_first, with_second, forth, back}
-use Rattle.spec_derivations.specs.Examples.{asserting, p_or_not_q, chosen, equals_chosen}
+use Rattle.spec_derivations.specs.Examples.{speaking, asserting, p_or_not_q, chosen, equals_chosen}
 use Rattle.spec_derivations.proofs.Spending.{p_sort}
 use Rattle.spec_derivations.proofs.examples.atoms_are_found.Goals as goal
 
--- a check that asks nothing, after one that asked a disjunction
-abbrev after : Problem
-after = record { asserted = []; assumed = []; earlier = p_or_not_q ∷ [] }
+-- a check that asks nothing, with a disjunction beside it
+abbrev disjunction_beside : Problem
+disjunction_beside = speaking [] (p_or_not_q ∷ [])
 
-p_there : has_term (known_subterms after) p ≡ true
+p_there : has_term (known_subterms disjunction_beside) p ≡ true
 unfolding same_term with_subterms with_all_subterms
 p_there = refl
 
@@ -53,7 +53,7 @@ chosen_sort = refl
 
 pub returns : goal.returns
 returns c = record {
-  earlier = subterm p ((has_term-Decides (known_subterms after) p).0 p_there) p_sort (λ e. cc) (λ e. cc);
+  beside = subterm p ((has_term-Decides (known_subterms disjunction_beside) p).0 p_there) p_sort (λ e. cc) (λ e. cc);
   choice = equality_is_atom;
   order = back chosen a equality_is_atom chosen_sort;
   no_truth_value = λ k h. no_truth_value k _ h refl;

@@ -1,11 +1,11 @@
 -- Which terms a search speaks of.
 use Rattle.spec_sorts.proofs.LeastSubterms.{least_of}
 use Rattle.spec_derivations.specs.Base.{spoken_terms}
-use Rattle.spec_derivations.proofs.SearchTerms.{subterms_spoken, facts_spoken, equalities_spoken, spoken_atoms, spoken_sorted}
+use Rattle.spec_derivations.proofs.SearchTerms.{known_spoken, facts_spoken, equalities_spoken, spoken_atoms, spoken_sorted}
 use Rattle.spec_derivations.proofs.search_laws.search_terms_are_known.Goals as goal
 
 pub returns-clause-subterms : goal.returns-clause-subterms
-returns-clause-subterms c p u i = subterms_spoken p u i
+returns-clause-subterms c p u i = known_spoken p u i
 
 pub returns-clause-closed : goal.returns-clause-closed
 returns-clause-closed c p t u i j = (least_of (spoken_terms p)).closed t i u j

@@ -1,6 +1,6 @@
 -- By how such terms are made.
 use Rattle.spec_derivations.specs.Orders.{whole_terms}
-use Rattle.spec_readable.proofs.Search.{whole_readable, made_readable, atom_readable, first_atom_readable}
+use Rattle.spec_readable.proofs.Search.{whole_readable, made_readable, atom_readable}
 use Rattle.spec_readable.proofs.laws.search_makes_readable_terms.Goals as goal
 
 pub returns-clause-lemmas : goal.returns-clause-lemmas
@@ -8,6 +8,3 @@ returns-clause-lemmas c = λ p each t made. made_readable (whole_terms p) (whole
 
 pub returns-clause-atoms : goal.returns-clause-atoms
 returns-clause-atoms c = atom_readable
-
-pub returns-clause-first_atoms : goal.returns-clause-first_atoms
-returns-clause-first_atoms c = first_atom_readable

@@ -11,13 +11,13 @@ use Rattle.spec_valuations.proofs.Named.{model_by, named}
 use Rattle.spec_valuations.proofs.checks.searches_that_rest_on_numbers_give_current_checks_models.Goals as goal
 
 pub returns : goal.returns
-returns c limit script k check earlier terms held a current rests assumed =
+returns c limit script k check beside terms held a current rests assumed =
     let s = signature_of check.stack in
-    let p = problem_of check earlier in
+    let p = problem_of check beside in
     let i = model_by s (values_of a) terms in
     let sound = (c.assertions_have_their_texts_value.ensures.kept limit script k check current).names in
     let model = named s (values_of a) terms sound in
     let law = c.searches_that_rest_on_numbers_have_models.ensures in
     let tables = law.interprets (symbols_in s) p terms held a i rests model in
     let each = law.all (symbols_in s) p terms held a i rests model assumed in
-    (i, c.satisfied_scripts_have_a_model.ensures.model limit script k check current i tables (assertions_have (λ t. term_true i t ≡ true) check earlier (λ n d lt. ap is_true (each n d lt))))
+    (i, c.satisfied_scripts_have_a_model.ensures.model limit script k check current i tables (assertions_have (λ t. term_true i t ≡ true) check beside (λ n d lt. ap is_true (each n d lt))))
