@@ -32,20 +32,25 @@ use Rattle.simplex_atoms.specs.Watching.{AreNumbered, constraint_meant}
 use Rattle.simplex_atoms.specs.Standings.{owner_meant, standing_in, ButForMemory, Leads, TellsOwners, IsVariableOf}
 use Rattle.simplex_atoms.proofs.Numbered.{owner_mapped, numbered_entries, are_in}
 
--- where no variable stands for a number, none stands for its term
-term_new : (t : TableView) (os : List (Option TermId)) (id : TermId) → TellsOwners t os → IsIn t id → IsNumberOf os id None → (y : ℕ)
-    → owner_in (map (owner_meant t) os) y ≡ Some (term_at t id) → ⊥
-term_new t os id tells there free y e = by (owner_at os y) refl (sym (owner_mapped t os y) ∙ e)
+-- a variable that stands for the term of a number stands for the number
+pub term_owned : (t : TableView) (os : List (Option TermId)) (id : TermId) → TellsOwners t os → IsIn t id → (y : ℕ)
+    → owner_in (map (owner_meant t) os) y ≡ Some (term_at t id) → owner_at os y ≡ Some id
+term_owned t os id tells there y e = by (owner_at os y) refl (sym (owner_mapped t os y) ∙ e)
   where
     none_some : (u : Term) → (let o : Option Term = None in o) ≡ Some u → ⊥
     none_some u k = cc
 
-    by : (o : Option TermId) → owner_at os y ≡ o → owner_meant t o ≡ Some (term_at t id) → ⊥
-    by None h k = none_some (term_at t id) k
+    by : (o : Option TermId) → owner_at os y ≡ o → owner_meant t o ≡ Some (term_at t id) → owner_at os y ≡ Some id
+    by None h k = absurd (none_some (term_at t id) k)
     by (Some j) h k =
         let numbers : j.0 ≡ id.0 = tells.0 j.0 id.0 (tells.1 y j h) there (same_Some (term_at t j) (term_at t id) k) in
         let same : j ≡ id = λ i. record { 0 = numbers i } in
-        free y (h ∙ ap Some same)
+        h ∙ ap Some same
+
+-- so where no variable stands for a number, none stands for its term
+pub term_new : (t : TableView) (os : List (Option TermId)) (id : TermId) → TellsOwners t os → IsIn t id → IsNumberOf os id None → (y : ℕ)
+    → owner_in (map (owner_meant t) os) y ≡ Some (term_at t id) → ⊥
+term_new t os id tells there free y e = free y (term_owned t os id tells there y e)
 
 -- nothing comes
 pub leads_same : (t : TableView) (f : Form) (os us : List (Option TermId)) (b c : BoardView) → us ≡ os → c ≡ b → Leads t f (ground_of os b) (ground_of us c)

@@ -18,7 +18,8 @@ use Rattle.simplex_reasons.proofs.Refuting.{zero_solves}
 use Rattle.simplex_numbers.specs.Values.{bound_at, flat, IsInward, KeepsAt}
 use Rattle.spec_strains.specs.Halves.{at_number, is_less}
 use Rattle.simplex_numbers.proofs.Orders.{level_stays}
-use Rattle.simplex_numbers.proofs.Rows.{base_at, rows_at}
+use Rattle.spec_causes.proofs.AtNumbers.{base_at}
+use Rattle.simplex_numbers.proofs.Rows.{rows_at}
 
 -- values solve rows as numbers where they do as pairs
 pub flat_solves : (e : Number) (v : ℕ → Pair Number) (rs : List (Row Number)) → Solves deltas v rs → Solves deltas (λ y. flat (at_number e (v y))) rs

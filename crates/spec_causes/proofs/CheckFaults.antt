@@ -22,7 +22,7 @@ check_overflows ranges t o (quotient b x p h w) = delta_quotient_overflows _ _ o
 check_overflows ranges t o (move x d h w) = move_overflows t x d o w
 check_overflows ranges t o (rows b x p w) = exchange_overflows t.rows b x o w
 
-value_overflows : (v : ℕ → Pair Number) (gs : List (Entry Number)) (o : Overflow) → StrainsValue v gs o → IsOverflow o
+pub value_overflows : (v : ℕ → Pair Number) (gs : List (Entry Number)) (o : Overflow) → StrainsValue v gs o → IsOverflow o
 value_overflows v gs o (product before g after e w) = delta_product_overflows _ _ o w
 value_overflows v gs o (sum_of_product before g after e w) = delta_sum_overflows _ _ o w
 

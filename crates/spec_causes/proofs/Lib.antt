@@ -6,3 +6,6 @@ pub mod CauseFaults
 pub mod Wider
 pub mod Silent
 pub mod Resting
+pub mod AtNumbers
+pub mod SharedNumbers
+pub mod Owned

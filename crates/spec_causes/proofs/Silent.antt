@@ -3,7 +3,6 @@ use Rattle.std.proofs.Common.{◌≡◌, ℕ, Bool, true, false, List, [], ◌�
 use Rattle.std.specs.Prelude.{◌&&◌, ◌||◌, not, cond, Err}
 use Rattle.std.proofs.lemmas.Bool.{false≢true, cases_lt}
 use Rattle.std.proofs.lemmas.List.Elements.{All-contains}
-use Rattle.spec_text.proofs.Members as members
 use Rattle.spec_text.specs.Answers.{◌>>=◌}
 use Rattle.spec_numbers.specs.Fractions.{gcd, plus, times}
 use Rattle.spec_numbers.specs.Bounds.{Overflow, is_small, fits, sum_fits, added, multiplied}
@@ -24,10 +23,11 @@ use Rattle.spec_strains.specs.Halves as halves
 use Rattle.spec_simplex.specs.Constraints.{Constraint, where_true, constraint_by}
 use Rattle.spec_arithmetic.specs.Contradictions.{are_numbers}
 use Rattle.spec_causes.specs.Standing.{Standing, state_in, moved_to}
+use Rattle.spec_causes.specs.Shared.{AreSharedValues, ShareNothing}
 use Rattle.spec_causes.specs.Bounds.{Side, lower, upper, bound_on, AreBounds}
 use Rattle.spec_causes.specs.Reached.{IsFormAmong, IsReached, beginning, naming, summing, resting, checking, IsStoppedAt, between, settling, exchanging}
 use Rattle.spec_causes.specs.Reasons.{Conflicts, crossing, sticking}
-use Rattle.spec_causes.specs.Causes.{IsHalfAbove, IsHalfBelow, IsEpsilon, StrainsAt, forming, bounding, adding_row, explaining, finding, evaluating, NeedsMore, AreSilent}
+use Rattle.spec_causes.specs.Causes.{IsHalfAbove, IsHalfBelow, IsEpsilon, StrainsAt, forming, bounding, adding_row, explaining, valuing, finding, evaluating, evaluating_shared, NeedsMore, AreSilent}
 use Rattle.spec_causes.specs.Causes as causes
 
 -- a test fails for one constraint and holds for another
@@ -188,12 +188,13 @@ module _ (ts : List Term) (silent : AreSilent ts) where
   no_half_below None x e is w = w
   no_half_below (Some b) x e is w = cc
 
-  epsilon_is_one : (ranges : Ranges) → IsOpen ranges → (v : ℕ → Pair Number) (e : Number) → IsEpsilon ranges v [] e → e ≡ numbers.one
-  epsilon_is_one ranges none v e h = elim h.one_of [
+  epsilon_is_one : (ranges : Ranges) → IsOpen ranges → (v : ℕ → Pair Number) (apart : List (Pair Number))
+      → ((p : Pair Number) → Contains apart p → ⊥) → (e : Number) → IsEpsilon ranges v apart e → e ≡ numbers.one
+  epsilon_is_one ranges none v apart empty e h = elim h.one_of [
     | inl is ↦ is
     | inr (inl (y, inl half)) ↦ absurd (no_half_above (ranges y).lower (v y) e (none y).0 half)
     | inr (inl (y, inr half)) ↦ absurd (no_half_below (ranges y).upper (v y) e (none y).1 half)
-    | inr (inr half) ↦ absurd (members.none half.lesser half.lesser_in)
+    | inr (inr half) ↦ absurd (empty half.lesser half.lesser_in)
   ]
 
   -- 0 is 0 where the infinitesimal is 1
@@ -201,19 +202,25 @@ module _ (ts : List Term) (silent : AreSilent ts) where
   unfolding delta_evaluated added multiplied plus times gcd is_small fits sum_fits ◌>>=◌ numbers fractions
   zero_at_one o h = cc
 
-  pub nothing_strains : (s : Standing) → IsEmpty s → (o : Overflow) → StrainsAt ts s o → ⊥
-  nothing_strains s is o (forming w) = says_neither true w.atom w.constraint (silent w.atom w.there) w.says
-  nothing_strains s is o (bounding f among u k e w) = no_form f among
-  nothing_strains s is o (adding_row f among gs are w) = no_form f among
-  nothing_strains s is o (causes.checking ranges bounds w) = check_never s is ranges (open_ranges s ranges bounds) o w
-  nothing_strains s is o (explaining ranges bounds up gs conflict w) = conflict_never s is ranges (open_ranges s ranges bounds) up gs conflict
-  nothing_strains s is o (finding ranges bounds within (halves.bounds y w)) =
+  -- nor is there a value to be kept apart
+  no_values : ShareNothing ts → (s : Standing) (apart : List (Pair Number)) → AreSharedValues ts s apart → (p : Pair Number) → Contains apart p → ⊥
+  no_values unshared s among each p there = unshared (each p there).term (each p there).shared
+
+  pub nothing_strains : ShareNothing ts → (s : Standing) → IsEmpty s → (o : Overflow) → StrainsAt ts s o → ⊥
+  nothing_strains unshared s is o (forming w) = says_neither true w.atom w.constraint (silent w.atom w.there) w.says
+  nothing_strains unshared s is o (bounding f among u k e w) = no_form f among
+  nothing_strains unshared s is o (adding_row f among gs are w) = no_form f among
+  nothing_strains unshared s is o (causes.checking ranges bounds w) = check_never s is ranges (open_ranges s ranges bounds) o w
+  nothing_strains unshared s is o (explaining ranges bounds up gs conflict w) = conflict_never s is ranges (open_ranges s ranges bounds) up gs conflict
+  nothing_strains unshared s is o (valuing u shared w) = unshared u shared
+  nothing_strains unshared s is o (finding ranges bounds within apart kept (halves.bounds y w)) =
       find_never ranges (open_ranges s ranges bounds) y (point_in s.values y) o w
-  nothing_strains s is o (finding ranges bounds within (values w)) = members.none w.lesser w.lesser_in
-  nothing_strains s is o (evaluating ranges bounds within e half w) =
-      let one = epsilon_is_one ranges (open_ranges s ranges bounds) (point_in s.values) e half in
+  nothing_strains unshared s is o (finding ranges bounds within apart kept (values w)) = no_values unshared s apart kept w.lesser w.lesser_in
+  nothing_strains unshared s is o (evaluating ranges bounds within apart kept e half w) =
+      let one = epsilon_is_one ranges (open_ranges s ranges bounds) (point_in s.values) apart (no_values unshared s apart kept) e half in
       zero_at_one o (ap (λ (x : Pair Number). delta_evaluated (delta_in x) (numbers.one).fraction) (sym (is.values w.variable))
       ∙ ap (λ (k : Number). delta_evaluated (delta_in (point_in s.values w.variable)) k.fraction) (sym one) ∙ w.leaves)
+  nothing_strains unshared s is o (evaluating_shared ranges bounds within apart kept e half p shared w) = unshared shared.term shared.shared
 
   pub nothing_is_needed : (s : Standing) → IsEmpty s → NeedsMore ts s → ⊥
   nothing_is_needed s is more = no_exchange more.ranges (state_in s) is.rows more.wants.leaving more.wants.entering more.wants.says

@@ -2,15 +2,18 @@
 use Rattle.std.proofs.Common.{ℕ, List, Contains}
 use Rattle.std.proofs.lemmas.List.Elements.{All-weaker}
 use Rattle.spec_numbers.specs.Bounds.{Overflow}
-use Rattle.spec_sorts.specs.Terms.{Term}
+use Rattle.spec_sorts.specs.Terms.{Apply, Term, app}
 use Rattle.spec_sorts.specs.Literals.{Literal}
 use Rattle.spec_sorts.specs.Subsets.{AreAmong}
 use Rattle.spec_arithmetic.specs.Forms.{Form}
+use Rattle.spec_tableaux.specs.Spaces.{Pair}
+use Rattle.spec_tableaux.specs.Numbers.{Number}
 use Rattle.spec_strains.specs.Points.{Ranges}
 use Rattle.spec_causes.specs.Standing.{Standing}
+use Rattle.spec_causes.specs.Shared.{IsSharedAmong, argument, value, IsSharedValue, AreSharedValues}
 use Rattle.spec_causes.specs.Bounds.{AreBounds}
 use Rattle.spec_causes.specs.Reached.{IsFormAmong, IsReached, beginning, naming, summing, resting, checking}
-use Rattle.spec_causes.specs.Causes.{StrainsAt, forming, bounding, adding_row, explaining, finding, evaluating, NeedsMore}
+use Rattle.spec_causes.specs.Causes.{StrainsAt, forming, bounding, adding_row, explaining, valuing, finding, evaluating, evaluating_shared, NeedsMore}
 use Rattle.spec_causes.specs.Causes as causes
 
 module _ (ts us : List Term) (more : AreAmong ts us) where
@@ -35,6 +38,16 @@ module _ (ts us : List Term) (more : AreAmong ts us) where
   reached_over_more _ _ _ (checking n old new s0 h ranges bounds rs vs many ran) =
       checking n old new s0 (reached_over_more n old s0 h) ranges (bounds_among_more s0 ranges bounds) rs vs many ran
 
+  shared_among_more : (u : Term) → IsSharedAmong ts u → IsSharedAmong us u
+  shared_among_more _ (argument f vs there u has real) = argument f vs (more (app (Apply f) vs) there) u has real
+  shared_among_more _ (value f vs there some real) = value f vs (more (app (Apply f) vs) there) some real
+
+  value_over_more : (s : Standing) (p : Pair Number) → IsSharedValue ts s p → IsSharedValue us s p
+  value_over_more s p h = record { term = h.term; shared = shared_among_more h.term h.shared; value = h.value }
+
+  values_over_more : (s : Standing) (ps : List (Pair Number)) → AreSharedValues ts s ps → AreSharedValues us s ps
+  values_over_more s ps h p there = value_over_more s p (h p there)
+
   pub strains_over_more : (s : Standing) (o : Overflow) → StrainsAt ts s o → StrainsAt us s o
   strains_over_more s o (forming w) = forming (record {
     atom = w.atom;
@@ -49,8 +62,13 @@ module _ (ts us : List Term) (more : AreAmong ts us) where
   strains_over_more s o (adding_row f among gs are w) = adding_row f (form_among_more f among) gs are w
   strains_over_more s o (causes.checking ranges bounds w) = causes.checking ranges (bounds_among_more s ranges bounds) w
   strains_over_more s o (explaining ranges bounds up es conflict w) = explaining ranges (bounds_among_more s ranges bounds) up es conflict w
-  strains_over_more s o (finding ranges bounds within w) = finding ranges (bounds_among_more s ranges bounds) within w
-  strains_over_more s o (evaluating ranges bounds within e is w) = evaluating ranges (bounds_among_more s ranges bounds) within e is w
+  strains_over_more s o (valuing u shared w) = valuing u (shared_among_more u shared) w
+  strains_over_more s o (finding ranges bounds within apart values w) =
+      finding ranges (bounds_among_more s ranges bounds) within apart (values_over_more s apart values) w
+  strains_over_more s o (evaluating ranges bounds within apart values e is w) =
+      evaluating ranges (bounds_among_more s ranges bounds) within apart (values_over_more s apart values) e is w
+  strains_over_more s o (evaluating_shared ranges bounds within apart values e is p shared w) =
+      evaluating_shared ranges (bounds_among_more s ranges bounds) within apart (values_over_more s apart values) e is p (value_over_more s p shared) w
 
   pub needs_over_more : (s : Standing) → NeedsMore ts s → NeedsMore us s
   needs_over_more s h = record { ranges = h.ranges; bounds = bounds_among_more s h.ranges h.bounds; wants = h.wants }

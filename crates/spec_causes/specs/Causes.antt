@@ -16,6 +16,7 @@ use Rattle.spec_strains.specs.Runs.{WantsMore}
 use Rattle.spec_strains.specs.Halves.{is_less, IsSteeper, halfway, StrainsNumber}
 use Rattle.spec_simplex.specs.Constraints.{Constraint, constraint_of, form_of}
 use Rattle.spec_causes.specs.Standing.{Standing, owner_in, state_in, AreEntriesOf}
+use Rattle.spec_causes.specs.Shared.{IsSharedAmong, StrainsTerm, IsSharedValue, AreSharedValues}
 use Rattle.spec_causes.specs.Bounds.{AreBounds}
 use Rattle.spec_causes.specs.Reached.{IsFormAmong}
 use Rattle.spec_causes.specs.Reasons.{Conflicts, StrainsReasons}
@@ -91,12 +92,21 @@ pub data StrainsAt (ts : List Term) (s : Standing) (o : Overflow) : Type 0 where
   -- the reasons for a conflict
   explaining : (ranges : Ranges) → (bounds : AreBounds ts s ranges) → (up : Bool) (es : List (Entry Number))
       → Conflicts ranges (state_in s) up es → StrainsReasons s bounds.literals ranges up es o → StrainsAt ts s o
-  -- a number for the infinitesimal; no values are kept apart, as theories share no terms
+  -- the value of a shared term
+  valuing : (u : Term) → IsSharedAmong ts u → StrainsTerm s u o → StrainsAt ts s o
+  -- a number for the infinitesimal, with some values of shared terms kept apart
   finding : (ranges : Ranges) → AreBounds ts s ranges → AreWithin ranges (point_in s.values)
-      → StrainsNumber ranges (point_in s.values) [] o → StrainsAt ts s o
+      → (apart : List (Pair Number)) → AreSharedValues ts s apart
+      → StrainsNumber ranges (point_in s.values) apart o → StrainsAt ts s o
   -- a value where the infinitesimal is such a number
   evaluating : (ranges : Ranges) → AreBounds ts s ranges → AreWithin ranges (point_in s.values)
-      → (e : Number) → IsEpsilon ranges (point_in s.values) [] e → StrainsValueAt e s o → StrainsAt ts s o
+      → (apart : List (Pair Number)) → AreSharedValues ts s apart
+      → (e : Number) → IsEpsilon ranges (point_in s.values) apart e → StrainsValueAt e s o → StrainsAt ts s o
+  -- the value of a shared term there
+  evaluating_shared : (ranges : Ranges) → AreBounds ts s ranges → AreWithin ranges (point_in s.values)
+      → (apart : List (Pair Number)) → AreSharedValues ts s apart
+      → (e : Number) → IsEpsilon ranges (point_in s.values) apart e
+      → (p : Pair Number) → IsSharedValue ts s p → delta_evaluated (delta_in p) e.fraction ≡ Err o → StrainsAt ts s o
 
 -- Under some bounds that literals state simplex needs a further exchange over terms where it stands.
 pub record NeedsMore (ts : List Term) (s : Standing) : Type 0 where

@@ -1,5 +1,6 @@
 -- Why a check about numbers is not decided.
 pub mod Standing
+pub mod Shared
 pub mod Bounds
 pub mod Reached
 pub mod Counts

@@ -1,17 +1,27 @@
 //! Laws of the causes of an undecided check: functions with empty bodies, whose clauses are proved of the definitions.
 
-ghost use Rattle.std.specs.Prelude.{◌≡◌, ℕ, List, []};
+ghost use Rattle.std.specs.Prelude.{◌≡◌, ◌⊎◌, ℕ, List, [], Some, Ok, All};
+ghost use Rattle.spec_numbers.specs.Fractions.{Fraction};
 ghost use Rattle.spec_numbers.specs.Bounds.{Overflow};
-ghost use Rattle.spec_sorts.specs.Terms.{Term};
+ghost use Rattle.spec_sorts.specs.Terms.{Symbol, Term, sort_of};
+ghost use Rattle.spec_sorts.specs.Terms.{Number as Real};
+ghost use Rattle.spec_sorts.specs.WellSorted.{IsWellSorted};
+ghost use Rattle.spec_sorts.specs.Literals.{Literal};
+ghost use Rattle.spec_arithmetic.specs.Forms.{Form, form};
+ghost use Rattle.spec_arithmetic.specs.Numbers.{number_at, IsLinearOver};
 ghost use Rattle.spec_sorts.specs.Subsets.{AreAmong};
 ghost use Rattle.spec_derivations.specs.Problems.{Problem};
 ghost use Rattle.spec_tableaux.specs.SolvedForms.{IsSolved};
 ghost use Rattle.spec_tableaux.specs.Ranges.{Meets};
-ghost use Rattle.spec_tableaux.specs.Numbers.{numbers};
-ghost use Rattle.spec_strains.specs.Points.{deltas, Ranges, BoardState};
+ghost use Rattle.spec_tableaux.specs.Spaces.{Pair};
+ghost use Rattle.spec_tableaux.specs.Numbers.{Number, numbers};
+ghost use Rattle.spec_strains.specs.Points.{deltas, point_in, Ranges, BoardState};
+ghost use Rattle.spec_strains.specs.Halves.{at_number};
+ghost use Rattle.spec_simplex.specs.Numbers.{HoldsAt};
 ghost use Rattle.spec_strains.specs.Runs.{Ran, RanShort};
 ghost use Rattle.spec_overflows.specs.Overflows.{IsOverflow};
-ghost use Rattle.spec_causes.specs.Standing.{Standing};
+ghost use Rattle.spec_causes.specs.Standing.{Standing, owner_in, AreOwned};
+ghost use Rattle.spec_causes.specs.Shared.{IsValueOf, ShareNothing};
 ghost use Rattle.spec_causes.specs.Reached.{IsReached, IsStoppedAt};
 ghost use Rattle.spec_causes.specs.Causes.{StrainsAt, NeedsMore, AreSilent};
 ghost use Rattle.spec_causes.specs.Checks.{IsStrained};
@@ -45,15 +55,43 @@ pub fn exchanges_are_counted()
     ensures { (ts : List Term) (es : List (ℕ × ℕ)) (s : Standing) → IsReached ts 0 es s → es ≡ [] }
 {}
 
-/// States that where no atom among terms says anything of numbers, simplex comes to no exchange over them. No operation of it leaves
-/// the bound where it is stopped, and it needs no exchange.
+/// States that where no atom among terms says anything of numbers, simplex comes to no exchange over them, and needs none. No
+/// operation of it leaves the bound where it is stopped, if no term of sort Real is shared among the terms.
 pub fn nothing_comes_of_no_numbers()
     ensures reached { (ts : List Term) → AreSilent ts → (n : ℕ) (es : List (ℕ × ℕ)) (s : Standing)
         → IsReached ts n es s → es ≡ [] }
-    ensures strains { (ts : List Term) → AreSilent ts → (n : ℕ) (es : List (ℕ × ℕ)) (s : Standing)
+    ensures strains { (ts : List Term) → AreSilent ts → ShareNothing ts → (n : ℕ) (es : List (ℕ × ℕ)) (s : Standing)
         → IsReached ts n es s → (o : Overflow) → StrainsAt ts s o → ⊥ }
     ensures stopped { (ts : List Term) → AreSilent ts → (n : ℕ) (es : List (ℕ × ℕ)) (s : Standing)
-        → IsStoppedAt ts n es s → (es ≡ []) × ((o : Overflow) → StrainsAt ts s o → ⊥) }
+        → IsStoppedAt ts n es s → (es ≡ []) × (ShareNothing ts → (o : Overflow) → StrainsAt ts s o → ⊥) }
     ensures needs { (ts : List Term) → AreSilent ts → (n : ℕ) (es : List (ℕ × ℕ)) (s : Standing)
         → IsReached ts n es s → NeedsMore ts s → ⊥ }
+{}
+
+/// States that a term of sort Real whose form stays within the bound has a value where simplex stands, and one alone where no two
+/// variables stand for one term.
+pub fn terms_have_one_value()
+    ensures some { (symbols : List Symbol) (s : Standing) (u : Term) (f : Form) → IsWellSorted symbols [] u
+        → sort_of u ≡ Real → form u ≡ Ok f → (p : Pair Number) × IsValueOf s u p }
+    ensures one { (s : Standing) (u : Term) (p q : Pair Number)
+        → ((y z : ℕ) (w : Term) → owner_in s.owners y ≡ Some w → owner_in s.owners z ≡ Some w → y ≡ z)
+        → IsValueOf s u p → IsValueOf s u q → p ≡ q }
+{}
+
+/// States that a linear term has, at each number in the place of the infinitesimal, the number of its value where simplex stands, where
+/// variables have the numbers of the terms that they stand for, and each other term 0. So a shared term has the number of its head at
+/// its arguments' numbers.
+pub fn values_are_numbers_of_terms()
+    ensures { (e : Number) (s : Standing) (n : Term → Number)
+        → AreOwned s.owners n (λ y. at_number e (point_in s.values y))
+        → ((u : Term) → ((y : ℕ) → owner_in s.owners y ≡ Some u → ⊥) → n u ≡ numbers.zero)
+        → (symbols : List Symbol) (u : Term) (p : Pair Number) → IsLinearOver symbols u → IsValueOf s u p
+        → number_at (λ w. (n w).fraction) u ≡ (at_number e p).fraction }
+{}
+
+/// States that literals hold as well where some terms have the numbers of their heads at their arguments' numbers, instead of their
+/// own ones.
+pub fn numbers_of_heads_may_be_taken()
+    ensures { (m n : Term → Fraction) → ((u : Term) → (m u ≡ n u) ⊎ (m u ≡ number_at n u))
+        → (ls : List Literal) → All (HoldsAt n) ls → All (HoldsAt m) ls }
 {}

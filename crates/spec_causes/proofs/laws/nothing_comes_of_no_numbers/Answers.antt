@@ -6,12 +6,12 @@ pub returns-clause-reached : goal.returns-clause-reached
 returns-clause-reached c = λ ts silent n es s h. (reaches_nothing ts silent n es s h).1
 
 pub returns-clause-strains : goal.returns-clause-strains
-returns-clause-strains c = λ ts silent n es s h o w. nothing_strains ts silent s (reaches_nothing ts silent n es s h).0 o w
+returns-clause-strains c = λ ts silent unshared n es s h o w. nothing_strains ts silent unshared s (reaches_nothing ts silent n es s h).0 o w
 
 pub returns-clause-stopped : goal.returns-clause-stopped
 returns-clause-stopped c = λ ts silent n es s h.
     let at = stopped_on_nothing ts silent n es s h in
-    (at.1, λ o w. nothing_strains ts silent s at.0 o w)
+    (at.1, λ unshared o w. nothing_strains ts silent unshared s at.0 o w)
 
 pub returns-clause-needs : goal.returns-clause-needs
 returns-clause-needs c = λ ts silent n es s h more. nothing_is_needed ts silent s (reaches_nothing ts silent n es s h).0 more

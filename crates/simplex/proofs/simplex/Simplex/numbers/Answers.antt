@@ -1,5 +1,6 @@
 -- Each term has the number of its variable, and by these numbers the literals hold.
 use Rattle.std.proofs.Common.{[], get_or, subst, arith}
+use Rattle.spec_text.proofs.Members.{none as no_member}
 use Rattle.term_core.specs.declared.ids.TermId.{TermId}
 use Rattle.tableau.specs.Numbers.{number_of}
 use Rattle.tableau.specs.Views.{IsTableau}
@@ -26,7 +27,7 @@ returns-in-Err-clause-stops c =
     let over = subst (λ (w : SimplexView). AreOver w.theory.held w.theory.watched) c.self.view_is c.are_of_watched_terms.ensures.over in
     let bounds = watched_bounds t v c.requires.with fits over in
     strained t (terms_watched t v.theory) v c.in-Err.wide c.stop_of.result
-    (finding (ranges_in v.bounds.held) bounds c.requires.fine.within
+    (finding (ranges_in v.bounds.held) bounds c.requires.fine.within [] (λ p there. absurd (no_member p there))
     (subst (λ (v : SimplexView). StrainsNumber (ranges_in v.bounds.held) (point_in v.board.values) [] (overflow c.in-Err.wide)) c.self.view_is c.in-Err.ensures.wide)) c.stop_of.ensures
 
 pub returns-in-Err-number_at-clause-stops : goal.returns-in-Err-number_at-clause-stops
@@ -39,7 +40,7 @@ returns-in-Err-number_at-clause-stops c =
     let e = number_of c.in-Ok.small in
     let is = subst (λ (v : SimplexView). IsEpsilon (ranges_in v.bounds.held) (point_in v.board.values) [] e) c.self.view_is c.in-Ok.ensures.is in
     strained t (terms_watched t v.theory) v c.in-Err-number_at.wide c.stop_of-in-Err-number_at.result
-    (evaluating (ranges_in v.bounds.held) bounds c.requires.fine.within e is (c.in-Err-number_at.ensures.wide t)) c.stop_of-in-Err-number_at.ensures
+    (evaluating (ranges_in v.bounds.held) bounds c.requires.fine.within [] (λ p there. absurd (no_member p there)) e is (c.in-Err-number_at.ensures.wide t)) c.stop_of-in-Err-number_at.ensures
 
 pub terms-preserved : goal.terms-preserved
 terms-preserved c =
