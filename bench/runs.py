@@ -13,6 +13,7 @@ import argparse
 import math
 import os
 import resource
+import signal
 import subprocess
 import sys
 import tempfile
@@ -21,8 +22,10 @@ import time
 from dataclasses import dataclass
 
 GNU_TIME = "/usr/bin/time"
-# The system's clock for the limit of a processor is not quite that of its record.
+# The system's clock for the limit of a processor is not quite that of its record, which falls short most where others run beside.
 NEAR = 0.95
+# So the limit's signal tells too; /usr/bin/time turns it into a status.
+BY_LIMIT = (-signal.SIGXCPU, 128 + signal.SIGXCPU)
 
 
 @dataclass
@@ -80,8 +83,9 @@ def run(words, seconds=None, memory=None, processor=None):
             with open(report, encoding="ascii") as text:
                 peak = int(text.read())
     stopped = child.returncode < 0 and seconds is not None and taken >= seconds
-    # /usr/bin/time and some programs turn the signal of the processor's limit into a status.
-    stopped = stopped or (child.returncode != 0 and processor is not None and used > NEAR * processor)
+    if processor is not None:
+        # Some programs end with a status of their own at the limit.
+        stopped = stopped or child.returncode in BY_LIMIT or (child.returncode != 0 and used > NEAR * processor)
     return Run(output, None if stopped else child.returncode, used, usage.ru_utime, peak)
 
 
