@@ -8,3 +8,6 @@ pub mod Coming
 pub mod Judging
 pub mod Suiting
 pub mod TermNumbers
+pub mod SharedTerms
+pub mod TellingValues
+pub mod NumbersApart

@@ -72,15 +72,15 @@ value_strains v e id y a (Err w) stands is h = λ t. record {
 }
 
 -- one term more
-pub next_number : (t : TableView) (n : Term → Number) (xs ys : List Ratio) (x : Ratio) (ids : List TermId) (i : ℕ) (d : TermId) → i < length ids
-    → map fraction xs ≡ map (λ (id : TermId). (n (term_at t id)).fraction) (take i ids) → ys ≡ xs ++ x ∷ [] → number_of x ≡ n (term_at t (get_or ids i d))
-    → map fraction ys ≡ map (λ (id : TermId). (n (term_at t id)).fraction) (take (i + 1) ids)
+pub next_number : (t : TableView) (n : Term → Fraction) (xs ys : List Ratio) (x : Ratio) (ids : List TermId) (i : ℕ) (d : TermId) → i < length ids
+    → map fraction xs ≡ map (λ (id : TermId). n (term_at t id)) (take i ids) → ys ≡ xs ++ x ∷ [] → fraction x ≡ n (term_at t (get_or ids i d))
+    → map fraction ys ≡ map (λ (id : TermId). n (term_at t id)) (take (i + 1) ids)
 next_number t n xs ys x ids i d lt before more is =
-    let f : TermId → Fraction = λ id. (n (term_at t id)).fraction in
-    ap (map fraction) more ∙ map-append fraction xs (x ∷ []) ∙ (λ j. before j ++ (is j).fraction ∷ [])
+    let f : TermId → Fraction = λ id. n (term_at t id) in
+    ap (map fraction) more ∙ map-append fraction xs (x ∷ []) ∙ (λ j. before j ++ is j ∷ [])
     ∙ sym (ap (map f) (take_more ids i d lt) ∙ map-append f (take i ids) (get_or ids i d ∷ []))
 
 -- all terms
-pub all_numbers : (t : TableView) (n : Term → Number) (xs : List Ratio) (ids : List TermId) (i : ℕ) → length ids ≤ i
-    → map fraction xs ≡ map (λ (id : TermId). (n (term_at t id)).fraction) (take i ids) → map fraction xs ≡ map (λ u. (n u).fraction) (clause_at t ids)
-all_numbers t n xs ids i le h = h ∙ ap (map (λ (id : TermId). (n (term_at t id)).fraction)) (take_all i ids le) ∙ sym (map-map (λ (u : Term). (n u).fraction) (term_at t) ids)
+pub all_numbers : (t : TableView) (n : Term → Fraction) (xs : List Ratio) (ids : List TermId) (i : ℕ) → length ids ≤ i
+    → map fraction xs ≡ map (λ (id : TermId). n (term_at t id)) (take i ids) → map fraction xs ≡ map n (clause_at t ids)
+all_numbers t n xs ids i le h = h ∙ ap (map (λ (id : TermId). n (term_at t id))) (take_all i ids le) ∙ sym (map-map n (term_at t) ids)

@@ -1,5 +1,6 @@
 -- What simplex holds and watches.
 pub mod Views
 pub mod Checks
-pub mod Numbers
 pub mod Coming
+pub mod Values
+pub mod Numbers

@@ -6,6 +6,7 @@
 mod checking;
 mod holding;
 mod numbers;
+mod shared;
 mod simplex;
 mod starts;
 mod theory;

@@ -1,3 +1,4 @@
 -- The lemmas of this crate.
 pub mod Tables
 pub mod Starting
+pub mod SharedArguments

@@ -1,5 +1,6 @@
 -- A theory beside what it was told, over a table with a log.
 use Rattle.std.specs.Prelude.{◌≡◌, List}
+use Rattle.spec_sorts.specs.Terms.{Head, Apply}
 use Rattle.term_core.specs.Tables.{TableView}
 use Rattle.proof_log.specs.Theories.{TheoryView}
 use Rattle.proof_log.specs.Logs.{Logged, IsLogOf}
@@ -12,3 +13,8 @@ pub record Follows (goes : Type 0) (view told : TheoryView) (t : TableView) (log
   pub like : view ≡ told
   -- the log is one of the table's formulas
   pub log : IsLogOf t logged
+
+-- a head is a declared symbol
+abbrev pub IsDeclared : Head → Type 0
+IsDeclared (Apply s) = Unit {0}
+IsDeclared h = ⊥

@@ -18,4 +18,6 @@ mod said;
 #[cfg(test)]
 mod scene;
 #[cfg(test)]
+mod sharing;
+#[cfg(test)]
 mod terms;

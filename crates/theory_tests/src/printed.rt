@@ -11,7 +11,7 @@ use world_io::NoMemory;
 const LETTERS: &[u8] = b"abcdefgh";
 
 /// Puts a word after a text, with a comma between them.
-fn print_word(word: &[u8], text: &mut Vec<u8>) -> Result<(), NoMemory> {
+pub(crate) fn print_word(word: &[u8], text: &mut Vec<u8>) -> Result<(), NoMemory> {
     if !text.is_empty() {
         text.push(b',')?;
     }
@@ -114,7 +114,17 @@ fn print_count(count: u64, text: &mut Vec<u8>) -> Result<(), NoMemory> {
     print_word(&[digit], text)
 }
 
-/// Puts the value of a constant after a text, if it is a whole number below 10, else a question mark.
+/// Puts a value after a text, if it is a whole number below 10, else a question mark.
+pub(crate) fn print_number(value: Delta, text: &mut Vec<u8>) -> Result<(), NoMemory> {
+    for count in 0..10_u32 {
+        if value == Delta::number(Ratio::of(count as i128, 1)) {
+            return print_count(u64::from(count), text);
+        }
+    }
+    print_word(b"?", text)
+}
+
+/// Puts the value of a constant after a text.
 pub(crate) fn print_value(
     scene: &Scene,
     theory: &Simplex,
@@ -124,13 +134,7 @@ pub(crate) fn print_value(
     let Some(variable) = variable_named(&scene.table, theory, &[name]) else {
         return print_word(b"none", text);
     };
-    let value = theory.point(variable);
-    for count in 0..10_u32 {
-        if value == Delta::number(Ratio::of(count as i128, 1)) {
-            return print_count(u64::from(count), text);
-        }
-    }
-    print_word(b"?", text)
+    print_number(theory.point(variable), text)
 }
 
 /// Puts after a text how many variables are basic.

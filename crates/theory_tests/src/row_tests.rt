@@ -6,6 +6,7 @@ ghost use Rattle.theory_tests.specs.Following.{Follows};
 
 use crate::printed::{print_answer, print_basics, print_move, print_value};
 use crate::scene::{Answer, Scene};
+use crate::sharing::print_shared;
 use crate::terms::put_atoms;
 use simplex::Simplex;
 use std::alloc::Global;
@@ -15,8 +16,8 @@ use world_io::NoMemory;
 
 /// Constraints, which `a`, `b` and so on stand for; then steps; then what comes of them. A letter from `a` to `h` holds its
 /// constraint, and a capital one the negation, after the terms up to it are watched. A digit checks within so many
-/// exchanges. `[` marks, `]` goes back a mark, and `}` two. A letter from `w` to `z` asks for a value, `=` how many variables
-/// are basic, and `>` what the least-variable rule says: which constant enters the basis, or why none does.
+/// exchanges. `[` marks, `]` goes back a mark, and `}` two. A letter from `w` to `z` asks for a value, `s` for those of all arguments of
+/// `f`, `=` how many variables are basic, and `>` what the least-variable rule says: which constant enters the basis, or why none does.
 ///
 /// A check comes to `fine`, or to the letters of literals that cannot all hold; to `more` where the exchanges are spent, and
 /// to `wide` where a number leaves 128 bits. `M` is 2^126.
@@ -77,7 +78,15 @@ x=0;1<=x+y ab0> more,y
 y=0;1<=x+y ab0> more,x
 x=0;y<=0;1<=x+y+z abc0> more,z
 x<1;2<x ab> crossed
-x+y<=1;1<=x;1<=y abc9> abc,stuck";
+x+y<=1;1<=x;1<=y abc9> abc,stuck
+fx<1;x=5 ab9s fine,5
+fx<1 a9s fine,0
+f3<1 a9s fine,3
+f2x<3;x=2 ab9s fine,4
+f2x<f3x;x=1;y=2 abc9s fine,2,3
+fx<1;2<x ab9s fine,?
+f2x<3;x=2 a9s[b9s]9s fine,0,fine,4,fine,4
+fMx<3;x=2 ab9s fine,wide";
 
 /// Gives the literal of a letter.
 fn lit_of(atoms: &[TermId], letter: u8) -> Lit {
@@ -89,8 +98,12 @@ fn lit_of(atoms: &[TermId], letter: u8) -> Lit {
 }
 
 /// Asks simplex what a step asks, and puts it after a text; tells whether the step is none of these.
-fn ask(scene: &Scene, theory: &Simplex, step: u8, text: &mut Vec<u8>) -> Result<bool, NoMemory> {
+fn ask(scene: &Scene, theory: &Simplex, step: u8, text: &mut Vec<u8>) -> Result<bool, NoMemory>
+    requires { Follows (Suits theory.now scene.now.table) theory.now.theory scene.now.said
+        scene.now.table scene.now.log }
+{
     match step {
+        b's' => print_shared(scene, theory, text)?,
         b'w'..=b'z' => print_value(scene, theory, step, text)?,
         b'=' => print_basics(theory, text)?,
         b'>' => print_move(scene, theory, text)?,

@@ -1,4 +1,4 @@
-//! Terms of constraints, of texts as `2x+y<=3`.
+//! Terms of constraints, of texts as `2x+fy<=3`.
 
 use ratio128::Ratio;
 use std::alloc::Global;
@@ -60,14 +60,32 @@ fn put_multiple(
     put(alloc, table, Head::Times, &[factor, constant])
 }
 
-/// Puts a part of a sum: a number, or a multiple of a constant.
-fn put_part(alloc: Global, table: &mut TermTable, part: &str) -> Result<TermId, NoMemory> {
+/// Puts a number, or a multiple of a constant.
+fn put_plain(alloc: Global, table: &mut TermTable, part: &str) -> Result<TermId, NoMemory> {
     for name in ["x", "y", "z", "w", "p", "q"] {
         if let Some(digits) = part.strip_suffix(name) {
             return put_multiple(alloc, table, digits, name);
         }
     }
     put_number(alloc, table, part)
+}
+
+/// Puts the function `f` at a term, which takes and gives a number.
+fn put_applied(alloc: Global, table: &mut TermTable, argument: TermId) -> Result<TermId, NoMemory> {
+    if let Some(symbol) = table.symbols().find(b"f") {
+        return put(alloc, table, Head::Apply(symbol), &[argument]);
+    }
+    let symbol = table.declare(b"f", &[Sort::Real], Sort::Real)?;
+    put(alloc, table, Head::Apply(symbol), &[argument])
+}
+
+/// Puts a part of a sum: a number, a multiple of a constant, or `f` of one of these.
+fn put_part(alloc: Global, table: &mut TermTable, part: &str) -> Result<TermId, NoMemory> {
+    let Some(rest) = part.strip_prefix("f") else {
+        return put_plain(alloc, table, part);
+    };
+    let argument = put_plain(alloc, table, rest)?;
+    put_applied(alloc, table, argument)
 }
 
 /// Puts a part of a sum, with a hyphen before it where its negative is meant.

@@ -1,0 +1,8 @@
+-- The values up to here are told.
+use Rattle.std.proofs.Common.{nat_eq}
+use Rattle.std.specs.HashMap.{get}
+use Rattle.simplex.specs.Values.{TellsValues}
+use Rattle.simplex.proofs.numbers.values_by_term.Given as goal
+
+abbrev pub invariant-places : goal.invariant-places
+invariant-places l = TellsValues (get nat_eq l.known) l.terms l.values l.at
