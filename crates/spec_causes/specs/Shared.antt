@@ -3,7 +3,7 @@
 use Rattle.std.specs.Prelude.{◌≡◌, ◌≢◌, ℕ, List, [], ◌∷◌, Option, Some, Ok, Err, Contains}
 use Rattle.spec_numbers.specs.Fractions.{Fraction}
 use Rattle.spec_numbers.specs.Bounds.{Overflow}
-use Rattle.spec_sorts.specs.Terms.{Symbol, Apply, Term, Terms, app, list_of, sort_of}
+use Rattle.spec_sorts.specs.Terms.{Symbol, Equal, Apply, Term, Terms, app, list_of, sort_of, pair}
 use Rattle.spec_sorts.specs.Terms.{Number as Real}
 use Rattle.spec_arithmetic.specs.Forms.{Form, Fault, form}
 use Rattle.spec_tableaux.specs.Spaces.{Pair}
@@ -86,3 +86,15 @@ AreSharedValues ts s ps = (p : Pair Number) → Contains ps p → IsSharedValue 
 -- no term is shared among terms
 abbrev pub ShareNothing : List Term → Type 0
 ShareNothing ts = (u : Term) → IsSharedAmong ts u → ⊥
+
+-- It is an equality of two different terms that are shared among terms.
+pub record IsSharedEquality (ts : List Term) (u : Term) : Type 0 where
+  -- one of them
+  pub left : Term
+  pub left_shared : IsSharedAmong ts left
+  -- and the other
+  pub right : Term
+  pub right_shared : IsSharedAmong ts right
+  pub different : left ≢ right
+  -- it is made of these
+  pub is : u ≡ pair Equal left right
