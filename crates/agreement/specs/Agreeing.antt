@@ -1,11 +1,11 @@
 -- When two theories agree on shared terms. Source: Nelson and Oppen, Simplification by Cooperating Decision Procedures, TOPLAS 1979.
-use Rattle.std.specs.Prelude.{◌≡◌, ◌≢◌, ◌↔◌, ◌⊎◌, List, length, Contains}
+use Rattle.std.specs.Prelude.{◌≡◌, ◌≢◌, ◌↔◌, ◌⊎◌, ◌<◌, ◌++◌, ℕ, List, [], length, All, Contains}
 use Rattle.std.specs.List.{AllAdjacentBelow}
 use Rattle.term_core.specs.declared.ids.TermId.{TermId}
 use Rattle.delta_num.specs.Meant.{delta}
 use Rattle.agreement.specs.declared.agreeing.Shared.{Shared}
 use Rattle.agreement.specs.declared.agreeing.Agreement.{Agreement}
-use Rattle.agreement.specs.declared.agreeing.Agreement.TheVariants.{Agreed, Pair}
+use Rattle.agreement.specs.declared.agreeing.Agreement.TheVariants.{Agreed, Pairs}
 
 -- both theories say the same of two terms: they are of one class exactly where they have one value
 abbrev pub Concur : Shared → Shared → Type 0
@@ -38,7 +38,25 @@ pub record IsPair (xs : List Shared) (s t : TermId) : Type 0 where
   -- that does not go together
   pub clash : Clash one other
 
--- the answer is right: the theories agree on the terms, or not on these two
+-- the theories do not agree on each of these pairs
+abbrev pub ArePairs : List Shared → List (TermId × TermId) → Type 0
+ArePairs xs ps = All (λ (p : TermId × TermId). IsPair xs p.0 p.1) ps
+
+-- Pairs came for all neighbours before a place on which the theories do not agree.
+pub record HasClashesBelow (xs : List Shared) (n : ℕ) (old new : List (TermId × TermId)) : Type 0 where
+  -- these came
+  pub more : List (TermId × TermId)
+  pub is : new ≡ old ++ more
+  -- the theories do not agree on them
+  pub are : ArePairs xs more
+  -- and none came only where they agree on all those neighbours
+  pub none : more ≡ [] → AllAdjacentBelow Concur xs n
+
+-- so they did for all neighbours
+abbrev pub HasClashes : List Shared → (old new : List (TermId × TermId)) → Type 0
+HasClashes xs old new = HasClashesBelow xs (length xs) old new
+
+-- the answer is right: the theories agree on the terms, or not on these pairs, of which there is one
 abbrev pub Answers : List Shared → Agreement → Type 0
 Answers xs Agreed = Agree xs
-Answers xs (Pair s t) = IsPair xs s t
+Answers xs (Pairs ps) = ArePairs xs ps.items × (0 < length ps.items)

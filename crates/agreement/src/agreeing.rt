@@ -1,12 +1,14 @@
 //! Shared terms with what both theories say of them, and whether these agree.
 
-ghost use Rattle.std.specs.Prelude.{MatchBool, MatchOption};
+ghost use Rattle.std.specs.Prelude.{◌≡◌, ◌⊎◌, MatchBool, IfOk, OnOk};
 ghost use Rattle.std.specs.List.Sorted.{IsPermutation};
-ghost use Rattle.agreement.specs.Agreeing.{Concur, Clash, NeighboursConcur, IsPair, Answers};
+ghost use Rattle.agreement.specs.Agreeing.{Concur, Clash, HasClashes, Answers};
 
 use delta_num::Delta;
+use std::alloc::Global;
 use std::cmp::Ordering;
 use term_core::TermId;
+use world_io::NoMemory;
 
 /// A term that both theories speak of, with what each says of it.
 #[derive(Clone, Copy, PartialEq, Eq, Debug)]
@@ -20,45 +22,58 @@ pub struct Shared {
 }
 
 /// What is found of two theories and the terms that they share.
-#[derive(Clone, Copy, PartialEq, Eq, Debug)]
+#[derive(Drop)]
 pub enum Agreement {
     /// They agree on each two of the terms.
     Agreed,
-    /// One says that these two terms are equal, and the other that they are not.
-    Pair(TermId, TermId),
+    /// One says that the two terms of a pair are equal, and the other that they are not. These are such pairs, one or more.
+    Pairs(Vec<(TermId, TermId)>),
 }
 
-/// Says whether two theories agree on each two of the terms, and gives a pair on which they do not, if there is one.
+/// Says whether two theories agree on each two of the terms, and lists pairs on which they do not, if there are such.
 ///
 /// The terms are sorted by their values, and then by their classes. So neighbours tell of all, and it takes n log n comparisons of n
-/// terms. They are left in some order, and of several such pairs any is given.
-pub fn agree(shared: &mut [Shared]) -> Agreement
+/// terms. Each two neighbours that differ are listed, in both orders, with the lesser number first; so a pair may come twice. The terms
+/// are left in some order.
+/// `NoMemory` comes where the list finds no memory.
+pub fn agree(alloc: Global, shared: &mut [Shared]) -> Result<Agreement, NoMemory>
     ensures permutation { IsPermutation shared.old shared.new }
-    ensures answer { Answers shared.old result }
+    ensures answer { IfOk result (Answers shared.old) }
 {
+    let mut pairs = Vec::new(alloc);
     shared.sort_unstable_by(|a, b| Delta::cmp(a.value, b.value));
-    if let Some((s, t)) = first_clash(shared) {
-        return Agreement::Pair(s, t);
-    }
+    add_clashes(shared, &mut pairs)?;
     shared.sort_unstable_by_key(|a| a.class);
-    match first_clash(shared) {
-        Some((s, t)) => Agreement::Pair(s, t),
-        None => Agreement::Agreed,
+    add_clashes(shared, &mut pairs)?;
+    if pairs.is_empty() {
+        return Ok(Agreement::Agreed);
     }
+    Ok(Agreement::Pairs(pairs))
 }
 
-/// Gives the terms of two neighbours on which the theories do not agree, if there are such.
-fn first_clash(shared: &[Shared]) -> Option<(TermId, TermId)>
-    ensures { MatchOption result (NeighboursConcur shared.now) (λ p. IsPair shared.now p.0 p.1) }
+/// Adds to pairs the terms of each two neighbours on which the theories do not agree.
+fn add_clashes(shared: &[Shared], pairs: &mut Vec<(TermId, TermId)>) -> Result<(), NoMemory>
+    ensures { OnOk result (HasClashes shared.now pairs.old.items pairs.new.items) }
 {
     'places: for at in 1..shared.len() {
         let a = shared[at - 1];
         let b = shared[at];
-        if !concur(a, b) {
-            return Some((a.term, b.term));
+        if concur(a, b) {
+            continue;
         }
+        pairs.push(in_order(a.term, b.term))?;
     }
-    None
+    Ok(())
+}
+
+/// Puts the lesser number of two first.
+fn in_order(s: TermId, t: TermId) -> (TermId, TermId)
+    ensures { (result ≡ (s, t)) ⊎ (result ≡ (t, s)) }
+{
+    if s.0 < t.0 {
+        return (s, t);
+    }
+    (t, s)
 }
 
 /// Says whether both theories say the same of two terms: that they are equal, or that they are not.

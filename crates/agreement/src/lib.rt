@@ -1,13 +1,11 @@
 //! Whether two theories agree on the terms that they share.
 //!
 //! Congruence closure says which terms are equal by classes, and simplex by values. Where they agree on each two shared terms, one
-//! model serves both. Where they do not, there is a pair to split on. It takes no memory.
+//! model serves both. Where they do not, there are pairs to split on.
 //! Source: Nelson and Oppen, Simplification by Cooperating Decision Procedures, TOPLAS 1979.
 #![tactic(auto)]
 
 mod agreeing;
-#[cfg(test)]
-mod tests;
 
 pub use agreeing::{Agreement, Shared, agree};
 pub use delta_num::Delta;

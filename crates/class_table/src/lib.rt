@@ -9,8 +9,6 @@ mod laws;
 mod rings;
 mod rows;
 mod table;
-#[cfg(test)]
-mod tests;
 
 pub use laws::{adding_adds_terms_alone, joining_joins_two_classes};
 pub use table::ClassTable;

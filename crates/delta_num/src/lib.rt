@@ -6,7 +6,5 @@
 
 mod delta;
 pub mod laws;
-#[cfg(test)]
-mod tests;
 
 pub use delta::Delta;

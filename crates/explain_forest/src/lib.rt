@@ -9,8 +9,6 @@ mod climb;
 mod explain;
 mod forest;
 mod laws;
-#[cfg(test)]
-mod tests;
 mod types;
 
 pub use forest::Forest;

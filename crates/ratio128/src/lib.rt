@@ -11,8 +11,6 @@ mod products;
 mod quotients;
 mod ratio;
 mod sums;
-#[cfg(test)]
-mod tests;
 mod wide;
 
 pub use ratio::Ratio;

@@ -2,7 +2,5 @@
 #![tactic(auto)]
 
 mod restarts;
-#[cfg(test)]
-mod tests;
 
 pub use restarts::Restarts;

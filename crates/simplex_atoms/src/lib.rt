@@ -17,8 +17,6 @@ mod placing;
 mod reading;
 mod stop;
 mod sums;
-#[cfg(test)]
-mod tests;
 
 pub use atoms::Atoms;
 pub use limits::bounds_by;

@@ -11,10 +11,6 @@ mod held;
 pub mod laws;
 mod limits;
 pub mod ranges;
-#[cfg(test)]
-mod tests;
-#[cfg(test)]
-mod value_tests;
 
 pub use bounds::{Bound, Side};
 pub use delta_num::Delta;

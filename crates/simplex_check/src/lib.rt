@@ -17,8 +17,6 @@ mod rule;
 mod stepping;
 mod sums;
 mod suspects;
-#[cfg(test)]
-mod tests;
 
 pub use board::Board;
 pub use check::Outcome;

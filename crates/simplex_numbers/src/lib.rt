@@ -10,8 +10,6 @@ mod apart;
 pub mod laws;
 mod narrowing;
 mod small;
-#[cfg(test)]
-mod tests;
 mod values;
 
 pub use small::small_number;

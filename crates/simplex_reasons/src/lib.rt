@@ -9,8 +9,6 @@ mod reasons;
 mod rows;
 mod stop;
 mod sums;
-#[cfg(test)]
-mod tests;
 mod weights;
 
 pub use ratio128::{Ratio, Wide};

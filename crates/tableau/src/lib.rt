@@ -9,8 +9,6 @@ mod pivots;
 mod stops;
 mod sums;
 mod table;
-#[cfg(test)]
-mod tests;
 
 pub use entries::{Entry, Row, coefficient};
 pub use ratio128::{Ratio, Wide};

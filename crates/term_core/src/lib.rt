@@ -12,8 +12,6 @@ mod sorts;
 mod symbols;
 mod taking;
 mod terms;
-#[cfg(test)]
-mod tests;
 mod theory_heads;
 
 pub use clauses::Clause;

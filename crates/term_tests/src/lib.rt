@@ -1,6 +1,8 @@
-//! Tests of terms: their values, and how many subterms they have.
+//! Tests of terms: which nodes a table takes, their values, and how many subterms they have.
 #![tactic(auto)]
 
+#[cfg(test)]
+mod node_tests;
 #[cfg(test)]
 mod rows;
 #[cfg(test)]

@@ -1,8 +1,10 @@
-//! Tests of what the search goes back over: lists with marks, trails, watches and waiting variables.
+//! Tests of what the search goes back over: lists with marks, trails, watches and waiting variables; and of when it begins again.
 #![tactic(auto)]
 
 #[cfg(test)]
 mod order_tests;
+#[cfg(test)]
+mod restart_tests;
 #[cfg(test)]
 mod sat_tests;
 #[cfg(test)]

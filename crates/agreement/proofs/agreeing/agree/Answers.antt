@@ -1,29 +1,35 @@
-use Rattle.std.proofs.Common.{rules}
+use Rattle.std.proofs.Common.{rules, arith, sym, ◌∙◌}
+use Rattle.std.specs.Vec.{vec_len}
+use Rattle.std.proofs.lemmas.Bool.Decides.{Decides-eqb}
 use Rattle.std.proofs.lemmas.List.MinMax.{ranks_by}
 use Rattle.std.proofs.lemmas.List.Sorted.{answers_always, IsPermutation-trans}
 use Rattle.agreement.specs.declared.agreeing.Shared.{Shared}
-use Rattle.agreement.proofs.Orders.{by_value, values_total, pair_back, agree_in}
+use Rattle.agreement.proofs.Orders.{by_value, values_total, agree_in}
+use Rattle.agreement.proofs.Clashes.{both_are, none_of_both, above_none}
 use Rattle.agreement.proofs.agreeing.agree.Goals as goal
 
-pub returns-in-Some-clause-answer : goal.returns-in-Some-clause-answer
-returns-in-Some-clause-answer c =
-    pair_back c.args.shared.now _ c.in-Some.s c.in-Some.t c.sort_unstable_by.ensures.permutation c.in-Some.ensures
-
-pub returns-in-Some-first_clash-clause-permutation : goal.returns-in-Some-first_clash-clause-permutation
-returns-in-Some-first_clash-clause-permutation c =
+pub returns-in_err-add_clashes-2-clause-permutation : goal.returns-in_err-add_clashes-2-clause-permutation
+returns-in_err-add_clashes-2-clause-permutation c =
     IsPermutation-trans _ _ _ c.sort_unstable_by.ensures.permutation c.sort_unstable_by_key.ensures.permutation
 
-pub returns-in-Some-first_clash-clause-answer : goal.returns-in-Some-first_clash-clause-answer
-returns-in-Some-first_clash-clause-answer c =
-    let moved = IsPermutation-trans _ _ _ c.sort_unstable_by.ensures.permutation c.sort_unstable_by_key.ensures.permutation in
-    pair_back c.args.shared.now _ c.in-Some-first_clash.s c.in-Some-first_clash.t moved c.in-Some-first_clash.ensures
-
-pub returns-in-None-clause-permutation : goal.returns-in-None-clause-permutation
-returns-in-None-clause-permutation c =
+pub returns-then-is_empty-clause-permutation : goal.returns-then-is_empty-clause-permutation
+returns-then-is_empty-clause-permutation c =
     IsPermutation-trans _ _ _ c.sort_unstable_by.ensures.permutation c.sort_unstable_by_key.ensures.permutation
 
-pub returns-in-None-clause-answer : goal.returns-in-None-clause-answer
-returns-in-None-clause-answer c =
+pub returns-then-is_empty-clause-answer : goal.returns-then-is_empty-clause-answer
+returns-then-is_empty-clause-answer c =
     let rise = c.sort_unstable_by.ensures.sorted by_value (ranks_by values_total (λ (s : Shared). s.value)) (answers_always _ _ _ (λ f a r g h. search rules)) in
     let climb = c.sort_unstable_by_key.ensures.sorted (λ (s : Shared). s.class) (answers_always _ _ _ (λ f a r g h. search rules)) in
-    agree_in c.args.shared.now _ _ c.sort_unstable_by.ensures.permutation c.sort_unstable_by_key.ensures.permutation rise climb c.in_default.ensures c.in-None.ensures
+    let none = none_of_both _ _ _ _ _ c.in_ok-add_clashes.ensures c.in_ok-add_clashes-2.ensures (omega (arith, c.add_clashes-2.new.pairs.ok.0, (Decides-eqb (vec_len c.add_clashes-2.new.pairs) 0).0 (sym c.is_empty.ensures ∙ c.if-is_empty.true))) in
+    agree_in c.args.shared.now _ _ c.sort_unstable_by.ensures.permutation c.sort_unstable_by_key.ensures.permutation rise climb none.0 none.1
+
+pub returns-clause-permutation : goal.returns-clause-permutation
+returns-clause-permutation c =
+    IsPermutation-trans _ _ _ c.sort_unstable_by.ensures.permutation c.sort_unstable_by_key.ensures.permutation
+
+pub returns-clause-answer : goal.returns-clause-answer
+returns-clause-answer c =
+    let moved = IsPermutation-trans _ _ _ c.sort_unstable_by.ensures.permutation c.sort_unstable_by_key.ensures.permutation in (
+      both_are c.args.shared.now _ _ _ _ _ c.new-pairs.ensures.items c.sort_unstable_by.ensures.permutation moved c.in_ok-add_clashes.ensures c.in_ok-add_clashes-2.ensures,
+      omega (arith, c.add_clashes-2.new.pairs.ok.0, above_none (vec_len c.add_clashes-2.new.pairs) (sym c.is_empty.ensures ∙ c.if-is_empty.false)),
+    )

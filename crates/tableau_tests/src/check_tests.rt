@@ -1,0 +1,195 @@
+//! Checks of small systems by hand. The variables are x0, x1 and x2, which is the sum of multiples of the others.
+
+use delta_num::Delta;
+use ratio128::Op;
+use sat_budget::{Budget, Limits, Stop};
+use simplex_bounds::{Bound, Bounds, Lit, Side};
+use simplex_check::{Board, Outcome};
+use std::alloc::Global;
+use std::test::Fail;
+use tableau::{Entry, Ratio, RowStop};
+use term_core::TermId;
+use world_io::NoMemory;
+
+/// Gives a whole number as a value.
+fn whole(n: i64) -> Delta {
+    Delta::number(Ratio::of(i128::from(n), 1))
+}
+
+/// Makes the board of x2 = left * x0 + right * x1.
+fn board_of(alloc: Global, left: Ratio, right: Ratio) -> Result<Board, RowStop> {
+    let mut board = Board::new(alloc);
+    board.add_var()?;
+    board.add_var()?;
+    let entries = [
+        Entry {
+            variable: 0,
+            coefficient: left,
+        },
+        Entry {
+            variable: 1,
+            coefficient: right,
+        },
+    ];
+    board.add_row(&entries)?;
+    Ok(board)
+}
+
+/// Makes bounds of three variables, each by its variable, its side and its value.
+fn bounds_of(alloc: Global, list: &[(u64, Side, i64)]) -> Result<Bounds, NoMemory> {
+    let mut bounds = Bounds::new(alloc);
+    bounds.add_var()?;
+    bounds.add_var()?;
+    bounds.add_var()?;
+    for (variable, side, value) in list {
+        if *variable < bounds.variables() {
+            bounds.reserve(1)?;
+            bounds.hold(Bound {
+                variable: *variable,
+                side: *side,
+                value: whole(*value),
+                literal: Lit {
+                    term: TermId(0),
+                    positive: true,
+                },
+            });
+        }
+    }
+    Ok(bounds)
+}
+
+/// Checks a board whose variables the bounds are of.
+fn run(board: &mut Board, bounds: &Bounds, budget: &mut Budget) -> Option<Result<Outcome, Stop>> {
+    if bounds.variables() > board.tableau().variables_len() {
+        return None;
+    }
+    Some(board.check(bounds, budget))
+}
+
+/// Tells whether these are the exchanges of a budget.
+fn exchanges_are(budget: &Budget, want: &[(u64, u64)]) -> bool {
+    let n = budget.exchanged_len();
+    for k in 0..n {
+        if want.get(k as usize) != Some(&budget.exchange(k)) {
+            return false;
+        }
+    }
+    n == want.len() as u64
+}
+
+/// Tells whether these are the values of x0, x1 and x2.
+fn values_are(board: &Board, want: (i64, i64, i64)) -> bool {
+    board.value(0) == whole(want.0)
+        && board.value(1) == whole(want.1)
+        && board.value(2) == whole(want.2)
+}
+
+/// Tells whether a check of x2 = x0 + x1 comes to this outcome by these exchanges, with these values.
+fn comes_to(
+    alloc: Global,
+    list: &[(u64, Side, i64)],
+    want: Outcome,
+    exchanges: &[(u64, u64)],
+    values: (i64, i64, i64),
+) -> Option<bool> {
+    let mut board = board_of(alloc, Ratio::of(1, 1), Ratio::of(1, 1)).ok()?;
+    let bounds = bounds_of(alloc, list).ok()?;
+    let limits = Limits {
+        conflicts: 0,
+        pivots: 9,
+        terms: 0,
+    };
+    let mut budget = Budget::new(alloc, &limits).ok()?;
+    let outcome = run(&mut board, &bounds, &mut budget)?;
+    Some(outcome == Ok(want) && exchanges_are(&budget, exchanges) && values_are(&board, values))
+}
+
+#[test]
+fn checks_exchange_as_the_rule_says(rt: HostRuntime) -> Result<(), Fail> {
+    let upper = [
+        (0, Side::Upper, 1),
+        (1, Side::Upper, 3),
+        (2, Side::Lower, 2),
+    ];
+    let fine = comes_to(
+        rt.alloc(),
+        &upper,
+        Outcome::Fine,
+        &[(2, 0), (0, 1)],
+        (1, 1, 2),
+    );
+    assert_eq!(rt; fine, Some(true));
+    let narrow = [
+        (0, Side::Upper, 1),
+        (1, Side::Upper, 3),
+        (2, Side::Lower, 5),
+    ];
+    let conflict = comes_to(
+        rt.alloc(),
+        &narrow,
+        Outcome::Conflict(1),
+        &[(2, 0), (0, 1)],
+        (1, 4, 5),
+    );
+    assert_eq!(rt; conflict, Some(true));
+    Ok(())
+}
+
+#[test]
+fn nonbasic_variables_go_to_their_bounds(rt: HostRuntime) -> Result<(), Fail> {
+    let lower = [(0, Side::Lower, 3), (1, Side::Upper, -1)];
+    let settled = comes_to(rt.alloc(), &lower, Outcome::Fine, &[], (3, -1, 2));
+    assert_eq!(rt; settled, Some(true));
+    let crossed = [
+        (0, Side::Lower, 3),
+        (1, Side::Lower, 2),
+        (1, Side::Upper, 1),
+    ];
+    let nothing = comes_to(rt.alloc(), &crossed, Outcome::Crossed(1), &[], (0, 0, 0));
+    assert_eq!(rt; nothing, Some(true));
+    Ok(())
+}
+
+/// Gives the stop of a check of x2 = left * x0 + x1 with a limit on exchanges.
+fn stop_of(alloc: Global, left: Ratio, list: &[(u64, Side, i64)], pivots: u64) -> Option<Stop> {
+    let mut board = board_of(alloc, left, Ratio::of(1, 1)).ok()?;
+    let bounds = bounds_of(alloc, list).ok()?;
+    let limits = Limits {
+        conflicts: 0,
+        pivots,
+        terms: 0,
+    };
+    let mut budget = Budget::new(alloc, &limits).ok()?;
+    run(&mut board, &bounds, &mut budget)?.err()
+}
+
+/// Tells whether the stop is an overflow of a product at the values 0, with x2 basic.
+fn is_product(stop: &Stop) -> bool {
+    match stop {
+        Stop::Strained(strain) => {
+            strain.wide.op == Op::Mul
+                && strain.basis.variables.as_slice() == [2].as_slice()
+                && strain.basis.values.as_slice() == [whole(0), whole(0), whole(0)].as_slice()
+        }
+        _ => false,
+    }
+}
+
+#[test]
+fn checks_stop_at_their_limits(rt: HostRuntime) -> Result<(), Fail> {
+    let upper = [
+        (0, Side::Upper, 1),
+        (1, Side::Upper, 3),
+        (2, Side::Lower, 2),
+    ];
+    let spent = stop_of(rt.alloc(), Ratio::of(1, 1), &upper, 1);
+    assert!(rt; matches!(spent, Some(Stop::Pivots(1))));
+    let wide = stop_of(
+        rt.alloc(),
+        Ratio::of(i128::MAX, 1),
+        &[(0, Side::Lower, 2)],
+        1,
+    );
+    assert!(rt; wide.is_some_and(|stop| is_product(&stop)));
+    Ok(())
+}
