@@ -70,17 +70,21 @@ module _ (symbols : List Symbol) (terms : List Term) (held : List Literal) (trut
     sure true s t e c k = e
     sure false s t e c k = absurd (fine (inr (s, t, told s t c false e, k)))
 
+    -- a listed equality is true exactly where its sides are of one class, whatever their sort
+    pub told_by_classes : (s t : Term) → Contains terms (equal s t) → (truths (equal s t) ≡ true) ↔ (class s ≡ class t)
+    told_by_classes s t c =
+        let args = listed.arguments Equal (cons s (cons t nil)) c in
+        let s_in = args s (first s (t ∷ [])) in
+        let t_in = args t (later s (t ∷ []) t (first t [])) in (
+          λ yes. (tells s t s_in t_in).1 (equated s t (told s t c true yes)),
+          λ same. sure (truths (equal s t)) s t refl c ((tells s t s_in t_in).0 same),
+        )
+
     pub are_classes : AreClasses truths class terms
     are_classes = record {
       congruent = λ s ts us c d e. (tells (app (Apply s) ts) (app (Apply s) us) c d).1
           (by_arguments (Apply s) ts us c d (same_arguments ts us (listed.arguments (Apply s) ts c) (listed.arguments (Apply s) us d) e));
       truth_classes = λ t c e. (tells t (truth_term (truths t)) c (are.values (truths t))).1 (truth_told t c e);
       apart = λ e. fine (inl ((tells (truth_term true) (truth_term false) (are.values true) (are.values false)).0 e));
-      equalities = λ s t n c e.
-          let args = listed.arguments Equal (cons s (cons t nil)) c in
-          let s_in = args s (first s (t ∷ [])) in
-          let t_in = args t (later s (t ∷ []) t (first t [])) in (
-            λ yes. (tells s t s_in t_in).1 (equated s t (told s t c true yes)),
-            λ same. sure (truths (equal s t)) s t refl c ((tells s t s_in t_in).0 same),
-          );
+      equalities = λ s t n c e. told_by_classes s t c;
     }

@@ -7,7 +7,7 @@ pub mod Choices
 pub mod Closures
 pub mod Formulas
 pub mod Speaking
-pub mod Reach
+pub mod Applications
 pub mod Linear
 pub mod Rested
 pub mod Numberless

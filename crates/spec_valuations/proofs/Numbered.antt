@@ -33,8 +33,8 @@ use Rattle.spec_derivations.proofs.SearchTerms.{subterms_spoken, facts_spoken}
 use Rattle.spec_derivations.proofs.OrderedTerms.{searched_whole, equalities_whole, order_whole, forth_whole, back_whole, whole_sorted}
 use Rattle.spec_valuations.specs.Tables.{Obeys, values_by}
 use Rattle.spec_valuations.specs.Classes.{value_in, value_by}
-use Rattle.spec_valuations.specs.Resting.{TheoryValues, RestsOnNumbers}
-use Rattle.spec_valuations.proofs.Rested.{some_interpretation, IsAtRest, is_of_numbers, HasNumbers, listed, is_met, alone, atoms}
+use Rattle.spec_valuations.specs.Resting.{TheoryValues, RestsWithNumbers, RestsOnNumbers}
+use Rattle.spec_valuations.proofs.Rested.{some_interpretation, IsAtRest, is_of_numbers, HasNumbers, listed, is_met, alone, atoms, equality_classes}
 use Rattle.spec_valuations.proofs.Formulas.{core_joins}
 
 -- no number is less than itself
@@ -70,7 +70,7 @@ two_of (cons s (cons t (cons u us))) e = absurd (omega (arith, ap length e))
 one_of_three : (a b c : Bool) → a || (not b || (not c || false)) ≡ true → a ≡ false → b ≡ true → c ≡ true → ⊥
 one_of_three a b c f e g h = grind (arith, f, e, g, h)
 
-module _ (symbols : List Symbol) (p : Problem) (terms : List Term) (held : List HeldLiteral) (a : TheoryValues) (r : RestsOnNumbers symbols p terms held a) where
+module _ (symbols : List Symbol) (p : Problem) (terms : List Term) (held : List HeldLiteral) (a : TheoryValues) (r : RestsWithNumbers symbols p terms held a) where
   abbrev point : Term → Fraction
   point t = number_at a.number t
 
@@ -180,6 +180,13 @@ module _ (symbols : List Symbol) (p : Problem) (terms : List Term) (held : List 
           go true f = refl
           go false f = absurd (apart s t c left right f e)
 
+  -- theories agree on the sides of an equality of which the search speaks: its truth says what the classes are, and what the numbers are
+  pub sides_agree : (s t : Term) → Contains terms (pair Equal s t) → sort_of s ≡ Number → (a.class s ≡ a.class t) ↔ (point s ≡ point t)
+  sides_agree s t c left =
+      let classes = equality_classes symbols p terms held a.truths a.class at_rest s t c in
+      let numbers = (equal_sides s t c left).1 in
+      (λ e. numbers.0 (classes.1 e), λ e. classes.0 (numbers.1 e))
+
   abbrev v : Term → Value
   v = value_by is_so point a.class
 
@@ -237,12 +244,14 @@ module _ (symbols : List Symbol) (p : Problem) (terms : List Term) (held : List 
       subst (λ us. Contains terms (app AtMost us) → Obeys v (app AtMost us)) (sym two.same) (λ d. up_to_obeys two.s two.t d two.left two.right) c
   numbers_obey h ts c k = absurd (false≢true k)
 
-  pub has_numbers : HasNumbers terms is_so point a.class
-  has_numbers = record {
-    shared = r.shared;
-    shares = r.shares;
-    agree = r.agree;
-    reduced = point_reduced;
-    numbers = λ s t c e. (equal_sides s t c e).1;
-    obeys = numbers_obey;
-  }
+-- so where theories agree on shared terms, the numbers are those of a model
+pub has_numbers : (symbols : List Symbol) (p : Problem) (terms : List Term) (held : List HeldLiteral) (a : TheoryValues) → RestsOnNumbers symbols p terms held a
+    → HasNumbers terms (term_true_by a.truths) (number_at a.number) a.class
+has_numbers symbols p terms held a r = record {
+  shared = r.shared;
+  shares = r.shares;
+  agree = r.agree;
+  reduced = point_reduced symbols p terms held a r.rests;
+  numbers = λ s t c e. (equal_sides symbols p terms held a r.rests s t c e).1;
+  obeys = numbers_obey symbols p terms held a r.rests;
+}

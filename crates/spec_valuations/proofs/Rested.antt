@@ -29,7 +29,7 @@ use Rattle.spec_valuations.proofs.Meeting.{value_is, no_parameter}
 use Rattle.spec_valuations.proofs.Interpreting.{interprets}
 use Rattle.spec_valuations.proofs.Joint.{is_valuation}
 use Rattle.spec_valuations.proofs.Choices.{chooses}
-use Rattle.spec_valuations.proofs.Closures.{AreHeld, are_classes}
+use Rattle.spec_valuations.proofs.Closures.{AreHeld, told_by_classes, are_classes}
 use Rattle.spec_valuations.proofs.Formulas.{core_joins, is_connective, truths_taken, formula_obeys}
 use Rattle.spec_valuations.proofs.Speaking.{choice, truth_fact, choice_sorts}
 
@@ -148,6 +148,10 @@ module _ (symbols : List Symbol) (p : Problem) (terms : List Term) (held : List 
 
   classes : AreClasses is_so class terms
   classes = are_classes symbols terms held is_so class listed are_held r.fine r.tells
+
+  -- a listed equality is true exactly where its sides are of one class
+  pub equality_classes : (s t : Term) → Contains terms (pair Equal s t) → (is_so (pair Equal s t) ≡ true) ↔ (class s ≡ class t)
+  equality_classes = told_by_classes symbols terms held is_so class listed are_held r.fine r.tells
 
   -- what the clauses of a listed choice say
   module _ (c a b : Term) (c_in : Contains terms (choice c a b)) (other : sort_of a ≢ Truth) where

@@ -2,7 +2,7 @@
 use Rattle.std.specs.Prelude.{◌≡◌, ◌≢◌, ◌↔◌, ℕ, Bool, true, false, List, [], ◌∷◌, map, Contains, if◌then◌else◌}
 use Rattle.spec_text.specs.Bytes.{Name}
 use Rattle.spec_numbers.specs.Fractions.{Fraction, IsReduced}
-use Rattle.spec_sorts.specs.Terms.{Sort, Truth, Number, Declared, Symbol, Equal, Ite, Apply, Term, Terms, app, of, list_of, sort_of, same_term}
+use Rattle.spec_sorts.specs.Terms.{Sort, Truth, Number, Declared, Symbol, Equal, Ite, Apply, Term, Terms, app, of, pair, list_of, sort_of, same_term}
 use Rattle.spec_sorts.specs.Values.{Value, truth, number, element}
 use Rattle.spec_congruence.specs.Congruence.{truth_term}
 use Rattle.spec_valuations.specs.Tables.{Valuation, Obeys}
@@ -48,6 +48,16 @@ pub record AreShared (terms shared : List Term) : Type 0 where
   -- arguments of sort Real
   pub arguments : (s : Symbol) (ts : Terms) (u : Term) → Contains terms (app (Apply s) ts) → Contains (list_of ts) u
       → sort_of u ≡ Number → Contains shared u
+
+-- It is an equality of two terms among these.
+pub record IsEqualityAmong (ts : List Term) (e : Term) : Type 0 where
+  -- its sides
+  pub left : Term
+  pub left_in : Contains ts left
+  pub right : Term
+  pub right_in : Contains ts right
+  -- it says that they are equal
+  pub is : e ≡ pair Equal left right
 
 -- an equality of numbers is true exactly where its sides have one number
 abbrev pub TellsNumbers : (Term → Bool) → (Term → Fraction) → List Term → Type 0

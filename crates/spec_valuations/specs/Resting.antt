@@ -48,19 +48,14 @@ pub record TheoryValues : Type 0 where
 abbrev pub values_of : TheoryValues → Valuation
 values_of a = value_by (term_true_by a.truths) (number_at a.number) a.class
 
--- What a search over equality, functions and linear arithmetic has where it rests, if its theories agree on shared terms. Source: Nelson and Oppen 1979.
-pub record RestsOnNumbers (symbols : List Symbol) (p : Problem) (terms : List Term) (held : List Literal) (a : TheoryValues) : Type 0 where
+-- What a search over equality, functions and linear arithmetic has where it rests, whether its theories agree on shared terms or not.
+pub record RestsWithNumbers (symbols : List Symbol) (p : Problem) (terms : List Term) (held : List Literal) (a : TheoryValues) : Type 0 where
   -- the terms of the check are formulas over the symbols, and so are those beside them
   pub formulas : All (IsFormulaOver symbols) (known_terms p)
   -- all terms that the search speaks of are listed
   pub listed : AreAmong (whole_terms p) terms
   -- and no others
   pub only : AreAmong terms (whole_terms p)
-  -- the terms that both theories speak of
-  pub shared : List Term
-  pub shares : AreShared terms shared
-  -- on these the numbers agree with the classes
-  pub agree : Agrees (number_at a.number) a.class shared
   -- products and quotients are linear
   pub linear : (t : Term) → Contains terms t → IsLinear t
   -- one term of each clause is true
@@ -75,3 +70,13 @@ pub record RestsOnNumbers (symbols : List Symbol) (p : Problem) (terms : List Te
   pub reduced : (t : Term) → IsReduced (a.number t)
   -- what is held is so of the numbers
   pub kept : All (HoldsAt a.number) held
+
+-- What such a search has where its theories agree on shared terms. Source: Nelson and Oppen 1979.
+pub record RestsOnNumbers (symbols : List Symbol) (p : Problem) (terms : List Term) (held : List Literal) (a : TheoryValues) : Type 0 where
+  -- it rests
+  pub rests : RestsWithNumbers symbols p terms held a
+  -- the terms that both theories speak of
+  pub shared : List Term
+  pub shares : AreShared terms shared
+  -- on these the numbers agree with the classes
+  pub agree : Agrees (number_at a.number) a.class shared

@@ -1,21 +1,19 @@
 //! What the definitions imply. Each law is a function whose contract is the law; it computes nothing.
 
-ghost use Rattle.std.specs.Prelude.{◌≡◌, ◌≢◌, ◌<◌, ℕ, Bool, true, List, [], length, get_or, All, Contains};
+ghost use Rattle.std.specs.Prelude.{◌≡◌, ◌↔◌, ◌<◌, ℕ, Bool, true, List, [], length, get_or, All, Contains};
 ghost use Rattle.spec_numbers.specs.Fractions.{Fraction};
-ghost use Rattle.spec_sorts.specs.Terms.{Number, Symbol, Apply, Term, Terms, app, list_of, sort_of};
-ghost use Rattle.spec_sorts.specs.WellSorted.{IsFormulaOver};
+ghost use Rattle.spec_sorts.specs.Terms.{Number, Symbol, Equal, Apply, Term, Terms, app, pair, sort_of};
 ghost use Rattle.spec_sorts.specs.Values.{Interpretation, Interprets, truth};
 ghost use Rattle.spec_sorts.specs.TermValues.{value_at};
 ghost use Rattle.spec_sorts.specs.Literals.{Literal};
-ghost use Rattle.spec_arithmetic.specs.Numbers.{IsLinear};
+ghost use Rattle.spec_arithmetic.specs.Numbers.{number_at, IsLinear};
 ghost use Rattle.spec_rules.specs.Truths.{Truths, term_true_by};
-ghost use Rattle.spec_derivations.specs.Problems.{Problem, terms_of_problem, known_terms};
+ghost use Rattle.spec_derivations.specs.Problems.{Problem, terms_of_problem, subterms_in, known_terms};
 ghost use Rattle.spec_derivations.specs.Orders.{whole_terms};
-ghost use Rattle.spec_derivations.specs.Models.{AreInReach};
 ghost use Rattle.spec_valuations.specs.Tables.{Valuation, IsModelBy, AreListed, IsValuation};
-ghost use Rattle.spec_valuations.specs.Classes.{value_by, class_in};
+ghost use Rattle.spec_valuations.specs.Classes.{value_by, class_in, IsEqualityAmong};
 ghost use Rattle.spec_valuations.specs.Classes.{AreClasses, TellsNumbers, Chooses, AreJoint, AreDefined};
-ghost use Rattle.spec_valuations.specs.Resting.{Rests, TheoryValues, values_of, RestsOnNumbers};
+ghost use Rattle.spec_valuations.specs.Resting.{Rests, TheoryValues, values_of, RestsWithNumbers, RestsOnNumbers};
 
 /// States that under the interpretation that values of listed terms give, each of these terms has its value.
 pub fn values_are_met()
@@ -92,12 +90,21 @@ pub fn searches_that_rest_on_numbers_have_models()
         → All (λ t. value_at i [] t ≡ truth true) (terms_of_problem p) }
 {}
 
-/// States that where the search reaches the terms of a check and those beside them, no function with parameters gives
-/// a number or takes one, in all terms that it speaks of.
-pub fn functions_in_reach_keep_numbers_apart()
-    ensures { (symbols : List Symbol) (p : Problem) → All (IsFormulaOver symbols) (known_terms p)
-        → AreInReach (known_terms p) → (s : Symbol) (ts : Terms) → Contains (whole_terms p) (app (Apply s) ts)
-        → list_of ts ≢ [] → (s.result ≢ Number) × ((u : Term) → Contains (list_of ts) u → sort_of u ≢ Number) }
+/// States that where a search rests, its theories agree on the sides of each equality of numbers that it speaks of. These
+/// have one class exactly where they have one number.
+pub fn sides_of_equalities_agree()
+    ensures { (symbols : List Symbol) (p : Problem) (terms : List Term) (held : List Literal) (a : TheoryValues)
+        → RestsWithNumbers symbols p terms held a
+        → (s t : Term) → Contains terms (pair Equal s t) → sort_of s ≡ Number
+        → (a.class s ≡ a.class t) ↔ (number_at a.number s ≡ number_at a.number t) }
+{}
+
+/// States that equalities beside the terms of a check add no application of a declared symbol, where their sides are
+/// among the subterms of these terms. Each that a search speaks of is one of these subterms.
+pub fn equalities_beside_apply_nothing_more()
+    ensures { (p : Problem) → ((e : Term) → Contains p.beside e → IsEqualityAmong (subterms_in p) e)
+        → (f : Symbol) (us : Terms) → Contains (whole_terms p) (app (Apply f) us)
+        → Contains (subterms_in p) (app (Apply f) us) }
 {}
 
 /// States that where the terms of a check and those beside them are linear, so are all that a search over linear
