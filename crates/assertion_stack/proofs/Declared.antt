@@ -18,7 +18,6 @@ use Rattle.term_reader.specs.declared.scope.Function.TheVariants as functions
 use Rattle.term_reader.specs.Scopes.{Stands}
 use Rattle.assertion_stack.specs.declared.stack.Stack.{Stack as CodeStack}
 use Rattle.assertion_stack.specs.Stacks.{standing, IsStack, with_sort, with_function}
-use Rattle.assertion_stack.proofs.Reaching.{marks_kept}
 use Rattle.assertion_stack.proofs.Naming.{sort_last, sort_before, stands_sort, stands_symbol}
 
 -- a table with a sort more
@@ -46,8 +45,6 @@ module _ (limit : ℕ) (old new : TableView) (x : CodeStack) (s : Stack) (h : Is
     terms = clause_at-kept old new grows x.assertions.ids h.inside ∙ h.terms;
     written = h.written;
     starts = h.starts;
-    in_reach = h.in_reach;
-    reached = marks_kept old new grows x.reached h.reached;
     options = h.options;
     started = refl;
   }
@@ -79,8 +76,6 @@ symbol_stack limit t x s f h long free =
       terms = clause_at-kept t new grows x.assertions.ids h.inside ∙ h.terms;
       written = h.written;
       starts = h.starts;
-      in_reach = h.in_reach;
-      reached = marks_kept t new grows x.reached h.reached;
       options = h.options;
       started = refl;
     }

@@ -1,12 +1,12 @@
 -- Assertions and names that come last.
-use Rattle.std.proofs.Common.{◌≡◌, ◌+◌, Bool, true, false, ◌&&◌, List, [], ◌∷◌, ◌++◌, length, map, Some, refl, ap, ◌∙◌, if◌then◌else◌}
+use Rattle.std.proofs.Common.{◌≡◌, ◌+◌, List, [], ◌∷◌, ◌++◌, length, map, Some, refl, ap, ◌∙◌, if◌then◌else◌}
 use Rattle.std.proofs.lemmas.List.{map-append}
 use Rattle.std.specs.Str.{bytes_eq}
 use Rattle.spec_text.specs.Bytes.{Name}
 use Rattle.spec_text.specs.Printed.{printed}
 use Rattle.spec_sorts.specs.Signatures.{Definition, of_sort, of_function, Signature, sort_as, definition}
 use Rattle.spec_sorts.specs.Signatures as signatures
-use Rattle.spec_commands.specs.Stack.{Assertion, Stack, joined, terms_asserted, with_last, with_declaration, with_definitions, is_in_reach, all_in_reach}
+use Rattle.spec_commands.specs.Stack.{Assertion, Stack, joined, terms_asserted, with_last, with_declaration, with_definitions}
 use Rattle.spec_commands.proofs.Kept.{joined_last}
 use Rattle.assertion_stack.specs.Assertions.{starts_of, texts_printed}
 
@@ -36,19 +36,3 @@ terms_last ls a = ap terms_asserted (joined_last ls a) ∙ map-append (λ (x : A
 -- and the texts
 pub texts_last : (ls : List (List Assertion)) (a : Assertion) → texts_printed (joined (with_last ls a)) ≡ texts_printed (joined ls) ++ printed a.text ∷ []
 texts_last ls a = ap texts_printed (joined_last ls a) ∙ map-append (λ (x : Assertion). printed x.text) (joined ls) (a ∷ [])
-
-one_more : (us : List Assertion) (a : Assertion) → all_in_reach (us ++ a ∷ []) ≡ (all_in_reach us && is_in_reach a.term)
-one_more [] a = go (is_in_reach a.term)
-  where
-    go : (b : Bool) → (b && true) ≡ b
-    go true = refl
-    go false = refl
-one_more (x ∷ us) a = ap (λ b. is_in_reach x.term && b) (one_more us a) ∙ go (is_in_reach x.term) (all_in_reach us) (is_in_reach a.term)
-  where
-    go : (b c d : Bool) → (b && (c && d)) ≡ ((b && c) && d)
-    go true c d = refl
-    go false c d = refl
-
--- whether all are in reach, with one more
-pub reach_last : (ls : List (List Assertion)) (a : Assertion) → all_in_reach (joined (with_last ls a)) ≡ (all_in_reach (joined ls) && is_in_reach a.term)
-reach_last ls a = ap all_in_reach (joined_last ls a) ∙ one_more (joined ls) a

@@ -5,7 +5,6 @@ pub mod Levels
 pub mod PrintedTrees
 pub mod Growing
 pub mod Naming
-pub mod Reaching
 pub mod Stacks
 pub mod Declared
 pub mod Back

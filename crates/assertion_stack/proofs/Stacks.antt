@@ -21,7 +21,7 @@ use Rattle.spec_reading.specs.Sorts.{sort_in, sorts_in}
 use Rattle.spec_reading.specs.Reading.{Reading, reading_of_sort}
 use Rattle.spec_reading.specs.Definitions.{Parts, definitions_in}
 use Rattle.spec_commands.specs.Commands.{SetLogic, DeclareSort, DefineSort, DeclareFun, DefineFun, Assert}
-use Rattle.spec_commands.specs.Stack.{Assertion, Stack, Key, did, empty_stack, signature_of, assertions_of, terms_asserted, begun, with_declaration, with_definitions, with_assertion, logics, with_option, is_in_reach, all_in_reach, roomy, terms_defined, performed}
+use Rattle.spec_commands.specs.Stack.{Assertion, Stack, Key, did, empty_stack, signature_of, assertions_of, terms_asserted, begun, with_declaration, with_definitions, with_assertion, logics, with_option, roomy, terms_defined, performed}
 use Rattle.spec_commands.proofs.Kept.{signature_last, signature_with}
 use Rattle.term_core.specs.declared.ids.TermId.{TermId}
 use Rattle.term_core.specs.Tables.{TableView, term_at, IsIn, AreIn, clause_at}
@@ -37,11 +37,9 @@ use Rattle.sort_check.specs.Reads.{within, roomy_reading, roomy_definitions, Sto
 use Rattle.assertion_stack.specs.declared.options.Options.{Options as CodeOptions}
 use Rattle.assertion_stack.specs.declared.stack.Stack.{Stack as CodeStack}
 use Rattle.assertion_stack.specs.Assertions.{no_assertions, starts_of, texts_printed}
-use Rattle.assertion_stack.specs.Marks.{AreMarks}
 use Rattle.assertion_stack.specs.Views.{Fails}
 use Rattle.assertion_stack.specs.Stacks.{options_meant, Standing, standing, IsStack, with_term}
-use Rattle.assertion_stack.proofs.Reaching.{no_marks, marks_kept}
-use Rattle.assertion_stack.proofs.Levels.{rest_with, sorts_with, starts_last, terms_last, texts_last, reach_last}
+use Rattle.assertion_stack.proofs.Levels.{rest_with, sorts_with, starts_last, terms_last, texts_last}
 
 -- a stack in a table that has terms more
 pub stack_grown : (limit : ℕ) (old new : TableView) (x : CodeStack) (s : Stack) → IsStack limit (standing old x) s → Keeps old new → IsStack limit (standing new x) s
@@ -54,15 +52,13 @@ stack_grown limit old new x s h k = record {
   terms = clause_at-kept old new k.extends x.assertions.ids h.inside ∙ h.terms;
   written = h.written;
   starts = h.starts;
-  in_reach = h.in_reach;
-  reached = marks_kept old new k.extends x.reached h.reached;
   options = h.options;
   started = h.started;
 }
 
 -- the first stack
-pub first_stack : (limit : ℕ) (t : TableView) (x : CodeStack) → x.limit ≡ limit → Stands t x.scope [] → t.sorts ≡ [] → t.symbols ≡ [] → x.assertions ≡ no_assertions → x.reached ≡ [] → options_meant x.options ≡ empty_stack.options → x.started ≡ false → IsStack limit (standing t x) empty_stack
-first_stack limit t x l scope sorts symbols assertions marks options started = record {
+pub first_stack : (limit : ℕ) (t : TableView) (x : CodeStack) → x.limit ≡ limit → Stands t x.scope [] → t.sorts ≡ [] → t.symbols ≡ [] → x.assertions ≡ no_assertions → options_meant x.options ≡ empty_stack.options → x.started ≡ false → IsStack limit (standing t x) empty_stack
+first_stack limit t x l scope sorts symbols assertions options started = record {
   limit_is = l;
   scope = scope;
   symbols = symbols;
@@ -71,8 +67,6 @@ first_stack limit t x l scope sorts symbols assertions marks options started = r
   terms = ap (λ a. clause_at t a.ids) assertions;
   written = ap (λ a. a.texts) assertions;
   starts = ap (λ a. a.starts) assertions;
-  in_reach = ap (λ a. a.in_reach) assertions;
-  reached = subst (AreMarks t) (sym marks) (no_marks t);
   options = options;
   started = started;
 }
@@ -89,8 +83,6 @@ module _ (limit : ℕ) (t : TableView) (x : CodeStack) (s : Stack) (h : IsStack 
     terms = h.terms;
     written = h.written;
     starts = h.starts;
-    in_reach = h.in_reach;
-    reached = h.reached;
     options = h.options;
     started = refl;
   }
@@ -106,8 +98,6 @@ module _ (limit : ℕ) (t : TableView) (x : CodeStack) (s : Stack) (h : IsStack 
     terms = h.terms;
     written = h.written;
     starts = h.starts;
-    in_reach = h.in_reach;
-    reached = h.reached;
     options = e ∙ ap (with_option k b) h.options;
     started = h.started;
   }
@@ -284,16 +274,14 @@ module _ (limit : ℕ) (old new : TableView) (x : CodeStack) (s : Stack) (v : Sc
     terms = clause_at-kept old new k.extends x.assertions.ids h.inside ∙ h.terms ∙ ap (λ (y : Stack). terms_asserted (assertions_of y)) (sym (rest_with s ds));
     written = h.written ∙ ap (λ (y : Stack). texts_printed (assertions_of y)) (sym (rest_with s ds));
     starts = h.starts ∙ ap (λ (y : Stack). starts_of y.levels) (sym (rest_with s ds));
-    in_reach = h.in_reach ∙ ap (λ (y : Stack). all_in_reach (assertions_of y)) (sym (rest_with s ds));
-    reached = marks_kept old new k.extends x.reached h.reached;
     options = h.options ∙ ap (λ (y : Stack). y.options) (sym (rest_with s ds));
     started = h.started ∙ ap (λ (y : Stack). y.started) (sym (rest_with s ds));
   }
 
 -- and an assertion more
-pub one_asserted : (limit : ℕ) (t : TableView) (x : CodeStack) (s : Stack) (tree : Tree) (u : Term) (id : TermId) (marks : List Bool) → IsStack limit (standing t x) s → Means t u id → AreMarks t marks
-    → IsStack limit (standing t (with_term x marks id (printed tree) (is_in_reach (term_at t id)))) (begun (with_assertion s tree u))
-one_asserted limit t x s tree u id marks h m reached =
+pub one_asserted : (limit : ℕ) (t : TableView) (x : CodeStack) (s : Stack) (tree : Tree) (u : Term) (id : TermId) → IsStack limit (standing t x) s → Means t u id
+    → IsStack limit (standing t (with_term x id (printed tree))) (begun (with_assertion s tree u))
+one_asserted limit t x s tree u id h m =
     let a : Assertion = record { text = tree; term = u } in record {
       limit_is = h.limit_is;
       scope = h.scope;
@@ -303,8 +291,6 @@ one_asserted limit t x s tree u id marks h m reached =
       terms = map-append (term_at t) x.assertions.ids (id ∷ []) ∙ (λ i. h.terms i ++ m.1 i ∷ []) ∙ sym (terms_last s.levels a);
       written = ap (λ ts. ts ++ printed tree ∷ []) h.written ∙ sym (texts_last s.levels a);
       starts = h.starts ∙ sym (starts_last s.levels a);
-      in_reach = (λ i. h.in_reach i && is_in_reach (m.1 i)) ∙ sym (reach_last s.levels a);
-      reached = reached;
       options = h.options;
       started = refl;
     }

@@ -1,10 +1,10 @@
 -- What the list of assertions holds, and how their texts are printed.
-use Rattle.std.specs.Prelude.{ℕ, ◌+◌, Bool, true, List, [], ◌∷◌, length, map}
+use Rattle.std.specs.Prelude.{ℕ, ◌+◌, List, [], ◌∷◌, length, map}
 use Rattle.spec_text.specs.Printed.{printed}
 use Rattle.spec_commands.specs.Stack.{Assertion}
 use Rattle.term_core.specs.declared.ids.TermId.{TermId}
 
--- Asserted terms, their levels, and whether the search reaches them.
+-- Asserted terms, with their texts and their levels.
 pub record AssertionsView : Type 0 where
   -- the numbers of the terms, oldest first
   pub ids : List TermId
@@ -12,12 +12,10 @@ pub record AssertionsView : Type 0 where
   pub texts : List (List ℕ)
   -- how many assertions come before each level above the first
   pub starts : List ℕ
-  -- the search reaches all of them
-  pub in_reach : Bool
 
 -- the first level, without assertions
 abbrev pub no_assertions : AssertionsView
-no_assertions = record { ids = []; texts = []; starts = []; in_reach = true }
+no_assertions = record { ids = []; texts = []; starts = [] }
 
 -- how many assertions come before each level above the first
 abbrev pub starts_of : List (List Assertion) → List ℕ

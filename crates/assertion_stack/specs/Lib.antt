@@ -2,5 +2,4 @@
 pub mod Views
 pub mod Assertions
 pub mod Printing
-pub mod Marks
 pub mod Stacks

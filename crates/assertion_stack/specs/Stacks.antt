@@ -1,10 +1,10 @@
 -- The stack of the definitions that a stack of the code stands for in a table, and what commands make of it.
-use Rattle.std.specs.Prelude.{◌≡◌, ℕ, Bool, true, false, ◌&&◌, List, [], ◌∷◌, ◌++◌, None, Result, Ok, Err}
+use Rattle.std.specs.Prelude.{◌≡◌, ℕ, true, false, List, [], ◌∷◌, ◌++◌, None, Result, Ok, Err}
 use Rattle.spec_text.specs.Places.{IsPlaceOf}
 use Rattle.spec_text.specs.Answers.{Answer}
 use Rattle.spec_text.specs.Bytes.{Name, among}
 use Rattle.spec_sorts.specs.Signatures.{symbols_in, sort_as}
-use Rattle.spec_commands.specs.Stack.{Options, Stack, Effect, done, unsupported, check, say, leave, Taken, signature_of, assertions_of, terms_asserted, all_in_reach}
+use Rattle.spec_commands.specs.Stack.{Options, Stack, Effect, done, unsupported, check, say, leave, Taken, signature_of, assertions_of, terms_asserted}
 use Rattle.smt_lexer.specs.declared.Refused.{Refused}
 use Rattle.smt_lexer.specs.declared.Refused.TheVariants as refusals
 use Rattle.smt_sexpr.specs.declared.sexpr.Sexpr.{Sexpr}
@@ -20,7 +20,6 @@ use Rattle.assertion_stack.specs.declared.stack.Stack.{Stack as CodeStack}
 use Rattle.assertion_stack.specs.declared.stack.Effect.{Effect as CodeEffect}
 use Rattle.assertion_stack.specs.declared.stack.Effect.TheVariants as effects
 use Rattle.assertion_stack.specs.Assertions.{starts_of, texts_printed}
-use Rattle.assertion_stack.specs.Marks.{AreMarks}
 use Rattle.assertion_stack.specs.Views.{Fails}
 
 -- the options in the words of the definitions
@@ -64,10 +63,6 @@ pub record IsStack (limit : ℕ) (x : Standing) (s : Stack) : Type 0 where
   pub written : x.stack.assertions.texts ≡ texts_printed (assertions_of s)
   -- levels begin at the same places
   pub starts : x.stack.assertions.starts ≡ starts_of s.levels
-  -- whether the search reaches all of them
-  pub in_reach : x.stack.assertions.in_reach ≡ all_in_reach (assertions_of s)
-  -- marks tell it of the first terms of the table
-  pub reached : AreMarks x.table x.stack.reached
   -- the options
   pub options : options_meant x.stack.options ≡ s.options
   -- whether a command has begun it
@@ -91,15 +86,10 @@ with_function x n f = record x {
   started = true;
 }
 
--- an asserted term and its text more, over these marks, by a command that ends the start
-abbrev pub with_term : CodeStack → List Bool → TermId → List ℕ → Bool → CodeStack
-with_term x marks id text in_reach = record x {
-  assertions = record x.assertions {
-    ids = x.assertions.ids ++ id ∷ [];
-    texts = x.assertions.texts ++ text ∷ [];
-    in_reach = x.assertions.in_reach && in_reach;
-  };
-  reached = marks;
+-- an asserted term and its text more, by a command that ends the start
+abbrev pub with_term : CodeStack → TermId → List ℕ → CodeStack
+with_term x id text = record x {
+  assertions = record x.assertions { ids = x.assertions.ids ++ id ∷ []; texts = x.assertions.texts ++ text ∷ [] };
   started = true;
 }
 

@@ -1,14 +1,12 @@
 //! Assertions and definitions of functions: the commands that read terms.
 
-ghost use Rattle.std.specs.Prelude.{◌≡◌, ℕ, true, Bool, List, Some, OnErr, OnOk};
+ghost use Rattle.std.specs.Prelude.{◌≡◌, ℕ, true, Some, OnErr, OnOk};
 ghost use Rattle.spec_text.specs.Printed.{printed};
 ghost use Rattle.spec_commands.specs.Commands.{Assert, DefineFun};
-ghost use Rattle.spec_commands.specs.Stack.{Stack as ScriptStack, is_in_reach, performed};
+ghost use Rattle.spec_commands.specs.Stack.{Stack as ScriptStack, performed};
 ghost use Rattle.smt_sexpr.specs.Items.{tree_meant};
-ghost use Rattle.term_core.specs.Tables.{term_at, IsIn};
 ghost use Rattle.term_reader.specs.Building.{Keeps};
 ghost use Rattle.smt_command.specs.Commands.{parts_view};
-ghost use Rattle.assertion_stack.specs.Marks.{AreMarks};
 ghost use Rattle.assertion_stack.specs.Stacks.{standing, HasStack, IsStack, Performs, with_term};
 
 use crate::names::in_script;
@@ -20,7 +18,7 @@ use sort_check::{Room, define, term};
 use std::alloc::Global;
 use term_core::{Sort, TermId, TermTable};
 use term_reader::ReadError;
-use world_io::{Bytes, NoMemory};
+use world_io::NoMemory;
 
 /// Gives the room for the names and terms of a command at an offset.
 fn room(stack: &Stack, at: u64) -> Room
@@ -32,46 +30,20 @@ fn room(stack: &Stack, at: u64) -> Room
     }
 }
 
-/// Puts a term of the table among the assertions, with its text.
-fn add(stack: &mut Stack, table: &TermTable, id: TermId, text: Bytes) -> Result<(), NoMemory>
-    requires there { IsIn table.now id }
-    requires marks { AreMarks table.now stack.old.reached }
-    ensures added { OnOk result ((marks : List Bool) × AreMarks table.now marks
-        × (stack.new ≡ with_term stack.old marks id text (is_in_reach (term_at table.now id)))) }
-    ensures same { OnErr result (stack.new ≡ stack.old) }
-{
-    let marked = stack.reached.len();
-    stack.reached.extend(table, id)?;
-    let in_reach = stack.reached.tells(id);
-    match stack.assertions.add(id, text, in_reach) {
-        Ok(()) => {
-            stack.started = true;
-            Ok(())
-        }
-        Err(stop) => {
-            stack.reached.cut(marked);
-            Err(stop)
-        }
-    }
-}
-
-/// Prints the first tree, and puts its term of the table among the assertions.
+/// Prints the first tree, and puts the term of a number among the assertions, with this text.
 fn add_written(
     stack: &mut Stack,
     alloc: Global,
-    table: &TermTable,
     id: TermId,
     tree: Trees<'_>,
 ) -> Result<(), NoMemory>
-    requires there { IsIn table.now id }
-    requires marks { AreMarks table.now stack.old.reached }
-    ensures added { OnOk result ((marks : List Bool) × AreMarks table.now marks
-        × (stack.new ≡ with_term stack.old marks id (printed (tree_meant tree.entry))
-        (is_in_reach (term_at table.now id)))) }
+    ensures added { OnOk result (stack.new ≡ with_term stack.old id (printed (tree_meant tree.entry))) }
     ensures same { OnErr result (stack.new ≡ stack.old) }
 {
     let text = print(alloc, tree)?;
-    add(stack, table, id, text)
+    stack.assertions.add(id, text)?;
+    stack.started = true;
+    Ok(())
 }
 
 impl Stack {
@@ -113,7 +85,7 @@ impl Stack {
             tree,
             room,
         ) {
-            Ok(id) => match add_written(self, alloc, table, id, tree) {
+            Ok(id) => match add_written(self, alloc, id, tree) {
                 Ok(()) => Ok(Effect::Done),
                 Err(_) => {
                     self.scope.back(sorts, functions);

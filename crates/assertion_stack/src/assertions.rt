@@ -1,6 +1,6 @@
 //! The asserted terms, in their order, with their texts and the levels that they belong to.
 
-ghost use Rattle.std.specs.Prelude.{◌≡◌, ◌&&◌, ◌++◌, [], ◌∷◌, length, OnErr, OnOk};
+ghost use Rattle.std.specs.Prelude.{◌≡◌, ◌++◌, [], ◌∷◌, length, OnErr, OnOk};
 ghost use Rattle.assertion_stack.specs.Assertions.{no_assertions};
 
 use std::alloc::Global;
@@ -8,8 +8,7 @@ use std::marker::Model;
 use term_core::TermId;
 use world_io::{Bytes, NoMemory};
 
-/// Holds the asserted terms by their numbers, oldest first, with the text of each, and whether the search reaches all of
-/// them.
+/// Holds the asserted terms by their numbers, oldest first, with the text of each.
 ///
 /// The first level begins with the first assertion. Each level above it begins at a place of its own.
 /// Source: SMT-LIB 2.6, section 4.1.4.
@@ -18,7 +17,6 @@ pub struct Assertions {
     ids: Vec<TermId>,
     texts: Vec<Bytes>,
     starts: Vec<u64>,
-    in_reach: bool,
 }
 
 impl Model for Assertions {
@@ -30,7 +28,6 @@ impl Model for Assertions {
       ids = a.ids.items;
       texts = a.texts.items;
       starts = a.starts.items;
-      in_reach = a.in_reach;
     } };
 }
 
@@ -43,7 +40,6 @@ impl Assertions {
             ids: Vec::new(alloc),
             texts: Vec::new(alloc),
             starts: Vec::new(alloc),
-            in_reach: true,
         }
     }
 
@@ -68,29 +64,20 @@ impl Assertions {
         self.starts.len() as u64
     }
 
-    /// Tells whether the search reaches all assertions.
-    pub fn are_in_reach(&self) -> bool
-        ensures { result ≡ self.now.in_reach }
-    {
-        self.in_reach
-    }
-
-    /// Puts a term and its text last, at the last level. `in_reach` tells whether the search reaches the term.
+    /// Puts a term and its text last, at the last level.
     ///
     /// `NoMemory` comes where a place finds no memory; then all is as it was.
-    pub fn add(&mut self, id: TermId, text: Bytes, in_reach: bool) -> Result<(), NoMemory>
+    pub fn add(&mut self, id: TermId, text: Bytes) -> Result<(), NoMemory>
         ensures added { OnOk result (self.new
             ≡ record self.old {
               ids = self.old.ids ++ id ∷ [];
               texts = self.old.texts ++ text ∷ [];
-              in_reach = self.old.in_reach && in_reach;
             }) }
         ensures same { OnErr result (self.new ≡ self.old) }
     {
         self.ids.reserve(1)?;
         self.texts.push(text)?;
         self.ids.push_reserved(id);
-        self.in_reach = self.in_reach && in_reach;
         Ok(())
     }
 }

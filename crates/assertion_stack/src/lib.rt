@@ -12,12 +12,9 @@ pub mod laws;
 mod names;
 mod options;
 mod printing;
-mod reach;
 mod settings;
 mod stack;
 
 pub use assertions::Assertions;
-pub use faults::unreached_check;
 pub use options::Options;
-pub use reach::Reached;
 pub use stack::{Effect, Stack, TERM_LIMIT};

@@ -1,7 +1,7 @@
 //! The stack of a script: its names, assertions and options, and what each command makes of them.
 
 ghost use Rattle.std.specs.Prelude.{◌≡◌, ℕ, [], length, OnErr, OnOk};
-ghost use Rattle.spec_commands.specs.Stack.{Stack as ScriptStack, empty_stack, assertions_of, all_in_reach, performed, step};
+ghost use Rattle.spec_commands.specs.Stack.{Stack as ScriptStack, empty_stack, performed, step};
 ghost use Rattle.smt_command.specs.Commands.{command_view};
 ghost use Rattle.smt_sexpr.specs.Items.{tree_of};
 ghost use Rattle.term_core.specs.Tables.{TableView, Extends};
@@ -10,7 +10,6 @@ ghost use Rattle.assertion_stack.specs.Stacks.{standing, HasStack, IsStack, Perf
 use crate::assertions::Assertions;
 use crate::faults::place_in;
 use crate::options::Options;
-use crate::reach::Reached;
 use crate::settings::{begin_check, set_logic, set_option};
 use smt_command::{Command, command};
 use smt_lexer::{Refusal, Refused};
@@ -35,8 +34,6 @@ pub struct Stack {
     pub scope: Scope,
     /// The assertions.
     pub assertions: Assertions,
-    /// Which of the table's first terms the search reaches.
-    pub reached: Reached,
     /// The options.
     pub options: Options,
     /// Whether a command has set the logic, or come without one.
@@ -72,7 +69,6 @@ impl Stack {
             limit,
             scope: Scope::new(alloc),
             assertions: Assertions::new(alloc),
-            reached: Reached::new(alloc),
             options: Options::new(),
             started: false,
         }
@@ -102,16 +98,6 @@ impl Stack {
         self.assertions.texts()
     }
 
-    /// Tells whether the search reaches all current assertions: none has a function with parameters that takes or gives
-    /// numbers. It takes no memory, and the same time for all stacks.
-    pub fn are_in_reach(&self) -> bool
-        ensures mark { result ≡ self.now.assertions.in_reach }
-        ensures reach { (limit : ℕ) (t : TableView) (s : ScriptStack) → IsStack limit (standing t self.now) s
-            → result ≡ all_in_reach (assertions_of s) }
-    {
-        self.assertions.are_in_reach()
-    }
-
     /// Counts the levels above the first. No command opens one yet.
     pub fn levels(&self) -> u64
         ensures { result ≡ length self.now.assertions.starts }
@@ -128,9 +114,8 @@ impl Stack {
     ///   of a logic. `Full` at the parenthesis comes last.
     /// - `Memory` may come at any allocation, and says nothing of the command.
     ///
-    /// After each of these stack and table are as they were. A check is taken whether the search reaches it or not, and
-    /// changes no more than that it ends the start. Its time goes with no assertion that was made before. Source: SMT-LIB
-    /// 2.6, sections 3.9 and 4.2.
+    /// After each of these stack and table are as they were. A check changes no more than that it ends the start. Its time
+    /// goes with no assertion that was made before. Source: SMT-LIB 2.6, sections 3.9 and 4.2.
     pub fn command<'a>(
         &mut self,
         alloc: Global,

@@ -1,37 +1,26 @@
 -- That what a stack has asserted may be asked.
-use Rattle.std.proofs.Common.{◌≡◌, ℕ, true, List, [], ◌∷◌, All, sym, subst, arith, ◌∙◌}
-use Rattle.std.specs.List.{AllByRecursion}
-use Rattle.std.proofs.lemmas.Bool.{and_parts}
-use Rattle.std.proofs.lemmas.List.{length-map, get_or-map}
-use Rattle.std.proofs.lemmas.List.Elements.{All-map, All-weaker, All-from_recursion}
+use Rattle.std.proofs.Common.{ℕ, List, [], ◌++◌, All, Contains, sym, subst, arith}
+use Rattle.std.proofs.lemmas.List.{append-nil, length-map, get_or-map}
+use Rattle.std.proofs.lemmas.List.Elements.{All-append, All-map, All-weaker}
 use Rattle.spec_sorts.specs.Terms.{Term}
 use Rattle.spec_sorts.specs.Signatures.{symbols_in}
 use Rattle.spec_sorts.specs.WellSorted.{IsFormulaOver}
-use Rattle.spec_commands.specs.Stack.{Assertion, Stack, signature_of, assertions_of, terms_asserted, is_in_reach, all_in_reach}
+use Rattle.spec_commands.specs.Stack.{Assertion, Stack, signature_of, assertions_of, terms_asserted}
 use Rattle.spec_arithmetic.specs.Numbers.{IsLinear}
-use Rattle.spec_readable.specs.Readable.{IsReadableWhole}
-use Rattle.spec_derivations.specs.Models.{AreInReach}
+use Rattle.spec_readable.specs.Readable.{HasDecimals, IsReadableWhole}
+use Rattle.spec_readable.proofs.Search.{argument_readable}
+use Rattle.spec_derivations.specs.Problems.{known_terms, subterms_in}
+use Rattle.spec_derivations.specs.Examples.{asserting, speaking}
+use Rattle.spec_derivations.proofs.Below.{subterms_have}
+use Rattle.spec_causes.specs.Shared.{IsSharedEquality}
 use Rattle.term_core.specs.Tables.{TableView, term_at, clause_at}
 use Rattle.proof_log.specs.Logs.{AreFormulasIn}
 use Rattle.assertion_stack.specs.declared.stack.Stack.{Stack as CodeStack}
 use Rattle.assertion_stack.specs.Stacks.{standing, IsStack}
-use Rattle.search_loop.specs.Reach.{AreAnswered}
+use Rattle.search_loop.specs.Answered.{AreAnswered}
+use Rattle.solve_core.proofs.SearchAgreed.{shared_subterm}
 
--- the search reaches the term
-abbrev IsReached : Term → Type 0
-IsReached t = is_in_reach t ≡ true
-
-each_asserted : (xs : List Assertion) → all_in_reach xs ≡ true → AllByRecursion IsReached (terms_asserted xs)
-each_asserted [] e = tt
-each_asserted (x ∷ xs) e =
-    let both = and_parts (is_in_reach x.term) (all_in_reach xs) e in
-    (both.0, each_asserted xs both.1)
-
--- the terms of assertions are reached where each of these is
-asserted_reached : (xs : List Assertion) → all_in_reach xs ≡ true → AreInReach (terms_asserted xs)
-asserted_reached xs e = All-from_recursion IsReached (terms_asserted xs) (each_asserted xs e)
-
--- and can be read where each of these can
+-- the terms of assertions can be read where each of these can
 pub asserted_readable : (xs : List Assertion) → All (λ (a : Assertion). IsReadableWhole a.term) xs → All IsReadableWhole (terms_asserted xs)
 asserted_readable xs each = All-map IsReadableWhole (λ (a : Assertion). a.term) xs each
 
@@ -45,9 +34,25 @@ module _ (limit : ℕ) (t : TableView) (x : CodeStack) (s : Stack) (h : IsStack 
       let here : All (IsFormulaOver t.symbols) (clause_at t ids) = subst (All (IsFormulaOver t.symbols)) (sym h.terms) over in
       λ k d lt. (h.inside k d lt, subst (IsFormulaOver t.symbols) (get_or-map (term_at t) ids k d (term_at t d) lt) (here k (term_at t d) (omega (arith, length-map ids (term_at t), lt))))
 
-  -- for which the search answers, where it says so and they can be read
-  pub answered_asked : All (λ (a : Assertion). IsReadableWhole a.term) (assertions_of s) → x.assertions.in_reach ≡ true → AreAnswered (clause_at t x.assertions.ids)
-  answered_asked each e = subst AreAnswered (sym h.terms) (record {
-    reached = asserted_reached (assertions_of s) (sym h.in_reach ∙ e);
-    linear = All-weaker IsReadableWhole IsLinear (λ u r. r.0) (terms_asserted (assertions_of s)) (asserted_readable (assertions_of s) each);
-  })
+  -- for which the search answers, where they can be read
+  pub answered_asked : All (λ (a : Assertion). IsReadableWhole a.term) (assertions_of s) → AreAnswered (clause_at t x.assertions.ids)
+  answered_asked each =
+      subst AreAnswered (sym h.terms) (All-weaker IsReadableWhole IsLinear (λ u r. r.0) (terms_asserted (assertions_of s)) (asserted_readable (assertions_of s) each))
+
+-- subterms of terms that can be read can be read
+subterm_readable : (ts : List Term) → All IsReadableWhole ts → (u : Term) → Contains (subterms_in (asserting ts)) u → IsReadableWhole u
+subterm_readable ts each = subterms_have IsReadableWhole argument_readable (ts ++ []) (subst (All IsReadableWhole) (sym (append-nil ts)) each)
+
+-- and so can equalities of those that are shared
+equality_readable : (ts : List Term) → All IsReadableWhole ts → (u : Term) → IsSharedEquality (subterms_in (asserting ts)) u → IsReadableWhole u
+unfolding IsLinear HasDecimals
+equality_readable ts each u h =
+    let left = subterm_readable ts each h.left (shared_subterm (asserting ts) h.left h.left_shared) in
+    let right = subterm_readable ts each h.right (shared_subterm (asserting ts) h.right h.right_shared) in
+    subst IsReadableWhole (sym h.is) ((tt, (left.0, (right.0, tt))), (tt, (left.1, (right.1, tt))))
+
+-- so all that the search knows of can be read
+pub known_readable : (ts beside : List Term) → All IsReadableWhole ts → All (IsSharedEquality (subterms_in (asserting ts))) beside → All IsReadableWhole (known_terms (speaking ts beside))
+known_readable ts beside each equalities =
+    All-append IsReadableWhole beside (ts ++ []) (All-weaker (IsSharedEquality (subterms_in (asserting ts))) IsReadableWhole (equality_readable ts each) beside equalities)
+    (subst (All IsReadableWhole) (sym (append-nil ts)) each)

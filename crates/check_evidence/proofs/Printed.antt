@@ -1,7 +1,7 @@
 -- That each term which is printed for an answer can be read back: it is of a clause that the search began with, of a lemma, or of a clause that was learned.
 use Rattle.std.proofs.Common.{ℕ, List, [], ◌∷◌, ◌++◌, length, All, Contains, inl, inr, sym, subst, ◌+◌}
 use Rattle.std.proofs.lemmas.Bool.{cases_lt}
-use Rattle.std.proofs.lemmas.List.{append-nil, get_or_past}
+use Rattle.std.proofs.lemmas.List.{get_or_past}
 use Rattle.std.proofs.lemmas.List.Elements.{All-contains, Contains-get_or, Contains-append_left, Contains-append_right, Contains-append_cases, Contains-push_cases}
 use Rattle.spec_text.proofs.Members.{first, none, only, to_image}
 use Rattle.spec_sorts.specs.Terms.{True, Not, Term, app, nil, cons, of}
@@ -10,7 +10,6 @@ use Rattle.spec_derivations.specs.Problems.{Problem, known_terms}
 use Rattle.spec_derivations.specs.Derivations.{Inference, «assumption», by_rule, Derivation, conclusion, inference_at, conclusion_at, no_inference}
 use Rattle.spec_derivations.specs.Orders.{whole_terms, whole_clauses}
 use Rattle.spec_derivations.specs.Lemmas.{IsMadeOf, given, is_true, IsLemma}
-use Rattle.spec_derivations.specs.Examples.{asserting}
 use Rattle.spec_derivations.specs.Spent.{IsAtomOf, IsOverAtoms}
 use Rattle.spec_proof_texts.specs.Plans.{IsPrinted, in_clause, as_argument}
 use Rattle.spec_arithmetic.specs.Numbers.{IsLinear}
@@ -41,29 +40,26 @@ AreMadeReadable = (p : Problem) → All IsReadableWhole (known_terms p) → (t :
 abbrev pub AreAtomsReadable : Type 0
 AreAtomsReadable = (p : Problem) → All IsReadableWhole (known_terms p) → (t : Term) → IsAtomOf p t → IsReadableWhole t
 
-module _ (made : AreMadeReadable) (atoms_in : AreAtomsReadable) (ts : List Term) (readable : All IsReadableWhole ts) where
-  whole : All IsReadableWhole (known_terms (asserting ts))
-  whole = subst (All IsReadableWhole) (sym (append-nil ts)) readable
-
-  made_readable : (t : Term) → IsMadeOf (whole_terms (asserting ts)) t → IsReadableWhole t
-  made_readable = made (asserting ts) whole
+module _ (made : AreMadeReadable) (atoms_in : AreAtomsReadable) (p : Problem) (whole : All IsReadableWhole (known_terms p)) where
+  made_readable : (t : Term) → IsMadeOf (whole_terms p) t → IsReadableWhole t
+  made_readable = made p whole
 
   -- the terms of lemmas
-  lemma_readable : (n : ℕ) (x : Inference) → IsLemma (whole_terms (asserting ts)) n x → (u : Term) → Contains (conclusion x) u → IsReadableWhole u
+  lemma_readable : (n : ℕ) (x : Inference) → IsLemma (whole_terms p) n x → (u : Term) → Contains (conclusion x) u → IsReadableWhole u
   lemma_readable n («assumption» t) h u i = absurd h
-  lemma_readable n (by_rule r ps arguments c) h u i = made_readable u (All-contains (IsMadeOf (whole_terms (asserting ts))) c u h.1 i)
+  lemma_readable n (by_rule r premises arguments c) h u i = made_readable u (All-contains (IsMadeOf (whole_terms p)) c u h.1 i)
 
   -- each literal of these clauses is over a term that can be read
   abbrev AreReadableLists : List (List Literal) → Type 0
   AreReadableLists cs = (c : List Literal) → Contains cs c → (l : Literal) → Contains c l → IsReadableWhole l.atom
 
   -- lemmas, and what was learned where its literals are over such terms, are of terms that can be read
-  steps_readable : (n : ℕ) (xs : Derivation) (cs : List (List Literal)) → AreSteps (whole_terms (asserting ts)) n xs cs → AreReadableLists cs
+  steps_readable : (n : ℕ) (xs : Derivation) (cs : List (List Literal)) → AreSteps (whole_terms p) n xs cs → AreReadableLists cs
       → (x : Inference) → Contains xs x → (u : Term) → Contains (conclusion x) u → IsReadableWhole u
   steps_readable n _ _ nothing over y i = absurd (none y i)
   steps_readable n _ _ (lemmas xs ys cs steps each) over y i = elim (Contains-append_cases xs ys y i) [
     | inl old ↦ steps_readable n xs cs steps over y old
-    | inr new ↦ lemma_readable (n + length xs) y (All-contains (IsLemma (whole_terms (asserting ts)) (n + length xs)) ys y each new)
+    | inr new ↦ lemma_readable (n + length xs) y (All-contains (IsLemma (whole_terms p) (n + length xs)) ys y each new)
   ]
   steps_readable n _ _ (learning xs x cs steps resolved) over y i = elim (Contains-append_cases xs (x ∷ []) y i) [
     | inl old ↦ steps_readable n xs cs steps (λ c k. over c (Contains-append_left cs (literals_of (conclusion x) ∷ []) c k)) y old
@@ -71,20 +67,20 @@ module _ (made : AreMadeReadable) (atoms_in : AreAtomsReadable) (ts : List Term)
         (over (literals_of (conclusion x)) (Contains-append_right cs (literals_of (conclusion x) ∷ []) (literals_of (conclusion x)) (first (literals_of (conclusion x)) []))))
   ]
 
-  module _ (over : AreOverSearchTerms) (d : Derivation) (learned : List (List Literal)) (atoms : All (IsOverAtoms (asserting ts)) learned) (h : HasSteps (asserting ts) d (learned ++ [] ∷ [])) where
-    base_readable : (c : Clause) → Contains (whole_clauses (asserting ts)) c → (l : Literal) → Contains (literals_of c) l → IsReadableWhole l.atom
-    base_readable c i l j = made_readable l.atom (given l.atom (over (asserting ts) c l i j))
+  module _ (over : AreOverSearchTerms) (d : Derivation) (learned : List (List Literal)) (atoms : All (IsOverAtoms p) learned) (h : HasSteps p d (learned ++ [] ∷ [])) where
+    base_readable : (c : Clause) → Contains (whole_clauses p) c → (l : Literal) → Contains (literals_of c) l → IsReadableWhole l.atom
+    base_readable c i l j = made_readable l.atom (given l.atom (over p c l i j))
 
     learned_readable : AreReadableLists (learned ++ [] ∷ [])
     learned_readable c i l j = elim (Contains-push_cases learned [] c i) [
-      | inl k ↦ atoms_in (asserting ts) whole l.atom (All-contains (λ (m : Literal). IsAtomOf (asserting ts) m.atom) c l (All-contains (IsOverAtoms (asserting ts)) learned c atoms k) j)
+      | inl k ↦ atoms_in p whole l.atom (All-contains (λ (m : Literal). IsAtomOf p m.atom) c l (All-contains (IsOverAtoms p) learned c atoms k) j)
       | inr e ↦ absurd (none l (subst (λ (ls : List Literal). Contains ls l) (sym e) j))
     ]
 
     -- each inference states a clause that the search began with, a lemma, a clause that was learned, or the empty one
     inference_readable : (x : Inference) → Contains d x → (u : Term) → Contains (conclusion x) u → IsReadableWhole u
     inference_readable x i = elim (Contains-append_cases h.base h.more x (subst (λ (xs : Derivation). Contains xs x) h.all i)) [
-      | inl b ↦ clause_readable (conclusion x) (base_readable (conclusion x) (All-contains (λ (y : Inference). Contains (whole_clauses (asserting ts)) (conclusion y)) h.base x h.stated b))
+      | inl b ↦ clause_readable (conclusion x) (base_readable (conclusion x) (All-contains (λ (y : Inference). Contains (whole_clauses p) (conclusion y)) h.base x h.stated b))
       | inr m ↦ steps_readable (length h.base) h.more (learned ++ [] ∷ []) h.steps learned_readable x m
     ]
 
@@ -97,4 +93,4 @@ module _ (made : AreMadeReadable) (atoms_in : AreAtomsReadable) (ts : List Term)
     -- so each term that is printed can be read
     pub printed_readable : (n : ℕ) (u : Term) → IsPrinted d n u → IsReadableWhole u
     printed_readable n _ (in_clause m u rests i) = stated_readable m u i
-    printed_readable n _ (as_argument t u p i) = argument_readable t (printed_readable n t p) u i
+    printed_readable n _ (as_argument t u q i) = argument_readable t (printed_readable n t q) u i

@@ -9,7 +9,7 @@ use Rattle.spec_sorts.specs.Meaning.{value_under}
 use Rattle.spec_commands.specs.Stack.{Assertion, Stack, signature_of, assertions_of, terms_asserted}
 use Rattle.spec_commands.specs.Checks.{IsTrueUnder}
 use Rattle.spec_causes.specs.Checks.{ArePivotsSpent}
-use Rattle.spec_sessions.specs.Evidence.{Limits, Kept, model, spent, strained, out_of_pivots, IsKeptOf, Justifies}
+use Rattle.spec_sessions.specs.Evidence.{Limits, Kept, model, spent, strained, out_of_pivots, IsProblemOf, IsKeptOf, Justifies}
 use Rattle.term_core.specs.Tables.{TableView, literal_at}
 use Rattle.term_walks.specs.declared.values.Interp.{Interp}
 use Rattle.proof_log.specs.Logs.{derivation_in}
@@ -20,7 +20,8 @@ use Rattle.solve_core.specs.declared.outcome.Outcome.{Outcome}
 use Rattle.ratio128.specs.Meant.{overflow}
 use Rattle.search_loop.specs.Stops.{IsStrained}
 use Rattle.search_loop.specs.Rounds.{HasEvidence}
-use Rattle.spec_derivations.specs.Examples.{asserting}
+use Rattle.spec_derivations.specs.Problems.{Problem}
+use Rattle.spec_derivations.specs.Examples.{speaking}
 use Rattle.check_evidence.specs.declared.evidence.Evidence.TheVariants as found
 use Rattle.check_evidence.specs.Evidence.{check_on, kept_of, Decides, IsShown}
 use Rattle.check_evidence.proofs.Causes.{AreOverflows, cause_of}
@@ -38,8 +39,8 @@ module _ (limits : Limits) (t : TableView) (s : Stack) (symbols : symbols_in (si
   abbrev asked : List Term
   asked = terms_asserted (assertions_of s)
 
-  pub model_shown : ((i : Interpretation) → All (HasValue (signature_of s) i) (assertions_of s)) → (interp : Interp) → o.answer ≡ Sat interp → HasEvidence t (asserting asked) o.log o.budget (Sat interp) → IsShown limits t s (found.Model interp) o
-  model_shown values interp is h =
+  pub model_shown : ((i : Interpretation) → All (HasValue (signature_of s) i) (assertions_of s)) → (interp : Interp) → o.answer ≡ Sat interp → (beside : List Term) → HasEvidence t (speaking asked beside) o.log o.budget (Sat interp) → IsShown limits t s (found.Model interp) o
+  model_shown values interp is beside h =
       let i = h.interpretation.0 in
       let stands = h.interpretation.1 in
       let interprets = h.interprets i stands in
@@ -54,16 +55,6 @@ module _ (limits : Limits) (t : TableView) (s : Stack) (symbols : symbols_in (si
         (interp, is, stands),
       )
 
-  conflicts_shown : (n : ℕ) → o.answer ≡ Unknown (reasons.Conflicts n) → o.budget.limit ≡ limits.conflicts → HasEvidence t (asserting asked) o.log o.budget (Unknown (reasons.Conflicts n)) → IsShown limits t s (found.Reason (reasons.Conflicts n)) o
-  conflicts_shown n is limit h =
-      let d = derivation_in t o.log in
-      let learned = map (map (literal_at t)) o.budget.learned in (
-        spent n d learned,
-        subst (λ m. Justifies (record { conflicts = m; pivots = limits.pivots; terms = limits.terms }) (check_on s) (spent n d learned)) limit (record { spent = h.0; conflict = h.1 }),
-        (d, refl),
-        (is, refl, refl),
-      )
-
   -- what the search keeps
   abbrev kept : Kept
   kept = kept_of t (derivation_in t o.log) o.budget
@@ -71,26 +62,42 @@ module _ (limits : Limits) (t : TableView) (s : Stack) (symbols : symbols_in (si
   many : length kept.learned ≡ length o.budget.learned
   many = length-map o.budget.learned (map (literal_at t))
 
-  kept_within : Decides limits t s o → IsKeptOf limits (check_on s) kept
-  kept_within h = record {
-    exchanges = subst (λ (n : ℕ). length o.budget.exchanges ≤ n) h.limits_are.1 h.within;
-    learned = omega (arith, many, h.learned_within, h.limits_are.0);
-    learns = h.learning.learns;
-  }
+  module _ (d : Decides limits t s o) where
+    -- the problem that was decided
+    abbrev problem : Problem
+    problem = speaking asked d.beside
 
-  pub reason_shown : AreOverflows → Decides limits t s o → (r : Reason) → o.answer ≡ Unknown r → HasEvidence t (asserting asked) o.log o.budget (Unknown r)
-      → IsShown limits t s (found.Reason r) o
-  reason_shown overflows d (reasons.Conflicts n) is h = conflicts_shown n is d.limits_are.0 h
-  reason_shown overflows d (reasons.Overflow x) is h =
-      let es = o.budget.exchanges in
-      let p = asserting asked in
-      let cause = cause_of p (length kept.learned) es x (subst (λ (l : ℕ). IsStrained p l es x) (sym many) h) in (
-        strained (overflow x.wide) kept,
-        (overflows p (length kept.learned) es (overflow x.wide) cause, kept_within d, cause),
-        (derivation_in t o.log, refl),
-        (x, is, refl, refl),
-      )
-  reason_shown overflows d (reasons.Pivots n) is h =
-      let es = o.budget.exchanges in
-      let more = subst (λ (l : ℕ). ArePivotsSpent (asserting asked) n l es) (sym many) h.spent in
-      (out_of_pivots n kept, (h.limit ∙ d.limits_are.1, kept_within d, more), (derivation_in t o.log, refl), (is, refl))
+    problem_is : IsProblemOf (check_on s) problem
+    problem_is = record { beside = d.beside; equalities = d.equalities; is = refl }
+
+    conflicts_shown : (n : ℕ) → o.answer ≡ Unknown (reasons.Conflicts n) → HasEvidence t problem o.log o.budget (Unknown (reasons.Conflicts n)) → IsShown limits t s (found.Reason (reasons.Conflicts n)) o
+    conflicts_shown n is h =
+        let e = derivation_in t o.log in
+        let learned = map (map (literal_at t)) o.budget.learned in (
+          spent n e learned,
+          subst (λ m. Justifies (record { conflicts = m; pivots = limits.pivots; terms = limits.terms }) (check_on s) (spent n e learned)) d.justified.limits_are.0 (problem, problem_is, record { spent = h.0; conflict = h.1 }),
+          (e, refl),
+          (is, refl, refl),
+        )
+
+    kept_within : IsKeptOf limits problem kept
+    kept_within = record {
+      exchanges = subst (λ (n : ℕ). length o.budget.exchanges ≤ n) d.justified.limits_are.1 d.justified.within;
+      learned = omega (arith, many, d.justified.learned_within, d.justified.limits_are.0);
+      learns = d.justified.learning.learns;
+    }
+
+    pub reason_shown : AreOverflows → (r : Reason) → o.answer ≡ Unknown r → HasEvidence t problem o.log o.budget (Unknown r) → IsShown limits t s (found.Reason r) o
+    reason_shown overflows (reasons.Conflicts n) is h = conflicts_shown n is h
+    reason_shown overflows (reasons.Overflow x) is h =
+        let es = o.budget.exchanges in
+        let cause = cause_of problem (length kept.learned) es x (subst (λ (l : ℕ). IsStrained problem l es x) (sym many) h) in (
+          strained (overflow x.wide) kept,
+          (overflows problem (length kept.learned) es (overflow x.wide) cause, (problem, problem_is, kept_within, cause)),
+          (derivation_in t o.log, refl),
+          (x, is, refl, refl),
+        )
+    reason_shown overflows (reasons.Pivots n) is h =
+        let es = o.budget.exchanges in
+        let more = subst (λ (l : ℕ). ArePivotsSpent problem n l es) (sym many) h.spent in
+        (out_of_pivots n kept, (h.limit ∙ d.justified.limits_are.1, (problem, problem_is, kept_within, more)), (derivation_in t o.log, refl), (is, refl))

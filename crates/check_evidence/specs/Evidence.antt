@@ -6,7 +6,6 @@ use Rattle.spec_commands.specs.Stack.{Stack, signature_of, terms_asserted, asser
 use Rattle.spec_readable.specs.Readable.{AreReadable}
 use Rattle.spec_commands.specs.Checks.{Check}
 use Rattle.spec_derivations.specs.Derivations.{Derivation}
-use Rattle.spec_derivations.specs.Examples.{asserting}
 use Rattle.spec_proof_texts.specs.Lines.{proof_text}
 use Rattle.spec_proof_texts.specs.Plans.{Plan, IsPlan, lines_of}
 use Rattle.spec_sessions.specs.Evidence.{Limits, Kept, Found, model, proof, spent, strained, out_of_pivots, Checked, Justifies}
@@ -25,7 +24,7 @@ use Rattle.sat_budget.specs.declared.limits.Reason.TheVariants as reasons
 use Rattle.assertion_stack.specs.Stacks.{Standing, IsStack}
 use Rattle.search_loop.specs.declared.cdcl.Answer.TheVariants.{Sat, Unsat, Unknown}
 use Rattle.solve_core.specs.declared.outcome.Outcome.{Outcome}
-use Rattle.solve_core.specs.Decisions.{IsJustified}
+use Rattle.solve_core.specs.Decisions.{IsDecided}
 use Rattle.check_evidence.specs.declared.evidence.Evidence.{Evidence}
 use Rattle.check_evidence.specs.declared.evidence.Evidence.TheVariants as found
 
@@ -105,7 +104,7 @@ IsShown limits t s e o =
 
 -- the outcome is that of a decision on the assertions of a stack
 abbrev pub Decides : Limits → TableView → Stack → Outcome → Type 0
-Decides limits t s o = IsJustified t (asserting (terms_asserted (assertions_of s))) (limits_of limits) o
+Decides limits t s o = IsDecided t (terms_asserted (assertions_of s)) (limits_of limits) o
 
 -- the budget is that of a decision on the assertions of a stack, which found this: it has the limit on conflicts, and
 -- its clauses are those that the decision learned and has in its log

@@ -1,17 +1,16 @@
 //! What a check finds, with what shows it.
 
-ghost use Rattle.std.specs.Prelude.{◌≡◌, true, List, IfOk, OnErr};
+ghost use Rattle.std.specs.Prelude.{◌≡◌, List, IfOk, OnErr};
 ghost use Rattle.spec_sorts.specs.Terms.{Term};
 ghost use Rattle.spec_sorts.specs.Signatures.{symbols_in};
 ghost use Rattle.spec_commands.specs.Stack.{Stack as ScriptStack, signature_of};
 ghost use Rattle.spec_readable.specs.Readable.{AreReadable};
-ghost use Rattle.spec_derivations.specs.Examples.{asserting};
 ghost use Rattle.spec_sessions.specs.Evidence.{Limits as SpokenLimits};
 ghost use Rattle.spec_sessions.specs.Meaning.{IsKeptCheck};
 ghost use Rattle.sat_budget.specs.declared.limits.Limits.{Limits as CodeLimits};
 ghost use Rattle.assertion_stack.specs.Stacks.{standing};
 ghost use Rattle.search_loop.specs.Rounds.{HasLimits};
-ghost use Rattle.solve_core.specs.Decisions.{IsJustified};
+ghost use Rattle.solve_core.specs.Decisions.{IsDecided};
 ghost use Rattle.check_evidence.specs.Evidence.{limits_meant, check_on, IsHeld, HoldsSome, Decides, IsShown, Checks};
 
 use alethe_writer::printable::{logs_are_over_their_terms, terms_are_printable};
@@ -46,7 +45,7 @@ pub enum Evidence {
     Reason(Reason),
 }
 
-/// Checks what is asserted, all of which the search must reach, and keeps what was learned in the budget.
+/// Checks what is asserted, and keeps what was learned in the budget.
 ///
 /// The table grows by terms that the search and its lemmas speak of. The budget is then that of the decision, under the
 /// limits on conflicts and pivots. `NoMemory` comes where memory ran out; table and budget are then as they were.
@@ -58,7 +57,6 @@ pub fn check(
     limits: &Limits,
 ) -> Result<Evidence, NoMemory>
     requires held { HoldsSome limits.now.terms (standing table.old stack.now) }
-    requires reach { stack.now.assertions.in_reach ≡ true }
     ensures checks { (s : ScriptStack) → IsHeld limits.now.terms (standing table.old stack.now) s
         → Checks (limits_meant limits.now) s result (standing table.new stack.now) budget.new }
     ensures limits { IfOk result (λ _. HasLimits limits.now budget.new) }
@@ -91,7 +89,7 @@ fn evidence_of(
     table: &TermTable,
     outcome: Outcome,
 ) -> Result<(Evidence, Budget), NoMemory>
-    requires { (terms : List Term) × (limits : CodeLimits) × IsJustified table.now (asserting terms) limits outcome }
+    requires { (terms : List Term) × (limits : CodeLimits) × IsDecided table.now terms limits outcome }
     ensures shown { IfOk result (λ x. (limits : SpokenLimits) (s : ScriptStack)
         → IsKeptCheck limits.terms (check_on s) → AreReadable (signature_of s)
         → symbols_in (signature_of s) ≡ table.now.symbols → Decides limits table.now s outcome

@@ -4,7 +4,7 @@ use crate::arithmetic_rows::{
     MULTIPLE_PROOFS, MULTIPLES, NUMBER_STEPS, NUMBERS, ORDER_PROOFS, ORDERS,
 };
 use crate::check_rows::{CHECKS, DEFINITIONS, PROOFS, RULES};
-use crate::congruence_rows::{CONGRUENCE, CONGRUENCES, UNREACHED};
+use crate::congruence_rows::{CONGRUENCE, CONGRUENCES, NUMBERED};
 use crate::rule_rows::{SCRIPT, STEPS};
 use alethe_check::{ProofStop, check};
 use std::alloc::{AllocError, Global};
@@ -124,8 +124,8 @@ fn proofs_are_answered_as_their_rows_say(rt: HostRuntime) -> Result<(), Fail> {
 }
 
 #[test]
-fn checks_out_of_reach_are_judged(rt: HostRuntime) -> Result<(), Fail> {
-    assert_eq!(rt; first_other(rt.alloc(), UNREACHED, "", REFUTATION)?, None);
+fn checks_with_functions_that_give_numbers_are_judged(rt: HostRuntime) -> Result<(), Fail> {
+    assert_eq!(rt; first_other(rt.alloc(), NUMBERED, "", REFUTATION)?, None);
     Ok(())
 }
 

@@ -140,9 +140,9 @@ unsat
 (step t2 (cl) :rule th_resolution :premises (t1 h1 h2)))
 ";
 
-/// Scripts with checks that the search does not reach, each after a line with what is answered to a refutation of `p` and
-/// `(not p)` at the check of that number.
-pub(crate) const UNREACHED: &str = "valid|1
+/// Scripts with a function that gives numbers, each after a line with what is answered to a refutation of `p` and `(not p)`
+/// at the check of that number.
+pub(crate) const NUMBERED: &str = "valid|1
 (declare-const p Bool)(declare-fun f (Bool) Real)(assert (< (f p) 1))(assert p)(assert (not p))(check-sat)
 -- valid|2
 (declare-const p Bool)(declare-fun f (Bool) Real)(assert (< (f p) 1))(check-sat)(assert p)(assert (not p))(check-sat)

@@ -312,7 +312,7 @@ valid
 ====
 1 smt_cli|check|--at|2|script.smt2|proof.alethe
 ----
-(declare-const p Bool)(declare-fun f (Bool) Real)(assert p)(check-sat true)(check-sat)(assert (= (f p) 1))(check-sat) ; one that the search does not reach does
+(declare-const p Bool)(declare-fun f (Bool) Real)(assert p)(check-sat true)(check-sat)(assert (= (f p) 1))(check-sat) ; those after it do
 ----
 (assume h1 p)
 (assume h2 (= (f p) 1))

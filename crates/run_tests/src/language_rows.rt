@@ -1,6 +1,6 @@
 //! Scripts of the whole language, each with its transcript.
 
-/// Logics and where they may stand; checks that the search does not reach; what is read and not used.
+/// Logics and where they may stand; functions that give numbers; what is read and not used.
 pub(crate) const LOGICS: &str = "1 smt_cli|solve
 ----
 (set-option :print-success false) ; set-logic comes first, and once; options, infos and echo may come before it
@@ -77,9 +77,9 @@ sat
 (error \"3:12: UnknownLogic\")
 (error \"4:12: UnknownLogic\")
 ====
-1 smt_cli|solve
+0 smt_cli|solve
 ----
-(set-option :print-success false) ; a check that is out of reach, at its word; the assertions stay
+(set-option :print-success false) ; a function that gives numbers
 (declare-const p Bool)
 (declare-const x Real)
 (declare-fun f (Bool) Real)
@@ -90,17 +90,18 @@ sat
 (check-sat)
 (assert (< (f p) 1))
 (check-sat)
+(assert (< 1 (f true)))
 (check-sat)
 
 ----
 sat
 sat
-(error \"11:2: UnknownLogic\")
-(error \"12:2: UnknownLogic\")
+sat
+unsat
 ====
 1 smt_cli|solve
 ----
-(set-option :print-success false) ; equalities of each sort are in reach
+(set-option :print-success false) ; equalities of each sort
 (declare-sort U 0)
 (declare-const u U)
 (assert (= u u))
@@ -344,9 +345,9 @@ unsat
 unsat
 unsat
 ====
-1 smt_cli|solve
+0 smt_cli|solve
 ----
-(set-option :print-success false) ; a check that the search does not reach is not decided, and the run goes on
+(set-option :print-success false) ; a function that takes numbers, and the run goes on
 (declare-fun f (Real) Bool)
 (declare-const p Bool)
 (assert (=> p (f 1)))
@@ -357,7 +358,7 @@ unsat
 (check-sat)
 
 ----
-(error \"5:2: UnknownLogic\")
+sat
 \"on\"
 ====
 0 smt_cli|solve

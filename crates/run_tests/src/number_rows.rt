@@ -1,6 +1,6 @@
 //! What `certify` writes of scripts over numbers.
 
-/// Bounds that meet, choices, overflows, strict bounds, numbers beside functions, numbers alone, equalities that do not hold.
+/// Bounds that meet, choices, overflows, strict bounds, numbers beside functions, functions over numbers, numbers alone, equalities that do not hold.
 pub(crate) const NUMBERS: &str = "0 smt_cli|certify
 ----
 (set-option :print-success false) ; both bounds meet at 0
@@ -327,15 +327,13 @@ unsat
 unknown
 (pivots 1)
 ====
-1 smt_cli|certify
+0 smt_cli|certify
 ----
-(set-option :print-success false) ; a function that takes numbers is out of reach, and others stay in it
+(set-option :print-success false) ; a function that takes numbers, and is not applied
 (declare-fun f (Real) Bool)
 (declare-fun g (Bool) Bool)
 (declare-const x Real)
 (assert (g (< x 1)))
-(check-sat)
-(assert (f x))
 (check-sat)
 
 ----
@@ -345,5 +343,57 @@ sat
   (define-fun g ((@x0 Bool)) Bool (ite (= @x0 false) true false))
   (define-fun x () Real 1)
 )
-(error \"8:2: UnknownLogic\")
+====
+0 smt_cli|solve
+----
+(set-option :print-success false) ; a function that takes numbers has one value at equal ones
+(declare-fun f (Real) Bool)
+(declare-const x Real)
+(declare-const y Real)
+(assert (f x))
+(check-sat)
+(assert (not (f y)))
+(check-sat)
+(assert (<= x y))
+(check-sat)
+(assert (<= y x))
+(check-sat)
+
+----
+sat
+sat
+sat
+unsat
+====
+0 smt_cli|solve
+----
+(set-option :print-success false) ; a function that gives numbers, at arguments that are equal
+(declare-sort U 0)
+(declare-fun f (U) Real)
+(declare-const a U)
+(declare-const b U)
+(assert (< (f a) (f b)))
+(check-sat)
+(assert (= a b))
+(check-sat)
+
+----
+sat
+unsat
+====
+0 smt_cli|solve
+----
+(set-option :print-success false) ; sums as arguments, and values of a function in a sum
+(declare-fun f (Real) Real)
+(declare-const x Real)
+(declare-const y Real)
+(assert (= (+ x y) 2))
+(assert (= (f (+ x y)) 1))
+(check-sat)
+(assert (distinct (f (f 2)) (f 1)))
+(check-sat)
+
+----
+sat
+unsat
 ";

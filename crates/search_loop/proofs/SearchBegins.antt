@@ -1,18 +1,17 @@
 -- What a search begins with.
-use Rattle.std.proofs.Common.{◌≡◌, true, ℕ, ◌+◌, ◌<◌, List, [], ◌∷◌, ◌++◌, length, get_or, map, All, Contains, inl, refl, sym, ap, ◌∙◌, subst, arith}
+use Rattle.std.proofs.Common.{◌≡◌, ℕ, ◌+◌, ◌<◌, List, [], ◌∷◌, ◌++◌, length, get_or, map, All, Contains, inl, refl, sym, ap, ◌∙◌, subst, arith}
 use Rattle.std.proofs.lemmas.List.{get_or_default, get_or-map, append-nil, length-map}
 use Rattle.std.proofs.lemmas.List.FromFn.{get_or-range_with_len}
 use Rattle.std.proofs.lemmas.List.Elements.{All-nil, All-append, All-map, All-contains, Contains-append_left, Contains-get_or}
 use Rattle.spec_text.proofs.Members.{to_image, from_image}
 use Rattle.spec_sorts.specs.Terms.{Term}
-use Rattle.spec_commands.specs.Stack.{is_in_reach}
 use Rattle.spec_arithmetic.specs.Numbers.{IsLinear}
 use Rattle.spec_sorts.specs.Subsets.{IsClosed}
 use Rattle.spec_sorts.specs.Literals.{Clause, Literal, literals_of}
 use Rattle.spec_proofs.specs.Resolution.{IsWithin}
 use Rattle.spec_derivations.specs.Problems.{Problem, terms_of_problem, known_terms}
 use Rattle.spec_derivations.specs.Examples.{speaking}
-use Rattle.search_loop.specs.Reach.{AreAnswered}
+use Rattle.search_loop.specs.Answered.{AreAnswered}
 use Rattle.spec_derivations.specs.Derivations.{AssumesAmong, conclusion, conclusion_at, inference_at, no_inference}
 use Rattle.spec_derivations.specs.Orders.{whole_terms, whole_clauses}
 use Rattle.spec_derivations.specs.Spent.{IsLearnedFrom, IsOverAtoms}
@@ -67,12 +66,7 @@ among_roots t roots (stepped r ps qs c) h = tt
 
 -- what is answered for both lists is answered for the known terms
 pub answered_both : (ts bs : List Term) → AreAnswered ts → AreAnswered bs → AreAnswered (known_terms (speaking ts bs))
-answered_both ts bs own others =
-    let all = subst AreAnswered (sym (append-nil ts)) own in
-    record {
-      reached = All-append (λ u. is_in_reach u ≡ true) bs (ts ++ []) others.reached all.reached;
-      linear = All-append IsLinear bs (ts ++ []) others.linear all.linear;
-    }
+answered_both ts bs own others = All-append IsLinear bs (ts ++ []) others (subst AreAnswered (sym (append-nil ts)) own)
 
 module _ (t u : TableView) (differ : AreDifferent u.terms) (roots beside : List TermId) (roots_in : AreFormulasIn t roots) (beside_in : AreFormulasIn t beside) (reached : AreAnswered (known_terms (problem_in t roots beside)))
     (log old : List Logged) (none : old ≡ []) (steps : List StepId) (g : Grows roots t u old log) (h : HasClauses u log (problem_in t roots beside) steps) (m : AreAllMade old log steps)

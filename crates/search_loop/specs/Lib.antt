@@ -1,5 +1,5 @@
 -- The definitions that contracts cite: what an answer shows, and what the parts of the search keep.
-pub mod Reach
+pub mod Answered
 pub mod Waiting
 pub mod Search
 pub mod Stops

@@ -5,7 +5,7 @@ use Rattle.spec_proofs.specs.Resolution.{IsWithin}
 use Rattle.spec_proofs.specs.declared.Rule.TheVariants.{Resolution}
 use Rattle.spec_sorts.specs.Terms.{Term}
 use Rattle.spec_derivations.specs.Problems.{Problem, terms_of_problem, known_terms}
-use Rattle.search_loop.specs.Reach.{AreAnswered}
+use Rattle.search_loop.specs.Answered.{AreAnswered}
 use Rattle.spec_derivations.specs.Derivations.{Inference, «assumption», by_rule, Derivation, inference_at, conclusion, conclusion_at, AssumesAmong, IsDerivedFrom}
 use Rattle.spec_derivations.specs.Base.{base_clauses}
 use Rattle.spec_derivations.specs.Orders.{whole_terms, whole_clauses}

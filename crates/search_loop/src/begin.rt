@@ -1,7 +1,7 @@
 //! What a search begins with.
 
 ghost use Rattle.std.specs.Prelude.{◌≡◌, IfOk, IfErr};
-ghost use Rattle.search_loop.specs.Reach.{AreAnswered};
+ghost use Rattle.search_loop.specs.Answered.{AreAnswered};
 ghost use Rattle.term_core.specs.Tables.{declared_in, Extends, clause_at};
 ghost use Rattle.proof_log.specs.Logs.{IsLogOf, AreOf, AreFormulasIn};
 ghost use Rattle.term_clauses.specs.SpokenTerms.{problem_in};

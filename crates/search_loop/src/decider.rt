@@ -61,6 +61,18 @@ fn order_of(alloc: Global, atoms: &[TermId], vars: u64) -> Result<VariableOrder,
     Ok(order)
 }
 
+/// Puts signs in the place of others, as many as there are of both.
+fn copy_signs(phases: &mut [bool], signs: &[bool])
+    ensures { length phases.new ≡ length phases.old }
+{
+    'signs: for at in 0..signs.len() {
+        if at >= phases.len() {
+            return;
+        }
+        phases[at] = signs[at];
+    }
+}
+
 impl Decider {
     /// Begins with so many variables, of which the atoms wait.
     pub(crate) fn new(alloc: Global, atoms: &[TermId], vars: u64) -> Result<Decider, NoMemory>
@@ -81,6 +93,18 @@ impl Decider {
             → Chooses atoms trail.now.literals self.new result }
     {
         next_decision(&mut self.order, &self.phases, trail)
+    }
+
+    /// Takes signs that variables had in another search, one for each variable from the first on. It takes no memory.
+    pub fn recall(&mut self, signs: &[bool])
+        ensures { self.new ≡ self.old }
+    {
+        copy_signs(self.phases.as_mut_slice(), signs);
+    }
+
+    /// Gives the signs that the variables had last, one for each.
+    pub fn into_signs(self) -> Vec<bool> {
+        self.phases
     }
 
     /// Lets the variables wait whose literals are of higher levels than this, and keeps their signs: those that lose their value where the

@@ -38,7 +38,7 @@ solve 1 1000
 (check-sat)|went 1|sat
 (declare-fun h (Bool) Real)|went 1|success
 (assert (< (h p) 1))|went 1|success
-(check-sat)|refused 1|(error \"1:2: UnknownLogic\")
+(check-sat 1)|refused 1|(error \"1:1: BadShape\")
 (exit)|ended 1|success
 ====
 certify 0 1000

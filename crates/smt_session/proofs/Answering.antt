@@ -1,5 +1,5 @@
 -- What the answer to a command means, and what it says of a session.
-use Rattle.std.proofs.Common.{◌≡◌, ℕ, List, inl, inr, sym, ap, subst}
+use Rattle.std.proofs.Common.{◌≡◌, ℕ, List, sym, ap, subst}
 use Rattle.std.specs.Prelude.{Ok, Err}
 use Rattle.spec_text.specs.Answers.{Answer}
 use Rattle.spec_text.specs.Trees.{Tree}
@@ -25,7 +25,6 @@ keeps_lists text responses.Unsupported a old new is learned keeps = subst (λ x.
 keeps_lists text (responses.Said s) a old new is learned keeps = subst (λ x. HasLists x a.stack old new) (sym is) keeps
 keeps_lists text responses.Ended a old new is learned keeps = subst (λ x. HasLists x a.stack old new) (sym is) keeps
 keeps_lists text (responses.Rejected x) a old new is learned keeps = subst (λ y. HasLists y a.stack old new) (sym is.0) keeps
-keeps_lists text (responses.Unreached x) a old new is learned keeps = subst (λ y. HasLists y a.stack old new) (sym is.0) keeps
 keeps_lists text (responses.Answered e) a old new (c, evidence, is) learned keeps =
     subst (λ y. HasLists y a.stack old new) (sym is) (subst (λ y. LearnsBy (limits_meant old.limits) new.table y a.stack new.budget) is learned)
 
@@ -45,8 +44,7 @@ means_so law limits s t a answers asked kept = by_step (step limits.terms s t) a
     by_effect : (d : Stack) (e : Effect) → Responds limits d e a.response → ResponseMeans a.response
     by_effect d done is = subst ResponseMeans (sym is) tt
     by_effect d unsupported is = subst ResponseMeans (sym is) tt
-    by_effect d (check place assumptions) (inl (f, shown, is)) = of_found (record { stack = d; assumptions = assumptions }) f shown is
-    by_effect d (check place assumptions) (inr (far, is)) = subst ResponseMeans (sym is) tt
+    by_effect d (check place assumptions) (f, shown, is) = of_found (record { stack = d; assumptions = assumptions }) f shown is
     by_effect d (say text) is = subst ResponseMeans (sym is) tt
     by_effect d leave is = subst ResponseMeans (sym is) tt
 

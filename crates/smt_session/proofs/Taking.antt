@@ -1,21 +1,16 @@
 -- What a command is answered, from what taking it came to.
-use Rattle.std.proofs.Common.{◌≡◌, ℕ, ◌++◌, true, false, List, [], inr, refl, sym, ap, ◌∙◌, subst}
-use Rattle.std.proofs.lemmas.List.{append-nil}
+use Rattle.std.proofs.Common.{◌≡◌, ℕ, ◌++◌, true, List, [], refl, sym, ap, subst}
 use Rattle.std.proofs.lemmas.List.Elements.{All-nil}
 use Rattle.std.specs.Prelude.{Result, Ok, Err}
-use Rattle.spec_text.specs.declared.Fault.TheVariants.{UnknownLogic}
-use Rattle.spec_text.specs.Faults.{Located}
 use Rattle.spec_text.specs.Lexemes.{Lexeme, lexemes_from}
-use Rattle.spec_text.specs.Places.{IsPlaceOf}
 use Rattle.spec_text.specs.Trees.{Tree, spelled}
-use Rattle.spec_commands.specs.Stack.{Stack, Effect, check, Taken, empty_stack, signature_of, assertions_of, all_in_reach, step}
+use Rattle.spec_commands.specs.Stack.{Stack, Effect, Taken, empty_stack, signature_of, step}
 use Rattle.spec_commands.specs.Kept.{IsAsserted, IsKept}
 use Rattle.spec_proof_texts.specs.ReadBack.{AreScriptNames}
 use Rattle.spec_sessions.specs.Evidence.{Limits}
-use Rattle.spec_sessions.specs.Responses.{Response, rejected, unreached, Answered, Responds, AnswersBy, Answers}
+use Rattle.spec_sessions.specs.Responses.{Response, rejected, Answered, Responds, AnswersBy, Answers}
 use Rattle.spec_sessions.specs.Meaning.{IsKeptCheck}
 use Rattle.world_io.specs.declared.bytes.NoMemory.{NoMemory}
-use Rattle.smt_lexer.specs.declared.Refusal.{Refusal}
 use Rattle.smt_lexer.specs.declared.Refused.{Refused}
 use Rattle.smt_lexer.specs.declared.Refused.TheVariants as refusals
 use Rattle.smt_sexpr.specs.declared.sexpr.Sexpr.{Sexpr}
@@ -27,8 +22,7 @@ use Rattle.assertion_stack.specs.Stacks.{Standing, standing, IsStack, Steps}
 use Rattle.spec_readable.specs.Readable.{AreReadable}
 use Rattle.check_evidence.specs.Evidence.{check_on, IsHeld}
 use Rattle.smt_session.specs.declared.responses.Response.{Response as CodeResponse}
-use Rattle.smt_session.specs.declared.responses.Response.TheVariants as responses
-use Rattle.smt_session.specs.Sessions.{KeepsBudget, Rejects, IsTaken, Takes}
+use Rattle.smt_session.specs.Sessions.{KeepsBudget, Rejects, Takes}
 
 -- nothing is stated at first
 pub first_held : (limit : ℕ) (t : TableView) (x : CodeStack) → t ≡ record { sorts = []; symbols = []; terms = [] } → ((u : TableView) → u.sorts ≡ [] → u.symbols ≡ [] → IsStack limit (standing u x) empty_stack) → IsKept limit empty_stack → AreScriptNames (signature_of empty_stack) → AreReadable (signature_of empty_stack) → IsHeld limit (standing t x) empty_stack
@@ -56,21 +50,6 @@ kept_on next names limit s x d e k = record {
 -- a command that was taken is answered by its effect
 pub taken_as : (limits : Limits) (s : Stack) (t : Tree) (r : Response) (effect : Effect) (d : Taken) → step limits.terms s t ≡ Ok d → effect ≡ d.effect → Responds limits d.stack effect r → Answers limits s t (record { response = r; stack = d.stack })
 taken_as limits s t r effect d e same responds = subst (λ y. AnswersBy limits s y (record { response = r; stack = d.stack })) (sym e) (subst (λ f. Responds limits d.stack f r) same responds, refl)
-
--- a check that the search does not reach is refused at its word, and the stack is as after the command
-pub unreached_as : (limits : Limits) (s : Stack) (x : Sexpr) (at : ℕ) (d : Taken) (z : Standing) (budget : BudgetView) (r : Refusal) → step limits.terms s (tree_of x) ≡ Ok d → check at [] ≡ d.effect → all_in_reach (assertions_of d.stack) ≡ false
-    → r.fault ≡ UnknownLogic → IsPlaceOf (text_of x) r.place → r.place.offset ≡ at → IsHeld limits.terms z d.stack → IsTaken limits s x (responses.Unreached r) z budget
-unreached_as limits s x at d z budget r e same far fault place offset held =
-    let told : Located = record { offset = r.place.offset; fault = r.fault } in
-    let is : unreached told ≡ unreached (record { offset = at; fault = UnknownLogic }) = λ i. unreached (record { offset = offset i; fault = fault i }) in
-    record {
-      a = record { response = unreached told; stack = d.stack };
-      answers = taken_as limits s (tree_of x) (unreached told) (check at []) d e same (inr (ap all_in_reach (append-nil (assertions_of d.stack)) ∙ far, is));
-      is = (refl, place);
-      asked = tt;
-      held = held;
-      learned = tt;
-    }
 
 -- a stack that began a check is taken back
 pub back : (t u : TableView) (x y : CodeStack) → standing u x ≡ standing t (record y { started = true }) → record x { started = y.started } ≡ y

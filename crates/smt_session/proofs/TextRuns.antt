@@ -12,7 +12,7 @@ use Rattle.spec_text.specs.Readings.{Stops, kept, is_long, limited}
 use Rattle.spec_replies.specs.Lines.{error_text}
 use Rattle.spec_commands.specs.Stack.{Stack, empty_stack}
 use Rattle.spec_sessions.specs.Evidence.{Limits}
-use Rattle.spec_sessions.specs.Responses.{Mode, Response, success, not_supported, answered, said, ended, rejected, unreached, Answered, Answers, response_text, is_rejected, is_end}
+use Rattle.spec_sessions.specs.Responses.{Mode, Response, success, not_supported, answered, said, ended, rejected, Answered, Answers, response_text, is_rejected, is_end}
 use Rattle.spec_sessions.specs.Transcripts.{answers_text, closing_text, is_fault, IsTranscript}
 use Rattle.spec_sessions.proofs.Running.{answers_more, Going, going_begins, answered_on, EachIsRead, told_more, ends_more, begun_here, text_ends, line_begun, begun_next, script_ends}
 use Rattle.smt_lexer.specs.declared.Refusal.{Refusal}
@@ -37,7 +37,6 @@ after_is (answered f) a e = (ap is_last (sym e), ap is_refusal (sym e))
 after_is (said s) a e = (ap is_last (sym e), ap is_refusal (sym e))
 after_is ended a e = (ap is_last (sym e), ap is_refusal (sym e))
 after_is (rejected f) a e = (ap is_last (sym e), ap is_refusal (sym e))
-after_is (unreached f) a e = (ap is_last (sym e), ap is_refusal (sym e))
 
 -- the last command was not refused
 pub last_is_taken : (a : After) → is_last a ≡ true → is_refusal a ≡ false

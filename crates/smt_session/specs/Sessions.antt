@@ -7,7 +7,7 @@ use Rattle.spec_text.specs.Places.{IsPlaceOf}
 use Rattle.spec_sorts.specs.Signatures.{symbols_in}
 use Rattle.spec_commands.specs.Stack.{Stack, signature_of}
 use Rattle.spec_sessions.specs.Evidence.{Limits, Checked}
-use Rattle.spec_sessions.specs.Responses.{Mode, solve, certify, Response, success, not_supported, answered, said, ended, rejected, unreached, Answered, Answers, response_text}
+use Rattle.spec_sessions.specs.Responses.{Mode, solve, certify, Response, success, not_supported, answered, said, ended, rejected, Answered, Answers, response_text}
 use Rattle.spec_sessions.specs.Meaning.{MeansAt}
 use Rattle.smt_lexer.specs.declared.Refused.{Refused}
 use Rattle.smt_lexer.specs.declared.Refused.TheVariants as refusals
@@ -43,8 +43,6 @@ IsResponse t text budget (responses.Said s) r = r ≡ said s.now
 IsResponse t text budget responses.Ended r = r ≡ ended
 IsResponse t text budget (responses.Rejected x) r =
     (r ≡ rejected (record { offset = x.place.offset; fault = x.fault })) × IsPlaceOf text x.place
-IsResponse t text budget (responses.Unreached x) r =
-    (r ≡ unreached (record { offset = x.place.offset; fault = x.fault })) × IsPlaceOf text x.place
 
 -- a check that is answered is one of the stack
 abbrev pub IsAskedOf : Response → Stack → Type 0
@@ -106,7 +104,6 @@ Rejects refusals.Memory x = IsErr x
 abbrev pub after_meant : Response → After
 after_meant ended = afters.Ended
 after_meant (rejected f) = afters.Refused
-after_meant (unreached f) = afters.Refused
 after_meant _ = afters.Went
 
 -- What a session holds.

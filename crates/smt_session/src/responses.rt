@@ -36,8 +36,6 @@ pub(crate) enum Response<'a> {
     Ended,
     /// It was refused.
     Rejected(Refusal),
-    /// It is a check that is not decided, since the search does not reach what it asks about.
-    Unreached(Refusal),
 }
 
 /// Tells what comes after a command that is answered so.
@@ -49,7 +47,7 @@ pub(crate) fn after_of(response: &Response<'_>) -> After
         Response::Success | Response::Unsupported | Response::Answered(_) | Response::Said(_) =>
             After::Went,
         Response::Ended => After::Ended,
-        Response::Rejected(_) | Response::Unreached(_) => After::Refused,
+        Response::Rejected(_) => After::Refused,
     }
 }
 
@@ -107,7 +105,7 @@ fn write_response<K: Sink>(
         Response::Unsupported => word(Word::Unsupported, out),
         Response::Answered(evidence) => send_check(mode, table, evidence, out),
         Response::Said(text) => send_string(text, out),
-        Response::Rejected(refusal) | Response::Unreached(refusal) => {
+        Response::Rejected(refusal) => {
             error(refusal.place, refusal.fault.name().as_bytes(), out)
         }
     }

@@ -10,7 +10,7 @@ ghost use Rattle.smt_session.specs.Sessions.{IsSession, Takes, KeepsBudget, Reje
 
 use crate::mode::Mode;
 use crate::responses::{Response, after_of, send_response};
-use assertion_stack::{Effect, Stack, unreached_check};
+use assertion_stack::{Effect, Stack};
 use check_evidence::check;
 use sat_budget::{Budget, Limits};
 use smt_lexer::Refused;
@@ -29,8 +29,7 @@ use world_io::{Failed, NoMemory, Sink};
 pub enum After {
     /// It was taken; the session goes on.
     Went,
-    /// It was refused, and changed nothing; or it is a check that the search does not reach, and is not decided. The session
-    /// goes on.
+    /// It was refused, and changed nothing; the session goes on.
     Refused,
     /// It ended the script.
     Ended,
@@ -121,9 +120,6 @@ impl Session {
 
     /// Takes the command that an s-expression is, and writes what it is answered.
     ///
-    /// A check that the search does not reach is answered with `UnknownLogic` at its word. It is a check of the script all the
-    /// same, and ends the start.
-    ///
     /// It takes its memory first, then changes the session, then writes, and passes on what was written: then nothing waits
     /// in a buffer. `Memory` comes where memory ran out: the session is the same as before the command, and nothing was written.
     /// `Sink` comes only where the sink's count of faults rose in this call, and there was no room for the response: the
@@ -176,18 +172,13 @@ fn take<'a>(
     match stack.command(alloc, table, command) {
         Ok(Effect::Done) => Ok(Response::Success),
         Ok(Effect::Unsupported) => Ok(Response::Unsupported),
-        Ok(Effect::Check(at)) => {
-            if !stack.are_in_reach() {
-                return Ok(Response::Unreached(unreached_check(command, at)));
+        Ok(Effect::Check(_)) => match check(alloc, table, stack, budget, limits) {
+            Ok(evidence) => Ok(Response::Answered(evidence)),
+            Err(NoMemory) => {
+                stack.started = started;
+                Err(NoMemory)
             }
-            match check(alloc, table, stack, budget, limits) {
-                Ok(evidence) => Ok(Response::Answered(evidence)),
-                Err(NoMemory) => {
-                    stack.started = started;
-                    Err(NoMemory)
-                }
-            }
-        }
+        },
         Ok(Effect::Say(text)) => Ok(Response::Said(text)),
         Ok(Effect::Exit) => Ok(Response::Ended),
         Err(stop) => rejected(stop),

@@ -8,8 +8,8 @@ ghost use Rattle.smt_session.specs.Runs.{code_of};
 pub enum Status {
     /// The input was read to its end, or to `exit`, and nothing was refused; of a proof that is judged, it is accepted.
     Done,
-    /// A command was refused, the search did not reach a check, or the text has a fault after which it cannot be read on; of a
-    /// proof that is judged, it is not accepted.
+    /// A command was refused, or the text has a fault after which it cannot be read on; of a proof that is judged, it is not
+    /// accepted.
     Refused,
     /// The arguments are not those of a run, and the usage text was written.
     Words,

@@ -67,8 +67,7 @@ fn ended_by(refused: bool) -> Status
 /// Runs a script's text: takes its commands one after the other, up to its end, to `exit`, or to a fault after which it
 /// cannot be read on, and writes what each is answered.
 ///
-/// - `Done`: nothing was refused; `Refused`: a command was refused, the search did not reach a check, or such a fault ended the
-///   run, and its line was written.
+/// - `Done`: nothing was refused; `Refused`: a command was refused, or such a fault ended the run, and its line was written.
 /// - `Memory` comes where memory ran out; what is to be written for the commands that were run was written.
 /// - `WriteFault` comes only where the sink's count of faults rose in this call; a prefix of that was written, and there was
 ///   no room for all of it.

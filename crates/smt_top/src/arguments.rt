@@ -16,10 +16,10 @@ use std::alloc::{AllocError, Global};
 /// No number of the arguments is greater.
 const MOST_NUMBER: u64 = 1_000_000_000;
 
-/// How many conflicts a check may learn from where no argument says so.
+/// How many conflicts a search may learn from where no argument says so.
 const USUAL_CONFLICTS: u64 = 1_000_000;
 
-/// How many pivots a check may make where no argument says so.
+/// How many pivots a search may make where no argument says so.
 const USUAL_PIVOTS: u64 = 10_000_000;
 
 /// Holds the names of the two texts.
@@ -47,9 +47,9 @@ pub(crate) struct RunRequest<'a> {
     pub(crate) mode: Mode,
     /// The script's name; it is empty where no argument gives one.
     pub(crate) name: &'a str,
-    /// How many conflicts each check may learn from, from 1 to 1,000,000,000.
+    /// How many conflicts each search of a check may learn from, from 1 to 1,000,000,000.
     pub(crate) conflicts: u64,
-    /// How many pivots each check may make, from 1 to 1,000,000,000.
+    /// How many pivots each search of a check may make, from 1 to 1,000,000,000.
     pub(crate) pivots: u64,
 }
 
@@ -74,7 +74,7 @@ pub(crate) enum ArgumentsStop {
 /// Gives what the arguments after the program's name ask for: `solve [--conflicts N] [--pivots N] [NAME]`, `certify` with the same,
 /// or `check [--at K] SCRIPT PROOF`.
 ///
-/// N and K are from 1 to 1,000,000,000, in decimal digits. Where they are not given, a check may learn from 1,000,000 conflicts and
+/// N and K are from 1 to 1,000,000,000, in decimal digits. Where they are not given, a search may learn from 1,000,000 conflicts and
 /// make 10,000,000 pivots, K is 1, and NAME is empty. `Wrong` comes for all other arguments. `Memory` comes only where an allocation
 /// was refused, whatever the arguments are.
 pub(crate) fn request_from<'a>(
@@ -214,7 +214,7 @@ fn run_in<'a>(mode: Mode, found: &ArgMatches<'a>) -> Option<RunRequest<'a>>
     })
 }
 
-/// Gives how many conflicts and how many pivots each check may have, by the values of `--conflicts` and `--pivots`, and `None`
+/// Gives how many conflicts and how many pivots each search may have, by the values of `--conflicts` and `--pivots`, and `None`
 /// where one of them is no number.
 fn budgets_in(found: &ArgMatches<'_>) -> Option<(u64, u64)>
     ensures { option_map budgets result ≡ budgets_in (rows_of (found_of found.now)) }

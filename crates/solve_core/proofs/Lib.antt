@@ -6,3 +6,9 @@ pub mod SearchNumbers
 pub mod SearchStops
 pub mod SearchModelled
 pub mod SearchStrained
+pub mod SharedTerms
+pub mod SearchAgreed
+pub mod Missing
+pub mod SearchRounds
+pub mod SearchEnds
+pub mod SearchTogether

@@ -1,26 +1,25 @@
 -- That a search which rests has a model: its truths and classes are those of one.
-use Rattle.std.proofs.Common.{◌≡◌, ◌≢◌, ◌<◌, ℕ, true, List, [], ◌++◌, length, get_or, map, All, Contains, sym, ap, ◌∙◌, subst}
+use Rattle.std.proofs.Common.{◌≡◌, ◌<◌, ℕ, true, List, [], ◌++◌, length, get_or, map, All, Contains, sym, ap, ◌∙◌, subst}
 use Rattle.std.specs.Prelude.{◌↔◌}
 use Rattle.std.specs.List.{list_any}
 use Rattle.std.proofs.lemmas.List.{append-nil, length-map, get_or-map}
 use Rattle.std.proofs.lemmas.List.Elements.{All-append, All-map, All-contains, Contains-get_or, All-nil}
-use Rattle.spec_text.proofs.Members.{none, to_image, from_image}
+use Rattle.spec_text.proofs.Members.{to_image, from_image}
 use Rattle.spec_numbers.specs.Fractions.{Fraction, IsReduced}
-use Rattle.spec_sorts.specs.Terms.{Truth, Number, Symbol, Apply, Term, Terms, app, list_of, sort_of}
+use Rattle.spec_sorts.specs.Terms.{Truth, Apply, Term, app, sort_of}
 use Rattle.spec_sorts.specs.Values.{Interpretation, Interprets, truth}
 use Rattle.spec_sorts.specs.TermValues.{value_at}
 use Rattle.spec_sorts.specs.WellSorted.{IsFormulaOver}
 use Rattle.spec_sorts.specs.Subsets.{AreAmong}
 use Rattle.spec_sorts.specs.Literals.{Clause, Literal, literal_of, literals_of}
 use Rattle.spec_rules.specs.Truths.{Truths, term_true_by}
-use Rattle.spec_arithmetic.specs.Numbers.{IsLinear}
+use Rattle.spec_arithmetic.specs.Numbers.{number_at, IsLinear}
 use Rattle.spec_simplex.specs.Numbers.{HoldsAt}
 use Rattle.spec_congruence.specs.Congruence.{signed, IsCongruent, IsFine}
 use Rattle.spec_derivations.specs.Problems.{Problem, terms_of_problem, known_terms}
 use Rattle.spec_derivations.specs.Orders.{whole_terms, whole_clauses}
-use Rattle.spec_derivations.specs.Models.{AreInReach}
 use Rattle.spec_valuations.specs.Classes.{class_in, AreShared}
-use Rattle.spec_valuations.specs.Resting.{TheoryValues, values_of, RestsOnNumbers}
+use Rattle.spec_valuations.specs.Resting.{TheoryValues, values_of, RestsWithNumbers, RestsOnNumbers}
 use Rattle.term_core.specs.declared.ids.TermId.{TermId}
 use Rattle.term_core.specs.Tables.{TableView, AreDifferent, term_at, literal_at, clause_at, positive_literal}
 use Rattle.clause_literals.specs.Literals.{IsConsistent, AreOf, Means}
@@ -96,16 +95,11 @@ module _ (t : TableView) (differ : AreDifferent t.terms) (x : Search) (v : Theor
   only : AreAmong terms (whole_terms problem)
   only = s.listed.only
 
-  -- a function with parameters that is listed keeps apart from numbers
-  abbrev pub KeepApart : (Term → Type 0) → Type 0
-  KeepApart Listed = (f : Symbol) (ts : Terms) → Listed (app (Apply f) ts) → list_of ts ≢ [] → (f.result ≢ Number) × ((u : Term) → Contains (list_of ts) u → sort_of u ≢ Number)
-
   -- classes by places, and numbers by which the literals hold
   module _ (place : (ts : List Term) (ns : List ℕ) (u : Term) → Contains ts u → (k : ℕ) × (k < length ts) × (get_or ts k u ≡ u) × (class_in ts ns u ≡ get_or ns k 0))
-      (apart_in_reach : (symbols : List Symbol) (p : Problem) → All (IsFormulaOver symbols) (known_terms p) → AreInReach (known_terms p) → KeepApart (Contains (whole_terms p)))
       (linear_in : (p : Problem) → All IsLinear (known_terms p) → (u : Term) → Contains (whole_terms p) u → IsLinear u)
       (number : Term → Fraction) (reduced : (u : Term) → IsReduced (number u)) (kept : All (HoldsAt number) held) where
-    related : (a b : Term) → Contains terms a → Contains terms b → (class_in terms classes a ≡ class_in terms classes b) ↔ IsCongruent terms held a b
+    pub related : (a b : Term) → Contains terms a → Contains terms b → (class_in terms classes a ≡ class_in terms classes b) ↔ IsCongruent terms held a b
     related a b i j =
         let k = place terms classes a i in
         let m = place terms classes b j in
@@ -126,33 +120,13 @@ module _ (t : TableView) (differ : AreDifferent t.terms) (x : Search) (v : Theor
     abbrev pub given : TheoryValues
     given = record { truths = truths; class = class_in terms classes; number = number }
 
-    apart : KeepApart (Contains terms)
-    apart f ts i = apart_in_reach t.symbols problem formulas s.reached.reached f ts (only (app (Apply f) ts) i)
-
-    -- no argument of a function is a number
-    no_argument : (f : Symbol) (ts : Terms) (u : Term) → Contains terms (app (Apply f) ts) → Contains (list_of ts) u → sort_of u ≢ Number
-    no_argument f ts u i j = (apart f ts i (λ bare. none u (subst (λ us. Contains us u) bare j))).1 u j
-
-    pub taken : TakeNumbersOf number terms
-    taken f ts u i j e = absurd (no_argument f ts u i j e)
-
-    -- so the theories share nothing
-    nothing_shared : AreShared terms []
-    unfolding sort_of
-    nothing_shared = record {
-      values = λ f ts i some e. absurd ((apart f ts i some).0 e);
-      arguments = λ f ts u i j e. absurd (no_argument f ts u i j e);
-    }
-
-    pub rests : RestsOnNumbers t.symbols problem terms held given
-    rests = record {
+    -- where it rests, whether its theories agree or not
+    pub rests_apart : RestsWithNumbers t.symbols problem terms held given
+    rests_apart = record {
       formulas = formulas;
       listed = s.listed.each;
       only = only;
-      shared = [];
-      shares = nothing_shared;
-      agree = record { same = λ a b i j. absurd (none a i) };
-      linear = λ u i. linear_in problem s.reached.linear u (only u i);
+      linear = λ u i. linear_in problem s.reached u (only u i);
       met = met;
       truths = atom_held;
       fine = subst (λ (ts : List Term). IsFine ts held) (ap (clause_at t) h.terms) (subst (IsFine (terms_watched t v)) (ap (map (literal_at t)) h.held) fine);
@@ -160,6 +134,24 @@ module _ (t : TableView) (differ : AreDifferent t.terms) (x : Search) (v : Theor
       reduced = reduced;
       kept = kept;
     }
+
+    -- where they agree on shared terms
+    module _ (shared : List Term) (shares : AreShared terms shared) (heads : (u : Term) → Contains shared u → number u ≡ number_at number u)
+        (agree : (u w : Term) → Contains shared u → Contains shared w → (number u ≡ number w) ↔ (class_in terms classes u ≡ class_in terms classes w)) where
+      pub taken : TakeNumbersOf number terms
+      taken f ts u i j e = (h.ready.atoms_are.closed (app (Apply f) ts) i u j, heads u (shares.arguments f ts u i j e))
+
+      pub rests : RestsOnNumbers t.symbols problem terms held given
+      rests = record {
+        rests = rests_apart;
+        shared = shared;
+        shares = shares;
+        agree = record {
+          same = λ a b i j.
+              let both = agree a b i j in
+              (λ e. both.0 (heads a i ∙ e ∙ sym (heads b j)), λ e. sym (heads a i) ∙ both.1 e ∙ heads b j);
+        };
+      }
 
     -- so tables by truths, classes and numbers are a model's
     pub has_model : (interp : Interp) → IsModelOf t x.trail.literals ids classes (map number terms) interp → (i : Interpretation) × Stands t interp i

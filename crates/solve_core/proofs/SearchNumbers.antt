@@ -5,10 +5,10 @@ use Rattle.std.proofs.lemmas.Bool.{and_parts}
 use Rattle.std.proofs.lemmas.List.{length-map}
 use Rattle.std.proofs.lemmas.List.Elements.{All-map, Contains-get_or}
 use Rattle.std.proofs.lemmas.Option.{same_Some, none-some}
-use Rattle.spec_text.proofs.Members.{first, to_image}
+use Rattle.spec_text.proofs.Members.{none, first, to_image}
 use Rattle.spec_numbers.specs.Fractions.{Fraction, zero_fraction}
 use Rattle.spec_numbers.proofs.Field.{zero-reduced}
-use Rattle.spec_sorts.specs.Terms.{Number, Head, Equal, Less, AtMost, Term, app, nil, cons, pair, same_sort, sort_of}
+use Rattle.spec_sorts.specs.Terms.{Number, Head, Equal, Less, AtMost, Apply, Term, app, nil, cons, pair, same_sort, sort_of}
 use Rattle.spec_sorts.specs.Subsets.{arguments_of, IsClosed}
 use Rattle.spec_sorts.proofs.WellSorted.{same_sort_is}
 use Rattle.spec_arithmetic.specs.Contradictions.{are_numbers}
@@ -18,12 +18,14 @@ use Rattle.term_core.specs.declared.ids.TermId.{TermId}
 use Rattle.term_core.specs.declared.ids.Lit.{Lit}
 use Rattle.term_core.specs.Tables.{TableView, Extends, clause_at, literal_at, term_at}
 use Rattle.term_core.proofs.TermsExtend.{clause_at-kept}
-use Rattle.proof_log.specs.Theories.{TheoryView, IsTermIn, IsAtomIn, IsOver, literals_held}
+use Rattle.proof_log.specs.Theories.{TheoryView, IsTermIn, IsAtomIn, IsOver}
 use Rattle.search_loop.specs.declared.search.Search.{Search}
 use Rattle.search_loop.specs.Search.{IsReady}
 use Rattle.search_loop.specs.Asking.{HasRested}
 use Rattle.search_loop.proofs.SearchReady.{Ids, atom_in, all_of_atoms}
-use Rattle.solve_core.specs.Answering.{HoldByNumbers}
+use Rattle.congruence_closure.specs.Closure.{TellClasses}
+use Rattle.congruence.specs.Views.{AreEqualBy}
+use Rattle.solve_core.specs.Answering.{HoldTogether}
 
 -- The left side of what an atom says: an argument, and a number.
 pub record IsLeft (u : Term) (c : Constraint) : Type 0 where
@@ -70,13 +72,24 @@ module _ (t : TableView) (x : Search) (v : TheoryView) (agreed : Type 0) (h : Ha
         let spoken : Contains (clause_at t ids) (term_at t l.term) = to_image (term_at t) ids l.term (h.ready.atoms_are.chosen.among l.term (all_of_atoms t x h.ready l i)) in
         absurd (plain c.left (h.ready.atoms_are.closed (term_at t l.term) spoken c.left own.there) own.number)
 
-    pub zeros_hold : (xs : List Fraction) → xs ≡ replicate (length ids) zero_fraction → HoldByNumbers (clause_at t ids) (literals_held t v) xs
-    zeros_hold xs e = record {
-      number = λ u. zero_fraction;
-      reduced = λ u. zero-reduced;
-      hold = subst (λ (ls : List Lit). All (HoldsAt (λ (u : Term). zero_fraction)) (map (literal_at t) ls)) (sym h.held)
-          (All-map (HoldsAt (λ (u : Term). zero_fraction)) (literal_at t) x.trail.literals (λ k d lt. nothing_said (get_or x.trail.literals k d) (Contains-get_or x.trail.literals k d lt)));
-      are = e ∙ ap (λ (n : ℕ). replicate n zero_fraction) (sym (length-map ids (term_at t))) ∙ same_number zero_fraction (clause_at t ids);
+    pub zeros_hold : (classes : List ℕ) → TellClasses (AreEqualBy t v) ids classes → length classes ≡ length ids → (xs : List Fraction) → xs ≡ replicate (length ids) zero_fraction → HoldTogether t ids v classes xs
+    zeros_hold classes tell count xs e = record {
+      values = record {
+        number = λ u. zero_fraction;
+        reduced = λ u. zero-reduced;
+        hold = subst (λ (ls : List Lit). All (HoldsAt (λ (u : Term). zero_fraction)) (map (literal_at t) ls)) (sym h.held)
+            (All-map (HoldsAt (λ (u : Term). zero_fraction)) (literal_at t) x.trail.literals (λ k d lt. nothing_said (get_or x.trail.literals k d) (Contains-get_or x.trail.literals k d lt)));
+        are = e ∙ ap (λ (n : ℕ). replicate n zero_fraction) (sym (length-map ids (term_at t))) ∙ same_number zero_fraction (clause_at t ids);
+        tell = tell;
+        count = count;
+      };
+      shared = [];
+      shares = record {
+        values = λ s ts i some real. absurd (plain (app (Apply s) ts) i real);
+        arguments = λ s ts u i j real. absurd (plain u (h.ready.atoms_are.closed (app (Apply s) ts) i u j) real);
+      };
+      heads = λ u i. absurd (none u i);
+      agree = λ u w i j. absurd (none u i);
     }
 
 -- the terms of a search are the same in a table that has more

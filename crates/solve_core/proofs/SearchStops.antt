@@ -1,5 +1,5 @@
 -- What shows that a search stops for another reason than a conflict.
-use Rattle.std.specs.Prelude.{Result, Ok, Err, IfOk}
+use Rattle.std.specs.Prelude.{Result, Err}
 use Rattle.std.proofs.Common.{◌≡◌, ◌≢◌, ◌≤◌, ℕ, zero, suc, true, length, arith, List, [], ◌∷◌, take, Contains, inl, inr, refl, sym, ap, ◌∙◌, subst}
 use Rattle.std.proofs.lemmas.List.Elements.{All-weaker, All-contains, filter_passes}
 use Rattle.std.proofs.lemmas.List.Kept.{AllPairs-filter}
@@ -15,7 +15,6 @@ use Rattle.spec_causes.proofs.Wider.{strains_over_more, needs_over_more}
 use Rattle.ratio128.specs.Meant.{overflow}
 use Rattle.term_core.specs.declared.ids.TermId.{TermId}
 use Rattle.term_core.specs.Tables.{TableView, AreDifferent, IsIn, term_at, clause_at}
-use Rattle.world_io.specs.declared.bytes.NoMemory.{NoMemory}
 use Rattle.sat_budget.specs.declared.limits.Strain.{Strain}
 use Rattle.sat_budget.specs.declared.limits.Stop.{Stop}
 use Rattle.sat_budget.specs.declared.limits.Stop.TheVariants as stops
@@ -37,7 +36,7 @@ use Rattle.search_loop.proofs.SearchPays.{from_filter, terms_once}
 use Rattle.search_loop.proofs.SearchGrown.{spoken}
 use Rattle.search_loop.proofs.SearchRounds.{shows_on}
 use Rattle.search_loop.proofs.SearchShows.{learning_shows}
-use Rattle.solve_core.specs.Answering.{HasCome, IsAnswered, IsStoppedBy, Answers}
+use Rattle.solve_core.specs.Answering.{HasCome, IsAnswered, IsStoppedBy}
 
 -- what is in the front of a list is in it
 take_among : (m : ℕ) (ids : List TermId) (id : TermId) → Contains (take m ids) id → Contains ids id
@@ -114,15 +113,6 @@ module _ (t : TableView) (x : Search) (problem : Problem) (s : IsSearch t proble
         more = needs_over_more (clause_at t watched) (whole_terms problem) (subst (λ (ids : List TermId). AreAmong (clause_at t ids) (whole_terms problem)) (sym are) (spoken t x problem s)) (standing_of t v) h.0;
       };
     }
-
--- what is answered to a stop, and shown of the reason, is shown of the answer
-pub answers_show : (P : Answer → Type 0) (stop : Stop) (r : Result Answer NoMemory) → Answers stop r → StopsBy (λ s. P (Unknown (reasons.Overflow s))) (λ n. P (Unknown (reasons.Pivots n))) stop → IfOk r P
-answers_show P (stops.Strained s) (Ok a) e h = subst P (sym e) h
-answers_show P (stops.Strained s) (Err e) a h = tt
-answers_show P (stops.Pivots n) (Ok a) e h = subst P (sym e) h
-answers_show P (stops.Pivots n) (Err e) a h = tt
-answers_show P stops.Memory (Ok a) e h = absurd e
-answers_show P stops.Memory (Err e) a h = tt
 
 -- what a stop of a theory of numbers came to, over terms among which are those of a search, in no more runs than are paid for
 abbrev pub HasStoppedAt : TableView → List Term → SimplexView → Stop → List (ℕ × ℕ) → ℕ → Type 0

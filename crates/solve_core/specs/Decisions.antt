@@ -1,6 +1,9 @@
 -- What a decision shows.
-use Rattle.std.specs.Prelude.{◌≡◌, ◌⊎◌, ◌≤◌, List, [], length, Some, None}
-use Rattle.spec_derivations.specs.Problems.{Problem}
+use Rattle.std.specs.Prelude.{◌≡◌, ◌⊎◌, ◌≤◌, List, [], length, All, Some, None}
+use Rattle.spec_sorts.specs.Terms.{Term}
+use Rattle.spec_derivations.specs.Problems.{Problem, subterms_in}
+use Rattle.spec_derivations.specs.Examples.{asserting, speaking}
+use Rattle.spec_causes.specs.Shared.{IsSharedEquality}
 use Rattle.term_core.specs.Tables.{TableView}
 use Rattle.proof_log.specs.Logs.{Logged, IsLogOf}
 use Rattle.ratio128.specs.declared.wide.Wide.{Wide}
@@ -44,6 +47,14 @@ pub record IsJustified (t : TableView) (p : Problem) (limits : Limits) (d : Outc
   -- and so do the log and what was learned
   pub learning : IsLearning t p d.log d.answer d.budget.learned
 
+-- Terms that are asserted are decided: with equalities of shared terms beside them, the answer has its evidence.
+pub record IsDecided (t : TableView) (ts : List Term) (limits : Limits) (d : Outcome) : Type 0 where
+  -- those equalities
+  pub beside : List Term
+  pub equalities : All (IsSharedEquality (subterms_in (asserting ts))) beside
+  -- the evidence
+  pub justified : IsJustified t (speaking ts beside) limits d
+
 -- What a solver keeps of its last decision.
 pub record SolverView : Type 0 where
   -- the log of its steps
@@ -51,6 +62,6 @@ pub record SolverView : Type 0 where
   -- its budget, with what was learned
   pub budget : BudgetView
 
--- the answer has its evidence in what the solver keeps
-abbrev pub IsShownBy : TableView → Problem → Limits → SolverView → Answer → Type 0
-IsShownBy t p limits s a = IsJustified t p limits (record { answer = a; log = s.log; budget = s.budget })
+-- the terms are decided, and the solver keeps the evidence
+abbrev pub IsShownBy : TableView → List Term → Limits → SolverView → Answer → Type 0
+IsShownBy t ts limits s a = IsDecided t ts limits (record { answer = a; log = s.log; budget = s.budget })

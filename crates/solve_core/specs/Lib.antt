@@ -2,4 +2,8 @@
 pub mod Forms
 pub mod Relating
 pub mod Answering
+pub mod Sharing
+pub mod Agreeing
+pub mod Ending
+pub mod Rounds
 pub mod Decisions

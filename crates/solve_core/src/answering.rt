@@ -1,9 +1,9 @@
-//! The search with its theories, from the beginning to an answer.
+//! The search with its theories, from the beginning to an answer, or to where they do not agree.
 
 ghost use Rattle.std.specs.Prelude.{◌≡◌, ◌≢◌, [], List, All, Contains, IfOk, IfErr, MatchBool};
 ghost use Rattle.spec_sorts.specs.Terms.{Number, Term, sort_of};
 ghost use Rattle.spec_derivations.specs.Problems.{Problem};
-ghost use Rattle.term_core.specs.Tables.{declared_in, Extends, IsIn, clause_at, term_at};
+ghost use Rattle.term_core.specs.Tables.{declared_in, Extends, clause_at};
 ghost use Rattle.sat_budget.specs.declared.limits.Limits.{Limits};
 ghost use Rattle.sat_budget.specs.declared.limits.Reason.TheVariants.{Overflow};
 ghost use Rattle.sat_budget.specs.Budgets.{StopsBy};
@@ -15,36 +15,41 @@ ghost use Rattle.simplex.specs.Coming.{CameBy};
 ghost use Rattle.search_loop.specs.declared.cdcl.Answer.TheVariants.{Unknown};
 ghost use Rattle.search_loop.specs.Rounds.{Begins, Shows};
 ghost use Rattle.search_loop.specs.Asking.{HasRested, state};
-ghost use Rattle.solve_core.specs.Answering.{HasNumber, AgreeBoth, HasCome, IsAnswered, IsStoppedBy, Answers};
+ghost use Rattle.solve_core.specs.Sharing.{IsAskedOf};
+ghost use Rattle.solve_core.specs.Answering.{HasNumber, AgreeBoth, HasCome, IsAnswered, IsStoppedBy};
+ghost use Rattle.solve_core.specs.Ending.{EndsRound, RestsRound, Answers};
 
+use crate::agreeing::{Found, agreement};
 use crate::bounding::relate_bounds;
-use crate::modelling::{model, zeros};
+use crate::modelling::{Said, model, zeros};
+use crate::sharing::is_number;
 use crate::truths::truth_values;
 use combined::Combined;
 use congruence::Congruence;
 use proof_log::laws::logs_stand_in_grown_tables;
 use sat_budget::{Reason, Stop};
 use search_loop::{Answer, End, Search, watch_all};
-use term_core::{Sort, TermId, TermTable};
+use term_core::{TermId, TermTable};
 use world_io::NoMemory;
 
+/// What comes of a search.
+#[derive(Drop)]
+pub(crate) enum Round {
+    /// It is answered.
+    Answered(Answer),
+    /// It rests, and the theories do not agree on these pairs of shared terms, of whose equalities it does not speak.
+    Differ(Vec<(TermId, TermId)>),
+}
+
 /// Answers a stop of a theory: `Unknown` with the reason, or that memory ran out.
-fn answer_to(stop: Stop) -> Result<Answer, NoMemory>
+fn answer_to(stop: Stop) -> Result<Round, NoMemory>
     ensures { Answers stop result }
 {
     match stop {
-        Stop::Strained(strain) => Ok(Answer::Unknown(Reason::Overflow(strain))),
-        Stop::Pivots(count) => Ok(Answer::Unknown(Reason::Pivots(count))),
+        Stop::Strained(strain) => Ok(Round::Answered(Answer::Unknown(Reason::Overflow(strain)))),
+        Stop::Pivots(count) => Ok(Round::Answered(Answer::Unknown(Reason::Pivots(count)))),
         Stop::Memory => Err(NoMemory),
     }
-}
-
-/// Tells whether a term has the sort Real.
-fn is_number(table: &TermTable, id: TermId) -> bool
-    requires { IsIn table.now id }
-    ensures { MatchBool result (sort_of (term_at table.now id) ≡ Number) (sort_of (term_at table.now id) ≢ Number) }
-{
-    table.sort(id) == Sort::Real
 }
 
 /// Tells whether one of these terms is a number.
@@ -62,17 +67,23 @@ fn have_numbers(table: &TermTable, terms: &[TermId]) -> bool
 }
 
 /// Searches with the theory of equality and functions, and with that of linear arithmetic beside it where some term is a number, from
-/// the beginning to an answer.
-pub(crate) fn answer(search: &mut Search, table: &mut TermTable) -> Result<Answer, NoMemory>
+/// the beginning to an answer, or to where it rests and they do not agree on shared terms.
+pub(crate) fn answer(
+    search: &mut Search,
+    table: &mut TermTable,
+    shared: &[TermId],
+) -> Result<Round, NoMemory>
     requires begins { (p : Problem) × (limits : Limits) × Begins table.old p limits search.old }
+    requires asked { (p : Problem) × IsAskedOf table.old shared.now p search.old }
     ensures grown { Extends table.old table.new }
     ensures declared { declared_in table.new ≡ declared_in table.old }
-    ensures answered { IfOk result (IsAnswered (state table.old search.old) (state table.new search.new)) }
+    ensures ends { IfOk result (EndsRound (state table.old search.old) (state table.new search.new) shared.now) }
 {
     if have_numbers(table, &search.terms) {
-        return answer_numbers(search, table);
+        return answer_numbers(search, table, shared);
     }
-    answer_classes(search, table)
+    let answer = answer_classes(search, table)?;
+    Ok(Round::Answered(answer))
 }
 
 /// Searches with the theory of equality and functions alone, where no term is a number.
@@ -113,8 +124,12 @@ fn search_classes(
     };
     match end {
         End::Rests => {
+            table.ids_are_unique();
+            table.symbols().are_declared();
+            let classes = theory.classes(search.alloc, &search.terms)?;
             let numbers = zeros(search.alloc, search.terms.len())?;
-            let model = model(search, table, theory, &numbers)?;
+            let said = Said { classes, numbers };
+            let model = model(search, table, &said)?;
             Ok(Answer::Sat(model))
         }
         End::Refuted(step) => Ok(Answer::Unsat(step)),
@@ -123,18 +138,23 @@ fn search_classes(
 }
 
 /// Searches with both theories, where some term is a number.
-fn answer_numbers(search: &mut Search, table: &mut TermTable) -> Result<Answer, NoMemory>
+fn answer_numbers(
+    search: &mut Search,
+    table: &mut TermTable,
+    shared: &[TermId],
+) -> Result<Round, NoMemory>
     requires begins { (p : Problem) × (limits : Limits) × Begins table.old p limits search.old }
+    requires asked { (p : Problem) × IsAskedOf table.old shared.now p search.old }
     ensures grown { Extends table.old table.new }
     ensures declared { declared_in table.new ≡ declared_in table.old }
-    ensures answered { IfOk result (IsAnswered (state table.old search.old) (state table.new search.new)) }
+    ensures ends { IfOk result (EndsRound (state table.old search.old) (state table.new search.new) shared.now) }
 {
     relate_bounds(search, table)?;
     logs_stand_in_grown_tables();
     let truths = truth_values(search.alloc, table)?;
     let mut theory = Combined::new(search.alloc, table, truths)?;
-    match search_with(search, table, &mut theory) {
-        Ok(answer) => Ok(answer),
+    match search_with(search, table, &mut theory, shared) {
+        Ok(round) => Ok(round),
         Err(stop) => answer_to(stop),
     }
 }
@@ -146,15 +166,17 @@ fn search_with(
     search: &mut Search,
     table: &mut TermTable,
     theory: &mut Combined,
-) -> Result<Answer, Stop>
+    shared: &[TermId],
+) -> Result<Round, Stop>
     requires begins { (p : Problem) × (limits : Limits) × Begins table.old p limits search.old }
+    requires asked { (p : Problem) × IsAskedOf table.old shared.now p search.old }
     requires empty { theory_of theory.old.congruence ≡ record { held = []; watched = []; marks = [] } }
     requires congruence { AreOf table.old theory.old.congruence.now.facts }
     requires simplex { Suits theory.old.simplex table.old }
     requires came { (ts : List Term) → CameBy table.old ts 0 [] theory.old.simplex }
     ensures grown { Extends table.old table.new }
     ensures declared { declared_in table.new ≡ declared_in table.old }
-    ensures answered { IfOk result (IsAnswered (state table.old search.old) (state table.new search.new)) }
+    ensures ends { IfOk result (EndsRound (state table.old search.old) (state table.new search.new) shared.now) }
     ensures stopped { IfErr result (IsStoppedBy (state table.old search.old) (state table.new search.new)) }
 {
     table.ids_are_unique();
@@ -165,30 +187,40 @@ fn search_with(
     let ended = search.run(table, theory);
     theory.parts_hold_the_same();
     match ended {
-        Ok(End::Rests) => answer_rested(search, table, theory),
-        Ok(End::Refuted(step)) => Ok(Answer::Unsat(step)),
-        Ok(End::Stopped(reason)) => Ok(Answer::Unknown(reason)),
+        Ok(End::Rests) => answer_rested(search, table, theory, shared),
+        Ok(End::Refuted(step)) => Ok(Round::Answered(Answer::Unsat(step))),
+        Ok(End::Stopped(reason)) => Ok(Round::Answered(Answer::Unknown(reason))),
         Err(stop) => Err(stop),
     }
 }
 
-/// Makes the model of a search that rests with both theories.
+/// Makes the model of a search that rests with both theories, where they agree.
 ///
 /// `Memory` comes where memory runs out, `Strained` where an operation leaves 128 bits that computes a number, and `Pivots` never.
-fn answer_rested(search: &Search, table: &TermTable, theory: &Combined) -> Result<Answer, Stop>
+fn answer_rested(
+    search: &Search,
+    table: &TermTable,
+    theory: &Combined,
+    shared: &[TermId],
+) -> Result<Round, Stop>
     requires rested { HasRested table.now search.now (theory_of theory.now.congruence)
         (AgreeBoth (terms_watched table.now (theory_of theory.now.congruence))
         (literals_held table.now (theory_of theory.now.congruence)) theory.now) }
     requires congruence { AreOf table.now theory.now.congruence.now.facts }
     requires simplex { Suits theory.now.simplex table.now }
     requires came { HasCome table.now search.now theory.now.simplex }
-    ensures answered { IfOk result (Shows table.now table.now search.now search.now) }
+    requires asked { (p : Problem) × IsAskedOf table.now shared.now p search.now }
+    ensures ends { IfOk result (RestsRound table.now search.now shared.now) }
     ensures strained { IfErr result (StopsBy (λ s. Shows table.now table.now search.now search.now
         (Unknown (Overflow s))) (λ _. ⊥)) }
 {
     theory.parts_hold_the_same();
     table.ids_are_unique();
-    let numbers = theory.simplex().numbers(table, &search.terms)?;
-    let model = model(search, table, theory.congruence(), &numbers)?;
-    Ok(Answer::Sat(model))
+    match agreement(search, table, theory, shared)? {
+        Found::Differ(pairs) => Ok(Round::Differ(pairs)),
+        Found::Agreed(said) => {
+            let model = model(search, table, &said)?;
+            Ok(Round::Answered(Answer::Sat(model)))
+        }
+    }
 }

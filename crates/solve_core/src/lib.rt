@@ -1,14 +1,17 @@
 //! A search for truths that make terms true, from the beginning to an answer, which has evidence.
 //!
-//! The loop is that of `search_loop`. Here are the theories that it is asked with, the model where it rests, and what is answered. The
-//! forms of arithmetic atoms are taken before a search begins.
+//! The loop is that of `search_loop`. Here are the theories that it is asked with, whether they agree where it rests, the model there, and
+//! what is answered. The forms of arithmetic atoms are taken before a search begins.
 #![tactic(auto)]
 
+mod agreeing;
 mod answering;
 mod bounding;
+mod equalities;
 mod forms;
 mod modelling;
 mod outcome;
+mod sharing;
 mod solver;
 mod truths;
 

@@ -1,14 +1,16 @@
 //! The answer of a check.
 
 ghost use Rattle.std.specs.Prelude.{◌≡◌, IfOk, OnErr};
-ghost use Rattle.spec_derivations.specs.Examples.{asserting};
-ghost use Rattle.search_loop.specs.Reach.{AreAnswered};
+ghost use Rattle.search_loop.specs.Answered.{AreAnswered};
 ghost use Rattle.term_core.specs.Tables.{declared_in, Extends, clause_at};
 ghost use Rattle.proof_log.specs.Logs.{AreFormulasIn};
-ghost use Rattle.solve_core.specs.Decisions.{IsJustified, IsStrainedBy};
+ghost use Rattle.solve_core.specs.Decisions.{IsStrainedBy, IsDecided};
+ghost use Rattle.solve_core.specs.Rounds.{IsOpenFor, IsRound};
 
-use crate::answering::answer;
+use crate::answering::{Round, answer};
+use crate::equalities::{add_equalities, affirm};
 use crate::forms::first_overflow;
+use crate::sharing::shared_terms;
 use clausify::ClauseStop;
 use proof_log::ProofLog;
 use proof_log::laws::empty_logs_are_right;
@@ -32,9 +34,13 @@ pub struct Outcome {
 }
 
 /// Decides whether some interpretation makes all of the terms true, or says why it was not found out. They must be formulas that the
-/// search answers for: no function with parameters takes or gives numbers, and products and quotients are linear.
+/// search answers for: products and quotients are linear.
 ///
-/// The forms of their arithmetic atoms are taken first, in ascending order of the atoms' numbers. The table grows by the terms of the clauses that define them, and stays as it was where memory runs out, the one failure.
+/// The forms of their arithmetic atoms are taken first, in ascending order of the atoms' numbers. Then it searches, in rounds. Where a
+/// search rests and its theories do not agree on shared terms, the next round begins anew and speaks of equalities of these terms too.
+/// Log and budget are those of the last round. The table grows by the terms of the clauses that define the terms and those equalities.
+/// It stays as it was where memory runs out, the one failure.
+/// Source: Nelson and Oppen, Simplification by Cooperating Decision Procedures, TOPLAS 1979.
 pub fn decide(
     alloc: Global,
     table: &mut TermTable,
@@ -45,7 +51,7 @@ pub fn decide(
     requires answered { AreAnswered (clause_at table.old roots.now) }
     ensures grown { Extends table.old table.new }
     ensures declared { declared_in table.new ≡ declared_in table.old }
-    ensures decided { IfOk result (IsJustified table.new (asserting (clause_at table.old roots.now)) limits.now) }
+    ensures decided { IfOk result (IsDecided table.new (clause_at table.old roots.now) limits.now) }
     ensures same { OnErr result (table.new ≡ table.old) }
 {
     let len = table.len();
@@ -74,6 +80,61 @@ fn strained(alloc: Global, wide: Wide, limits: &Limits) -> Result<Outcome, NoMem
     })
 }
 
+/// What a round passes on to the next one.
+#[derive(Drop)]
+struct PassedOn {
+    /// The equalities of shared terms of which the next one speaks.
+    beside: Vec<TermId>,
+    /// For each variable the sign that it had last. No answer rests on signs.
+    signs: Vec<bool>,
+}
+
+/// Searches once, with the terms beside that there are. Where the theories do not agree, it gives `None`, and equalities of shared
+/// terms come beside of which this search did not speak.
+fn round(
+    alloc: Global,
+    table: &mut TermTable,
+    roots: &[TermId],
+    shared: &[TermId],
+    passed: &mut PassedOn,
+    limits: &Limits,
+) -> Result<Option<Outcome>, NoMemory>
+    requires ready { IsOpenFor roots.now shared.now (record { table = table.old; beside = passed.old.beside.items }) }
+    ensures grown { Extends table.old table.new }
+    ensures declared { declared_in table.new ≡ declared_in table.old }
+    ensures round { IfOk result (IsRound roots.now shared.now limits.now
+        (record { table = table.old; beside = passed.old.beside.items })
+        (record { table = table.new; beside = passed.new.beside.items })) }
+{
+    empty_logs_are_right();
+    let mut search = match begin(alloc, table, roots, &passed.beside, limits) {
+        Ok(search) => search,
+        Err(ClauseStop::Wide(wide)) => {
+            let outcome = strained(alloc, wide, limits)?;
+            return Ok(Some(outcome));
+        }
+        Err(ClauseStop::Memory) => return Err(NoMemory),
+    };
+    search.decider.recall(&passed.signs);
+    match answer(&mut search, table, shared)? {
+        Round::Differ(pairs) => {
+            add_equalities(alloc, table, &pairs, &mut passed.beside)?;
+            passed.signs = search.decider.into_signs();
+            affirm(&mut passed.signs, &passed.beside)?;
+            Ok(None)
+        }
+        Round::Answered(answer) => {
+            let Search { log, budget, .. } = search;
+            budget.is_within();
+            Ok(Some(Outcome {
+                answer,
+                log,
+                budget,
+            }))
+        }
+    }
+}
+
 /// Decides it; where memory runs out, the terms that it has put stay.
 fn decided(
     alloc: Global,
@@ -85,23 +146,20 @@ fn decided(
     requires answered { AreAnswered (clause_at table.old roots.now) }
     ensures grown { Extends table.old table.new }
     ensures declared { declared_in table.new ≡ declared_in table.old }
-    ensures decided { IfOk result (IsJustified table.new (asserting (clause_at table.old roots.now)) limits.now) }
+    ensures decided { IfOk result (IsDecided table.new (clause_at table.old roots.now) limits.now) }
 {
     empty_logs_are_right();
     if let Some(wide) = first_overflow(alloc, table, roots)? {
         return strained(alloc, wide, limits);
     }
-    let mut search = match begin(alloc, table, roots, &[], limits) {
-        Ok(search) => search,
-        Err(ClauseStop::Wide(wide)) => return strained(alloc, wide, limits),
-        Err(ClauseStop::Memory) => return Err(NoMemory),
+    let shared = shared_terms(alloc, table, roots)?;
+    let mut passed = PassedOn {
+        beside: Vec::new(alloc),
+        signs: Vec::new(alloc),
     };
-    let answer = answer(&mut search, table)?;
-    let Search { log, budget, .. } = search;
-    budget.is_within();
-    Ok(Outcome {
-        answer,
-        log,
-        budget,
-    })
+    'rounds: loop {
+        if let Some(outcome) = round(alloc, table, roots, &shared, &mut passed, limits)? {
+            return Ok(outcome);
+        }
+    }
 }

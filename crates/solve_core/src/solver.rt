@@ -1,8 +1,7 @@
 //! The solver, with what shows its last answer.
 
 ghost use Rattle.std.specs.Prelude.{◌≡◌, [], IfOk, OnErr, MatchResult};
-ghost use Rattle.spec_derivations.specs.Examples.{asserting};
-ghost use Rattle.search_loop.specs.Reach.{AreAnswered};
+ghost use Rattle.search_loop.specs.Answered.{AreAnswered};
 ghost use Rattle.term_core.specs.Tables.{declared_in, Extends, clause_at};
 ghost use Rattle.proof_log.specs.Logs.{AreFormulasIn};
 ghost use Rattle.solve_core.specs.Decisions.{SolverView, IsShownBy};
@@ -53,7 +52,7 @@ impl Solver {
     }
 
     /// Decides whether some interpretation makes all of the terms true, or says why it was not found out. They must be formulas that the
-    /// search answers for: no function with parameters takes or gives numbers, and products and quotients are linear.
+    /// search answers for: products and quotients are linear.
     ///
     /// Each decision begins anew, under these limits. The table grows by the terms of the clauses that define the terms, and of what
     /// is learned. `NoMemory` comes where memory runs out, the one failure; table and solver are then as they were.
@@ -68,7 +67,7 @@ impl Solver {
         ensures grown { Extends table.old table.new }
         ensures declared { declared_in table.new ≡ declared_in table.old }
         ensures decided { IfOk result
-            (IsShownBy table.new (asserting (clause_at table.old roots.now)) limits.now self.new) }
+            (IsShownBy table.new (clause_at table.old roots.now) limits.now self.new) }
         ensures same { OnErr result (table.new ≡ table.old) }
         ensures kept { OnErr result (self.new ≡ self.old) }
     {

@@ -1,5 +1,5 @@
 -- Answers that are computed are those of the commands, if what was found shows what it should.
-use Rattle.std.proofs.Common.{◌≡◌, ℕ, Bool, true, false, ◌||◌, List, [], ◌∷◌, ◌++◌, length, All, Option, Some, None, inl, inr, refl, subst, arith}
+use Rattle.std.proofs.Common.{◌≡◌, ℕ, ◌||◌, List, [], ◌∷◌, ◌++◌, length, All, Some, None, refl, ap, arith}
 use Rattle.std.specs.Prelude.{Ok, Err}
 use Rattle.std.specs.List.{list_any}
 use Rattle.std.proofs.lemmas.List.Elements.{All-nil, All-cons, All-head, All-tail}
@@ -8,20 +8,20 @@ use Rattle.spec_text.specs.Readings.{kept, IsReadUpTo}
 use Rattle.spec_text.specs.Trees.{Trees, none, more}
 use Rattle.spec_sorts.specs.Terms.{Symbol}
 use Rattle.spec_sorts.specs.Values.{Value, HasSort, IsTableOf}
-use Rattle.spec_commands.specs.Stack.{Stack, Effect, done, unsupported, check, say, leave, Taken, empty_stack, begun, all_in_reach, step}
-use Rattle.spec_commands.specs.Checks.{Check, asked, after_effect, after_command, current_at}
+use Rattle.spec_commands.specs.Stack.{Stack, Effect, done, unsupported, check, say, leave, Taken, empty_stack, begun, step}
+use Rattle.spec_commands.specs.Checks.{Check, after_effect, after_command, current_at}
 use Rattle.spec_sessions.specs.Evidence.{Checked, Found, IsModelOf, Justifies, Limits, model, proof}
 use Rattle.spec_sessions.specs.Responses.{Mode, Answered, AnswersBy, is_rejected}
 use Rattle.spec_sessions.specs.Transcripts.{Follows, Runs, answers_text, closing, closing_text, is_fault, IsTranscript, checks_in}
-use Rattle.spec_sessions.specs.Examples.{next_found, later_found, answers_check, answers_after, answers_by, answers_of, always, tables}
+use Rattle.spec_sessions.specs.Examples.{next_found, later_found, answers_after, answers_by, answers_of, always, tables}
 
--- the first of checks, where there is one, and it is decided
-abbrev pub first_of : List (Option Checked) → Checked
-first_of (Some c ∷ cs) = c
-first_of _ = record { check = record { stack = empty_stack; assumptions = [] }; found = proof [] }
+-- the first of checks, where there is one
+abbrev pub first_of : List Checked → Checked
+first_of (c ∷ cs) = c
+first_of [] = record { check = record { stack = empty_stack; assumptions = [] }; found = proof [] }
 
 -- the checks after the first
-abbrev pub after_first : List (Option Checked) → List (Option Checked)
+abbrev pub after_first : List Checked → List Checked
 after_first [] = []
 after_first (c ∷ cs) = cs
 
@@ -38,16 +38,14 @@ pub nothing_asked : IsModelOf nothing.check tables
 nothing_asked = record { interprets = λ k d l. absurd (omega (arith, l)); each = λ k d l. absurd (omega (arith, l)) }
 
 module _ (limits : Limits) where
-  -- what was found at a check shows what it should, where it is decided
-  abbrev pub IsJustified : Option Checked → Type 0
-  IsJustified (Some c) = Justifies limits c.check c.found
-  IsJustified None = Unit {0}
+  -- what was found at a check shows what it should
+  abbrev pub IsJustified : Checked → Type 0
+  IsJustified c = Justifies limits c.check c.found
 
   -- what was found at the only check shows what it should
-  pub one_check : (cs : List (Option Checked)) → length cs ≡ 1 → IsJustified (Some (first_of cs)) → All IsJustified cs
+  pub one_check : (cs : List Checked) → length cs ≡ 1 → IsJustified (first_of cs) → All IsJustified cs
   one_check [] e h = absurd (omega (arith, e))
-  one_check (Some c ∷ []) e h = All-cons IsJustified (Some c) [] h (All-nil IsJustified)
-  one_check (None ∷ []) e h = All-cons IsJustified None [] tt (All-nil IsJustified)
+  one_check (c ∷ []) e h = All-cons IsJustified c [] h (All-nil IsJustified)
   one_check (c ∷ d ∷ ds) e h = absurd (omega (arith, e))
 
   -- these are answers of a command and of those after it
@@ -58,19 +56,13 @@ module _ (limits : Limits) where
   abbrev AreAll : Trees → Type 0
   AreAll ts = (s : Stack) (fs : List Found) → All IsJustified (checks_in (answers_of limits s ts fs)) → Runs limits s ts (answers_of limits s ts fs)
 
-  -- a check, whether the search reaches what it asks about or not
-  by_check : (s : Stack) (c : Check) (place : ℕ) (ts : Trees) (fs : List Found) → AreAll ts → (b : Bool) → all_in_reach (asked c) ≡ b → All IsJustified (checks_in (answers_check b place c fs (answers_of limits c.stack ts)))
-      → AreAnswers s (Ok (record { effect = check place c.assumptions; stack = c.stack })) ts (answers_check b place c fs (answers_of limits c.stack ts))
-  by_check s c place ts fs rest true e h =
-      let now : Checked = record { check = c; found = next_found fs } in
-      let later = checks_in (answers_of limits c.stack ts (later_found fs)) in
-      ((inl (next_found fs, All-head IsJustified (Some now) later h, refl), refl), rest c.stack (later_found fs) (All-tail IsJustified (Some now) later h))
-  by_check s c place ts fs rest false e h = ((inr (e, refl), refl), rest c.stack fs (All-tail IsJustified None (checks_in (answers_of limits c.stack ts fs)) h))
-
   by_effect : (s next : Stack) (ts : Trees) (fs : List Found) (x : Effect) → AreAll ts → All IsJustified (checks_in (answers_after x next fs (answers_of limits next ts))) → AreAnswers s (Ok (record { effect = x; stack = next })) ts (answers_after x next fs (answers_of limits next ts))
   by_effect s next ts fs done rest h = ((refl, refl), rest next fs h)
   by_effect s next ts fs unsupported rest h = ((refl, refl), rest next fs h)
-  by_effect s next ts fs (check place assumptions) rest h = by_check s (record { stack = next; assumptions = assumptions }) place ts fs rest (all_in_reach (asked (record { stack = next; assumptions = assumptions }))) refl h
+  by_effect s next ts fs (check place assumptions) rest h =
+      let now : Checked = record { check = record { stack = next; assumptions = assumptions }; found = next_found fs } in
+      let later = checks_in (answers_of limits next ts (later_found fs)) in
+      (((next_found fs, All-head IsJustified now later h, refl), refl), rest next (later_found fs) (All-tail IsJustified now later h))
   by_effect s next ts fs (say text) rest h = ((refl, refl), rest next fs h)
   by_effect s next ts fs leave rest h = ((refl, refl), refl)
 
@@ -95,13 +87,9 @@ module _ (limits : Limits) where
       → IsTranscript limits mode text (answers_text mode (kept text) (answers_of limits empty_stack commands fs) ++ closing_text (kept text) (closing (answers_of limits empty_stack commands fs) None)) (list_any (λ (a : Answered). is_rejected a.response) (answers_of limits empty_stack commands fs) || is_fault (closing (answers_of limits empty_stack commands fs) None))
   transcript_of mode text commands fs read h = record { commands = commands; end = None; read = read; answers = answers_of limits empty_stack commands fs; runs = runs_of commands empty_stack fs h; written = refl; told = refl }
 
-  -- the first check that is answered is the first one, where the search reaches what that asks about
+  -- the first check that is answered is the first one
   abbrev IsFirst : List Found → Check → List Answered → Type 0
-  IsFirst fs c given = all_in_reach (asked c) ≡ true → first_of (checks_in given) ≡ record { check = c; found = next_found fs }
-
-  first_by_check : (place : ℕ) (ts : Trees) (fs : List Found) (c : Check) (b : Bool) → all_in_reach (asked c) ≡ b → IsFirst fs c (answers_check b place c fs (answers_of limits c.stack ts))
-  first_by_check place ts fs c true e reached = refl
-  first_by_check place ts fs c false e reached = cc
+  IsFirst fs c given = first_of (checks_in given) ≡ record { check = c; found = next_found fs }
 
   first_by_effect : (x : Effect) (s : Stack) (ts : Trees) (fs : List Found) (c : Check) → after_effect x s 1 (λ next n. current_at limits.terms next n ts) ≡ Some c → (current_at limits.terms s 1 ts ≡ Some c → IsFirst fs c (answers_of limits s ts fs)) → IsFirst fs c (answers_after x s fs (answers_of limits s ts))
   first_by_effect done s ts fs c e rest = rest e
@@ -109,7 +97,7 @@ module _ (limits : Limits) where
   first_by_effect (check place assumptions) s ts fs c e rest =
       let here : Check = record { stack = s; assumptions = assumptions } in
       let same : here ≡ c = cc in
-      subst (λ (y : Check). IsFirst fs y (answers_after (check place assumptions) s fs (answers_of limits s ts))) same (first_by_check place ts fs here (all_in_reach (asked here)) refl)
+      ap (λ (y : Check). record { check = y; found = next_found fs }) same
   first_by_effect (say text) s ts fs c e rest = rest e
   first_by_effect leave s ts fs c e rest = cc
 

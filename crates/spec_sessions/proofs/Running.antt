@@ -11,7 +11,7 @@ use Rattle.spec_text.specs.Readings.{depth, AreTrees, StopsAt, Stops, kept, is_l
 use Rattle.spec_text.proofs.Stopping.{stop_of}
 use Rattle.spec_commands.specs.Stack.{Stack, empty_stack}
 use Rattle.spec_sessions.specs.Evidence.{Limits}
-use Rattle.spec_sessions.specs.Responses.{Mode, Response, success, not_supported, answered, said, ended, rejected, unreached, Answered, Answers, response_text, is_rejected, is_end}
+use Rattle.spec_sessions.specs.Responses.{Mode, Response, success, not_supported, answered, said, ended, rejected, Answered, Answers, response_text, is_rejected, is_end}
 use Rattle.spec_sessions.specs.Transcripts.{Follows, Runs, Begins, answers_text, closing_by, closing, closing_text, is_fault, IsTranscript, IsBegun}
 
 -- no tree in front
@@ -33,7 +33,6 @@ follows_on (answered f) P given e h = h
 follows_on (said s) P given e h = h
 follows_on ended P given e h = cc
 follows_on (rejected f) P given e h = h
-follows_on (unreached f) P given e h = h
 
 -- after one that does, nothing
 follows_none : (r : Response) (P : List Answered → Type 0) → is_end r ≡ true → Follows r P []
@@ -43,7 +42,6 @@ follows_none (answered f) P e = cc
 follows_none (said s) P e = cc
 follows_none ended P e = refl
 follows_none (rejected f) P e = cc
-follows_none (unreached f) P e = cc
 
 -- after a response nothing need be answered yet
 follows_nothing : (r : Response) (limits : Limits) (s : Stack) (ts : Trees) → Follows r (Begins limits s ts) []
@@ -54,7 +52,6 @@ follows_nothing (answered f) limits s ts = tt
 follows_nothing (said text) limits s ts = tt
 follows_nothing ended limits s ts = refl
 follows_nothing (rejected f) limits s ts = tt
-follows_nothing (unreached f) limits s ts = tt
 
 -- what follows in one way follows in another that is weaker
 follows_weaker : (r : Response) (P Q : List Answered → Type 0) (given : List Answered) → (P given → Q given) → Follows r P given → Follows r Q given
@@ -64,7 +61,6 @@ follows_weaker (answered x) P Q given f h = f h
 follows_weaker (said s) P Q given f h = f h
 follows_weaker ended P Q given f h = h
 follows_weaker (rejected x) P Q given f h = f h
-follows_weaker (unreached x) P Q given f h = f h
 
 -- what all commands are answered, the first of them are
 pub begins_all : (limits : Limits) (s : Stack) (ts : Trees) (given : List Answered) → Runs limits s ts given → Begins limits s ts given

@@ -5,19 +5,21 @@ use Rattle.spec_overflows.specs.Overflows.{IsOverflow}
 use Rattle.spec_sorts.specs.Values.{Interpretation, Interprets}
 use Rattle.spec_sorts.specs.Signatures.{symbols_in}
 use Rattle.spec_sorts.specs.Literals.{Literal}
+use Rattle.spec_sorts.specs.Terms.{Term}
 use Rattle.spec_commands.specs.Stack.{signature_of}
 use Rattle.spec_commands.specs.Checks.{Check, asked, IsTrueUnder}
-use Rattle.spec_derivations.specs.Problems.{Problem, problem_of}
+use Rattle.spec_derivations.specs.Problems.{Problem, subterms_in, problem_of}
 use Rattle.spec_derivations.specs.Derivations.{Derivation}
 use Rattle.spec_derivations.specs.Spent.{AreLearned, IsConflictBudgetSpent, IsConflict}
 use Rattle.spec_causes.specs.Checks.{IsStrained, ArePivotsSpent}
+use Rattle.spec_causes.specs.Shared.{IsSharedEquality}
 use Rattle.spec_sessions.specs.Refutations.{IsProofOf}
 
--- What a check may spend, and how much a script may name.
+-- What a search of a check may spend, and how much a script may name.
 pub record Limits : Type 0 where
-  -- how many clauses a check may learn
+  -- how many clauses it may learn
   pub conflicts : ℕ
-  -- how many exchanges of variables a check may make
+  -- how many exchanges of variables it may make
   pub pivots : ℕ
   -- how many names a script may have, and how many different subterms the terms of a command
   pub terms : ℕ
@@ -58,34 +60,41 @@ pub record IsModelOf (c : Check) (i : Interpretation) : Type 0 where
   -- each expression is true, as it is written
   pub each : All (IsTrueUnder i (signature_of c.stack)) (asked c)
 
--- the terms of a check, with none beside them
-abbrev pub problem : Check → Problem
-problem c = problem_of c []
+-- The terms of a check, with equalities beside them of terms that functions and arithmetic share.
+pub record IsProblemOf (c : Check) (p : Problem) : Type 0 where
+  -- the equalities
+  pub beside : List Term
+  -- each is of two terms that are shared in the check
+  pub equalities : All (IsSharedEquality (subterms_in (problem_of c []))) beside
+  pub is : p ≡ problem_of c beside
 
 -- The budget is spent at a conflict more.
-pub record IsSpentOn (c : Check) (limit carried : ℕ) (d : Derivation) (learned : List (List Literal)) : Type 0 where
+pub record IsSpentOn (p : Problem) (limit carried : ℕ) (d : Derivation) (learned : List (List Literal)) : Type 0 where
   -- as many clauses were learned as it allows
-  pub spent : IsConflictBudgetSpent (problem c) d limit carried learned
+  pub spent : IsConflictBudgetSpent p d limit carried learned
   -- and one more would be
-  pub conflict : IsConflict (problem c) d learned
+  pub conflict : IsConflict p d learned
 
--- What a search of a check keeps is within its limits, and the clauses may be learned.
-pub record IsKeptOf (limits : Limits) (c : Check) (k : Kept) : Type 0 where
+-- What a search of a problem keeps is within its limits, and the clauses may be learned.
+pub record IsKeptOf (limits : Limits) (p : Problem) (k : Kept) : Type 0 where
   -- no more exchanges were kept than the budget allows
   pub exchanges : length k.exchanges ≤ limits.pivots
   -- no more clauses were learned
   pub learned : length k.learned ≤ limits.conflicts
-  -- and each of them is derived, over the check's atoms, and was new
-  pub learns : AreLearned (problem c) k.derivation k.learned
+  -- and each of them is derived, over the problem's atoms, and was new
+  pub learns : AreLearned p k.derivation k.learned
 
 -- what was found shows this of a check: a model makes true what it asks about; a proof that no interpretation does; a budget of
 -- conflicts is spent on it; an operation leaves the bound where the exchanges lead, or all but the last, or before there are any; or the
 -- budget of exchanges is spent on them, and a further one is needed where they lead. Of both the runs are few, and the clauses that were
--- learned may be.
+-- learned may be. Where it was given up, the search may have spoken of equalities beside it, of terms that functions and arithmetic share.
 abbrev pub Justifies : Limits → Check → Found → Type 0
 Justifies limits c (model i) = IsModelOf c i
 Justifies limits c (proof text) = IsProofOf c text
-Justifies limits c (spent n d learned) = IsSpentOn c limits.conflicts n d learned
-Justifies limits c (strained o k) = IsOverflow o × IsKeptOf limits c k × IsStrained (problem c) (length k.learned) k.exchanges o
+Justifies limits c (spent n d learned) = (p : Problem) × IsProblemOf c p × IsSpentOn p limits.conflicts n d learned
+Justifies limits c (strained o k) =
+    IsOverflow o
+    × ((p : Problem) × IsProblemOf c p × IsKeptOf limits p k × IsStrained p (length k.learned) k.exchanges o)
 Justifies limits c (out_of_pivots n k) =
-    (n ≡ limits.pivots) × IsKeptOf limits c k × ArePivotsSpent (problem c) n (length k.learned) k.exchanges
+    (n ≡ limits.pivots)
+    × ((p : Problem) × IsProblemOf c p × IsKeptOf limits p k × ArePivotsSpent p n (length k.learned) k.exchanges)

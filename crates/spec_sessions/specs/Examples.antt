@@ -1,7 +1,6 @@
 -- Small scripts with what is written for them, where so much was found at their checks.
-use Rattle.std.specs.Prelude.{◌≡◌, refl, ◌^◌, pos, ℕ, Bool, true, false, List, [], ◌∷◌, Ok, Err, codes, if◌then◌else◌}
+use Rattle.std.specs.Prelude.{◌≡◌, refl, ◌^◌, pos, ℕ, true, false, List, [], ◌∷◌, Ok, Err, codes, if◌then◌else◌}
 use Rattle.std.specs.Str.{bytes_eq}
-use Rattle.spec_text.specs.declared.Fault.TheVariants.{UnknownLogic}
 use Rattle.spec_text.specs.Bytes.{among}
 use Rattle.spec_text.specs.Answers.{Answer}
 use Rattle.spec_text.specs.Trees.{Trees, none, more}
@@ -9,13 +8,13 @@ use Rattle.spec_numbers.specs.Fractions.{zero_fraction, whole, gcd, times}
 use Rattle.spec_numbers.specs.Bounds.{Overflow, is_small, fits, multiplied}
 use Rattle.spec_numbers.specs.declared.Op.TheVariants.{Mul}
 use Rattle.spec_sorts.specs.Values.{Value, truth, number, element, Table, Interpretation}
-use Rattle.spec_commands.specs.Stack.{Stack, Effect, done, unsupported, check, say, leave, Taken, all_in_reach, step}
-use Rattle.spec_commands.specs.Checks.{Check, asked, term_limit}
+use Rattle.spec_commands.specs.Stack.{Stack, Effect, done, unsupported, check, say, leave, Taken, step}
+use Rattle.spec_commands.specs.Checks.{Check, term_limit}
 use Rattle.spec_commands.specs.Examples.{lines}
 use Rattle.spec_models.specs.Values.{numeral}
 use Rattle.spec_overflows.specs.Overflows.{IsOverflow}
 use Rattle.spec_sessions.specs.Evidence.{Limits, Kept, Found, proof, strained, out_of_pivots}
-use Rattle.spec_sessions.specs.Responses.{certify, success, not_supported, answered, said, ended, rejected, unreached, Answered, text_for}
+use Rattle.spec_sessions.specs.Responses.{certify, success, not_supported, answered, said, ended, rejected, Answered, text_for}
 
 -- what is meant by default
 abbrev pub limits : Limits
@@ -31,18 +30,13 @@ abbrev pub later_found : List Found → List Found
 later_found [] = []
 later_found (f ∷ fs) = fs
 
--- what a check by the word at an offset is answered, and what those after it are: whether the search reaches what it asks about
-abbrev pub answers_check : Bool → ℕ → Check → List Found → (List Found → List Answered) → List Answered
-answers_check true place c fs rest = record { response = answered (record { check = c; found = next_found fs }); stack = c.stack } ∷ rest (later_found fs)
-answers_check false place c fs rest = record { response = unreached (record { offset = place; fault = UnknownLogic }); stack = c.stack } ∷ rest fs
-
--- what a command that was taken is answered, and what those after it are, where this was found at the checks in reach
+-- what a command that was taken is answered, and what those after it are, where this was found at the checks
 abbrev pub answers_after : Effect → Stack → List Found → (List Found → List Answered) → List Answered
 answers_after done s fs rest = record { response = success; stack = s } ∷ rest fs
 answers_after unsupported s fs rest = record { response = not_supported; stack = s } ∷ rest fs
 answers_after (check place assumptions) s fs rest =
     let c : Check = record { stack = s; assumptions = assumptions } in
-    answers_check (all_in_reach (asked c)) place c fs rest
+    record { response = answered (record { check = c; found = next_found fs }); stack = s } ∷ rest (later_found fs)
 answers_after (say text) s fs rest = record { response = said text; stack = s } ∷ rest fs
 answers_after leave s fs rest = record { response = ended; stack = s } ∷ []
 
@@ -103,8 +97,8 @@ refusals_written = lines (
     codes "(error \"7:1: WrongMode\")" ∷
     codes "sat" ∷ [])
 
--- numbers that are too wide, products and quotients that are not linear, checks over numbers, and one that the search does
--- not reach: it has a function with a parameter that gives a number
+-- numbers that are too wide, products and quotients that are not linear, checks over numbers, and one of a function that
+-- gives a number
 abbrev pub numbers : List ℕ
 numbers = lines (
     codes "(set-option :print-success false)" ∷
@@ -127,7 +121,7 @@ numbers_written = lines (
     codes "sat" ∷
     codes "(error \"7:12: NotLinear\")" ∷
     codes "sat" ∷
-    codes "(error \"10:2: UnknownLogic\")" ∷ [])
+    codes "sat" ∷ [])
 
 -- strings, and the option that is turned off between them
 abbrev pub strings : List ℕ

@@ -1,5 +1,5 @@
 -- What the answers of checks mean. Source: SMT-LIB 2.6, section 4.2.5; that the text of a proof, or of a model, means so much is own.
-use Rattle.std.specs.Prelude.{◌≡◌, ◌≤◌, ◌^◌, ℕ, suc, false, List, [], ◌∷◌, ◌++◌, All, Option, Some, None}
+use Rattle.std.specs.Prelude.{◌≡◌, ◌≤◌, ◌^◌, ℕ, suc, false, List, [], ◌∷◌, ◌++◌, All}
 use Rattle.spec_text.specs.Readings.{is_long}
 use Rattle.spec_text.specs.Trees.{Trees, list, none, more, IsRead}
 use Rattle.spec_sorts.specs.Values.{Interpretation, Interprets}
@@ -82,8 +82,7 @@ pub record Says (limits : Limits) (text : List ℕ) (k : ℕ) (c : Checked) : Ty
   -- which means this
   pub means : Means limits text k c.check c.found
 
--- each of the checks that is decided says so of its own; the first of all has the number k + 1, whether it is decided or not
-abbrev pub AllSay : Limits → List ℕ → ℕ → List (Option Checked) → Type 0
+-- each of the checks says so of its own; the first of all has the number k + 1
+abbrev pub AllSay : Limits → List ℕ → ℕ → List Checked → Type 0
 AllSay limits text k [] = Unit {0}
-AllSay limits text k (None ∷ cs) = AllSay limits text (suc k) cs
-AllSay limits text k (Some c ∷ cs) = Says limits text (suc k) c × AllSay limits text (suc k) cs
+AllSay limits text k (c ∷ cs) = Says limits text (suc k) c × AllSay limits text (suc k) cs

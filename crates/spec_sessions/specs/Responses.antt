@@ -1,13 +1,12 @@
 -- What commands are answered, and what is written for that. Source: SMT-LIB 2.6, sections 3.9 and 4.2; the evidence after an answer is own.
-use Rattle.std.specs.Prelude.{◌≡◌, ◌⊎◌, ℕ, Bool, true, false, List, [], ◌∷◌, ◌++◌, Ok, Err, if◌then◌else◌}
-use Rattle.spec_text.specs.declared.Fault.TheVariants.{UnknownLogic}
+use Rattle.std.specs.Prelude.{◌≡◌, ℕ, Bool, true, false, List, [], ◌∷◌, ◌++◌, Ok, Err, if◌then◌else◌}
 use Rattle.spec_text.specs.Places.{line_of, column_of, name_of}
 use Rattle.spec_text.specs.Faults.{Located}
 use Rattle.spec_text.specs.Answers.{Answer}
 use Rattle.spec_text.specs.Trees.{Tree}
 use Rattle.spec_sorts.specs.Signatures.{symbols_in}
-use Rattle.spec_commands.specs.Stack.{Stack, Effect, done, unsupported, check, say, leave, Taken, signature_of, all_in_reach, step}
-use Rattle.spec_commands.specs.Checks.{Check, asked}
+use Rattle.spec_commands.specs.Stack.{Stack, Effect, done, unsupported, check, say, leave, Taken, signature_of, step}
+use Rattle.spec_commands.specs.Checks.{Check}
 use Rattle.spec_replies.specs.declared.Word.TheVariants.{Success, Unsupported, Sat, Unsat, Unknown}
 use Rattle.spec_replies.specs.Lines.{conflicts, pivots, overflow, error_text, word_line, reason_line}
 use Rattle.spec_models.specs.Models.{model_text}
@@ -34,8 +33,6 @@ pub data Response : Type 0 where
   ended : Response
   -- it was refused, for this fault
   rejected : Located → Response
-  -- it is a check that is not decided, since the search does not reach what it asks about: this is its fault
-  unreached : Located → Response
 
 -- What a command is answered, and what comes after it.
 pub record Answered : Type 0 where
@@ -48,17 +45,11 @@ pub record Answered : Type 0 where
 abbrev pub IsDecided : Limits → Check → Response → Type 0
 IsDecided limits c r = (f : Found) × Justifies limits c f × (r ≡ answered (record { check = c; found = f }))
 
--- a check that a word asks for is not decided: the search does not reach what it asks about, which is a fault at the word
-abbrev pub IsUnreached : Check → ℕ → Response → Type 0
-IsUnreached c place r = (all_in_reach (asked c) ≡ false) × (r ≡ unreached (record { offset = place; fault = UnknownLogic }))
-
 -- what a command that was taken is answered, where this stack comes after it
 abbrev pub Responds : Limits → Stack → Effect → Response → Type 0
 Responds limits s done r = r ≡ success
 Responds limits s unsupported r = r ≡ not_supported
-Responds limits s (check place assumptions) r =
-    let c : Check = record { stack = s; assumptions = assumptions } in
-    IsDecided limits c r ⊎ IsUnreached c place r
+Responds limits s (check place assumptions) r = IsDecided limits (record { stack = s; assumptions = assumptions }) r
 Responds limits s (say text) r = r ≡ said text
 Responds limits s leave r = r ≡ ended
 
@@ -115,16 +106,14 @@ text_for mode text print (answered c) = answer_text c.found ++ shown_text mode c
 text_for mode text print (said s) = string_line s
 text_for mode text print ended = success_by print
 text_for mode text print (rejected f) = fault_text text f
-text_for mode text print (unreached f) = fault_text text f
 
 -- what is written for what a command of a text is answered
 abbrev pub response_text : Mode → List ℕ → Answered → List ℕ
 response_text mode text a = text_for mode text a.stack.options.print_success a.response
 
--- whether the command was refused, or its check is not decided
+-- whether the command was refused
 abbrev pub is_rejected : Response → Bool
 is_rejected (rejected f) = true
-is_rejected (unreached f) = true
 is_rejected _ = false
 
 -- whether the script ends after it

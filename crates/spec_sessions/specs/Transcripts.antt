@@ -6,7 +6,7 @@ use Rattle.spec_text.specs.Trees.{Trees, none, more}
 use Rattle.spec_text.specs.Readings.{kept, IsReadUpTo}
 use Rattle.spec_commands.specs.Stack.{Stack, empty_stack}
 use Rattle.spec_sessions.specs.Evidence.{Limits, Checked}
-use Rattle.spec_sessions.specs.Responses.{Mode, Response, answered, ended, unreached, Answered, Answers, response_text, fault_text, is_rejected, is_end}
+use Rattle.spec_sessions.specs.Responses.{Mode, Response, answered, ended, Answered, Answers, response_text, fault_text, is_rejected, is_end}
 
 -- after a command that ends the script nothing is answered
 abbrev pub Follows : Response → (List Answered → Type 0) → List Answered → Type 0
@@ -81,12 +81,11 @@ pub record IsBegun (limits : Limits) (mode : Mode) (text : List ℕ) (out : List
   pub written : (out ≡ answers_text mode (kept text) answers) ⊎ (Runs limits empty_stack commands answers × (out ≡ answers_text mode (kept text) answers ++ closing_text (kept text) (closing answers end)))
 
 -- a check more in front, where it was one
-abbrev pub with_check : Response → List (Option Checked) → List (Option Checked)
-with_check (answered c) later = Some c ∷ later
-with_check (unreached f) later = None ∷ later
+abbrev pub with_check : Response → List Checked → List Checked
+with_check (answered c) later = c ∷ later
 with_check _ later = later
 
--- the checks in their order, with what was found at each; nothing where one is not decided
-abbrev pub checks_in : List Answered → List (Option Checked)
+-- the checks in their order, with what was found at each
+abbrev pub checks_in : List Answered → List Checked
 checks_in [] = []
 checks_in (a ∷ given) = with_check a.response (checks_in given)

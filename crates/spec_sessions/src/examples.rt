@@ -1,15 +1,10 @@
 //! Worked examples: what is written for the scripts of `specs/Examples.antt`. Each is a function whose contract says
 //! it; it computes nothing.
 
-ghost use Rattle.std.specs.Prelude.{ℕ, true, false, Bool, List, [], ◌∷◌, codes};
-ghost use Rattle.spec_text.specs.Faults.{Located};
-ghost use Rattle.spec_commands.specs.Stack.{Stack};
+ghost use Rattle.std.specs.Prelude.{true, false, Bool, [], codes};
 ghost use Rattle.spec_checking.specs.Examples.{contradiction};
-ghost use Rattle.spec_sessions.specs.Evidence.{Limits, Checked};
-ghost use Rattle.spec_sessions.specs.Responses.{solve, certify, answered, unreached};
+ghost use Rattle.spec_sessions.specs.Responses.{solve, certify};
 ghost use Rattle.spec_sessions.specs.Transcripts.{IsTranscript};
-ghost use Rattle.spec_sessions.specs.Meaning.{Says};
-ghost use Rattle.spec_sessions.specs.Statements.{AnswersSay};
 ghost use Rattle.spec_sessions.specs.Examples.{limits, four, checks_alone, checks_written, refusals, refusals_written};
 ghost use Rattle.spec_sessions.specs.Examples.{numbers, numbers_written, strings, strings_written};
 ghost use Rattle.spec_sessions.specs.Examples.{contradiction_written};
@@ -28,13 +23,6 @@ pub fn refused_commands_are_passed_over()
     ensures names { IsTranscript limits solve refusals refusals_written true }
     ensures numbers { IsTranscript limits solve numbers numbers_written true }
     ensures large { IsTranscript four solve large large_written true }
-{}
-
-/// States that a check which is not decided is counted: what is found at the next one is said of the second.
-pub fn undecided_checks_are_counted()
-    ensures { (l : Limits) (text : List ℕ) (f : Located) (s : Stack) (c : Checked)
-        → AnswersSay l text (record { response = unreached f; stack = s }
-        ∷ record { response = answered c; stack = s } ∷ []) → Says l text 2 c }
 {}
 
 /// States that a string is written as it stands, and `success` while its option is on.

@@ -45,8 +45,8 @@ pub fn what_is_shown_is_so()
     spec_proof_texts::laws::printed_proofs_are_accepted();
 }
 
-/// States that the checks of a transcript are those of the text, the first of them the first, whether they are decided
-/// or not. Each answer says what is so of its check. The same is so of what was begun.
+/// States that the checks of a transcript are those of the text, the first of them the first. Each answer says what is so
+/// of its check. The same is so of what was begun.
 pub fn answers_say_what_is_so()
     ensures whole { (limits : Limits) (mode : Mode) (text out : List ℕ) (refused : Bool)
         → (t : IsTranscript limits mode text out refused) → AnswersSay limits text t.answers }

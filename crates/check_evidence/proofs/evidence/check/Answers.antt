@@ -1,12 +1,11 @@
 -- The stack stands for the same stack, over a table that grew, or was cut back.
 use Rattle.std.proofs.Common.{sym, ap, ◌∙◌, subst}
-use Rattle.spec_derivations.specs.Examples.{asserting}
 use Rattle.term_core.specs.Tables.{clause_at}
 use Rattle.proof_log.specs.Logs.{AreFormulasIn}
 use Rattle.assertion_stack.specs.Stacks.{standing}
 use Rattle.assertion_stack.proofs.Back.{table_back}
-use Rattle.search_loop.specs.Reach.{AreAnswered}
-use Rattle.solve_core.specs.Decisions.{IsJustified}
+use Rattle.search_loop.specs.Answered.{AreAnswered}
+use Rattle.solve_core.specs.Decisions.{IsDecided}
 use Rattle.check_evidence.specs.Evidence.{limits_meant, IsHeld}
 use Rattle.check_evidence.proofs.Asking.{formulas_asked, answered_asked}
 use Rattle.check_evidence.proofs.evidence.check.Goals as goal
@@ -27,7 +26,7 @@ decide-requires-clause-answered c =
     let h = c.requires.held.1 in
     let limit = c.args.limits.now.terms in
     subst (λ ids. AreAnswered (clause_at t ids)) (sym c.as_slice.ensures)
-    (answered_asked limit t c.args.stack.now s h.stack (c.assertions_are_readable.ensures limit s h.kept.stack h.readable) c.requires.reach)
+    (answered_asked limit t c.args.stack.now s h.stack (c.assertions_are_readable.ensures limit s h.kept.stack h.readable))
 
 pub returns-in-Ok-clause-checks : goal.returns-in-Ok-clause-checks
 returns-in-Ok-clause-checks c = λ s h.
@@ -35,7 +34,7 @@ returns-in-Ok-clause-checks c = λ s h.
     let l = c.args.limits.now in
     let d = c.in_ok-outcome.ensures in
     let terms = ap (clause_at t) c.as_slice.ensures ∙ h.stack.terms in
-    let decided = subst (λ us. IsJustified c.decide.new.table (asserting us) l c.in_ok-outcome.outcome) terms d.decided in
+    let decided = subst (λ us. IsDecided c.decide.new.table us l c.in_ok-outcome.outcome) terms d.decided in
     record {
       outcome = c.in_ok-outcome.outcome;
       decided = decided;

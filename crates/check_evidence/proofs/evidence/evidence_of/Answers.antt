@@ -4,7 +4,7 @@ use Rattle.std.proofs.lemmas.List.{append-nil, length-map}
 use Rattle.spec_sorts.specs.Terms.{Term}
 use Rattle.spec_commands.specs.Stack.{signature_of, assertions_of, terms_asserted}
 use Rattle.spec_derivations.specs.Derivations.{IsDerivedFrom}
-use Rattle.spec_derivations.specs.Examples.{asserting}
+use Rattle.spec_derivations.specs.Examples.{speaking}
 use Rattle.spec_proof_texts.specs.Lines.{proof_text}
 use Rattle.spec_proof_texts.specs.Plans.{lines_of, IsPrinted}
 use Rattle.spec_sessions.specs.Evidence.{proof}
@@ -14,7 +14,7 @@ use Rattle.proof_log.specs.Logs.{inference_of, derivation_in}
 use Rattle.spec_readable.specs.Readable.{IsReadableWhole}
 use Rattle.search_loop.specs.Rounds.{HasLogged, HasEvidence}
 use Rattle.check_evidence.specs.Evidence.{check_on}
-use Rattle.check_evidence.proofs.Asking.{asserted_readable}
+use Rattle.check_evidence.proofs.Asking.{asserted_readable, known_readable}
 use Rattle.check_evidence.proofs.Printed.{printed_readable}
 use Rattle.check_evidence.proofs.Showing.{model_shown, reason_shown}
 use Rattle.check_evidence.proofs.evidence.evidence_of.Goals as goal
@@ -24,7 +24,7 @@ returns-in-Sat-clause-shown c = λ limits s kept readable symbols h.
     let t = c.args.table.now in
     let o = c.args.outcome in
     model_shown limits t s symbols o (λ i. c.commands_keep_stacks.ensures.value limits.terms s i kept.stack) c.in-Sat.interp c.in-Sat.is
-    (subst (HasEvidence t (asserting (terms_asserted (assertions_of s))) o.log o.budget) c.in-Sat.is h.evidence)
+    h.beside (subst (HasEvidence t (speaking (terms_asserted (assertions_of s)) h.beside) o.log o.budget) c.in-Sat.is h.justified.evidence)
 
 pub returns-in_ok-plan-in-Unsat-clause-shown : goal.returns-in_ok-plan-in-Unsat-clause-shown
 returns-in_ok-plan-in-Unsat-clause-shown c = λ limits s kept readable symbols h.
@@ -36,32 +36,34 @@ returns-in_ok-plan-in-Unsat-clause-shown c = λ limits s kept readable symbols h
     let n = step.0 in
     let asked = terms_asserted (assertions_of s) in
     let learned = map (map (literal_at t)) o.budget.learned in
-    let shown = subst (HasEvidence t (asserting asked) o.log o.budget) c.in-Unsat.is h.evidence in
-    let steps = subst (λ a. HasLogged (asserting asked) d a learned) c.in-Unsat.is h.learning.logged in
-    let terms = asserted_readable (assertions_of s) (c.assertions_are_readable.ensures limits.terms s kept.stack readable) in
+    let problem = speaking asked h.beside in
+    let j = h.justified in
+    let shown = subst (HasEvidence t problem o.log o.budget) c.in-Unsat.is j.evidence in
+    let steps = subst (λ a. HasLogged problem d a learned) c.in-Unsat.is j.learning.logged in
+    let terms = known_readable asked h.beside (asserted_readable (assertions_of s) (c.assertions_are_readable.ensures limits.terms s kept.stack readable)) h.equalities in
     let printed : (u : Term) → IsPrinted d n u → IsReadableWhole u =
-    printed_readable c.search_makes_readable_terms.ensures.lemmas c.search_makes_readable_terms.ensures.atoms asked terms c.whole_clauses_are_over_whole_terms.ensures d learned h.learning.learns.atoms steps n in
+    printed_readable c.search_makes_readable_terms.ensures.lemmas c.search_makes_readable_terms.ensures.atoms problem terms c.whole_clauses_are_over_whole_terms.ensures d learned j.learning.learns.atoms steps n in
     let planned = c.in_ok-plan-in-Unsat.ensures.plan in
     let is_proof : IsProofOf (check_on s) (proof_text (lines_of t.terms d p)) = record {
       terms = t.terms;
       derivation = d;
-      over = c.logs_are_over_their_terms.ensures t o.log h.log_right;
-      right = h.log_right.right;
+      over = c.logs_are_over_their_terms.ensures t o.log j.log_right;
+      right = j.log_right.right;
       number = n;
       derived = subst (λ us. IsDerivedFrom us d n) (append-nil asked ∙ sym (ap terms_asserted (append-nil (assertions_of s)))) shown.1;
       empty = shown.0;
-      printable = c.terms_are_printable.ensures (signature_of s) o.log n kept.names (λ f i. subst (λ fs. Contains fs f) (sym symbols) i) h.log_right
+      printable = c.terms_are_printable.ensures (signature_of s) o.log n kept.names (λ f i. subst (λ fs. Contains fs f) (sym symbols) i) j.log_right
           (omega (arith, shown.1.there, length-map o.log (inference_of t)))
           (λ u q. let r = printed u q in c.linear_terms_with_decimals_are_readable.ensures u r.0 r.1);
       plan = p;
       planned = planned;
       written = refl;
     } in
-    (proof (proof_text (lines_of t.terms d p)), is_proof, (h.log_right, c.in_ok-plan-in-Unsat.ensures.fits, refl), (step, p, c.in-Unsat.is, planned, refl))
+    (proof (proof_text (lines_of t.terms d p)), is_proof, (j.log_right, c.in_ok-plan-in-Unsat.ensures.fits, refl), (step, p, c.in-Unsat.is, planned, refl))
 
 pub returns-in-Unknown-clause-shown : goal.returns-in-Unknown-clause-shown
 returns-in-Unknown-clause-shown c = λ limits s kept readable symbols h.
     let t = c.args.table.now in
     let o = c.args.outcome in
-    reason_shown limits t s symbols o c.causes_are_overflows.ensures.search h c.in-Unknown.reason c.in-Unknown.is
-    (subst (HasEvidence t (asserting (terms_asserted (assertions_of s))) o.log o.budget) c.in-Unknown.is h.evidence)
+    reason_shown limits t s symbols o h c.causes_are_overflows.ensures.search c.in-Unknown.reason c.in-Unknown.is
+    (subst (HasEvidence t (speaking (terms_asserted (assertions_of s)) h.beside) o.log o.budget) c.in-Unknown.is h.justified.evidence)

@@ -1,11 +1,11 @@
 -- By what the command came to.
-use Rattle.std.proofs.Common.{[], inl, refl, sym, ap, ◌∙◌, subst}
+use Rattle.std.proofs.Common.{[], refl, sym, ap, ◌∙◌, subst}
 use Rattle.spec_commands.specs.Stack.{done, unsupported, check, say, leave}
 use Rattle.spec_sessions.specs.Responses.{success, not_supported, answered, said, ended}
 use Rattle.smt_sexpr.specs.Items.{tree_of}
 use Rattle.assertion_stack.specs.Stacks.{Standing, standing}
 use Rattle.check_evidence.specs.Evidence.{limits_meant, checked_on, IsHeld, IsEvidence}
-use Rattle.smt_session.proofs.Taking.{kept_on, taken_as, unreached_as, back, refused_as, refused_keeps}
+use Rattle.smt_session.proofs.Taking.{kept_on, taken_as, back, refused_as, refused_keeps}
 use Rattle.smt_session.proofs.session.take.Goals as goal
 
 pub returns-in-Ok-Done-clause-takes : goal.returns-in-Ok-Done-clause-takes
@@ -41,23 +41,13 @@ returns-in-Ok-Exit-clause-takes c = λ s h.
     let kept = kept_on c.commands_keep_stacks.ensures.next c.commands_leave_script_names.ensures.next l.terms s x d.0 d.1 h.kept in
     record { a = record { response = ended; stack = d.0.stack }; answers = taken_as l s (tree_of x) ended leave d.0 d.1 d.2 refl; is = refl; asked = tt; held = record { stack = d.3; kept = kept; readable = c.commands_leave_readable_definitions.ensures.next l.terms s (tree_of x) d.0 d.1 h.readable }; learned = tt }
 
-pub check-requires-clause-held : goal.check-requires-clause-held
-check-requires-clause-held c =
+pub check-requires : goal.check-requires
+check-requires c =
     let x = c.args.command.now in
     let terms = c.args.limits.now.terms in
     let h = c.requires.1 in
     let d = rw c.in-Ok-Check.field-0-is at (c.in-Ok-Check.ensures.steps terms c.requires.0 h.stack) in
-    (d.0.stack, record { stack = d.3; kept = kept_on c.commands_keep_stacks.ensures.next c.commands_leave_script_names.ensures.next terms c.requires.0 x d.0 d.1 h.kept; readable = c.commands_leave_readable_definitions.ensures.next terms c.requires.0 (tree_of x) d.0 d.1 h.readable })
-
-pub returns-then-not-are_in_reach-clause-takes : goal.returns-then-not-are_in_reach-clause-takes
-returns-then-not-are_in_reach-clause-takes c = λ s h.
-    let x = c.args.command.now in
-    let l = limits_meant c.args.limits.now in
-    let d = rw c.in-Ok-Check.field-0-is at (c.in-Ok-Check.ensures.steps l.terms s h.stack) in
-    let kept = kept_on c.commands_keep_stacks.ensures.next c.commands_leave_script_names.ensures.next l.terms s x d.0 d.1 h.kept in
-    let far = sym (c.if-not-are_in_reach.ensures.reach l.terms c.command.new.table d.0.stack d.3) in
-    let r = c.unreached_check in
-    unreached_as l s x c.in-Ok-Check.at d.0 (standing c.command.new.table c.command.new.self) c.args.budget.now r.result d.1 d.2 far r.ensures.fault r.ensures.place (r.ensures.offset l.terms s d.0 d.1 d.2) (record { stack = d.3; kept = kept; readable = c.commands_leave_readable_definitions.ensures.next l.terms s (tree_of x) d.0 d.1 h.readable })
+    record { held = (d.0.stack, record { stack = d.3; kept = kept_on c.commands_keep_stacks.ensures.next c.commands_leave_script_names.ensures.next terms c.requires.0 x d.0 d.1 h.kept; readable = c.commands_leave_readable_definitions.ensures.next terms c.requires.0 (tree_of x) d.0 d.1 h.readable }) }
 
 pub returns-in-Ok-clause-takes : goal.returns-in-Ok-clause-takes
 returns-in-Ok-clause-takes c = λ s h.
@@ -71,7 +61,7 @@ returns-in-Ok-clause-takes c = λ s h.
     let evidence = subst (λ b. IsEvidence c.check.new.table b c.in-Ok.evidence k.shown.0) (sym k.budget_is) k.shown.2 in
     record {
       a = record { response = answered found; stack = d.0.stack };
-      answers = taken_as l s (tree_of x) (answered found) (check c.in-Ok-Check.at []) d.0 d.1 d.2 (inl (k.shown.0, k.shown.1, refl {a = answered found}));
+      answers = taken_as l s (tree_of x) (answered found) (check c.in-Ok-Check.field-0-0 []) d.0 d.1 d.2 (k.shown.0, k.shown.1, refl {a = answered found});
       is = (found, evidence, refl {a = answered found});
       asked = refl;
       held = k.held;

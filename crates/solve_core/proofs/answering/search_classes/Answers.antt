@@ -1,16 +1,22 @@
 -- From the beginning to an answer, with the theory of equality and functions.
-use Rattle.std.proofs.Common.{◌≡◌, ◌≢◌, length, map, Contains, ap, ap₂, ◌∙◌, refl, arith}
+use Rattle.std.proofs.Common.{◌≡◌, ◌≢◌, List, length, map, Contains, sym, ap, ap₂, ◌∙◌, refl, arith, subst}
+use Rattle.std.proofs.lemmas.List.Elements.{All-weaker}
 use Rattle.std.specs.Prelude.{replicate}
 use Rattle.spec_numbers.specs.Fractions.{zero_fraction}
 use Rattle.spec_tableaux.specs.Numbers.{numbers}
 use Rattle.spec_sorts.specs.Terms.{Number, Term, sort_of}
 use Rattle.ratio128.specs.Meant.{fraction}
-use Rattle.term_core.specs.Tables.{clause_at}
+use Rattle.term_core.specs.declared.ids.TermId.{TermId}
+use Rattle.term_core.specs.Tables.{IsIn, AreIn, clause_at}
+use Rattle.proof_log.specs.Theories.{IsTermIn}
+use Rattle.congruence_closure.specs.Closure.{TellClasses}
 use Rattle.term_core.proofs.TermsExtend.{Extends-self}
-use Rattle.congruence.specs.Views.{theory_of}
+use Rattle.congruence.specs.Views.{theory_of, AreEqualBy}
 use Rattle.search_loop.specs.declared.cdcl.Answer.TheVariants.{Sat}
 use Rattle.search_loop.proofs.SearchRounds.{shows_on}
+use Rattle.term_core.specs.Symbols.{SymbolsView, AreDeclared}
 use Rattle.solve_core.proofs.SearchNumbers.{plain_later, zeros_hold}
+use Rattle.solve_core.proofs.SearchStops.{rests_with}
 use Rattle.solve_core.proofs.answering.search_classes.Goals as goal
 
 pub returns-in_default-clause-grown : goal.returns-in_default-clause-grown
@@ -21,8 +27,8 @@ unfolding numbers
 zero_is = refl
 
 -- 0 for each term, as none is a number
-pub model-requires-clause-numbers : goal.model-requires-clause-numbers
-model-requires-clause-numbers c =
+pub model-requires : goal.model-requires
+model-requires c =
     let w = c.run.new.table in
     let y = c.run.new.self in
     let t = c.args.table.now in
@@ -32,7 +38,15 @@ model-requires-clause-numbers c =
     let plain : (u : Term) → Contains (clause_at w y.terms.items) u → sort_of u ≢ Number =
     plain_later t w c.run.ensures.grown x y c.requires.begins.2.ready ends.1.terms c.requires.plain in
     let all : c.len.result ≡ length y.terms.items = omega (arith, c.len.ensures, y.terms.ok.0) in
-    zeros_hold w y v _ ends.0 plain _ (ap (map fraction) c.deref-in-Rests.ensures.value ∙ c.in_ok-numbers-in-Rests.ensures ∙ ap₂ replicate all zero_is)
+    let ids = y.terms.items in
+    let ns = c.in_ok-classes-in-Rests.classes.items in
+    let declared = subst (λ (d : SymbolsView). AreDeclared d.sorts d.symbols) c.symbols.ensures c.are_declared.ensures in
+    let there : AreIn w c.deref-in-Rests.result.now = subst (AreIn w) (sym c.deref-in-Rests.ensures.value) (All-weaker (IsTermIn w) (IsIn w) (λ id k. k.0) ids ends.0.ready.atoms_are.there) in
+    let told = c.in_ok-classes-in-Rests.ensures.exact w c.ids_are_unique.ensures declared (rw c.in-Ok-run.is at c.run.ensures.with) there ends.0.agrees.1 in
+    let tell = subst (λ (is : List TermId). TellClasses (AreEqualBy w v) is ns) c.deref-in-Rests.ensures.value told in
+    let count = c.in_ok-classes-in-Rests.ensures.count ∙ ap length c.deref-in-Rests.ensures.value in
+    let zeros = c.in_ok-numbers-in-Rests.ensures ∙ ap₂ replicate all zero_is in
+    record { rested = (v, rests_with w y v (λ a. a.0) ends.0, zeros_hold w y v _ ends.0 plain ns tell count (map fraction c.in_ok-numbers-in-Rests.numbers.items) zeros) }
 
 pub returns-in_ok-model-in-Rests-clause-answered : goal.returns-in_ok-model-in-Rests-clause-answered
 returns-in_ok-model-in-Rests-clause-answered c =

@@ -17,8 +17,10 @@ use Rattle.search_loop.specs.declared.cdcl.Answer.TheVariants.{Unknown}
 use Rattle.search_loop.specs.Rounds.{Shows}
 use Rattle.search_loop.specs.Asking.{state}
 use Rattle.search_loop.specs.Paying.{counted_among, atoms_of, most}
-use Rattle.search_loop.proofs.SearchRounds.{shows_on}
-use Rattle.solve_core.specs.Answering.{IsAnswered, IsStoppedBy}
+use Rattle.solve_core.specs.Answering.{IsStoppedBy}
+use Rattle.solve_core.specs.Ending.{EndsRound, RestsRound}
+use Rattle.solve_core.proofs.SearchRounds.{asked_on}
+use Rattle.solve_core.proofs.SearchEnds.{rested_ends}
 use Rattle.solve_core.proofs.SearchNumbers.{same_terms}
 use Rattle.solve_core.proofs.SearchStops.{watching_stops, watching_paid, no_pivots, numbers_stop, rounds_stop, rounds_paid}
 use Rattle.solve_core.proofs.answering.search_with.Goals as goal
@@ -60,18 +62,24 @@ answer_rested-requires-clause-came c ts among =
     let same = ap (λ us. length (arithmetic_in us)) (same_terms t w ends.1.table x y begun.ready ends.1.terms) in
     (paid.0, subst (λ a. paid.0 ≤ most_runs (length y.budget.learned) a) (sym same) paid.1, paid.2)
 
-pub returns-in-Ok-Rests-clause-answered : goal.returns-in-Ok-Rests-clause-answered
-returns-in-Ok-Rests-clause-answered c =
+pub answer_rested-requires-clause-asked : goal.answer_rested-requires-clause-asked
+answer_rested-requires-clause-asked c =
     let t = c.args.table.now in
     let w = c.run-ended.new.table in
     let x = c.args.search.now in
     let y = c.run-ended.new.self in
     let ends = rw c.in-Ok-Rests.field-0-is at c.in-Ok-Rests.ensures.ends in
-    IfOk-weaker c.answer_rested.result (Shows w w y y) (IsAnswered (state t x) (state w y)) (λ a shows. record {
-      right = c.in-Ok-Rests.ensures.right;
-      limits = c.in-Ok-Rests.ensures.limits;
-      shows = shows_on t w w x y y a ends.1 shows;
-    }) c.answer_rested.ensures.answered
+    (c.requires.asked.0, asked_on t w ends.1.table c.args.shared.now c.requires.asked.0 x y (ends.1.search c.requires.asked.0) c.requires.asked.1)
+
+pub returns-in-Ok-Rests-clause-ends : goal.returns-in-Ok-Rests-clause-ends
+returns-in-Ok-Rests-clause-ends c =
+    let t = c.args.table.now in
+    let w = c.run-ended.new.table in
+    let x = c.args.search.now in
+    let y = c.run-ended.new.self in
+    let ends = rw c.in-Ok-Rests.field-0-is at c.in-Ok-Rests.ensures.ends in
+    IfOk-weaker c.answer_rested.result (RestsRound w y c.args.shared.now) (EndsRound (state t x) (state w y) c.args.shared.now) (rested_ends t w x y ends.1 c.in-Ok-Rests.ensures.right c.args.shared.now)
+    c.answer_rested.ensures.ends
 
 pub returns-in-Ok-Rests-clause-stopped : goal.returns-in-Ok-Rests-clause-stopped
 returns-in-Ok-Rests-clause-stopped c =

@@ -12,9 +12,6 @@ use Rattle.term_core.specs.declared.ids.TermId.{TermId}
 use Rattle.term_core.specs.Symbols.{SymbolsView, AreDeclared}
 use Rattle.term_core.specs.Tables.{term_at, clause_at, literal_at}
 use Rattle.term_clauses.specs.SpokenTerms.{AreRising}
-use Rattle.proof_log.specs.Theories.{IsTermIn}
-use Rattle.congruence_closure.specs.Closure.{TellClasses}
-use Rattle.congruence.specs.Views.{theory_of, AreEqualBy}
 use Rattle.search_model.specs.Models.{IsModelOf}
 use Rattle.search_loop.specs.declared.cdcl.Answer.TheVariants.{Sat}
 use Rattle.search_loop.specs.Rounds.{Shows}
@@ -24,60 +21,65 @@ use Rattle.solve_core.proofs.SearchModelled.{given, taken, rests, nothing_assume
 use Rattle.solve_core.proofs.modelling.model.Goals as goal
 
 pub model_of-requires-clause-rising : goal.model_of-requires-clause-rising
-model_of-requires-clause-rising c = subst AreRising (sym c.deref-2.ensures.value) c.requires.rested.ready.atoms_are.rising
+model_of-requires-clause-rising c = subst AreRising (sym c.deref.ensures.value) c.requires.rested.1.ready.atoms_are.rising
 
 pub model_of-requires-clause-closed : goal.model_of-requires-clause-closed
-model_of-requires-clause-closed c = subst (λ (ids : List TermId). IsClosed (clause_at c.args.table.now ids)) (sym c.deref-2.ensures.value) c.requires.rested.ready.atoms_are.closed
+model_of-requires-clause-closed c = subst (λ (ids : List TermId). IsClosed (clause_at c.args.table.now ids)) (sym c.deref.ensures.value) c.requires.rested.1.ready.atoms_are.closed
 
 pub model_of-requires-clause-known : goal.model_of-requires-clause-known
-model_of-requires-clause-known c = subst (λ (ids : List TermId). All (λ (id : TermId). id.0 < c.args.search.now.trail.vars) ids) (sym c.deref-2.ensures.value) c.requires.rested.ready.variables
+model_of-requires-clause-known c = subst (λ (ids : List TermId). All (λ (id : TermId). id.0 < c.args.search.now.trail.vars) ids) (sym c.deref.ensures.value) c.requires.rested.1.ready.variables
 
 pub model_of-requires-clause-literals : goal.model_of-requires-clause-literals
 model_of-requires-clause-literals c = λ k d lt.
     let ls = c.args.search.now.trail.literals in
-    held_in c.args.table.now c.args.search.now c.requires.rested.ready (get_or ls k d) (Contains-get_or ls k d lt)
+    held_in c.args.table.now c.args.search.now c.requires.rested.1.ready (get_or ls k d) (Contains-get_or ls k d lt)
 
--- there is a number for each term
+-- there is a class for each term
+pub model_of-requires-clause-classes : goal.model_of-requires-clause-classes
+model_of-requires-clause-classes c = ap length c.deref-2.ensures.value ∙ c.requires.rested.2.values.count ∙ sym (ap length c.deref.ensures.value)
+
+-- and a number
 pub model_of-requires-clause-numbers : goal.model_of-requires-clause-numbers
 model_of-requires-clause-numbers c =
     let t = c.args.table.now in
-    let k = c.requires.numbers in
+    let k = c.requires.rested.2.values in
     let ids = c.args.search.now.terms.items in
-    let are : length c.args.numbers.now ≡ length ids = sym (length-map c.args.numbers.now fraction) ∙ ap length k.are ∙ length-map (clause_at t ids) k.number ∙ length-map ids (term_at t) in
-    are ∙ sym (ap length c.deref-2.ensures.value)
+    let ns = c.args.said.now.numbers.items in
+    let are : length ns ≡ length ids = sym (length-map ns fraction) ∙ ap length k.are ∙ length-map (clause_at t ids) k.number ∙ length-map ids (term_at t) in
+    ap length c.deref-3.ensures.value ∙ are ∙ sym (ap length c.deref.ensures.value)
 
 pub returns : goal.returns
 returns c =
     let t = c.args.table.now in
     let x = c.args.search.now in
-    let h = c.requires.rested in
-    let k = c.requires.numbers in
-    let v = theory_of c.args.congruence.now in
+    let v = c.requires.rested.0 in
+    let h = c.requires.rested.1 in
+    let k = c.requires.rested.2 in
+    let number = k.values.number in
     let ids = x.terms.items in
-    let ns = c.in_ok-classes.classes.items in
+    let ns = c.args.said.now.classes.items in
     let terms = clause_at t ids in
     let ls = x.trail.literals in
     let held : List Literal = map (literal_at t) ls in
-    let kept : All (HoldsAt k.number) held = subst (All (HoldsAt k.number)) (ap (map (literal_at t)) h.held) k.hold in
+    let kept : All (HoldsAt number) held = subst (All (HoldsAt number)) (ap (map (literal_at t)) h.held) k.values.hold in
     let declared = subst (λ (d : SymbolsView). AreDeclared d.sorts d.symbols) c.symbols.ensures c.are_declared.ensures in
     let differ = c.ids_are_unique.ensures in
     let consistent = c.is_sound.ensures.consistent in
-    let tell : TellClasses (AreEqualBy t v) ids ns = subst (λ (is : List TermId). TellClasses (AreEqualBy t v) is ns) c.deref.ensures.value
-    (c.in_ok-classes.ensures.exact t differ declared c.requires.with (λ n d lt. (subst (λ (is : List TermId). All (IsTermIn t) is) (sym c.deref.ensures.value) h.ready.atoms_are.there n d lt).0) h.agrees.1) in
-    IfOk-weaker c.model_of.result (IsModelOf t ls c.deref-2.result.now c.deref-3.result.now (map fraction c.args.numbers.now)) (λ interp. Shows t t x x (Sat interp)) (λ interp m problem s.
-    let one : IsModelOf t ls ids c.deref-3.result.now (map fraction c.args.numbers.now) interp = subst (λ (is : List TermId). IsModelOf t ls is c.deref-3.result.now (map fraction c.args.numbers.now) interp) c.deref-2.ensures.value m in
-    let two : IsModelOf t ls ids ns (map fraction c.args.numbers.now) interp = subst (λ (ks : List ℕ). IsModelOf t ls ids ks (map fraction c.args.numbers.now) interp) c.deref-3.ensures.value one in
-    let good : IsModelOf t ls ids ns (map k.number terms) interp = subst (λ (qs : List Fraction). IsModelOf t ls ids ns qs interp) k.are two in
+    let tell = k.values.tell in
+    let of_numbers = map fraction c.deref-3.result.now in
+    IfOk-weaker c.model_of.result (IsModelOf t ls c.deref.result.now c.deref-2.result.now of_numbers) (λ interp. Shows t t x x (Sat interp)) (λ interp m problem s.
+    let one : IsModelOf t ls ids c.deref-2.result.now of_numbers interp = subst (λ (is : List TermId). IsModelOf t ls is c.deref-2.result.now of_numbers interp) c.deref.ensures.value m in
+    let two : IsModelOf t ls ids ns of_numbers interp = subst (λ (is : List ℕ). IsModelOf t ls ids is of_numbers interp) c.deref-2.ensures.value one in
+    let good : IsModelOf t ls ids ns (map number terms) interp = subst (λ (qs : List Fraction). IsModelOf t ls ids ns qs interp) (ap (map fraction) c.deref-3.ensures.value ∙ k.values.are) two in
     let place = c.listed_terms_have_their_places_class.ensures in
-    let far = c.functions_in_reach_keep_numbers_apart.ensures in
     let linear = c.terms_of_linear_checks_are_linear.ensures in
-    let g = given t differ x v _ h consistent h.agrees.0 ns tell problem s place far linear k.number k.reduced kept in
-    let resting = rests t differ x v _ h consistent h.agrees.0 ns tell problem s place far linear k.number k.reduced kept in
-    let arguments = taken t differ x v _ h consistent h.agrees.0 ns tell problem s place far linear k.number k.reduced kept in
-    let assumed = nothing_assumed t differ x v _ h consistent h.agrees.0 ns tell problem s in (
-      has_model t differ x v _ h consistent h.agrees.0 ns tell problem s place far linear k.number k.reduced kept interp good
-          (c.made_models_stand.ensures.stands t ls ids ns (map k.number terms) interp declared.names_apart good)
-          (c.made_models_are_those_of_numbers.ensures t ls ids ns k.number interp arguments good)
+    let g = given t differ x v _ h consistent h.agrees ns tell problem s place linear number k.values.reduced kept in
+    let resting = rests t differ x v _ h consistent h.agrees ns tell problem s place linear number k.values.reduced kept k.shared k.shares k.heads k.agree in
+    let arguments = taken t differ x v _ h consistent h.agrees ns tell problem s place linear number k.values.reduced kept k.shared k.shares k.heads k.agree in
+    let assumed = nothing_assumed t differ x v _ h consistent h.agrees ns tell problem s in (
+      has_model t differ x v _ h consistent h.agrees ns tell problem s place linear number k.values.reduced kept interp good
+          (c.made_models_stand.ensures.stands t ls ids ns (map number terms) interp declared.names_apart good)
+          (c.made_models_are_those_of_numbers.ensures t ls ids ns number interp arguments good)
           (λ i by. c.searches_that_rest_on_numbers_have_models.ensures.interprets t.symbols problem terms held g i resting by)
           (λ i by. c.searches_that_rest_on_numbers_have_models.ensures.all t.symbols problem terms held g i resting by assumed),
       learning_shows t problem x (Sat interp) (λ steps. steps) h.ready.right s,

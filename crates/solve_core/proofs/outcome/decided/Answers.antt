@@ -1,22 +1,22 @@
--- That the answer shows what it should of the problem.
-use Rattle.std.proofs.Common.{◌≡◌, true, ◌∙◌, inl, inr}
-use Rattle.std.proofs.lemmas.List.Elements.{All-nil}
+-- That the rounds end in a decision.
+use Rattle.std.proofs.Common.{List, [], inl, refl, sym, subst}
+use Rattle.std.proofs.lemmas.List.{append-nil}
+use Rattle.spec_sorts.specs.Terms.{Term}
+use Rattle.spec_sorts.specs.Subterms.{subterms_of}
+use Rattle.term_core.specs.declared.ids.TermId.{TermId}
+use Rattle.solve_core.specs.Sharing.{AreSharedOf}
+use Rattle.solve_core.specs.Rounds.{IsOpenFor}
 use Rattle.std.proofs.lemmas.Result.{IfOk-weaker}
-use Rattle.spec_arithmetic.specs.Numbers.{IsLinear}
-use Rattle.spec_commands.specs.Stack.{is_in_reach}
+use Rattle.std.proofs.lemmas.List.Elements.{All-nil}
+use Rattle.spec_causes.specs.Shared.{IsSharedEquality}
+use Rattle.spec_derivations.specs.Problems.{subterms_in}
 use Rattle.spec_derivations.specs.Examples.{asserting}
 use Rattle.term_core.specs.Tables.{clause_at}
-use Rattle.term_core.proofs.TermsExtend.{Extends-self}
-use Rattle.solve_core.specs.Decisions.{IsJustified, IsStrainedBy}
+use Rattle.term_core.proofs.TermsExtend.{Extends-self, Extends-trans, clause_at-kept}
+use Rattle.solve_core.specs.Decisions.{IsDecided, IsStrainedBy}
 use Rattle.solve_core.proofs.SearchStrained.{strained_justified}
+use Rattle.solve_core.proofs.SearchRounds.{open_first}
 use Rattle.solve_core.proofs.outcome.decided.Goals as goal
-
--- nothing stands beside the terms
-pub begin-requires-clause-answered_beside : goal.begin-requires-clause-answered_beside
-begin-requires-clause-answered_beside c = record { reached = All-nil (λ u. is_in_reach u ≡ true); linear = All-nil IsLinear }
-
-pub returns-in_err-wide-clause-grown : goal.returns-in_err-wide-clause-grown
-returns-in_err-wide-clause-grown c = Extends-self c.args.table.now
 
 pub returns-in-Some-clause-grown : goal.returns-in-Some-clause-grown
 returns-in-Some-clause-grown c = Extends-self c.args.table.now
@@ -24,31 +24,41 @@ returns-in-Some-clause-grown c = Extends-self c.args.table.now
 pub returns-in-Some-clause-decided : goal.returns-in-Some-clause-decided
 returns-in-Some-clause-decided c =
     let t = c.args.table.now in
-    let p = asserting (clause_at t c.args.roots.now) in
+    let ts = clause_at t c.args.roots.now in
     let limits = c.args.limits.now in
     let found = rw c.in-Some.is at c.in_ok-wide.ensures in
-    IfOk-weaker c.strained.result (IsStrainedBy limits c.in-Some.wide) (IsJustified t p limits) (λ d by. strained_justified t p limits (c.empty_logs_are_right.ensures t) c.in-Some.wide d by (inl found)) c.strained.ensures
+    IfOk-weaker c.strained.result (IsStrainedBy limits c.in-Some.wide) (IsDecided t ts limits) (λ d by. record {
+      beside = [];
+      equalities = All-nil (IsSharedEquality (subterms_in (asserting ts)));
+      justified = strained_justified t (asserting ts) limits (c.empty_logs_are_right.ensures t) c.in-Some.wide d by (inl found);
+    }) c.strained.ensures
 
-pub returns-in-Err-Wide-clause-decided : goal.returns-in-Err-Wide-clause-decided
-returns-in-Err-Wide-clause-decided c =
+pub returns-in_err-wide-clause-grown : goal.returns-in_err-wide-clause-grown
+returns-in_err-wide-clause-grown c = Extends-self c.args.table.now
+
+pub returns-in_err-shared-clause-grown : goal.returns-in_err-shared-clause-grown
+returns-in_err-shared-clause-grown c = Extends-self c.args.table.now
+
+pub rounds-init : goal.rounds-init
+rounds-init c =
     let t = c.args.table.now in
-    let u = c.begin.new.table in
-    let p = asserting (clause_at t c.args.roots.now) in
-    let limits = c.args.limits.now in
-    let found = rw c.in-Err-Wide.field-0-is at (rw c.in-Err-Wide.is at c.begin.ensures.wide) in
-    IfOk-weaker c.strained-in-Err-Wide.result (IsStrainedBy limits c.in-Err-Wide.wide) (IsJustified u p limits) (λ d by. strained_justified u p limits (c.empty_logs_are_right.ensures u) c.in-Err-Wide.wide d by (inr (rw c.in_default.is at c.in_ok-wide.ensures, found))) c.strained-in-Err-Wide.ensures
-
-pub returns-clause-decided : goal.returns-clause-decided
-returns-clause-decided c =
-    let begun = rw c.in-Ok.is at c.begin.ensures.begins in
-    let answered = c.in_ok-answer.ensures.answered in
-    let shown = answered.shows (asserting (clause_at c.args.table.now c.args.roots.now)) begun.search in
+    let roots = c.args.roots.now in
+    let ids = c.in_ok-shared.shared.items in
+    let ts = clause_at t roots in
+    let forms = rw c.in_default.is at c.in_ok-wide.ensures in
+    let shared = subst (λ (us : List Term). AreSharedOf t (subterms_of us) ids) (sym (append-nil ts)) c.in_ok-shared.ensures in
     record {
-      log_right = answered.right;
-      limits_are = (answered.limits.0 ∙ begun.limits_are.0, answered.limits.1 ∙ begun.limits_are.1);
-      within = c.is_within.ensures.exchanges;
-      learned_within = c.is_within.ensures.learned;
-      forms = inl (rw c.in_default.is at c.in_ok-wide.ensures);
-      evidence = shown.0;
-      learning = shown.1;
+      grown = Extends-self t;
+      declared = refl;
+      ready = subst (λ (bs : List TermId). IsOpenFor roots ids (record { table = t; beside = bs })) (sym c.new.ensures.items) (open_first roots ids t c.requires.roots c.requires.answered forms shared);
     }
+
+pub returns-in-Some-2-clause-decided : goal.returns-in-Some-2-clause-decided
+returns-in-Some-2-clause-decided c =
+    let t = c.args.table.now in
+    let u = c.round.new.table in
+    let roots = c.args.roots.now in
+    let d = c.in-Some-2.outcome in
+    let limits = c.args.limits.now in
+    let same = clause_at-kept t u (Extends-trans t c.rounds.table u c.rounds.invariant.grown c.round.ensures.grown) roots (λ k e lt. (c.requires.roots k e lt).0) in
+    subst (λ ts. IsDecided u ts limits d) same (rw c.in-Some-2.is at c.in_ok-outcome.ensures.round)

@@ -1,5 +1,5 @@
 -- What is written for checks of nothing.
-use Rattle.std.proofs.Common.{Some, None, [], ◌∷◌, All, refl, arith}
+use Rattle.std.proofs.Common.{None, [], ◌∷◌, All, refl, arith}
 use Rattle.std.proofs.lemmas.List.Elements.{All-nil, All-cons}
 use Rattle.spec_text.specs.Readings.{IsReadUpTo}
 use Rattle.spec_sorts.specs.Written.{trees_in}
@@ -26,7 +26,7 @@ read = record { rest = []; trees = record { split = refl; within = omega arith }
 
 justified : All (IsJustified limits) (checks_in (answers_of limits empty_stack (trees_in checks_alone) (model tables ∷ model tables ∷ [])))
 unfolding commands_on_literals answers_of
-justified = All-cons (IsJustified limits) (Some nothing) (Some nothing ∷ []) nothing_asked (All-cons (IsJustified limits) (Some nothing) [] nothing_asked (All-nil (IsJustified limits)))
+justified = All-cons (IsJustified limits) nothing (nothing ∷ []) nothing_asked (All-cons (IsJustified limits) nothing [] nothing_asked (All-nil (IsJustified limits)))
 
 pub returns-clause-checks : goal.returns-clause-checks
 unfolding commands_on_literals answers_of

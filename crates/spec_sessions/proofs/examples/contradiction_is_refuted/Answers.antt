@@ -2,8 +2,8 @@
 use Rattle.std.proofs.Common.{◌≡◌, true, [], ◌∷◌, All, Option, Some, None, refl, sym, subst}
 use Rattle.spec_sorts.specs.Written.{trees_in}
 use Rattle.spec_sorts.specs.Signatures.{is_some}
-use Rattle.spec_commands.specs.Stack.{empty_stack, all_in_reach}
-use Rattle.spec_commands.specs.Checks.{Check, asked, term_limit, current_at}
+use Rattle.spec_commands.specs.Stack.{empty_stack}
+use Rattle.spec_commands.specs.Checks.{Check, term_limit, current_at}
 use Rattle.spec_commands.specs.OnLiterals.{commands_on_literals}
 use Rattle.spec_checking.specs.Examples.{contradiction, check_or_none, the_check}
 use Rattle.spec_checking.specs.ProofTexts.{contradiction_is_read}
@@ -31,15 +31,11 @@ is_there : is_some (current_at term_limit empty_stack 1 (trees_in contradiction)
 unfolding commands_on_literals
 is_there = refl
 
-is_reached : all_in_reach (asked the_check) ≡ true
-unfolding commands_on_literals
-is_reached = refl
-
 justified : All (IsJustified limits) (checks_in (answers_of limits empty_stack (trees_in contradiction) (found ∷ [])))
 unfolding commands_on_literals answers_of
 justified =
-    let first = first_check limits empty_stack (trees_in contradiction) (found ∷ []) the_check (there (current_at term_limit empty_stack 1 (trees_in contradiction)) is_there) is_reached in
-    one_check limits (checks_in (answers_of limits empty_stack (trees_in contradiction) (found ∷ []))) refl (subst (λ c. IsJustified limits (Some c)) (sym first) shown)
+    let first = first_check limits empty_stack (trees_in contradiction) (found ∷ []) the_check (there (current_at term_limit empty_stack 1 (trees_in contradiction)) is_there) in
+    one_check limits (checks_in (answers_of limits empty_stack (trees_in contradiction) (found ∷ []))) refl (subst (IsJustified limits) (sym first) shown)
 
 pub returns : goal.returns
 unfolding commands_on_literals answers_of numeral

@@ -1,6 +1,5 @@
 -- That what is false is not answered `sat`.
-use Rattle.std.proofs.Common.{◌≡◌, ℕ, true, false, None, List, [], ◌∷◌, ◌++◌, inl, inr, refl, sym, subst, arith}
-use Rattle.std.proofs.lemmas.Bool.{false≢true}
+use Rattle.std.proofs.Common.{◌≡◌, ℕ, true, false, None, List, [], ◌∷◌, ◌++◌, refl, sym, subst, arith}
 use Rattle.std.specs.Prelude.{codes, flat_map}
 use Rattle.spec_text.specs.declared.Kind.TheVariants.{Simple, Reserved}
 use Rattle.spec_text.specs.Readings.{kept, IsReadUpTo}
@@ -51,8 +50,7 @@ none_found (out_of_pivots n k) shown xs ys e = cc
 
 at_check : (r : Response) (s : Stack) (xs ys : List ℕ) → Answers limits asserted check (record { response = r; stack = s }) → codes "success\nsat\n" ≡ codes "success\n" ++ ((response_text solve (kept false_asserted) (record { response = r; stack = s }) ++ xs) ++ ys) → ⊥
 unfolding commands_on_literals
-at_check r s xs ys (inr (far, is), _) e = absurd (false≢true (sym far))
-at_check r s xs ys (inl (f, shown, is), _) e = none_found f shown xs ys (subst (λ (x : Response). codes "success\nsat\n" ≡ codes "success\n" ++ ((response_text solve (kept false_asserted) (record { response = x; stack = s }) ++ xs) ++ ys)) is e)
+at_check r s xs ys ((f, shown, is), _) e = none_found f shown xs ys (subst (λ (x : Response). codes "success\nsat\n" ≡ codes "success\n" ++ ((response_text solve (kept false_asserted) (record { response = x; stack = s }) ++ xs) ++ ys)) is e)
 
 behind : (given : List Answered) (ys : List ℕ) → Runs limits asserted (more check none) given → codes "success\nsat\n" ≡ written_for (record { response = success; stack = asserted } ∷ given) ++ ys → ⊥
 unfolding Runs

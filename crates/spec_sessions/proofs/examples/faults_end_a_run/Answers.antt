@@ -1,5 +1,5 @@
 -- What is written after a fault of a text.
-use Rattle.std.proofs.Common.{◌≡◌, ℕ, ◌+◌, ◌<◌, List, [], ◌∷◌, ◌++◌, Some, inl, refl, ap, arith}
+use Rattle.std.proofs.Common.{◌≡◌, ℕ, ◌+◌, ◌<◌, List, [], ◌∷◌, ◌++◌, Some, refl, ap, arith}
 use Rattle.std.specs.Fmt.{digits}
 use Rattle.spec_text.specs.declared.Fault.TheVariants.{StrayClose}
 use Rattle.spec_text.specs.Lexemes.{Lexeme, opens, closes, word}
@@ -40,7 +40,7 @@ returns c = record {
   end = Some fault;
   read = record { rest = (12, closes) ∷ []; trees = record { split = refl; within = omega arith }; stop = Some fault; stops = broken; is = refl };
   answers = record { response = answered nothing; stack = begun empty_stack } ∷ [];
-  runs = ((inl (model tables, nothing_asked, refl), refl), refl);
+  runs = (((model tables, nothing_asked, refl), refl), refl);
   written = refl;
   told = refl;
 }

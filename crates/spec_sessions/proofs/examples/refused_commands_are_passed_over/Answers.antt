@@ -1,5 +1,5 @@
 -- What is written for refused commands.
-use Rattle.std.proofs.Common.{true, Option, None, List, [], ◌∷◌, All, refl, arith}
+use Rattle.std.proofs.Common.{true, None, List, [], ◌∷◌, All, refl, arith}
 use Rattle.std.specs.Fmt.{digits}
 use Rattle.std.proofs.lemmas.List.Elements.{All-from_recursion}
 use Rattle.spec_text.specs.Readings.{IsReadUpTo}
@@ -43,11 +43,11 @@ numbers_read : IsReadUpTo numbers (trees_in numbers) None
 unfolding commands_on_literals
 numbers_read = record { rest = []; trees = record { split = refl; within = omega arith }; stop = None; stops = refl; is = refl }
 
--- what was found at the two of its checks that are decided
+-- what was found at its three checks
 abbrev numbers_found : List Found
-numbers_found = model tables ∷ model tables ∷ []
+numbers_found = model tables ∷ model tables ∷ model tables ∷ []
 
-abbrev numbers_checks : List (Option Checked)
+abbrev numbers_checks : List Checked
 numbers_checks = checks_in (answers_of limits empty_stack (trees_in numbers) numbers_found)
 
 -- at the first a number is declared
@@ -72,9 +72,20 @@ second_model = record {
   each = All-from_recursion (IsTrueUnder tables (signature_of numbers_second.check.stack)) (asked numbers_second.check) (refl {a = truth true}, tt);
 }
 
+-- at the third a function gives one
+abbrev numbers_third : Checked
+numbers_third = first_of (after_first (after_first numbers_checks))
+
+third_model : IsModelOf numbers_third.check tables
+unfolding commands_on_literals answers_of value_of gcd times inverse opposite compare
+third_model = record {
+  interprets = All-from_recursion (λ s. IsTableOf s (tables.table s.name)) (symbols_in (signature_of numbers_third.check.stack)) (bare zero-reduced, (bare zero-reduced, tt));
+  each = All-from_recursion (IsTrueUnder tables (signature_of numbers_third.check.stack)) (asked numbers_third.check) (refl {a = truth true}, (refl {a = truth true}, tt));
+}
+
 numbers_justified : All (IsJustified limits) numbers_checks
 unfolding commands_on_literals answers_of
-numbers_justified = All-from_recursion (IsJustified limits) numbers_checks (first_model, (second_model, (tt, tt)))
+numbers_justified = All-from_recursion (IsJustified limits) numbers_checks (first_model, (second_model, (third_model, tt)))
 
 pub returns-clause-numbers : goal.returns-clause-numbers
 unfolding commands_on_literals answers_of digits

@@ -5,12 +5,8 @@ use Rattle.smt_sexpr.specs.Items.{tree_meant}
 use Rattle.term_reader.specs.Names.{setting_meant}
 use Rattle.sort_check.specs.Reads.{room_meant, store}
 use Rattle.assertion_stack.specs.Stacks.{standing, IsStack}
-use Rattle.assertion_stack.proofs.Reaching.{marks_kept}
 use Rattle.assertion_stack.proofs.Stacks.{assert_done, assert_fails, named, one_asserted}
 use Rattle.assertion_stack.proofs.stack.Stack.assert.Goals as goal
-
-pub add_written-requires-clause-marks : goal.add_written-requires-clause-marks
-add_written-requires-clause-marks c = marks_kept c.args.table.now c.term.new.table c.in-Ok.ensures.grows.keeps.extends c.args.self.now.reached c.requires.2.reached
 
 pub returns-in-Ok-add_written-clause-performs : goal.returns-in-Ok-add_written-clause-performs
 returns-in-Ok-add_written-clause-performs c limit s h =
@@ -25,8 +21,8 @@ returns-in-Ok-add_written-clause-performs c limit s h =
       did next,
       assert_done limit c.args.at s tree (room_meant c.room-room.result) (setting_meant c.in_script.result) room c.in_script.ensures r.reading r.read,
       refl,
-      subst (λ z. IsStack limit (standing t z) next) (sym added.2)
-          (one_asserted limit t y (with_definitions s r.reading.made) tree r.reading.term c.in-Ok.id added.0 (named limit c.args.table.now t x s c.term.new.scope r.reading.made h c.in-Ok.ensures.grows.keeps r.stands) r.term added.1),
+      subst (λ z. IsStack limit (standing t z) next) (sym added)
+          (one_asserted limit t y (with_definitions s r.reading.made) tree r.reading.term c.in-Ok.id (named limit c.args.table.now t x s c.term.new.scope r.reading.made h c.in-Ok.ensures.grows.keeps r.stands) r.term),
     )
 
 pub returns-in-Err-clause-performs : goal.returns-in-Err-clause-performs

@@ -1,0 +1,38 @@
+-- How a round of the search ends: with an answer, or with pairs of terms on which the theories do not agree.
+use Rattle.std.specs.Prelude.{◌≡◌, List, Result, Ok, Err}
+use Rattle.spec_derivations.specs.Problems.{Problem}
+use Rattle.world_io.specs.declared.bytes.NoMemory.{NoMemory}
+use Rattle.term_core.specs.declared.ids.TermId.{TermId}
+use Rattle.term_core.specs.Tables.{TableView}
+use Rattle.sat_budget.specs.declared.limits.Stop.{Stop}
+use Rattle.sat_budget.specs.declared.limits.Stop.TheVariants as stops
+use Rattle.sat_budget.specs.declared.limits.Reason.TheVariants as reasons
+use Rattle.search_loop.specs.declared.search.Search.{Search}
+use Rattle.search_loop.specs.declared.cdcl.Answer.{Answer}
+use Rattle.search_loop.specs.declared.cdcl.Answer.TheVariants.{Unknown}
+use Rattle.search_loop.specs.Rounds.{Shows}
+use Rattle.search_loop.specs.Asking.{State, state}
+use Rattle.solve_core.specs.declared.answering.Round.{Round}
+use Rattle.solve_core.specs.declared.answering.Round.TheVariants.{Answered, Differ}
+use Rattle.solve_core.specs.Sharing.{IsAskedOf, AreOpen}
+use Rattle.solve_core.specs.Answering.{IsAnswered}
+
+-- P is so of the answer; or the pairs are open, whatever problem with equalities of shared terms beside was asked before
+abbrev pub Ends : (old new : State) → List TermId → (Answer → Type 0) → Round → Type 0
+Ends old new ids P (Answered a) = P a
+Ends old new ids P (Differ pairs) = (p : Problem) → IsAskedOf old.table ids p old.search → AreOpen new.table ids p pairs.items
+
+-- the answer is shown
+abbrev pub EndsRound : (old new : State) → List TermId → Round → Type 0
+EndsRound old new ids = Ends old new ids (IsAnswered old new)
+
+-- so it is where the search rests
+abbrev pub RestsRound : TableView → Search → List TermId → Round → Type 0
+RestsRound t x ids = Ends (state t x) (state t x) ids (Shows t t x x)
+
+-- what is answered to a stop: its reason, or that memory ran out
+abbrev pub Answers : Stop → Result Round NoMemory → Type 0
+Answers (stops.Strained s) (Ok r) = r ≡ Answered (Unknown (reasons.Overflow s))
+Answers (stops.Pivots n) (Ok r) = r ≡ Answered (Unknown (reasons.Pivots n))
+Answers stops.Memory (Err e) = Unit {0}
+Answers stop result = ⊥

@@ -1,0 +1,113 @@
+//! Whether the theories agree where a search rests.
+
+ghost use Rattle.std.specs.Prelude.{◌≡◌, ◌+◌, ◌++◌, length, map, IfOk, IfErr};
+ghost use Rattle.spec_derivations.specs.Problems.{Problem};
+ghost use Rattle.ratio128.specs.Meant.{fraction};
+ghost use Rattle.sat_budget.specs.Budgets.{StopsBy};
+ghost use Rattle.proof_log.specs.Theories.{terms_watched, literals_held};
+ghost use Rattle.congruence_relation.specs.Relation.{AreOf};
+ghost use Rattle.congruence.specs.Views.{theory_of};
+ghost use Rattle.simplex.specs.Checks.{Suits};
+ghost use Rattle.simplex.specs.Coming.{IsStrainAt};
+ghost use Rattle.search_loop.specs.Asking.{HasRested};
+ghost use Rattle.solve_core.specs.Answering.{AgreeBoth};
+ghost use Rattle.solve_core.specs.Sharing.{IsAskedOf};
+ghost use Rattle.solve_core.specs.Agreeing.{AreSaid, FindsAgreement};
+
+use crate::modelling::Said;
+use agreement::{Agreement, Delta, Shared, agree};
+use combined::Combined;
+use sat_budget::Stop;
+use search_loop::Search;
+use spec_valuations::laws::{
+    equalities_beside_apply_nothing_more, listed_terms_have_their_places_class,
+    sides_of_equalities_agree, terms_of_linear_checks_are_linear,
+};
+use std::alloc::Global;
+use term_core::{TermId, TermTable};
+use world_io::NoMemory;
+
+/// What is found where a search rests.
+#[derive(Drop)]
+pub(crate) enum Found {
+    /// The theories agree on shared terms. This they say of the search's terms.
+    Agreed(Said),
+    /// They do not agree on these pairs of shared terms.
+    Differ(Vec<(TermId, TermId)>),
+}
+
+/// Lists terms, and after them others.
+fn joined(alloc: Global, front: &[TermId], back: &[TermId]) -> Result<Vec<TermId>, NoMemory>
+    ensures { IfOk result (λ ids. ids.items ≡ front.now ++ back.now) }
+{
+    let mut ids = Vec::from_slice(alloc, front)?;
+    ids.extend_from_slice(back)?;
+    Ok(ids)
+}
+
+/// Puts together what the theories say of the terms from a place on.
+fn shared_of(
+    alloc: Global,
+    shared: &[TermId],
+    said: &Said,
+    from: usize,
+) -> Result<Vec<Shared>, NoMemory>
+    requires classes { length said.now.classes.items ≡ from + length shared.now }
+    requires numbers { length said.now.numbers.items ≡ from + length shared.now }
+    ensures { IfOk result (λ xs. AreSaid shared.now said.now.classes.items (map fraction said.now.numbers.items) from xs.items) }
+{
+    let mut xs = Vec::new(alloc);
+    'places: for at in 0..shared.len() {
+        xs.push(Shared {
+            term: shared[at],
+            class: said.classes[from + at],
+            value: Delta::number(said.numbers[from + at]),
+        })?;
+    }
+    Ok(xs)
+}
+
+/// Finds whether the theories agree on shared terms where a search rests. Each shared term gets a number, and by these numbers and those
+/// of all other terms the literals hold. They agree where two shared terms have one number exactly where they have one class.
+///
+/// `Memory` comes where memory runs out, `Strained` where an operation leaves 128 bits that computes a number, and `Pivots` never.
+/// Source: Nelson and Oppen, Simplification by Cooperating Decision Procedures, TOPLAS 1979.
+pub(crate) fn agreement(
+    search: &Search,
+    table: &TermTable,
+    theory: &Combined,
+    shared: &[TermId],
+) -> Result<Found, Stop>
+    requires rested { HasRested table.now search.now (theory_of theory.now.congruence)
+        (AgreeBoth (terms_watched table.now (theory_of theory.now.congruence))
+        (literals_held table.now (theory_of theory.now.congruence)) theory.now) }
+    requires congruence { AreOf table.now theory.now.congruence.now.facts }
+    requires simplex { Suits theory.now.simplex table.now }
+    requires asked { (p : Problem) × IsAskedOf table.now shared.now p search.now }
+    ensures found { IfOk result (FindsAgreement table.now search.now (theory_of theory.now.congruence) shared.now) }
+    ensures stops { IfErr result (StopsBy (λ s. IsStrainAt table.now (terms_watched table.now theory.now.simplex.theory) s
+        theory.now.simplex) (λ _. ⊥)) }
+{
+    terms_of_linear_checks_are_linear();
+    listed_terms_have_their_places_class();
+    sides_of_equalities_agree();
+    equalities_beside_apply_nothing_more();
+    theory.parts_hold_the_same();
+    table.ids_are_unique();
+    table.symbols().are_declared();
+    search.trail.is_sound();
+    let terms = joined(search.alloc, &search.terms, shared)?;
+    let numbers = theory.simplex().numbers(table, &terms, shared)?;
+    let classes = theory.congruence().classes(search.alloc, &terms)?;
+    let mut said = Said { classes, numbers };
+    let count = search.terms.len();
+    let mut xs = shared_of(search.alloc, shared, &said, count)?;
+    match agree(search.alloc, xs.as_mut_slice())? {
+        Agreement::Pairs(pairs) => Ok(Found::Differ(pairs)),
+        Agreement::Agreed => {
+            said.classes.truncate(count);
+            said.numbers.truncate(count);
+            Ok(Found::Agreed(said))
+        }
+    }
+}
