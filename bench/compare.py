@@ -26,12 +26,14 @@ few conflicts          such scripts under a small limit on conflicts, where chec
 numbers                scripts over linear real arithmetic, Bool, declared sorts and functions over these, by `certify`,
                        half of them with small limits on conflicts and pivots; each proof is given back to `check`,
                        some scripts are solved, too, and put to z3 and cvc5
+mixed                  the same of scripts in which functions take and give numbers; some are damaged, and some proofs
+                       are changed, too
 
 With --only these kinds alone are run. Whether there is a model is known from truth tables, or else by trying values up
 to a bound (bench/compare/models.py). Where that is too much, and where there are numbers, the model, the proof or the
 reason of `unknown` alone decides. Of each `valid` it is looked up that no model was found of all assertions, too.
 
-It prints a table of the kinds with the number of runs and of differences, and of the last three kinds how the checks
+It prints a table of the kinds with the number of runs and of differences, and of the last four kinds how the checks
 were answered. What each difference is on is written to files in a temporary folder, which is printed. It ends with
 status 1 where there is a difference, else with 0.
 """
@@ -56,6 +58,7 @@ from forms import SCRIPTS, a_form
 from function_scripts import a_function_script
 from judging import predict_check
 from layout import damaged, laid_out, tree_of_item
+from mixed_scripts import a_mixed_script
 from number_scripts import a_number_script
 from others import answers_in, answers_of, are_at_odds, solvers
 from proofs import proof_of_single_steps, some_trees
@@ -71,8 +74,11 @@ LIMIT = 2**24
 MOST_STEPS = 40
 OTHERS = solvers()
 CHECKS = {True: "with a model", False: "without one", None: "left open"}
-# The share of the scripts over functions that are solved too, and put to the others.
+# The share of the scripts over functions or numbers that are solved too, and put to the others.
 SOLVED_SHARE = 0.1
+# The shares of the mixed scripts that are damaged, and of their proofs that are changed, beside.
+DAMAGED_SHARE = 0.1
+CHANGED_SHARE = 0.2
 # The words of the reasons of `unknown`.
 REASONS = re.compile(rb"^\((overflow|pivots|conflicts)\b", re.MULTILINE)
 
@@ -136,7 +142,7 @@ class Comparison:
         got = self.run([*words, paths[0], "" if from_input else paths[1]], proof if from_input else b"")
         if got != (wanted, status, b"") or (must_be_valid and status != 0):
             self.tell(f"at {number}, wanted {wanted!r} and {status}, got {got!r}", script, proof)
-        elif status == 0 and has_model(current_checks(script)[number - 1]):
+        elif status == 0 and current_checks(script)[number - 1].is_satisfiable is True:
             self.tell(f"at {number}, valid, but there is a model", script, proof)
 
     def count(self, script):
@@ -163,11 +169,6 @@ class Comparison:
                 self.tell(f"{name} answers {answers!r}, and the program {own!r}", script)
 
 
-def has_model(check):
-    """Tells whether a check is known to have a model: it is in reach, and one was found."""
-    return check.is_in_reach and check.is_satisfiable is True
-
-
 def current_checks(script):
     """Returns what is current at each check of a script that is accepted."""
     return checks_of(read_script(script)[0])
@@ -180,10 +181,12 @@ def a_script(share):
         return bool_scripts.a_script(share)
     if choice < 0.35:
         script = an_arithmetic_script() + b"(check-sat)\n"
-    elif choice < 0.5:
+    elif choice < 0.45:
         script = a_number_script()
+    elif choice < 0.55:
+        script = a_mixed_script()
     else:
-        script = a_function_script() if choice < 0.65 else a_session(share)
+        script = a_function_script() if choice < 0.7 else a_session(share)
     return laid_out(script, NAMES) if random.random() < 0.3 else script
 
 
@@ -224,11 +227,16 @@ def check_certified(comparison):
         comparison.check(script, number, b"unsat\n" + proof, True)
 
 
+def commands_of(proof):
+    """Returns the trees of the commands of a printed proof."""
+    return [tree_of_item(item) for item in read_one(proof, 0)[0][1]]
+
+
 def check_changed(comparison):
     script, proofs = some_certified(comparison)
     checks = current_checks(script)
     for number, proof in proofs:
-        commands = [tree_of_item(item) for item in read_one(proof, 0)[0][1]]
+        commands = commands_of(proof)
         names = constants_of(checks[number - 1])
         for _ in range(14):
             other = random.choice([1, 2, len(checks), len(checks) + 1, 1000000000])
@@ -284,14 +292,32 @@ def some_limits():
     return random.choice([Limits(conflicts), Limits(None, pivots), Limits(None, pivots), Limits(conflicts, pivots)])
 
 
-def numbers(comparison):
-    script = a_number_script()
+def judge_all(comparison, script):
+    """Judges `certify` and `check` on a script, with limits in half of the cases; returns the right proofs."""
     comparison.count(script)
-    for number, proof in comparison.certify(script, some_limits()):
+    proofs = comparison.certify(script, some_limits())
+    for number, proof in proofs:
         comparison.accept(script, number, proof)
     if random.random() < SOLVED_SHARE:
         comparison.solve(script)
         comparison.ask_others(script)
+    return proofs
+
+
+def numbers(comparison):
+    judge_all(comparison, a_number_script())
+
+
+def mixed(comparison):
+    script = a_mixed_script()
+    for number, proof in judge_all(comparison, script):
+        if random.random() < CHANGED_SHARE:
+            names = constants_of(current_checks(script)[number - 1])
+            comparison.check(script, number, proof_text(changed(commands_of(proof), names, random.choice([1, 1, 2]))))
+            comparison.check(script, number, damaged(proof))
+    if random.random() < DAMAGED_SHARE:
+        comparison.certify(damaged(script))
+        comparison.solve(damaged(laid_out(script, NAMES)))
 
 
 KINDS = {
@@ -306,6 +332,7 @@ KINDS = {
     "functions": functions,
     "few conflicts": few_conflicts,
     "numbers": numbers,
+    "mixed": mixed,
 }
 
 

@@ -91,34 +91,33 @@ def cells_of(name, races):
     return [*family_cells(name, races), mean([race.check_ratio for race in races if race.check_ratio is not None])]
 
 
-def formulas_of(family, asked):
-    """Returns the formulas of a family that are asked for."""
-    formulas = FAMILIES[family]()[: asked.most]
-    return formulas[: QUICK[family]] if asked.quick else formulas
+def run_all(asked, families, quick):
+    """Runs the families that are asked for, and prints the tables; returns what is wrong, as texts."""
 
+    def formulas_of(family, asked):
+        formulas = families[family]()[: asked.most]
+        return formulas[: quick[family]] if asked.quick else formulas
 
-def run_all(asked):
-    """Runs the families, and prints the tables; returns what is wrong, as texts."""
     races, wrong = race_all(asked, formulas_of, NumberRace, RATIOS)
     tell_families(races, RATIOS, cells_of)
     return wrong
 
 
-def write_formula(name, path):
+def write_formula(families, name, path):
     """Writes the script of one formula."""
-    formulas = {formula.name: formula for make in FAMILIES.values() for formula in make()}
+    formulas = {formula.name: formula for make in families.values() for formula in make()}
     if name not in formulas:
         sys.exit("the formulas are " + ", ".join(formulas))
     formulas[name].write(path)
 
 
-def main():
-    """Runs the families that are asked for, or writes one formula."""
+def race(doc, families, quick):
+    """Runs those of the families that the words ask for, or writes one formula; returns the status."""
     sys.setrecursionlimit(20_000)
     if len(sys.argv) == 4 and sys.argv[1] == "--write":
-        write_formula(*sys.argv[2:])
+        write_formula(families, *sys.argv[2:])
         return 0
-    parser = argparse.ArgumentParser(description=__doc__, formatter_class=argparse.RawDescriptionHelpFormatter)
+    parser = argparse.ArgumentParser(description=doc, formatter_class=argparse.RawDescriptionHelpFormatter)
     parser.add_argument("executable")
     parser.add_argument("--limit", type=float)
     parser.add_argument("--family", nargs="+", metavar="WORD", default=[""])
@@ -129,11 +128,11 @@ def main():
     asked = parser.parse_args()
     asked.executable = os.path.abspath(asked.executable)
     asked.limit = asked.limit or (QUICK_LIMIT if asked.quick else LIMIT)
-    asked.families = [family for family in FAMILIES if family.startswith(tuple(asked.family))]
+    asked.families = [family for family in families if family.startswith(tuple(asked.family))]
     if not asked.families:
-        parser.error("the families are " + ", ".join(FAMILIES))
-    return status_of(run_all(asked))
+        parser.error("the families are " + ", ".join(families))
+    return status_of(run_all(asked, families, quick))
 
 
 if __name__ == "__main__":
-    sys.exit(main())
+    sys.exit(race(__doc__, FAMILIES, QUICK))

@@ -111,7 +111,7 @@ def assert_term(state, parts, start):
 
 
 def check_sat(_state, parts, start):
-    """Performs `check-sat`, whether its assertions are in reach or not."""
+    """Performs `check-sat`."""
     if len(parts) != 1:
         raise Fault(start, b"BadShape")
     return "check"
@@ -181,7 +181,7 @@ def read_script(text, limit=2**24):
         if answer == "unsupported":
             answers.append(b"unsupported\n")
         elif answer == "check":
-            answers.append(state.at_check(item[1][0][2]))
+            answers.append(state.at_check())
         elif isinstance(answer, bytes):
             answers.append(answer)
         elif state.options[b":print-success"]:

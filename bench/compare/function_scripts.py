@@ -1,4 +1,4 @@
-"""Makes scripts by chance over two declared sorts and functions, all of them well-formed and in reach.
+"""Makes scripts by chance over two declared sorts and functions, all of them well-formed.
 
 Terms have constants, functions of one to three arguments, some of sort Bool, `ite` of declared sorts, and equalities as
 arguments. Scripts come in families: nested formulas, equalities between few terms, clauses of equalities, powers of a

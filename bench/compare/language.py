@@ -289,9 +289,9 @@ class State:
         """Returns a reader of terms for one command, which may define a name of its own."""
         return Reader(self, own)
 
-    def at_check(self, place):
-        """Returns what is current now, at a check by the word at an offset, apart from what later commands state."""
-        return Check(self, place)
+    def at_check(self):
+        """Returns what is current now, at a check, apart from what later commands state."""
+        return Check(self)
 
     def new_function(self, item):
         """Returns a name that no function and no theory has."""
@@ -314,20 +314,14 @@ class State:
 
 
 class Check(State):
-    """What is current at a check: the offset of its word, its declared symbols in their order, and its answer."""
+    """What is current at a check: its assertions, its declared symbols in their order, and its answer."""
 
-    def __init__(self, state, place):
+    def __init__(self, state):
         super().__init__(state.limit)
-        self.place = place
         self.terms = state.terms
         self.sorts, self.functions = dict(state.sorts), dict(state.functions)
         self.assertions = list(state.assertions)
         self.order = [name for name, known in self.functions.items() if not isinstance(known, Definition)]
-
-    @cached_property
-    def is_in_reach(self):
-        """Tells whether the search reaches all assertions, as they are read."""
-        return self.terms.are_in_reach(self.assertions)
 
     @cached_property
     def has_numbers(self):
@@ -336,8 +330,8 @@ class Check(State):
 
     @property
     def is_open(self):
-        """Tells whether it is in reach, and not known whether there is a model."""
-        return self.is_in_reach and self.is_satisfiable is None
+        """Tells whether it is not known if there is a model."""
+        return self.is_satisfiable is None
 
     @property
     def is_over_truths(self):
@@ -346,7 +340,7 @@ class Check(State):
 
     @cached_property
     def is_satisfiable(self):
-        """Tells whether the assertions, which are in reach, have a model.
+        """Tells whether the assertions have a model.
 
         It is None where they have numbers, and where it was too much to try.
         """

@@ -1,9 +1,9 @@
-"""Makes scripts by chance over linear real arithmetic, mixed with Bool, a declared sort, and functions that keep apart.
+"""Makes scripts by chance over linear real arithmetic, mixed with Bool, a declared sort, and functions over these.
 
 Scripts come in families: nested formulas, literals, bounds, clauses, circles of differences, rows whose weighted sum is
 a contradiction or nearly one, choices between numbers, constants with few values, and numbers beside functions. The
-numbers that are written are small, long, or near 128 bits. Few scripts have a function that takes or gives numbers, so
-that their checks are out of reach.
+numbers that are written are small, long, or near 128 bits. Few scripts have a declared function that takes or gives
+numbers: mixed_scripts.py makes more of these.
 """
 
 import random
@@ -242,7 +242,7 @@ POOLS = [SMALL] * 6 + [SMALL + LONG, LONG, SMALL + WIDE, WIDE + LONG]
 
 
 def definitions(maker):
-    """Makes definitions with parameters, which later terms use, and a function out of reach that few terms use."""
+    """Makes definitions with parameters, which later terms use; few scripts have a function over numbers, too."""
     lines = []
     if random.random() < 0.4:
         for name, sorts, result in ((b"d", (b"Real", b"Real"), b"Real"), (b"e", (b"Real", b"U"), b"Bool")):

@@ -15,9 +15,8 @@ def solvers():
 
 
 def answers_in(output):
-    """Returns the words among the lines of an output that answer checks; one that is refused as out of reach counts as unknown."""
-    lines = [b"unknown" if line.endswith(b'UnknownLogic")') else line for line in output.split(b"\n")]
-    return [line for line in lines if line in ANSWERS]
+    """Returns the lines of an output that answer checks."""
+    return [line for line in output.split(b"\n") if line in ANSWERS]
 
 
 def answers_of(words, script):

@@ -1,7 +1,7 @@
 """Makes scripts with proofs by chance: mostly right proofs, with a fault of any kind in some.
 
-Assertions have no functions that take or give numbers, so that checks are in reach; the clauses of a proof have terms
-of every sort. A proof is made by terms, and each of these is written in one of the ways in which it can be.
+Assertions are over constants of sort Bool and numbers, or are premises of single steps; the clauses of a proof have
+terms of every sort. A proof is made by terms, and each of these is written in one of the ways in which it can be.
 """
 
 import random
@@ -17,7 +17,7 @@ from language import Definition
 from layout import damaged, tree_of_item
 from reading import Fault, printed_name, read_one
 from rules import PREMISED, RESOLUTIONS, RULES, STATING, SUBSET_RULES, follows
-from scripts import Maker, assertion_in_reach, one_of
+from scripts import Maker, an_assertion, one_of
 from terms import BOOL, REAL
 from values import Overflow
 
@@ -59,7 +59,7 @@ class ProofMaker(Maker):
 
 
 def a_script():
-    """Makes a script with checks, nearly all of them in reach."""
+    """Makes a script with checks."""
     bools = Maker(0)
     lines = [b"(set-logic QF_UFLRA)"] if random.random() < 0.3 else []
     lines.append(b"(declare-sort U 0)")
@@ -67,7 +67,7 @@ def a_script():
     lines += [line for line in DECLARATIONS if line in kept or line == DECLARATIONS[0]]
     bools.functions = {n: ([], b"Bool") for n in BOOLS if b"(declare-fun %s () Bool)" % n in lines}
     lines += random.sample(DEFINITIONS, random.randint(0, 2))
-    asserted = [assertion_in_reach(bools, lines) for _ in range(random.randint(1, 3))]
+    asserted = [an_assertion(bools) for _ in range(random.randint(1, 3))]
     if random.random() < 0.5:
         asserted.append(b"(assert (not " + random.choice(asserted)[8:] + b")")
     lines += [*asserted, b"(check-sat)"]
@@ -490,8 +490,6 @@ def proof_of_single_steps(limit, most=2):
         rule, premises, clause, arguments = a_single_step(invented)
         is_right = is_taken(invented.terms, rule, premises, clause, arguments)
         if not is_right and most > 2 and random.random() < 0.8:
-            continue
-        if not invented.terms.are_in_reach([literal for premise in premises for literal in premise]):
             continue
         assertions += single_step_lines(invented, number, rule, premises, clause, arguments)
         if not is_right and most > 2:

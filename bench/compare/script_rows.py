@@ -37,7 +37,7 @@ v{seed} = refl
 
 
 def faults_in(answers):
-    """Returns the line, the column and the name of each fault of a command; a check out of reach has none of its own."""
+    """Returns the line, the column and the name of each fault of a command; a check has none."""
     return FAULT.findall(b"".join(answer for answer in answers if isinstance(answer, bytes)))
 
 

@@ -2,7 +2,6 @@
 
 import random
 
-from commands import checks_of, read_script
 from faulty import NUMERALS, ODD_TERMS, command_of_a_script
 
 NAMES = [b"p", b"q", b"x", b"y", b"a", b"b", b"f", b"g", b"h", b"|a b|", b"n"]
@@ -208,30 +207,22 @@ def a_script(share=0.5, count=None):
     return b"\n".join(lines) + b"\n"
 
 
-def assertion_in_reach(maker, lines):
-    """Makes an assertion whose check is in reach, after the lines of a script."""
-    while True:
-        asserted = b"(assert %s)" % maker.of_sort(b"Bool", random.choice([1, 2, 4]), {})
-        if checks_of(read_script(b"\n".join([*lines, asserted, b"(check-sat)"]))[0])[-1].is_in_reach:
-            return asserted
+def an_assertion(maker):
+    """Makes an assertion of a small term."""
+    return b"(assert %s)" % maker.of_sort(b"Bool", random.choice([1, 2, 4]), {})
 
 
 def a_session(share):
-    """Makes a script with checks at its end and before it, all in reach but in half of those with ill-formed parts.
-
-    The greater the share, the more of it is ill-formed.
-    """
+    """Makes a script with checks at its end and before it; the greater the share, the more of it is ill-formed."""
     if share and random.random() < 0.5:
         return a_script(share)
-    maker, reached = Maker(0), Maker(0)
+    maker = Maker(0)
     lines = [b"(set-option :print-success false)"] if random.random() < 0.5 else []
     lines += [maker.declaration() for _ in range(random.randint(1, 6))]
-    reached.functions = {n: f for n, f in maker.functions.items() if not f[0] or b"Real" not in (*f[0], f[1])}
-    reached.sorts = maker.sorts
     for _ in range(random.randint(2, 8)):
         choice = random.random()
         if choice < 0.5:
-            lines.append(assertion_in_reach(reached, lines))
+            lines.append(an_assertion(maker))
         else:
             lines.append(b"(check-sat)" if choice < 0.8 else random.choice(OTHERS))
     if random.random() < share:

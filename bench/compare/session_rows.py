@@ -7,7 +7,7 @@ from language import Check
 from model_rows import definition_text
 from models import find_model, tables_of
 from scripts import a_session
-from sessions import answer_lines, run_script
+from sessions import lines_of, run_script
 from values import some_tables
 
 LONGEST = 700
@@ -52,10 +52,9 @@ def row_of(seed):
     founds, solved, certified = [], b"", b""
     for answer in answers:
         is_check = isinstance(answer, Check)
-        is_answered = is_check and answer.is_in_reach
-        line = answer_lines(script, answer)[0] if is_check else answer
-        found, shown = found_and_shown(answer) if is_answered else (None, b"")
-        founds += [found] if is_answered else []
+        line = lines_of(answer)[0]
+        found, shown = found_and_shown(answer) if is_check else (None, b"")
+        founds += [found] if is_check else []
         solved += line
         certified += line + shown
     given = f"(answers_of limits empty_stack (trees_in o{seed}_script) o{seed}_found)"

@@ -1,10 +1,8 @@
 """Foretells what `solve` writes for a script, and judges what `certify` writes.
 
-It follows docs/FORMATS.md. A check is in reach where its assertions, as they are read, have no function with parameters
-that takes or gives a number. Of these, assertions over constants of sort Bool and theory Core alone are decided by
-truth tables. Others without numbers are decided by trying values of symbols, up to a bound. Where that is too much, and
-where there are numbers, either answer may come, and what `certify` shows has to bear it out. Every check out of reach
-is refused, and counted as a check. So what is left is foretold to the byte.
+It follows docs/FORMATS.md. Assertions over constants of sort Bool and theory Core alone are decided by truth tables.
+Others without numbers are decided by trying values of symbols, up to a bound. Where that is too much, and where there
+are numbers, either answer may come, and what `certify` shows has to bear it out. What is left is foretold to the byte.
 
 With numbers `unknown` may come too, and under limits that are given: reasons.py judges the reason that `certify` shows.
 """
@@ -16,7 +14,7 @@ from judging import Judge
 from language import Check
 from printed_proofs import printed, proof_end
 from printed_values import Wrong, require, value_of
-from reading import Fault, error_line, printed_name, read_one
+from reading import Fault, printed_name, read_one
 from reasons import NONE, reason_end
 from values import Exact
 
@@ -25,16 +23,9 @@ ANSWERS = {True: (b"sat\n",), False: (b"unsat\n",), None: (b"sat\n", b"unsat\n")
 UNKNOWN = b"unknown\n"
 
 
-def answer_lines(text, check):
-    """Returns the lines of which one answers a check of a text: one alone, but where a model is an open question."""
-    if not check.is_in_reach:
-        return (error_line(text, Fault(check.place, b"UnknownLogic")),)
-    return ANSWERS[check.is_satisfiable]
-
-
 def is_refusal(answer):
-    """Tells whether an answer is that of a command that is refused, or of a check out of reach."""
-    return not answer.is_in_reach if isinstance(answer, Check) else answer.startswith(b"(error ")
+    """Tells whether an answer is that of a command that is refused."""
+    return not isinstance(answer, Check) and answer.startswith(b"(error ")
 
 
 @lru_cache(maxsize=8)
@@ -44,27 +35,27 @@ def run_script(text, limit=2**24):
     return answers, int(any(map(is_refusal, answers)))
 
 
-def lines_of(text, answer):
-    """Returns the lines of which one has to be written for an answer."""
-    return answer_lines(text, answer) if isinstance(answer, Check) else (answer,)
+def lines_of(answer):
+    """Returns the lines of which one has to be written for an answer: one alone, but where a model is open."""
+    return ANSWERS[answer.is_satisfiable] if isinstance(answer, Check) else (answer,)
 
 
 def predict_solve(text, limit=2**24):
     """Returns what `solve` is to print for a script of which no check is open, and its status."""
     answers, status = run_script(text, limit)
-    lines = [lines_of(text, answer) for answer in answers]
+    lines = [lines_of(answer) for answer in answers]
     if any(len(choices) > 1 for choices in lines):
         raise ValueError("a check of the script is open")
     return b"".join(choices[0] for choices in lines), status
 
 
-def line_at(script, answer, output, at, limits=NONE):
+def line_at(answer, output, at, limits=NONE):
     """Returns the line of an answer that stands in the output at `at`, or raises that there is none.
 
-    A check in reach may be answered `unknown` where it has numbers, or where a limit on conflicts is given.
+    A check may be answered `unknown` where it has numbers, or where a limit on conflicts is given.
     """
-    choices = lines_of(script, answer)
-    if isinstance(answer, Check) and answer.is_in_reach and (answer.has_numbers or limits.conflicts is not None):
+    choices = lines_of(answer)
+    if isinstance(answer, Check) and (answer.has_numbers or limits.conflicts is not None):
         choices += (UNKNOWN,)
     for line in choices:
         if output.startswith(line, at):
@@ -78,7 +69,7 @@ def judge_solve(script, output, status):
     at = 0
     try:
         for answer in answers:
-            at += len(line_at(script, answer, output, at))
+            at += len(line_at(answer, output, at))
         require_end(output, at, status, wanted_status)
     except Wrong as wrong:
         return str(wrong)
@@ -161,7 +152,7 @@ def judge_certify(script, output, status, limits=NONE, is_foretold=True):
             is_check = isinstance(answer, Check)
             if is_check and not is_foretold:
                 answer.is_satisfiable = None
-            line = line_at(script, answer, output, at, limits)
+            line = line_at(answer, output, at, limits)
             at += len(line)
             if is_check:
                 number += 1

@@ -58,15 +58,6 @@ class Terms:
         """Tells whether no parameter of a definition is in the term."""
         return all(self.nodes[number][0][0] != "parameter" for number in self.below([term]))
 
-    def is_apart(self, number):
-        """Tells whether the head of a term is no declared function with parameters that takes or gives numbers."""
-        head, given = self.nodes[number]
-        return head[0] != "symbol" or not given or all(self.sorts[t] != REAL for t in (number, *given))
-
-    def are_in_reach(self, roots):
-        """Tells whether the search reaches the terms: it does all but functions that take or give numbers."""
-        return all(map(self.is_apart, self.below(roots)))
-
     def have_numbers(self, roots):
         """Tells whether a subterm has the sort Real."""
         return any(self.sorts[number] == REAL for number in self.below(roots))
