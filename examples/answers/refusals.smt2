@@ -16,6 +16,3 @@
 (assert (= x 170141183460469231731687303715884105728))
 (assert p)
 (check-sat)
-(declare-fun f (Real) Bool)
-(assert (f x))
-(check-sat)

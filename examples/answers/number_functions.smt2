@@ -5,3 +5,8 @@
 (check-sat)
 (assert (< (f 0) 1))
 (check-sat)
+(declare-const x Real)
+(assert (= x 0))
+(check-sat)
+(assert (< 1 (f x)))
+(check-sat)

@@ -1,0 +1,7 @@
+(set-option :print-success false)
+(declare-fun f (Real) Real)
+(declare-const x Real)
+(assert (= (f (+ x 1)) 0))
+(check-sat)
+(assert (not (= (f (- (+ x 2) 1)) 0)))
+(check-sat)
