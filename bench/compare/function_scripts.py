@@ -224,22 +224,32 @@ def assertion(maker, formula):
     return b"(assert " + formula + b")"
 
 
+def declarations(maker):
+    """Declares the functions of a maker, in an order by chance."""
+    declared = list(maker.symbols.items())
+    random.shuffle(declared)
+    return [b"(declare-fun %s (%s) %s)" % (name, b" ".join(sorts), result) for name, (sorts, result) in declared]
+
+
+def text_of(maker, lines, formulas, share):
+    """Asserts formulas after some lines, with a check before a share of them, and one at the end."""
+    for place, formula in enumerate(formulas):
+        if place and random.random() < share:
+            lines.append(b"(check-sat)")
+        lines.append(assertion(maker, formula))
+    return b"\n".join([*lines, b"(check-sat)"]) + b"\n"
+
+
 def a_function_script():
     """Makes a script; its last command is a check, and some have another one before it."""
     maker = FunctionMaker()
     lines = [b"(set-option :print-success false)"] if random.random() < 0.8 else []
     lines += [b"(set-logic QF_UF)"] if random.random() < 0.5 else []
     lines += [b"(declare-sort U 0)", b"(declare-sort V 0)"]
-    declared = list(maker.symbols.items())
-    random.shuffle(declared)
-    lines += [b"(declare-fun %s (%s) %s)" % (name, b" ".join(sorts), result) for name, (sorts, result) in declared]
+    lines += declarations(maker)
     lines += definitions(maker)
     formulas = many_clauses(maker) if random.random() < 0.05 else random.choice(SMALL)(maker)
     if random.random() < 0.25:
         formulas += random.choice(SMALL)(maker)[:3]
     share = random.choice([0, 0, 0.1, 0.4])
-    for place, formula in enumerate(formulas):
-        if place and random.random() < share:
-            lines.append(b"(check-sat)")
-        lines.append(assertion(maker, formula))
-    return b"\n".join([*lines, b"(check-sat)"]) + b"\n"
+    return text_of(maker, lines, formulas, share)

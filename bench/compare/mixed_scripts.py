@@ -10,13 +10,14 @@ have an inverse or few values, and equalities that go to and fro. About half of 
 import random
 from fractions import Fraction
 
-from function_scripts import assertion, listed, negated_by_chance
+from function_scripts import listed, negated_by_chance, text_of
 from number_scripts import (
     LONG,
     ORDERS,
     SMALL,
     WIDE,
     NumberMaker,
+    beginning,
     bounded,
     choices,
     clauses,
@@ -267,19 +268,10 @@ def definitions(maker):
 def a_mixed_script():
     """Makes a script; its last command is a check, and some have others before it."""
     maker = MixedMaker(random.choice(POOLS))
-    lines = [b"(set-option :print-success false)"] if random.random() < 0.8 else []
-    lines += [b"(set-logic QF_UFLRA)"] if random.random() < 0.8 else []
-    lines += [b"(declare-sort U 0)"]
-    declared = list(maker.symbols.items())
-    random.shuffle(declared)
-    lines += [b"(declare-fun %s (%s) %s)" % (name, b" ".join(sorts), result) for name, (sorts, result) in declared]
+    lines = beginning(maker)
     lines += definitions(maker)
     formulas = random.choice(OWN if random.random() < 0.6 else OF_NUMBERS)(maker)
     if random.random() < 0.3:
         formulas += random.choice(OWN + OF_NUMBERS)(maker)[:3]
     share = random.choice([0, 0, 0.1, 0.3])
-    for place, formula in enumerate(formulas):
-        if place and random.random() < share:
-            lines.append(b"(check-sat)")
-        lines.append(assertion(maker, formula))
-    return b"\n".join([*lines, b"(check-sat)"]) + b"\n"
+    return text_of(maker, lines, formulas, share)

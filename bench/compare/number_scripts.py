@@ -9,7 +9,7 @@ numbers: mixed_scripts.py makes more of these.
 import random
 from fractions import Fraction
 
-from function_scripts import assertion, listed, negated_by_chance
+from function_scripts import declarations, listed, negated_by_chance, text_of
 
 GREATEST = 2**127 - 1
 NUMBERS = [b"x", b"y", b"z", b"|u v|", b"w"]
@@ -259,22 +259,21 @@ def definitions(maker):
     return lines
 
 
-def a_number_script():
-    """Makes a script; its last command is a check, and some have another one before it."""
-    maker = NumberMaker(random.choice(POOLS))
+def beginning(maker):
+    """Makes the first lines of a script over numbers: mostly an option and the logic, then what it declares."""
     lines = [b"(set-option :print-success false)"] if random.random() < 0.8 else []
     lines += [b"(set-logic QF_UFLRA)"] if random.random() < 0.8 else []
     lines += [b"(declare-sort U 0)"]
-    declared = list(maker.symbols.items())
-    random.shuffle(declared)
-    lines += [b"(declare-fun %s (%s) %s)" % (name, b" ".join(sorts), result) for name, (sorts, result) in declared]
+    return lines + declarations(maker)
+
+
+def a_number_script():
+    """Makes a script; its last command is a check, and some have another one before it."""
+    maker = NumberMaker(random.choice(POOLS))
+    lines = beginning(maker)
     lines += definitions(maker)
     formulas = random.choice(FAMILIES)(maker)
     if random.random() < 0.3:
         formulas += random.choice(FAMILIES)(maker)[:3]
     share = random.choice([0, 0, 0.1, 0.3])
-    for place, formula in enumerate(formulas):
-        if place and random.random() < share:
-            lines.append(b"(check-sat)")
-        lines.append(assertion(maker, formula))
-    return b"\n".join([*lines, b"(check-sat)"]) + b"\n"
+    return text_of(maker, lines, formulas, share)
