@@ -43,7 +43,7 @@ pub others : answers (
 unfolding commands_on_literals answers_after
 others = refl
 
--- a check is asked for at its word, whether the search reaches what is asserted or not
+-- a check is asked for at its word, whatever is asserted
 pub checks : answers (codes "(check-sat)(assert (= 1 1.0))( check-sat)" ∷ []) ≡ check 1 [] ∷ done ∷ check 31 [] ∷ []
 unfolding commands_on_literals answers_after
 checks = refl

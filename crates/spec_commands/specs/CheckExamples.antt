@@ -161,15 +161,15 @@ pub no_third : count_at 3 (codes "(declare-const p Bool)(assert p)(check-sat)(as
 unfolding commands_on_literals
 no_third = refl
 
--- a check that the search does not reach is one, and asks about all that is asserted before it
-pub unreached_check_is_one : count_at 1 (codes "(declare-const x Real)(declare-const p Bool)(assert p)(assert (< x 1))(check-sat)") ≡ Some 2
+-- a check over numbers is one, and asks about all that is asserted before it
+pub check_of_numbers_is_one : count_at 1 (codes "(declare-const x Real)(declare-const p Bool)(assert p)(assert (< x 1))(check-sat)") ≡ Some 2
 unfolding commands_on_literals
-unreached_check_is_one = refl
+check_of_numbers_is_one = refl
 
 -- and is counted: it is the second after the one before it
-pub unreached_check_is_counted : count_at 2 (codes "(declare-const x Real)(check-sat)(assert (< x 1))(check-sat)") ≡ Some 1
+pub check_of_numbers_is_counted : count_at 2 (codes "(declare-const x Real)(check-sat)(assert (< x 1))(check-sat)") ≡ Some 1
 unfolding commands_on_literals
-unreached_check_is_counted = refl
+check_of_numbers_is_counted = refl
 
 -- what follows `exit` is not looked at
 pub exit_ends : count_at 1 (codes "(exit)(check-sat)") ≡ None

@@ -308,21 +308,21 @@ pub logic_after_check : faults (
 unfolding commands_on_literals faults_after
 logic_after_check = refl
 
--- a check has no fault of its own, even where the search does not reach a function that gives a number
-pub reach : faults (
+-- a check has no fault of its own, neither where a function gives a number
+pub check_of_functions : faults (
     codes "(set-option :print-success false)" ∷
     codes "(declare-const p Bool)(declare-fun f (Bool) Real)(declare-const x Real)(assert p)(check-sat)" ∷
     codes "(assert (< (f p) x))(check-sat)" ∷ []) ≡ []
 unfolding commands_on_literals faults_after
-reach = refl
+check_of_functions = refl
 
--- nor where it does not reach a number
-pub reach_of_numbers : faults (
+-- nor where an equality of numbers is asserted
+pub check_of_numbers : faults (
     codes "(set-option :print-success false)" ∷
     codes "(check-sat)" ∷
     codes "(assert (= 1 1.0))( check-sat)" ∷ []) ≡ []
 unfolding commands_on_literals faults_after
-reach_of_numbers = refl
+check_of_numbers = refl
 
 -- a refused assertion makes no name
 pub refused_names : faults (

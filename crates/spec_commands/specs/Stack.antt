@@ -1,12 +1,12 @@
--- What stands after commands, and what they answer. Source: SMT-LIB 2.6, sections 4.1.4 and 4.2; the order of faults, the limits and the reach of the search are own.
-use Rattle.std.specs.Prelude.{ℕ, suc, Bool, true, false, not, ◌&&◌, List, [], ◌∷◌, ◌++◌, map, Option, Some, None, Ok, codes, if◌then◌else◌}
+-- What stands after commands, and what they answer. Source: SMT-LIB 2.6, sections 4.1.4 and 4.2; the order of faults and the limits are own.
+use Rattle.std.specs.Prelude.{ℕ, suc, Bool, true, false, not, List, [], ◌∷◌, ◌++◌, map, Option, Some, None, Ok, codes, if◌then◌else◌}
 use Rattle.std.specs.Str.{bytes_eq}
 use Rattle.spec_text.specs.declared.Fault.TheVariants.{BadShape, Reserved, UnknownLogic, WrongMode, Full}
 use Rattle.spec_text.specs.Bytes.{Name, among}
 use Rattle.spec_text.specs.Shapes.{is_symbol, is_reserved}
 use Rattle.spec_text.specs.Answers.{Answer, ◌>>=◌, refused, require}
 use Rattle.spec_text.specs.Trees.{Tree, atom, list, offset_of}
-use Rattle.spec_sorts.specs.Terms.{Sort, Truth, Number, Declared, Head, Apply, Parameter, Term, Terms, app, nil, cons, same_sort}
+use Rattle.spec_sorts.specs.Terms.{Truth, Declared, Term}
 use Rattle.spec_sorts.specs.Signatures.{Definition, Declaration, of_sort, of_function, declared, Signature, definition}
 use Rattle.spec_reading.specs.Names.{script, new_name, is_function, is_sort}
 use Rattle.spec_reading.specs.Sorts.{sort_in, sorts_in}
@@ -167,38 +167,6 @@ abbrev pub option_set : ℕ → Stack → Option Key → Option Bool → Answer 
 option_set at s (Some k) (Some b) = Ok (did (record s { options = with_option k b s.options }))
 option_set at s (Some k) None = refused at BadShape
 option_set at s None value = Ok (record { effect = unsupported; stack = s })
-
--- none of the sorts is that of numbers
-abbrev pub have_no_number : List Sort → Bool
-have_no_number [] = true
-have_no_number (s ∷ ss) = not (same_sort Number s) && have_no_number ss
-
--- a symbol of these parameters and that result has none, or neither takes nor gives numbers
-abbrev pub keeps_apart : List Sort → Sort → Bool
-keeps_apart [] s = true
-keeps_apart (p ∷ ps) s = have_no_number (s ∷ p ∷ ps)
-
--- a head that the search reaches: all but functions with parameters that take or give numbers
-abbrev pub head_in_reach : Head → Bool
-head_in_reach (Apply f) = keeps_apart f.parameters f.result
-head_in_reach (Parameter k s) = false
-head_in_reach h = true
-
--- the search reaches each head of a term
-unfoldable mutual
-  -- in a term
-  pub is_in_reach : Term → Bool
-  is_in_reach (app h ts) = head_in_reach h && are_in_reach ts
-
-  -- in terms
-  pub are_in_reach : Terms → Bool
-  are_in_reach nil = true
-  are_in_reach (cons t ts) = is_in_reach t && are_in_reach ts
-
--- the search reaches each of the assertions
-abbrev pub all_in_reach : List Assertion → Bool
-all_in_reach [] = true
-all_in_reach (a ∷ rest) = is_in_reach a.term && all_in_reach rest
 
 -- a stack with room for its names and a command's terms, or the fault at the command's offset
 abbrev pub roomy : (limit at : ℕ) → List Term → Stack → Answer Taken

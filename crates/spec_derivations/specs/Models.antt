@@ -6,7 +6,6 @@ use Rattle.spec_sorts.specs.Values.{Value, truth, Interpretation}
 use Rattle.spec_sorts.specs.TermValues.{head_value}
 use Rattle.spec_sorts.specs.Literals.{Clause}
 use Rattle.spec_rules.specs.Truths.{Truths, term_true_by}
-use Rattle.spec_commands.specs.Stack.{is_in_reach}
 
 -- one term of each clause is true
 abbrev pub Meets : Truths → List Clause → Type 0
@@ -15,10 +14,6 @@ Meets v cs = All (λ c. list_any (term_true_by v) c ≡ true) cs
 -- the head takes the arguments, and these and the term are of sort Bool
 abbrev pub joins_formulas : Term → Bool
 joins_formulas (app h ts) = head_takes [] h (map sort_of (list_of ts)) && all_same Truth (map sort_of (list_of ts)) && same_sort Truth (sort_of (app h ts))
-
--- the search reaches each of the terms
-abbrev pub AreInReach : List Term → Type 0
-AreInReach ts = All (λ t. is_in_reach t ≡ true) ts
 
 -- the value that the truths give a term of sort Bool
 abbrev pub value_by : Truths → Term → Value
