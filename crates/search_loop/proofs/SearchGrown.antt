@@ -136,7 +136,7 @@ module _ (t u : TableView) (g : Extends t u) (declared : declared_in u ≡ decla
             beside = s.beside;
             beside_in = λ k e lt. formula_kept t u (record { terms = g; declared = declared }) (get_or s.beside k e) (s.beside_in k e lt);
             meant = problem_kept t u g s.roots s.beside s.roots_in s.beside_in ∙ s.meant;
-            reached = s.reached;
+            answered = s.answered;
             listed = listed_kept problem x.terms.items s.listed;
             derived = subst (λ (e : Derivation). HasDerived problem e (images u x.store.clauses) (images u x.budget.learned)) (sym is)
                 (subst (λ (cs : List (List Literal)). HasDerived problem (derivation_in t x.log ++ map (inference_of u) more) cs (images u x.budget.learned)) (sym (images_kept t u g x.store.clauses stored_in))

@@ -75,7 +75,7 @@ module _ (t : TableView) (x : Search) (r : IsReady t x) (step : StepId) (held : 
     beside = z.beside;
     beside_in = z.beside_in;
     meant = z.meant;
-    reached = z.reached;
+    answered = z.answered;
     listed = z.listed;
     derived = subst (λ (cs : List (List Literal)). HasDerived problem (derivation_in t x.log) cs (images t x.budget.learned)) (sym image)
         (derived_stored problem (derivation_in t x.log) (images t x.store.clauses) (images t x.budget.learned) z.derived step.0 (rw length-map clash.in_log));

@@ -35,7 +35,7 @@ continues_same t x y log clauses budget vars terms = record {
     beside = s.beside;
     beside_in = s.beside_in;
     meant = s.meant;
-    reached = s.reached;
+    answered = s.answered;
     listed = subst (λ (ids : Ids). AreSearchTerms t problem ids.items) (sym terms) s.listed;
     derived = subst (λ (l : List Logged). HasDerived problem (derivation_in t l) (images t y.store.clauses) (images t y.budget.learned)) (sym log)
         (subst (λ (cs : List (List Lit)). HasDerived problem (derivation_in t x.log) (images t cs) (images t y.budget.learned)) (sym clauses)

@@ -186,7 +186,7 @@ module _ (t u : TableView) (g : Extends t u) (differ : AreDifferent t.terms) (di
         beside = s.beside;
         beside_in = λ k e lt. formula_kept t u (record { terms = g; declared = declared }) (get_or s.beside k e) (s.beside_in k e lt);
         meant = problem_kept t u g s.roots s.beside s.roots_in s.beside_in ∙ s.meant;
-        reached = s.reached;
+        answered = s.answered;
         listed = subst (λ (ids : Ids). AreSearchTerms u problem ids.items) (sym terms) (listed_kept t u g declared problem x.terms.items s.listed);
         derived = subst (λ (f : Derivation). HasDerived problem f (images u y.store.clauses) (images u y.budget.learned)) (sym (is t u g differ declared x r once leveled consistent same clash y.log d l))
             (subst (λ (cs : List (List Literal)). HasDerived problem e cs (images u y.budget.learned))

@@ -51,7 +51,7 @@ module _ (t : TableView) (x : Search) (b : BudgetView) (spends : Spends x.budget
       beside = s.beside;
       beside_in = s.beside_in;
       meant = s.meant;
-      reached = s.reached;
+      answered = s.answered;
       listed = s.listed;
       derived = subst (λ (ls : List (List Lit)). HasDerived problem (derivation_in t x.log) (images t x.store.clauses) (images t ls))
           (sym (ap (λ (y : BudgetView). y.learned) spends.1)) s.derived;

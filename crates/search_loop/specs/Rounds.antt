@@ -112,7 +112,7 @@ pub record IsSearch (t : TableView) (p : Problem) (x : Search) : Type 0 where
   -- its terms are asserted, and nothing else is asked
   pub meant : problem_in t roots beside ≡ p
   -- the search answers for both
-  pub reached : AreAnswered (known_terms p)
+  pub answered : AreAnswered (known_terms p)
   -- its terms are those that a search of the problem speaks of
   pub listed : AreSearchTerms t p x.terms.items
   -- so much is derived of it

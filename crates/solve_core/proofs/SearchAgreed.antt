@@ -239,7 +239,7 @@ module _ (t : TableView) (differ : AreDifferent t.terms) (x : Search) (v : Theor
       record {
         term = subst (λ w. IsWellSorted t.symbols [] w) n.2 here.1;
         sort = shared_real (subterms_in p) u (a.shared.only u i);
-        linear = linear p a.asked.reached u (a.asked.listed.only u (shared_listed u i));
+        linear = linear p a.asked.answered u (a.asked.listed.only u (shared_listed u i));
       }
 
   -- all terms that are asked about are of the table

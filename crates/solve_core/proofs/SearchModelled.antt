@@ -126,7 +126,7 @@ module _ (t : TableView) (differ : AreDifferent t.terms) (x : Search) (v : Theor
       formulas = formulas;
       listed = s.listed.each;
       only = only;
-      linear = λ u i. linear_in problem s.reached u (only u i);
+      linear = λ u i. linear_in problem s.answered u (only u i);
       met = met;
       truths = atom_held;
       fine = subst (λ (ts : List Term). IsFine ts held) (ap (clause_at t) h.terms) (subst (IsFine (terms_watched t v)) (ap (map (literal_at t)) h.held) fine);
