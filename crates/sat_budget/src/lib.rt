@@ -1,4 +1,4 @@
-//! What a check may spend, and the learned clauses and the exchanges that it has spent it on.
+//! What a search may spend, and the learned clauses and the exchanges that it has spent it on.
 #![tactic(auto)]
 
 mod budget;

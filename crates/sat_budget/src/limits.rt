@@ -1,4 +1,4 @@
-//! Limits of a check, and what is said where one of them is reached.
+//! Limits of a search, and what is said where one of them is reached.
 
 ghost use Rattle.std.specs.Prelude.{◌≡◌};
 
@@ -8,10 +8,11 @@ use std::alloc::{AllocError, AllocFailed};
 use thiserror::Error;
 use world_io::NoMemory;
 
-/// Limits what a check may spend, and how much a script may ask to be held.
+/// Limits what a search may spend, and how much a script may ask to be held.
 ///
-/// Each check may spend `conflicts` and `pivots` anew; one that would pass either ends with the answer `unknown`. `terms` is not spent:
-/// a command that would pass it is refused with the fault `Full`, and no check ends by it.
+/// Each search may spend `conflicts` and `pivots` anew; one that would pass either ends, and its check is answered `unknown`. A check may
+/// have several searches, called rounds. `terms` is not spent: a command that would pass it is refused with the fault `Full`, and no
+/// check ends by it.
 /// Source: SMT-LIB 2.6, section 4.1.7, for the option of a limit on what is spent.
 #[derive(Clone, Copy, Debug, PartialEq, Eq)]
 pub struct Limits {
