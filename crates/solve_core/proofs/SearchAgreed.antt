@@ -22,6 +22,7 @@ use Rattle.spec_derivations.specs.Orders.{whole_terms}
 use Rattle.spec_derivations.proofs.SearchTerms.{subterms_spoken}
 use Rattle.spec_derivations.proofs.OrderedTerms.{searched_whole}
 use Rattle.spec_causes.specs.Shared.{IsSharedAmong, argument, value, IsSharedEquality}
+use Rattle.spec_causes.proofs.Wider.{shared_among_more}
 use Rattle.spec_valuations.specs.Classes.{class_in, AreShared, IsEqualityAmong}
 use Rattle.spec_valuations.specs.Resting.{TheoryValues, RestsWithNumbers}
 use Rattle.term_core.specs.declared.ids.TermId.{TermId}
@@ -50,11 +51,6 @@ shared_subterm p _ (value s us there some real) = there
 pub shared_real : (ts : List Term) (u : Term) → IsSharedAmong ts u → sort_of u ≡ Number
 shared_real ts _ (argument s us there u i real) = real
 shared_real ts _ (value s us there some real) = real
-
--- and is shared among more terms
-pub shared_more : (ts us : List Term) → AreAmong ts us → (u : Term) → IsSharedAmong ts u → IsSharedAmong us u
-shared_more ts us more _ (argument f vs there u has real) = argument f vs (more (app (Apply f) vs) there) u has real
-shared_more ts us more _ (value f vs there some real) = value f vs (more (app (Apply f) vs) there) some real
 
 -- equalities of shared terms are equalities of subterms
 pub equalities_among : (p : Problem) → All (IsSharedEquality (subterms_in p)) p.beside → (e : Term) → Contains p.beside e → IsEqualityAmong (subterms_in p) e
@@ -229,7 +225,7 @@ module _ (t : TableView) (differ : AreDifferent t.terms) (x : Search) (v : Theor
   -- which the theory watches
   pub shared_watched : (w : TheoryView) → v ≡ w → (u : Term) → Contains (clause_at t ids) u → IsSharedAmong (terms_watched t w) u
   shared_watched w same u i =
-      shared_more (subterms_in p) (terms_watched t w) (λ z j. subst (λ (is : List TermId). Contains (clause_at t is) z) (sym h.terms ∙ ap (λ (y : TheoryView). y.watched) same) (subterms_listed z j)) u (a.shared.only u i)
+      shared_among_more (subterms_in p) (terms_watched t w) (λ z j. subst (λ (is : List TermId). Contains (clause_at t is) z) (sym h.terms ∙ ap (λ (y : TheoryView). y.watched) same) (subterms_listed z j)) u (a.shared.only u i)
 
   -- and linear numbers
   pub shared_linear : ((q : Problem) → All IsLinear (known_terms q) → (u : Term) → Contains (whole_terms q) u → IsLinear u) → (u : Term) → Contains (clause_at t ids) u → IsLinearOver t.symbols u

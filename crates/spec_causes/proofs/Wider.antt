@@ -38,7 +38,7 @@ module _ (ts us : List Term) (more : AreAmong ts us) where
   reached_over_more _ _ _ (checking n old new s0 h ranges bounds rs vs many ran) =
       checking n old new s0 (reached_over_more n old s0 h) ranges (bounds_among_more s0 ranges bounds) rs vs many ran
 
-  shared_among_more : (u : Term) → IsSharedAmong ts u → IsSharedAmong us u
+  pub shared_among_more : (u : Term) → IsSharedAmong ts u → IsSharedAmong us u
   shared_among_more _ (argument f vs there u has real) = argument f vs (more (app (Apply f) vs) there) u has real
   shared_among_more _ (value f vs there some real) = value f vs (more (app (Apply f) vs) there) some real
 
