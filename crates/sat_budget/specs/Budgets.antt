@@ -13,7 +13,7 @@ use Rattle.sat_budget.specs.declared.limits.BudgetStop.TheVariants.{Spent, Memor
 abbrev pub lists : {T : Type 0} → List (Vec T Global) → List (List T)
 lists vs = map (λ v. v.items) vs
 
--- The limits of a check on conflicts and on exchanges, the clauses that it has learned, and the exchanges that it has made.
+-- The limits of a search on conflicts and on exchanges, the clauses that it has learned, and the exchanges that it has made.
 pub record BudgetView : Type 0 where
   -- how many clauses may be learned
   pub limit : ℕ

@@ -1,4 +1,4 @@
-//! The budget of one check: of conflicts, and of exchanges.
+//! The budget of one search: of conflicts, and of exchanges.
 
 ghost use Rattle.std.specs.Prelude.{◌≡◌, ◌<◌, ◌≤◌, [], length, get_or, slice_index_or, IfOk, MatchOption, MatchResult};
 ghost use Rattle.sat_budget.specs.Budgets.{Learns, Exchanges, no_exchange};
@@ -9,7 +9,7 @@ use std::marker::Model;
 use term_core::Lit;
 use world_io::NoMemory;
 
-/// Holds the limits of one check on conflicts and on exchanges, the clauses that it has learned, and the exchanges that it has
+/// Holds the limits of one search on conflicts and on exchanges, the clauses that it has learned, and the exchanges that it has
 /// made, oldest first.
 ///
 /// Each conflict that is learned from is a clause here, and each pivot of arithmetic an exchange of two variables by their
@@ -40,7 +40,7 @@ impl Model for Budget {
 }
 
 impl Budget {
-    /// Makes the budget of a new check, which has learned and exchanged nothing.
+    /// Makes the budget of a new search, which has learned and exchanged nothing.
     ///
     /// `NoMemory` never comes, as empty lists take no memory.
     pub fn new(alloc: Global, limits: &Limits) -> Result<Budget, NoMemory>

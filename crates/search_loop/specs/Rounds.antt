@@ -118,7 +118,7 @@ pub record IsSearch (t : TableView) (p : Problem) (x : Search) : Type 0 where
   -- so much is derived of it
   pub derived : HasDerived p (derivation_in t x.log) (images t x.store.clauses) (images t x.budget.learned)
 
--- the budget has the limits of a check on conflicts and on pivots
+-- the budget has the limits of a search on conflicts and on pivots
 abbrev pub HasLimits : Limits → BudgetView → Type 0
 HasLimits l b = (b.limit ≡ l.conflicts) × (b.pivots ≡ l.pivots)
 
