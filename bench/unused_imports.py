@@ -33,6 +33,8 @@ def traits():
 
 
 def is_used(name, text, is_code):
+    if name == "◌>>=◌" and "←" in text:
+        return True  # what a `do` block stands for
     if "◌" in name:
         return all(part in text for part in name.split("◌") if part)
     around = r"\w" if is_code else r"\w'?!₀-₉-"
