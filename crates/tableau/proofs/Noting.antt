@@ -1,16 +1,18 @@
 -- Columns to which row numbers are added, or from which one is taken.
-use Rattle.std.proofs.Common.{◌≡◌, ◌≢◌, ℕ, ◌<◌, ◌≤◌, ◌==◌, Bool, true, false, cond, nat_eq, nat_lt, ◌+◌, List, [], ◌∷◌, ◌++◌, append_assoc, length, set, Contains, Result, Ok, Err, OnOk, OnErr, inl, inr, refl, sym, ap, ◌∙◌, subst, arith, true≢false}
+use Rattle.std.proofs.Common.{◌≡◌, ◌≢◌, ℕ, suc, ◌<◌, ◌≤◌, ◌==◌, Bool, true, false, cond, nat_eq, nat_lt, ◌+◌, List, [], ◌∷◌, ◌++◌, append_assoc, length, set, Contains, Result, Ok, Err, OnOk, OnErr, inl, inr, refl, sym, ap, ◌∙◌, subst, arith, true≢false}
 use Rattle.std.specs.Prelude.{◌↔◌, ◌⊎◌}
 use Rattle.std.specs.List.{list_any}
+use Rattle.std.proofs.lemmas.Bool.{eq-eqb}
 use Rattle.std.proofs.lemmas.Bool.Decides.{nat_tests, Decides-eqb}
 use Rattle.std.proofs.lemmas.List.{append-nil, set-get_or, get_or_past, get_or-set_same, get_or-set_other, length-set}
 use Rattle.std.proofs.lemmas.Map.Made.{is_member-Decides}
-use Rattle.spec_tableaux.specs.Rows.{Entry}
-use Rattle.spec_tableaux.specs.SolvedForms.{IsOver}
-use Rattle.spec_tableaux.specs.Numbers.{Number}
+use Rattle.spec_tableaux.specs.Rows.{Entry, Row, coefficient_of}
+use Rattle.spec_tableaux.specs.SolvedForms.{IsTidy, IsOver}
+use Rattle.spec_tableaux.specs.Numbers.{Number, numbers}
 use Rattle.spec_tableaux.proofs.SolvedForms.{over_more}
 use Rattle.tableau.specs.Pivots.{NewRow, AreNumbered}
-use Rattle.tableau.specs.Kept.{column_at, HasGrown, IsNoted, AreNoted, Forgets, AreOverColumns}
+use Rattle.tableau.specs.Views.{row_at}
+use Rattle.tableau.specs.Kept.{column_at, AreColumns, HasGrown, IsNoted, AreNoted, AreKnown, Forgets, AreOverColumns}
 
 pub member : (ks : List ℕ) (k : ℕ) → list_any (nat_eq k) ks ≡ true → Contains ks k
 member ks k = (is_member-Decides Decides-eqb ks k).0
@@ -76,6 +78,18 @@ noted_more p a b n es g i = over_more (λ y. Contains (column_at a y) n) (λ y. 
 pub all_noted_more : (p : ℕ → Type 0) (a b : List (List ℕ)) (cs : List NewRow) → HasGrown p a b → AreNoted a cs → AreNoted b cs
 all_noted_more p a b [] g i = tt
 all_noted_more p a b (c ∷ cs) g i = (noted_more p a b c.number c.row.entries g i.0, all_noted_more p a b cs g i.1)
+
+-- what is so of each variable with a coefficient is so of the entries
+over_tidy : (p : ℕ → Type 0) (from : ℕ) (es : List (Entry Number)) → IsTidy numbers from es → ((y : ℕ) → from ≤ y → numbers.is_zero (coefficient_of numbers y es) ≡ false → p y) → IsOver p es
+over_tidy p from [] t h = tt
+over_tidy p from (e ∷ es) t h = (
+  h e.variable t.0 (ap (λ b. numbers.is_zero (cond b e.coefficient (coefficient_of numbers e.variable es))) (eq-eqb e.variable e.variable refl) ∙ t.1),
+  over_tidy p (suc e.variable) es t.2 (λ y l z. h y (let k = t.0 in omega (arith, l, k)) (ap (λ b. numbers.is_zero (cond b e.coefficient (coefficient_of numbers y es))) (let n : (e.variable == y) ≡ false = grind (arith, nat_tests) in n) ∙ z)),
+)
+
+-- the rows' numbers are in the columns of their entries
+pub rows_known : (rs : List (Row Number)) (columns : List (List ℕ)) → ((k : ℕ) → k < length rs → IsTidy numbers 0 (row_at rs k).entries) → AreColumns rs columns → AreKnown columns rs
+rows_known rs columns t a k l = over_tidy (λ y. Contains (column_at columns y) k) 0 (row_at rs k).entries (t k l) (λ y h z. a.covers y k l z)
 
 over_last : {A : Type 0} (p : ℕ → Type 0) (es : List (Entry A)) (e : Entry A) → IsOver p es → p e.variable → IsOver p (es ++ e ∷ [])
 over_last p [] e o h = (h, tt)

@@ -30,6 +30,10 @@ pub record HasGrown (p : ℕ → Type 0) (old new : List (List ℕ)) : Type 0 wh
 abbrev pub IsNoted : List (List ℕ) → ℕ → List (Entry Number) → Type 0
 IsNoted columns k es = IsOver (λ y. Contains (column_at columns y) k) es
 
+-- the same of each row, by its number
+abbrev pub AreKnown : List (List ℕ) → List (Row Number) → Type 0
+AreKnown columns rs = (k : ℕ) → k < length rs → IsNoted columns k (row_at rs k).entries
+
 -- the same of each change
 abbrev pub AreNoted : List (List ℕ) → List NewRow → Type 0
 AreNoted columns [] = Unit {0}

@@ -218,7 +218,7 @@ impl Tableau {
             &mut self.places,
             &mut self.columns,
         )?;
-        if note_row(&mut self.columns, number, &made).is_err() {
+        if note_row(&mut self.columns, number, &[], &made).is_err() {
             forget(&mut self.columns, number);
             return Err(RowStop::Memory);
         }
@@ -260,7 +260,7 @@ impl Tableau {
             leaving,
             entering,
         )?;
-        note_changes(&mut self.columns, &made)?;
+        note_changes(&mut self.columns, &self.rows, &made)?;
         put_changes(&mut self.rows, made);
         self.places[leaving as usize] = None;
         self.places[entering as usize] = Some(number);

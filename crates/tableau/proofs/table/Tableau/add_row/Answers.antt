@@ -13,8 +13,8 @@ use Rattle.tableau.proofs.table.Tableau.add_row.Goals as goal
 pub flattened-requires-clause-low : goal.flattened-requires-clause-low
 flattened-requires-clause-low c = subst (λ n. IsOver (λ y. y < n) (entries_of c.args.entries.now)) (sym (ap length c.deref-2.ensures.value ∙ ap (λ (t : TableauView). t.variables) c.self.view_is)) c.requires
 
-pub note_row-requires : goal.note_row-requires
-note_row-requires c =
+pub note_row-requires-clause-over : goal.note_row-requires-clause-over
+note_row-requires-clause-over c =
     let i = c.self.inside in
     let is : entries_of c.in_ok-made.made.items ≡ flattened numbers (rows_of i.rows.items) [] (entries_of c.args.entries.now) = c.in_ok-made.ensures.ok ∙ ap (λ z. flattened numbers (rows_of z) [] (entries_of c.args.entries.now)) c.deref.ensures.value in
     let low : IsOver (λ y. y < length i.places.items) (entries_of c.args.entries.now) = subst (λ n. IsOver (λ y. y < n) (entries_of c.args.entries.now)) (sym (ap (λ (t : TableauView). t.variables) c.self.view_is)) c.requires in
