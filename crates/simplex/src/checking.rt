@@ -109,7 +109,8 @@ impl Simplex {
     ///
     /// Each exchange is kept in the budget. `Pivots` comes exactly where a further exchange is needed and the budget has no room
     /// for it; `Strained` where a number leaves 128 bits, with the basic variables and the values at which it did; `Memory`
-    /// where there is no memory. After each, table and log are as they were.
+    /// where there is no memory. After each, table and log are as they were. After `Fine` the next check looks at the variables of
+    /// bounds alone that came since, and at those whose values change.
     /// Source: Dutertre and de Moura, A Fast Linear-Arithmetic Solver for DPLL(T), CAV 2006.
     pub fn check(
         &mut self,
@@ -141,7 +142,9 @@ impl Simplex {
         self.board.values_solve_the_rows();
         self.board.tableau().rows_are_in_solved_form();
         table.ids_are_unique();
-        let outcome = match self.board.check(&self.bounds, budget) {
+        let kept = self.kept;
+        self.kept = 0;
+        let outcome = match self.board.check_after(&self.bounds, kept, budget) {
             Ok(outcome) => outcome,
             Err(stop) => {
                 self.board.values_solve_the_rows();
@@ -151,6 +154,7 @@ impl Simplex {
         self.board.values_solve_the_rows();
         if let Outcome::Fine = outcome {
             self.board.tableau().rows_are_in_solved_form();
+            self.kept = self.bounds.held_len();
             return Ok(Verdict::Fine);
         }
         match self.clash(table, log, outcome) {

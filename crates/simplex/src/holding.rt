@@ -1,9 +1,10 @@
 //! Literals are held as bounds, marks are set, and the way back.
 
-ghost use Rattle.std.specs.Prelude.{◌≡◌, ◌+◌, ◌<◌, ◌≤◌, ◌++◌, ℕ, length, map, take, None, Contains, IfSome, MatchResult};
+ghost use Rattle.std.specs.Prelude.{◌≡◌, ◌+◌, ◌<◌, ◌≤◌, ◌++◌, ℕ, List, length, map, take, None, Contains, IfSome, MatchResult};
 ghost use Rattle.term_core.specs.Tables.{TableView};
 ghost use Rattle.proof_log.specs.Theories.{with_held, with_mark, gone_back};
 ghost use Rattle.held_literals.specs.Room.{without_mark};
+ghost use Rattle.simplex_bounds.specs.declared.bounds.Bound.{Bound};
 ghost use Rattle.simplex_atoms.specs.Places.{place_in};
 ghost use Rattle.simplex_atoms.specs.Limits.{limit_of, one_of, limits_by};
 ghost use Rattle.simplex.specs.Views.{IsOf};
@@ -34,6 +35,7 @@ fn hold_by(bounds: &mut Bounds, place: Place, lit: Lit)
     requires there { place.variable < bounds.old.variables }
     requires room { length (limits_by place lit) ≤ bounds.old.room }
     ensures held { map limit_of bounds.new.held ≡ map limit_of bounds.old.held ++ limits_by place lit }
+    ensures more { (bs : List Bound) × (bounds.new.held ≡ bounds.old.held ++ bs) }
     ensures variables { bounds.new.variables ≡ bounds.old.variables }
     ensures room { bounds.new.room + length (limits_by place lit) ≡ bounds.old.room }
 {
@@ -115,6 +117,7 @@ impl Simplex {
             self.literals.back(marks);
             self.starts.truncate(kept);
             self.placed = start.placed;
+            self.kept = self.kept.min(start.bounds);
         }
     }
 }

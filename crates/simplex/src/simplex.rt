@@ -38,10 +38,13 @@ pub struct Simplex {
     pub(crate) starts: Vec<Start>,
     /// How many watched terms have a place.
     pub(crate) placed: u64,
+    /// How many of the bounds, from the oldest on, the values are known to keep.
+    pub(crate) kept: u64,
 }
 
 impl Model for Simplex {
     ghost use Rattle.std.specs.Prelude.{◌≡◌};
+    ghost use Rattle.simplex_check.specs.Suspects.{KeepsFirst};
     ghost use Rattle.simplex.specs.Views.{SimplexView, Fits, placed_count};
 
     ghost Value = { SimplexView };
@@ -60,7 +63,7 @@ impl Model for Simplex {
       board = s.board;
       bounds = s.bounds;
       starts = s.starts.items;
-    }) × (s.placed ≡ placed_count s.atoms.placed s.literals.watched) };
+    }) × (s.placed ≡ placed_count s.atoms.placed s.literals.watched) × KeepsFirst s.kept s.bounds.held s.board.values };
 }
 
 impl Simplex {
@@ -82,6 +85,7 @@ impl Simplex {
             bounds: Bounds::new(alloc),
             starts: Vec::new(alloc),
             placed: 0,
+            kept: 0,
         }
     }
 

@@ -49,6 +49,7 @@ impl Simplex {
     {
         self.literals.are_of_watched_terms();
         self.literals.marks_are_prefixes();
+        self.kept = 0;
         match self
             .atoms
             .watch(table, id, &mut self.board, &mut self.bounds)

@@ -173,6 +173,13 @@ upper_is : (bs : List Bound) (y : ℕ) (x : Pair Number) → above deltas x (ran
 unfolding beyond
 upper_is bs y x = above_is x (strongest Upper y bs) ∙ beyond_after Upper y x None bs
 
+-- values keep the range of a variable where they keep each of its bounds
+pub within_by : (bs : List Bound) (v : ℕ → Pair Number) (y : ℕ) → ((b : Bound) → Contains bs b → b.variable ≡ y → Keeps v b) → is_within deltas (ranges_in bs) v y ≡ true
+within_by bs v y h = λ i. not ((lower_is bs y (v y) ∙ off Lower) i || (upper_is bs y (v y) ∙ off Upper) i)
+  where
+    off : (s : Side) → beyond_any s y (v y) bs ≡ false
+    off s = beyond_none s y (v y) bs (λ b m e f. (λ i. is_tighter (sym e i) (pair_of b.value) (v (sym f i))) ∙ h b m f)
+
 -- values keep the ranges where they keep each bound, and the other way round
 pub ranges_kept : (bs : List Bound) (v : ℕ → Pair Number) → ((y : ℕ) → is_within deltas (ranges_in bs) v y ≡ true) ↔ ((b : Bound) → Contains bs b → Keeps v b)
 ranges_kept bs v = (to, from)
@@ -191,7 +198,4 @@ ranges_kept bs v = (to, from)
         by Upper e = not_beyond Upper b.variable (v b.variable) bs (sym (upper_is bs b.variable (v b.variable)) ∙ parts.1) b m (of Upper e)
 
     from : ((b : Bound) → Contains bs b → Keeps v b) → (y : ℕ) → is_within deltas (ranges_in bs) v y ≡ true
-    from h y = λ i. not ((lower_is bs y (v y) ∙ off Lower) i || (upper_is bs y (v y) ∙ off Upper) i)
-      where
-        off : (s : Side) → beyond_any s y (v y) bs ≡ false
-        off s = beyond_none s y (v y) bs (λ b m e f. (λ i. is_tighter (sym e i) (pair_of b.value) (v (sym f i))) ∙ h b m)
+    from h y = within_by bs v y (λ b m e. h b m)

@@ -1,6 +1,6 @@
 //! Bounds that are held, and what each of them changed.
 
-ghost use Rattle.std.specs.Prelude.{◌≡◌, ◌+◌, ◌<◌, ◌≤◌, [], ◌∷◌, ◌++◌, length, take, cond, Some, OnOk, OnErr, All};
+ghost use Rattle.std.specs.Prelude.{◌≡◌, ◌+◌, ◌<◌, ◌≤◌, [], ◌∷◌, ◌++◌, length, take, slice_index_or, cond, Some, OnOk, OnErr, All};
 ghost use Rattle.simplex_bounds.specs.Held.{lesser};
 ghost use Rattle.simplex_bounds.specs.Limits.{are_crossed};
 
@@ -161,6 +161,14 @@ impl Bounds {
         ensures { result ≡ length self.now.held }
     {
         self.entries.len() as u64
+    }
+
+    /// Gives a bound that is held by its place: from 0, the oldest first. It takes no memory, and constant time.
+    pub fn held_at(&self, place: u64) -> Bound
+        requires { place < length self.now.held }
+        ensures { result ≡ slice_index_or self.now.held place result }
+    {
+        self.entries[place as usize].bound
     }
 
     /// Gives the strongest lower bound of a variable, if one is held. It takes no memory, and constant time.

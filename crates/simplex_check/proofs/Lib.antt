@@ -6,6 +6,7 @@ pub mod Following
 pub mod FirstOfRow
 pub mod Summing
 pub mod Shifts
+pub mod Suspecting
+pub mod KeptFirst
 pub mod Settling
 pub mod Runs
-pub mod Suspecting

@@ -1,5 +1,5 @@
 -- Variables that may violate a bound.
-use Rattle.std.proofs.Common.{◌≡◌, ℕ, ◌<◌, ◌≤◌, Bool, true, false, List, [], ◌∷◌, All, inl, inr, refl, sym, ◌∙◌, ap, arith, ◌==◌, ◌||◌, ◌&&◌, not, subst, Less, Equal, Greater}
+use Rattle.std.proofs.Common.{◌≡◌, ℕ, ◌<◌, Bool, true, false, List, [], ◌∷◌, All, inl, inr, refl, sym, ◌∙◌, ap, arith, ◌==◌, ◌||◌, ◌&&◌, not, subst, Less, Equal, Greater}
 use Rattle.std.specs.Prelude.{◌⊎◌}
 use Rattle.std.specs.Ordering.{match_ordering, nat_cmp}
 use Rattle.std.specs.declared.cmp.Ordering.{Ordering}
@@ -29,7 +29,7 @@ less_number : (k x : ℕ) → nat_cmp k x ≡ Less → k < x
 less_number k x e = ranked k x Less (sym e)
 
 -- either the first is the number, or it is among the others
-among_first : (z y : ℕ) (ys : List ℕ) → is_among z (y ∷ ys) ≡ true → (y ≡ z) ⊎ (is_among z ys ≡ true)
+pub among_first : (z y : ℕ) (ys : List ℕ) → is_among z (y ∷ ys) ≡ true → (y ≡ z) ⊎ (is_among z ys ≡ true)
 among_first z y ys h = by (y == z) refl
   where
     by : (q : Bool) → (y == z) ≡ q → (y ≡ z) ⊎ (is_among z ys ≡ true)
@@ -57,6 +57,33 @@ among_added (x ∷ xs) k = by (among_added xs k) (nat_cmp k x) refl
     by f Less e = ap (λ q. q || is_among k (x ∷ xs)) (same_eqb k)
     by f Equal e = ap (λ q. q || is_among k xs) (ap (λ z. x == z) (same_number k x e) ∙ same_eqb x)
     by f Greater e = ap (λ q. x == k || q) f ∙ or-true (x == k)
+
+-- no other number is added
+pub among_only : (xs : List ℕ) (k z : ℕ) → is_among z (insert_key nat_cmp xs k) ≡ true → (is_among z xs ≡ true) ⊎ (z ≡ k)
+among_only [] k z h = elim (among_first z k [] h) [ inl e ↦ inr (sym e) | inr m ↦ inl m ]
+among_only (x ∷ xs) k z h = by (among_only xs k z) (nat_cmp k x) h
+  where
+    past : is_among z xs ≡ true → is_among z (x ∷ xs) ≡ true
+    past m = ap (λ q. x == z || q) m ∙ or-true (x == z)
+
+    here : x ≡ z → is_among z (x ∷ xs) ≡ true
+    here e = ap (λ y. (y == z) || is_among z xs) e ∙ ap (λ q. q || is_among z xs) (same_eqb z)
+
+    by : (is_among z (insert_key nat_cmp xs k) ≡ true → (is_among z xs ≡ true) ⊎ (z ≡ k)) → (o : Ordering)
+        → is_among z (match_ordering o (k ∷ x ∷ xs) (x ∷ xs) (x ∷ insert_key nat_cmp xs k)) ≡ true → (is_among z (x ∷ xs) ≡ true) ⊎ (z ≡ k)
+    by f Less h = elim (among_first z k (x ∷ xs) h) [ inl e ↦ inr (sym e) | inr m ↦ inl m ]
+    by f Equal h = inl h
+    by f Greater h = elim (among_first z x (insert_key nat_cmp xs k) h) [
+      | inl e ↦ inl (here e)
+      | inr m ↦ elim (f m) [ inl n ↦ inl (past n) | inr e ↦ inr e ]
+    ]
+
+-- the first of a list is among it, and so are those after it
+pub among_next : (y : ℕ) (old new : List ℕ) → old ≡ y ∷ new → is_among y old ≡ true
+among_next y old new e = ap (is_among y) e ∙ ap (λ q. q || is_among y new) (same_eqb y)
+
+pub among_later : (y z : ℕ) (old new : List ℕ) → old ≡ y ∷ new → is_among z new ≡ true → is_among z old ≡ true
+among_later y z old new e m = ap (is_among z) e ∙ ap (λ q. y == z || q) m ∙ or-true (y == z)
 
 -- numbers that are all above
 pub all_above : (k : ℕ) (xs : List ℕ) → All (λ q. nat_cmp k q ≡ Less) xs → (z : ℕ) → is_among z xs ≡ true → k < z
@@ -112,11 +139,6 @@ suspect_none ranges t ys s e y = at (is_out deltas ranges t y) refl
     at : (q : Bool) → is_out deltas ranges t y ≡ q → q ≡ false
     at true p = absurd (let m : is_among y ys ≡ true = s y p in let n : is_among y ys ≡ false = ap (is_among y) e in cc)
     at false p = refl
-
--- each variable up to the last was looked at
-pub suspect_all : (ranges : Ranges) (t : BoardState) (n end : ℕ) (ys : List ℕ) → n ≤ end → ((b : ℕ) → is_basic b t.rows ≡ true → b < n)
-    → ((k : ℕ) → k < end → is_out deltas ranges t k ≡ true → is_among k ys ≡ true) → Suspect ranges t ys
-suspect_all ranges t n end ys e b h k o = h k (let l : k < n = b k (and_parts (is_basic k t.rows) _ o).0 in omega arith) o
 
 -- after an exchange each variable that violates a bound did so before, or has changed
 pub suspect_exchange : (ranges : Ranges) (t u : BoardState) (b x : ℕ) (w : ℕ → Pair Number) (cs : List Change) (old new : List ℕ) → IsPivot numbers t.rows b x → u.rows ≡ exchanged numbers b x t.rows

@@ -1,7 +1,13 @@
 -- Variables that may violate a bound.
-use Rattle.std.specs.Prelude.{◌≡◌, ℕ, Bool, true, false, ◌==◌, ◌||◌, ◌⊎◌, List, [], ◌∷◌}
+use Rattle.std.specs.Prelude.{◌≡◌, ◌≤◌, ◌<◌, ℕ, Bool, true, false, ◌==◌, ◌||◌, ◌⊎◌, List, [], ◌∷◌, length, take, get_or, Contains}
+use Rattle.spec_tableaux.specs.Spaces.{Pair}
+use Rattle.spec_tableaux.specs.Numbers.{Number}
+use Rattle.spec_tableaux.specs.Ranges.{settled_value}
 use Rattle.spec_tableaux.specs.LeastVariable.{is_out}
-use Rattle.spec_strains.specs.Points.{deltas, Ranges, BoardState}
+use Rattle.spec_tableaux.specs.SolvedForms.{IsNonbasic}
+use Rattle.spec_strains.specs.Points.{deltas, point_in, Ranges, BoardState}
+use Rattle.simplex_bounds.specs.Held.{Keeps}
+use Rattle.simplex_bounds.specs.declared.bounds.Bound.{Bound}
 use Rattle.simplex_check.specs.declared.rule.Move.{Move}
 use Rattle.simplex_check.specs.declared.rule.Move.TheVariants.{Exchange}
 
@@ -22,3 +28,29 @@ SuspectBut ranges t b ys = (y : ℕ) → is_out deltas ranges t y ≡ true → (
 abbrev pub SuspectAfter : Ranges → BoardState → Move → List ℕ → Type 0
 SuspectAfter ranges t (Exchange b x) ys = SuspectBut ranges t b ys
 SuspectAfter ranges t _ ys = Unit {0}
+
+-- Where values became others, the variables whose value changed are suspects, beside those that were.
+pub record HaveSuspects (before after : List (Pair Number)) (old new : List ℕ) : Type 0 where
+  -- those that were
+  pub kept : (z : ℕ) → is_among z old ≡ true → is_among z new ≡ true
+  -- what is none of them has its value
+  pub noted : (z : ℕ) → (is_among z new ≡ true) ⊎ (point_in after z ≡ point_in before z)
+
+-- A variable is looked at: where it is nonbasic it goes to the bound that it violates, and the others stay. What is basic and violates
+-- a bound then is a suspect, or did so before and is not this one.
+pub record LooksAt (ranges : Ranges) (y : ℕ) (t u : BoardState) (old new : List ℕ) : Type 0 where
+  pub settled : IsNonbasic t.rows y → u.point y ≡ settled_value deltas (ranges y) (t.point y)
+  pub others : (z : ℕ) → IsNonbasic t.rows z → (z == y) ≡ false → u.point z ≡ t.point z
+  pub kept : (z : ℕ) → is_among z old ≡ true → is_among z new ≡ true
+  pub noted : (z : ℕ) → is_out deltas ranges u z ≡ true → (is_among z new ≡ true) ⊎ ((is_out deltas ranges t z ≡ true) × ((z == y) ≡ false))
+
+-- Values keep the first n bounds that are held.
+pub record KeepsFirst (n : ℕ) (held : List Bound) (vs : List (Pair Number)) : Type 0 where
+  -- there are as many
+  pub few : n ≤ length held
+  -- they keep each of them
+  pub each : (b : Bound) → Contains (take n held) b → Keeps (point_in vs) b
+
+-- the variable of each bound from a place on is one of the numbers
+abbrev pub AreDue : ℕ → List Bound → List ℕ → Type 0
+AreDue from held ys = (k : ℕ) → from ≤ k → k < length held → (none : Bound) → is_among (get_or held k none).variable ys ≡ true

@@ -1,18 +1,19 @@
 //! The feasibility check.
 
-ghost use Rattle.std.specs.Prelude.{◌≡◌, ◌≤◌, OnOk, OnErr, IfErr};
+ghost use Rattle.std.specs.Prelude.{◌≡◌, ◌≤◌, ◌<◌, ℕ, true, OnOk, OnErr, IfOk, IfErr};
 ghost use Rattle.spec_tableaux.specs.LeastVariable.{Says, Exchanges, Settles, exchange};
 ghost use Rattle.spec_strains.specs.Points.{deltas};
 ghost use Rattle.simplex_bounds.specs.Held.{ranges_in};
-ghost use Rattle.simplex_check.specs.Boards.{state_of};
+ghost use Rattle.simplex_check.specs.Boards.{IsBoard, state_of};
 ghost use Rattle.simplex_check.specs.Ends.{Ends, StopsStep, StopsSettling};
-ghost use Rattle.simplex_check.specs.Suspects.{Suspect, SuspectBut};
+ghost use Rattle.simplex_check.specs.Suspects.{is_among, Suspect, SuspectBut, KeepsFirst, AreDue, LooksAt};
 
 use crate::board::Board;
 use crate::rule::Move;
 use crate::suspects::Suspects;
 use sat_budget::{Budget, BudgetStop, Stop};
 use simplex_bounds::Bounds;
+use world_io::NoMemory;
 
 /// Says what a check found.
 #[derive(Clone, Copy, PartialEq, Eq, Debug)]
@@ -26,26 +27,66 @@ pub enum Outcome {
 }
 
 impl Board {
-    /// Lets each nonbasic variable that violates a bound go to it, the least first.
-    fn settle(&mut self, bounds: &Bounds) -> Result<(), Stop>
-        requires { bounds.now.variables ≤ self.old.tableau.variables }
+    /// Lists the variables of the bounds from a place on. `NoMemory` comes where the list finds no memory.
+    fn due(&self, bounds: &Bounds, from: u64) -> Result<Suspects, NoMemory>
+        ensures due { IfOk result (λ due. AreDue from bounds.now.held due) }
+        ensures known { IfOk result (λ due. (z : ℕ) → is_among z due ≡ true → z < bounds.now.variables) }
+    {
+        bounds.held_are_of_variables();
+        let mut due = Suspects::new(self.alloc);
+        for place in from..bounds.held_len() {
+            due.add(bounds.held_at(place).variable)?;
+        }
+        Ok(due)
+    }
+
+    /// Looks at a variable: a nonbasic one goes to the bound that it violates, and a basic one is a suspect then.
+    fn look_at(&mut self, bounds: &Bounds, y: u64, suspects: &mut Suspects) -> Result<(), Stop>
+        requires known { y < self.old.tableau.variables }
+        ensures board { IsBoard self.new }
         ensures tableau { self.new.tableau ≡ self.old.tableau }
-        ensures settles { OnOk result (Settles deltas (ranges_in bounds.now.held) (state_of self.old)
-            (state_of self.new)) }
+        ensures looked { OnOk result (LooksAt (ranges_in bounds.now.held) y (state_of self.old) (state_of self.new)
+            suspects.old suspects.new) }
+        ensures stops { IfErr result (λ stop. (self.new ≡ self.old)
+            × StopsStep (ranges_in bounds.now.held) self.new stop) }
+    {
+        self.values_solve_the_rows();
+        if self.is_basic(y) {
+            return match suspects.add(y) {
+                Ok(()) => Ok(()),
+                Err(_) => Err(Stop::Memory),
+            };
+        }
+        match self.settle_one(bounds, y, suspects) {
+            Ok(()) => Ok(()),
+            Err(stop) => Err(self.stop_of(stop)),
+        }
+    }
+
+    /// Lets each nonbasic variable that violates a bound go to it, the least first, where the values keep the first bounds, as
+    /// many as `kept` says. Gives variables among which are all basic ones that violate a bound then.
+    fn settle(&mut self, bounds: &Bounds, kept: u64) -> Result<Suspects, Stop>
+        requires known { bounds.now.variables ≤ self.old.tableau.variables }
+        requires kept { KeepsFirst kept bounds.now.held self.old.values }
+        ensures tableau { self.new.tableau ≡ self.old.tableau }
+        ensures settles { IfOk result (λ suspects. Settles deltas (ranges_in bounds.now.held) (state_of self.old)
+            (state_of self.new) × Suspect (ranges_in bounds.now.held) (state_of self.new) suspects) }
         ensures stops { IfErr result (λ stop. StopsSettling (ranges_in bounds.now.held) self.old self.new stop) }
     {
         self.values_solve_the_rows();
         bounds.held_are_of_variables();
-        for y in 0..self.tableau().variables_len() {
-            if self.is_basic(y) {
-                continue;
-            }
-            match self.settle_one(bounds, y) {
+        let mut due = match self.due(bounds, kept) {
+            Ok(due) => due,
+            Err(_) => return Err(Stop::Memory),
+        };
+        let mut suspects = Suspects::new(self.alloc);
+        while let Some(y) = due.pop() {
+            match self.look_at(bounds, y, &mut suspects) {
                 Ok(()) => {}
-                Err(stop) => return Err(self.stop_of(stop)),
+                Err(stop) => return Err(stop),
             }
         }
-        Ok(())
+        Ok(suspects)
     }
 
     /// Makes an exchange that the rule says, and tells of a stop.
@@ -89,16 +130,30 @@ impl Board {
         ensures listed { self.new.tableau.listed ≡ self.old.tableau.listed }
         ensures budget { budget.new ≡ record budget.old { exchanges = budget.new.exchanges } }
     {
+        self.check_after(bounds, 0, budget)
+    }
+
+    /// Does what `check` does, where the values keep the first bounds, as many as `kept` says. It looks at no others than
+    /// the variables of later bounds, and those whose values change.
+    pub fn check_after(
+        &mut self,
+        bounds: &Bounds,
+        kept: u64,
+        budget: &mut Budget,
+    ) -> Result<Outcome, Stop>
+        requires known { bounds.now.variables ≤ self.old.tableau.variables }
+        requires kept { KeepsFirst kept bounds.now.held self.old.values }
+        ensures ends { Ends (ranges_in bounds.now.held) self.old self.new budget.old budget.new result }
+        ensures variables { self.new.tableau.variables ≡ self.old.tableau.variables }
+        ensures listed { self.new.tableau.listed ≡ self.old.tableau.listed }
+        ensures budget { budget.new ≡ record budget.old { exchanges = budget.new.exchanges } }
+    {
         if let Some(y) = bounds.crossed() {
             return Ok(Outcome::Crossed(y));
         }
-        match self.settle(bounds) {
-            Ok(()) => {}
-            Err(stop) => return Err(stop),
-        }
-        let mut suspects = match self.suspects(bounds) {
+        let mut suspects = match self.settle(bounds, kept) {
             Ok(suspects) => suspects,
-            Err(_) => return Err(Stop::Memory),
+            Err(stop) => return Err(stop),
         };
         budget.is_within();
         'steps: loop {

@@ -1,6 +1,6 @@
 //! The least-variable rule.
 
-ghost use Rattle.std.specs.Prelude.{◌≡◌, ℕ, List, false, IfOk, MatchOption};
+ghost use Rattle.std.specs.Prelude.{◌≡◌, ℕ, List, false, MatchOption};
 ghost use Rattle.spec_tableaux.specs.Ranges.{is_crossed};
 ghost use Rattle.spec_tableaux.specs.LeastVariable as rule;
 ghost use Rattle.spec_strains.specs.Points.{deltas};
@@ -15,7 +15,6 @@ use crate::ranges::is_within;
 use crate::suspects::Suspects;
 use simplex_bounds::Bounds;
 use simplex_bounds::ranges::below;
-use world_io::NoMemory;
 
 /// Says what the least-variable rule says at a board with bounds.
 #[derive(Clone, Copy, PartialEq, Eq, Debug)]
@@ -121,20 +120,5 @@ impl Board {
             return Move::Done;
         };
         self.move_of(bounds, leaving)
-    }
-
-    /// Lists the basic variables that violate a bound. `NoMemory` comes where the list finds no memory.
-    pub(crate) fn suspects(&self, bounds: &Bounds) -> Result<Suspects, NoMemory>
-        ensures { IfOk result (λ suspects. Suspect (ranges_in bounds.now.held) (state_of self.now) suspects) }
-    {
-        let mut suspects = Suspects::new(self.alloc);
-        self.tableau().rows_are_in_solved_form();
-        for y in 0..self.tableau().variables_len() {
-            if !is_out(self, bounds, y) {
-                continue;
-            }
-            suspects.add(y)?;
-        }
-        Ok(suspects)
     }
 }

@@ -13,7 +13,7 @@ ghost use Rattle.simplex_bounds.specs.Held.{ranges_in};
 ghost use Rattle.simplex_check.specs.Boards.{IsBoard, state_of};
 ghost use Rattle.spec_strains.specs.Strains.{coefficient_in, StrainsMove, Strains};
 ghost use Rattle.simplex_check.specs.Ends.{IsStopOf};
-ghost use Rattle.simplex_check.specs.Suspects.{Suspect, SuspectBut};
+ghost use Rattle.simplex_check.specs.Suspects.{Suspect, SuspectBut, HaveSuspects};
 
 use crate::board::Board;
 use crate::changes::{Change, write};
@@ -29,8 +29,9 @@ use tableau::numbers::zero;
 use tableau::{Ratio, RowStop};
 
 impl Board {
-    /// Lets a nonbasic variable change by d, and the basic ones follow. On a stop the board is as it was.
-    fn shift(&mut self, first: Change, d: Delta) -> Result<(), RowStop>
+    /// Lets a nonbasic variable change by d, and the basic ones follow. Each variable whose value changes is a suspect then. On a
+    /// stop the board is as it was.
+    fn shift(&mut self, first: Change, d: Delta, suspects: &mut Suspects) -> Result<(), RowStop>
         requires known { first.variable < self.old.tableau.variables }
         requires nonbasic { IsNonbasic self.old.tableau.rows first.variable }
         requires start { pair_of first.value ≡ deltas.plus (point_in self.old.values first.variable) (pair_of d) }
@@ -38,17 +39,25 @@ impl Board {
         ensures tableau { self.new.tableau ≡ self.old.tableau }
         ensures values { OnOk result ((y : ℕ) → point_in self.new.values y
             ≡ moved deltas self.old.tableau.rows first.variable (pair_of d) (point_in self.old.values) y) }
+        ensures suspect { OnOk result (HaveSuspects self.old.values self.new.values suspects.old suspects.new) }
         ensures same { OnErr result (self.new ≡ self.old) }
         ensures wide { IfErr result (OnWide (StrainsMove (state_of self.old) first.variable (pair_of d))) }
     {
         self.tableau.rows_are_in_solved_form();
         let changes = changes_of(self.alloc, &self.tableau, &self.values, first, d)?;
+        suspects.add_all(&changes)?;
         write(&mut self.values, &changes);
         Ok(())
     }
 
-    /// Lets a nonbasic variable go to the bound that it violates, if there is one. On a stop the board is as it was.
-    pub(crate) fn settle_one(&mut self, bounds: &Bounds, y: u64) -> Result<(), RowStop>
+    /// Lets a nonbasic variable go to the bound that it violates, if there is one. Each variable whose value changes is a
+    /// suspect then. On a stop the board is as it was.
+    pub(crate) fn settle_one(
+        &mut self,
+        bounds: &Bounds,
+        y: u64,
+        suspects: &mut Suspects,
+    ) -> Result<(), RowStop>
         requires known { y < self.old.tableau.variables }
         requires nonbasic { IsNonbasic self.old.tableau.rows y }
         ensures board { IsBoard self.new }
@@ -57,6 +66,7 @@ impl Board {
             ≡ settled_value deltas (ranges_in bounds.now.held y) (point_in self.old.values y)) }
         ensures others { (z : ℕ) → IsNonbasic self.old.tableau.rows z → (z == y) ≡ false
             → point_in self.new.values z ≡ point_in self.old.values z }
+        ensures suspect { OnOk result (HaveSuspects self.old.values self.new.values suspects.old suspects.new) }
         ensures same { OnErr result (self.new ≡ self.old) }
         ensures wide { IfErr result (OnWide (Strains (ranges_in bounds.now.held) (state_of self.old))) }
     {
@@ -70,7 +80,7 @@ impl Board {
             variable: y,
             value: bound,
         };
-        self.shift(first, d)
+        self.shift(first, d, suspects)
     }
 
     /// Gives the coefficient of x in the row of a basic variable.

@@ -1,6 +1,6 @@
 //! Variables that may violate a bound.
 
-ghost use Rattle.std.specs.Prelude.{◌≡◌, ◌<◌, ℕ, true, [], ◌∷◌, OnOk, MatchOption};
+ghost use Rattle.std.specs.Prelude.{◌≡◌, ◌<◌, ◌⊎◌, ℕ, true, [], ◌∷◌, OnOk, MatchOption};
 ghost use Rattle.simplex_check.specs.Changes.{is_changed};
 ghost use Rattle.simplex_check.specs.Suspects.{is_among};
 
@@ -38,6 +38,7 @@ impl Suspects {
     pub(crate) fn add(&mut self, y: u64) -> Result<(), NoMemory>
         ensures kept { (z : ℕ) → is_among z self.old ≡ true → is_among z self.new ≡ true }
         ensures added { OnOk result (is_among y self.new ≡ true) }
+        ensures only { (z : ℕ) → is_among z self.new ≡ true → (is_among z self.old ≡ true) ⊎ (z ≡ y) }
     {
         self.variables.insert(y)?;
         Ok(())

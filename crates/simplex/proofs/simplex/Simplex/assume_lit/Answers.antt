@@ -4,6 +4,7 @@ use Rattle.std.specs.Option.{is_some}
 use Rattle.std.proofs.lemmas.Bool.{false≢true}
 use Rattle.proof_log.specs.Theories.{TheoryView}
 use Rattle.held_literals.proofs.Rooms.{held_more}
+use Rattle.simplex_check.proofs.KeptFirst.{keeps_more}
 use Rattle.simplex_atoms.specs.declared.place.Place.{Place}
 use Rattle.simplex_atoms.specs.Places.{place_in}
 use Rattle.simplex_held.specs.Stated.{stated_at, stated_by}
@@ -45,6 +46,7 @@ invariant_of-self c =
       subst (λ (x : TheoryView). Fits (record { theory = x; atoms = s.atoms; board = s.board; bounds = c.hold_by.new.bounds; starts = s.starts.items }))
           (sym c.hold.ensures) (fits_held v c.self.invariant.0 c.marks_are_prefixes.ensures l c.hold_by.new.bounds stated),
       c.self.invariant.1 ∙ ap (λ (x : TheoryView). placed_count s.atoms.placed x.watched) (sym c.hold.ensures),
+      keeps_more s.kept s.bounds.held c.hold_by.new.bounds.held s.board.values c.hold_by.ensures.more c.self.invariant.2,
     )
 
 pub invariant_of-self-in_default : goal.invariant_of-self-in_default
@@ -64,6 +66,7 @@ invariant_of-self-in_default c =
       subst (λ (x : TheoryView). Fits (record { theory = x; atoms = s.atoms; board = s.board; bounds = s.bounds; starts = s.starts.items }))
           (sym c.hold.ensures) (fits_held v c.self.invariant.0 c.marks_are_prefixes.ensures l s.bounds stated),
       c.self.invariant.1 ∙ ap (λ (x : TheoryView). placed_count s.atoms.placed x.watched) (sym c.hold.ensures),
+      c.self.invariant.2,
     )
 
 pub returns-in-Some-clause-with : goal.returns-in-Some-clause-with

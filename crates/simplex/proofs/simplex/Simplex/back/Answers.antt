@@ -2,6 +2,7 @@
 use Rattle.std.proofs.Common.{◌≡◌, ◌<◌, ◌≤◌, ◌-◌, ℕ, length, take, get_or, refl, ap, sym, subst, ◌∙◌, arith}
 use Rattle.std.proofs.Math.Seq.{take-length}
 use Rattle.proof_log.specs.Theories.{TheoryView, no_mark, at_mark}
+use Rattle.simplex_check.proofs.KeptFirst.{keeps_back}
 use Rattle.simplex.specs.declared.starts.Start.{Start}
 use Rattle.simplex.specs.Views.{SimplexView, Fits, IsOf, start_of, placed_count}
 use Rattle.simplex.proofs.Fitting.{start_there, within, fits_back, of_fewer, gone_is, as_many}
@@ -51,6 +52,8 @@ invariant_of-self c =
           (λ i. record { theory = sym gone i; atoms = s.atoms; board = s.board; bounds = c.back.new.self; starts = sym c.truncate.ensures.items i })
           (fits_back v f m kept lt c.back.new.self (c.back.ensures.held ∙ ap (λ (x : Start). take x.bounds s.bounds.held) is) c.back.ensures.variables c.back.ensures.room),
       ap (λ (x : Start). x.placed) is ∙ ap (λ (x : TheoryView). placed_count s.atoms.placed x.watched) (sym gone),
+      keeps_back s.kept c.index-start.result.now.bounds c.min-self-inside.result s.bounds.held c.back.new.self.held s.board.values c.back.ensures.held
+          (subst (λ (x : Start). x.bounds ≤ length s.bounds.held) (sym is) (within v f m kept lt)) (omega (arith, c.min-self-inside.ensures)) (omega (arith, c.min-self-inside.ensures)) c.self.invariant.2,
     )
 
 pub returns-then-marks-gt0-clause-with : goal.returns-then-marks-gt0-clause-with

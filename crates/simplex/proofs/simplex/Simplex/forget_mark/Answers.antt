@@ -22,4 +22,5 @@ invariant_of-self c =
           (λ i. record { theory = sym c.forget_mark.ensures i; atoms = s.atoms; board = s.board; bounds = s.bounds; starts = sym starts i })
           (fits_unmarked v f),
       c.self.invariant.1 ∙ ap (λ (x : TheoryView). placed_count s.atoms.placed x.watched) (sym c.forget_mark.ensures),
+      c.self.invariant.2,
     )

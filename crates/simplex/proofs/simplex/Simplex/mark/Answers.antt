@@ -23,4 +23,5 @@ invariant_of-self-2 c =
           (λ i. record { theory = sym c.in_ok-mark.ensures i; atoms = s.atoms; board = s.board; bounds = s.bounds; starts = sym items i })
           (fits_marked v c.self.invariant.0 start c.held_len.ensures c.self.invariant.1),
       c.self.invariant.1 ∙ ap (λ (x : TheoryView). placed_count s.atoms.placed x.watched) (sym c.in_ok-mark.ensures),
+      c.self.invariant.2,
     )

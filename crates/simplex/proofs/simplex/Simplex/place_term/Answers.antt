@@ -6,6 +6,7 @@ use Rattle.spec_causes.specs.Counts.{counted}
 use Rattle.term_core.specs.Tables.{term_at}
 use Rattle.sat_budget.specs.Budgets.{StopsBy}
 use Rattle.simplex_atoms.specs.Watching.{OnWide, StrainsAtom}
+use Rattle.simplex_check.proofs.KeptFirst.{keeps_none}
 use Rattle.simplex.specs.Views.{SimplexView}
 use Rattle.simplex_atoms.specs.declared.stop.AtomStop.{AtomStop}
 use Rattle.simplex_atoms.specs.Standings.{ButForMemory}
@@ -32,6 +33,7 @@ invariant_of-self c =
     let g : GivesPlace c.args.table.now v id w = record { theory = refl; starts = refl; right = c.watch.ensures.right; bounds = c.watch.ensures.bounds; others = c.watch.ensures.others } in (
       fits_placed c.args.table.now v id new w g c.self.invariant.0 c.are_of_watched_terms.ensures.over,
       c.self.invariant.1 ∙ sym (count_stays c.args.table.now v id new w g),
+      keeps_none c.watch.new.bounds.held c.watch.new.board.values,
     )
 
 pub returns-clause-stops : goal.returns-clause-stops

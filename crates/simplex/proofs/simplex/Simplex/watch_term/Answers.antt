@@ -4,6 +4,7 @@ use Rattle.spec_causes.specs.Counts.{counted}
 use Rattle.term_core.specs.Tables.{term_at}
 use Rattle.proof_log.specs.Theories.{TheoryView}
 use Rattle.simplex_held.specs.Stated.{IsKnownIn}
+use Rattle.simplex_check.specs.Suspects.{KeepsFirst}
 use Rattle.simplex.specs.Views.{SimplexView, IsOf, placed_count}
 use Rattle.simplex.proofs.Fitting.{of_kept}
 use Rattle.simplex.specs.Coming.{CameBy}
@@ -43,6 +44,7 @@ invariant_of-self-2 c =
       fits_watched v w id c.marks_are_prefixes.ensures c.in_ok-watch.ensures (refl, refl, c.reserve.ensures.held, c.reserve.ensures.variables)
           (omega (arith, c.in_ok-reserve.ensures.ok, c.in-Some.ensures, count)) c.self.invariant.0,
       count ∙ ap (λ (x : TheoryView). placed_count s.atoms.placed x.watched) (sym c.in_ok-watch.ensures),
+      subst (λ bs. KeepsFirst s.kept bs s.board.values) (sym c.reserve.ensures.held) c.self.invariant.2,
     )
 
 pub returns-clause-with : goal.returns-clause-with

@@ -1,11 +1,16 @@
-use Rattle.std.proofs.Common.{◌≡◌}
+use Rattle.std.proofs.Common.{◌≡◌, ◌<◌, ℕ, true, length}
 use Rattle.simplex_bounds.specs.Held.{ranges_in}
 use Rattle.simplex_check.specs.Boards.{state_of}
-use Rattle.spec_strains.specs.Runs.{SettlesBelow}
+use Rattle.simplex_check.specs.Suspects.{is_among}
+use Rattle.simplex_check.proofs.Settling.{Settling}
 use Rattle.simplex_check.proofs.board.Board.settle.Given as goal
 
 abbrev pub invariant-loop-y : goal.invariant-loop-y
 invariant-loop-y l = record {
   tableau : l.self.tableau ≡ l.fn.self.tableau;
-  settles : SettlesBelow (ranges_in l.bounds.held) l.y (state_of l.fn.self) (state_of l.self);
+  known : (z : ℕ) → is_among z l.due ≡ true → z < l.bounds.variables;
+  settling : (n : ℕ) × Settling (ranges_in l.bounds.held) (state_of l.fn.self) (state_of l.self) n l.due l.suspects;
 }
+
+abbrev pub decreases-loop-y : goal.decreases-loop-y
+decreases-loop-y l = length l.due

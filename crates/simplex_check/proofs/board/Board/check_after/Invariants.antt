@@ -5,7 +5,7 @@ use Rattle.simplex_bounds.specs.Held.{ranges_in}
 use Rattle.simplex_check.specs.Boards.{state_of}
 use Rattle.spec_strains.specs.Runs.{Ran}
 use Rattle.simplex_check.specs.Suspects.{Suspect}
-use Rattle.simplex_check.proofs.board.Board.check.Given as goal
+use Rattle.simplex_check.proofs.board.Board.check_after.Given as goal
 
 abbrev pub invariant-steps : goal.invariant-steps
 invariant-steps l = record {
