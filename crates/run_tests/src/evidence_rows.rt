@@ -1,6 +1,6 @@
 //! Models that `certify` writes of scripts of the whole language.
 
-/// Symbols of each sort, with parameters and without; definitions and names for terms, which are no lines; names between bars; commands that are refused.
+/// Symbols of each sort, with parameters and without; definitions and names for terms, which are no lines; names between bars; commands that are refused; functions of numbers.
 pub(crate) const EVIDENCE: &str = "0 smt_cli|certify
 ----
 (declare-sort U 0)(define-sort V () U)(declare-fun f (V Bool) Real)
@@ -114,4 +114,37 @@ sat
   (define-fun p () Bool false)
 )
 \"a \"\"b\"\"\"
+====
+0 smt_cli|certify
+----
+(set-option :print-success false) ; values that differ by the infinitesimal alone stay apart
+(declare-fun f (Real) Real)
+(declare-const x Real)
+(declare-const y Real)
+(assert (< 0 x))
+(assert (< x y))
+(assert (< y 1))
+(assert (= (f x) 1))
+(assert (= (f y) 2))
+(check-sat)
+
+----
+sat
+(
+  (define-fun f ((@x0 Real)) Real (ite (= @x0 (/ 1 6)) 1 (ite (= @x0 (/ 1 3)) 2 0)))
+  (define-fun x () Real (/ 1 6))
+  (define-fun y () Real (/ 1 3))
+)
+====
+0 smt_cli|solve
+----
+(set-option :print-success false) ; by that model the assertions are true
+(define-fun f ((z Real)) Real (ite (= z (/ 1 6)) 1 (ite (= z (/ 1 3)) 2 0)))
+(define-fun x () Real (/ 1 6))
+(define-fun y () Real (/ 1 3))
+(assert (not (and (< 0 x) (< x y) (< y 1) (= (f x) 1) (= (f y) 2))))
+(check-sat)
+
+----
+unsat
 ";
