@@ -7,8 +7,24 @@ use Rattle.std.proofs.lemmas.List.Sorted.{all_adjacent_more}
 use Rattle.std.specs.List.Sorted.{IsPermutation}
 use Rattle.term_core.specs.declared.ids.TermId.{TermId}
 use Rattle.agreement.specs.declared.agreeing.Shared.{Shared}
-use Rattle.agreement.specs.Agreeing.{Clash, Concur, NeighboursConcur, IsPair, ArePairs, HasClashesBelow, HasClashes}
+use Rattle.agreement.specs.Agreeing.{Clash, Concur, NeighboursConcur, IsPair, ArePairs, HasPairs, HasClashesBelow, HasClashes}
 use Rattle.agreement.proofs.Orders.{pair_back}
+
+-- none came yet
+pub pairs_begin : (xs : List Shared) (ps : List (TermId × TermId)) → HasPairs xs ps ps
+pairs_begin xs ps = record { more = []; is = sym (append-nil ps); are = All-nil (λ (p : TermId × TermId). IsPair xs p.0 p.1) }
+
+-- one came more
+pub pairs_more : (xs : List Shared) (old now new : List (TermId × TermId)) (p : TermId × TermId) → IsPair xs p.0 p.1 → new ≡ now ++ p ∷ [] → HasPairs xs old now → HasPairs xs old new
+pairs_more xs old now new p pair e h = record {
+  more = h.more ++ p ∷ [];
+  is = e ∙ ap (λ (ps : List (TermId × TermId)). ps ++ p ∷ []) h.is ∙ append_assoc old h.more (p ∷ []);
+  are = All-push (λ (q : TermId × TermId). IsPair xs q.0 q.1) h.more p h.are pair;
+}
+
+-- those of all neighbours are some
+pub pairs_of : (xs : List Shared) (old new : List (TermId × TermId)) → HasClashes xs old new → HasPairs xs old new
+pairs_of xs old new h = record { more = h.more; is = h.is; are = h.are }
 
 -- before the first neighbours
 pub clashes_begin : (xs : List Shared) (ps : List (TermId × TermId)) → HasClashesBelow xs 1 ps ps
@@ -49,7 +65,7 @@ pub pairs_back : (xs ys : List Shared) (ps : List (TermId × TermId)) → IsPerm
 pairs_back xs ys ps p h k d lt = pair_back xs ys _ _ p (h k d lt)
 
 -- what both orders gave are pairs of the list
-pub both_are : (xs ys zs : List Shared) (start one two : List (TermId × TermId)) → start ≡ [] → IsPermutation xs ys → IsPermutation xs zs → HasClashes ys start one → HasClashes zs one two → ArePairs xs two
+pub both_are : (xs ys zs : List Shared) (start one two : List (TermId × TermId)) → start ≡ [] → IsPermutation xs ys → IsPermutation xs zs → HasPairs ys start one → HasPairs zs one two → ArePairs xs two
 both_are xs ys zs start one two first p q a b =
     subst (ArePairs xs) (sym b.is) (All-append (λ (x : TermId × TermId). IsPair xs x.0 x.1) one b.more
     (subst (ArePairs xs) (sym (a.is ∙ ap (λ (ps : List (TermId × TermId)). ps ++ a.more) first)) (pairs_back xs ys a.more p a.are)) (pairs_back xs zs b.more q b.are))

@@ -42,6 +42,14 @@ pub record IsPair (xs : List Shared) (s t : TermId) : Type 0 where
 abbrev pub ArePairs : List Shared → List (TermId × TermId) → Type 0
 ArePairs xs ps = All (λ (p : TermId × TermId). IsPair xs p.0 p.1) ps
 
+-- Pairs came on which the theories do not agree.
+pub record HasPairs (xs : List Shared) (old new : List (TermId × TermId)) : Type 0 where
+  -- these came
+  pub more : List (TermId × TermId)
+  pub is : new ≡ old ++ more
+  -- the theories do not agree on them
+  pub are : ArePairs xs more
+
 -- Pairs came for all neighbours before a place on which the theories do not agree.
 pub record HasClashesBelow (xs : List Shared) (n : ℕ) (old new : List (TermId × TermId)) : Type 0 where
   -- these came

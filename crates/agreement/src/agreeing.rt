@@ -2,7 +2,7 @@
 
 ghost use Rattle.std.specs.Prelude.{◌≡◌, ◌⊎◌, MatchBool, IfOk, OnOk};
 ghost use Rattle.std.specs.List.Sorted.{IsPermutation};
-ghost use Rattle.agreement.specs.Agreeing.{Concur, Clash, HasClashes, Answers};
+ghost use Rattle.agreement.specs.Agreeing.{Concur, Clash, HasPairs, HasClashes, Answers};
 
 use delta_num::Delta;
 use std::alloc::Global;
@@ -19,6 +19,8 @@ pub struct Shared {
     pub class: u64,
     /// Its value. Simplex says that terms are equal where they have one value, infinitesimal part included.
     pub value: Delta,
+    /// Whether some function is applied to it.
+    pub is_argument: bool,
 }
 
 /// What is found of two theories and the terms that they share.
@@ -33,22 +35,52 @@ pub enum Agreement {
 /// Says whether two theories agree on each two of the terms, and lists pairs on which they do not, if there are such.
 ///
 /// The terms are sorted by their values, and then by their classes. So neighbours tell of all, and it takes n log n comparisons of n
-/// terms. Each two neighbours that differ are listed, in both orders, with the lesser number first; so a pair may come twice. The terms
-/// are left in some order.
+/// terms. Of two neighbours that differ the pair is listed, with the lesser number first; it may come twice. Where congruence says that
+/// some are equal, or both are arguments of functions, these are listed alone: the others may turn out to differ by what follows. The
+/// terms are left in some order.
 /// `NoMemory` comes where the list finds no memory.
 pub fn agree(alloc: Global, shared: &mut [Shared]) -> Result<Agreement, NoMemory>
     ensures permutation { IsPermutation shared.old shared.new }
     ensures answer { IfOk result (Answers shared.old) }
 {
+    let mut urgent = Vec::new(alloc);
     let mut pairs = Vec::new(alloc);
     shared.sort_unstable_by(|a, b| Delta::cmp(a.value, b.value));
+    add_urgent(shared, &mut urgent)?;
     add_clashes(shared, &mut pairs)?;
     shared.sort_unstable_by_key(|a| a.class);
+    add_urgent(shared, &mut urgent)?;
     add_clashes(shared, &mut pairs)?;
     if pairs.is_empty() {
         return Ok(Agreement::Agreed);
     }
-    Ok(Agreement::Pairs(pairs))
+    if urgent.is_empty() {
+        return Ok(Agreement::Pairs(pairs));
+    }
+    Ok(Agreement::Pairs(urgent))
+}
+
+/// Tells whether two terms on which the theories do not agree are of one class, or both are arguments.
+fn is_urgent(a: Shared, b: Shared) -> bool {
+    a.class == b.class || (a.is_argument && b.is_argument)
+}
+
+/// Adds to pairs the terms of each two neighbours on which the theories do not agree, where that is urgent.
+fn add_urgent(shared: &[Shared], pairs: &mut Vec<(TermId, TermId)>) -> Result<(), NoMemory>
+    ensures { OnOk result (HasPairs shared.now pairs.old.items pairs.new.items) }
+{
+    'places: for at in 1..shared.len() {
+        let a = shared[at - 1];
+        let b = shared[at];
+        if concur(a, b) {
+            continue;
+        }
+        if !is_urgent(a, b) {
+            continue;
+        }
+        pairs.push(in_order(a.term, b.term))?;
+    }
+    Ok(())
 }
 
 /// Adds to pairs the terms of each two neighbours on which the theories do not agree.

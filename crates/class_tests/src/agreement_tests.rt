@@ -8,7 +8,8 @@ use world_io::NoMemory;
 
 /// Terms by their places from 0, each as its class and its value, and after `=` the pairs that are to be found, or `.`.
 ///
-/// `3:5` is of class 3 and has the value 5. With a `+` an infinitesimal is added, and with a `-` it is subtracted.
+/// `3:5` is of class 3 and has the value 5. With a `+` an infinitesimal is added, and with a `-` it is subtracted. `3~5` is the same, but
+/// no function is applied to it.
 const ROWS: &str = "= .
 1:1 = .
 1:1 1:1 = .
@@ -35,7 +36,12 @@ const ROWS: &str = "= .
 1:5 2:7 3:5 = 0 2
 1:1 2:1 3:4 3:5 = 0 1,2 3
 1:1 2:1 3:1 = 0 1,1 2
-1:0 1:0 2:2 2:2 3:9 2:2 1:0 = .";
+1:0 1:0 2:2 2:2 3:9 2:2 1:0 = .
+1~1 2~1 = 0 1
+1:1 2~1 = 0 1
+1~1 2~1 3:4 4:4 = 2 3
+1~1 2~1 3~4 3~5 = 2 3
+1:1 2~1 3~4 3~5 4:9 5:9 = 2 3,4 5";
 
 /// Gives a whole number as a fraction.
 fn whole(num: i128) -> Ratio {
@@ -52,16 +58,17 @@ fn digit_of(sign: u8) -> u64 {
 
 /// Reads what is said of the term with this number.
 fn read_shared(text: &[u8], term: u64) -> Option<Shared> {
-    let (class, base, tilt) = match text {
-        [class, b':', base] => (*class, *base, 0),
-        [class, b':', base, b'+'] => (*class, *base, 1),
-        [class, b':', base, b'-'] => (*class, *base, -1),
+    let (class, mark, base, tilt) = match text {
+        [class, mark, base] => (*class, *mark, *base, 0),
+        [class, mark, base, b'+'] => (*class, *mark, *base, 1),
+        [class, mark, base, b'-'] => (*class, *mark, *base, -1),
         _ => return None,
     };
     Some(Shared {
         term: TermId(term),
         class: digit_of(class),
         value: Delta::of(whole(digit_of(base) as i128), whole(tilt)),
+        is_argument: mark == b':',
     })
 }
 
