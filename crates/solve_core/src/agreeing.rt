@@ -15,6 +15,7 @@ ghost use Rattle.solve_core.specs.Sharing.{IsAskedOf};
 ghost use Rattle.solve_core.specs.Agreeing.{AreSaid, FindsAgreement};
 
 use crate::modelling::Said;
+use crate::sharing::is_declared;
 use agreement::{Agreement, Delta, Shared, agree};
 use combined::Combined;
 use sat_budget::Stop;
@@ -45,9 +46,39 @@ fn joined(alloc: Global, front: &[TermId], back: &[TermId]) -> Result<Vec<TermId
     Ok(ids)
 }
 
+/// Tells whether a term is marked.
+fn is_marked(marks: &[bool], id: TermId) -> bool {
+    match marks.get(id.0 as usize) {
+        None => false,
+        Some(mark) => *mark,
+    }
+}
+
+/// Marks terms, by their numbers.
+fn mark_all(marks: &mut Vec<bool>, ids: &[TermId]) {
+    'ids: for id in ids.iter() {
+        if (id.0 as usize) < marks.len() {
+            marks[id.0 as usize] = true;
+        }
+    }
+}
+
+/// Gives for each term of the table whether a declared function is applied to it. No answer rests on these marks.
+fn argument_marks(alloc: Global, table: &TermTable) -> Result<Vec<bool>, NoMemory> {
+    let mut marks = vec![in alloc; false; table.len() as usize]?;
+    'terms: for number in 0..table.len() {
+        let node = table.node(TermId(number));
+        if is_declared(node.head) {
+            mark_all(&mut marks, node.arguments.as_slice());
+        }
+    }
+    Ok(marks)
+}
+
 /// Puts together what the theories say of the terms from a place on.
 fn shared_of(
     alloc: Global,
+    table: &TermTable,
     shared: &[TermId],
     said: &Said,
     from: usize,
@@ -56,10 +87,12 @@ fn shared_of(
     requires numbers { length said.now.numbers.items ≡ from + length shared.now }
     ensures { IfOk result (λ xs. AreSaid shared.now said.now.classes.items (map fraction said.now.numbers.items) from xs.items) }
 {
+    let arguments = argument_marks(alloc, table)?;
     let mut xs = Vec::new(alloc);
     'places: for at in 0..shared.len() {
         xs.push(Shared {
             term: shared[at],
+            is_argument: is_marked(&arguments, shared[at]),
             class: said.classes[from + at],
             value: Delta::number(said.numbers[from + at]),
         })?;
@@ -101,7 +134,7 @@ pub(crate) fn agreement(
     let classes = theory.congruence().classes(search.alloc, &terms)?;
     let mut said = Said { classes, numbers };
     let count = search.terms.len();
-    let mut xs = shared_of(search.alloc, shared, &said, count)?;
+    let mut xs = shared_of(search.alloc, table, shared, &said, count)?;
     match agree(search.alloc, xs.as_mut_slice())? {
         Agreement::Pairs(pairs) => Ok(Found::Differ(pairs)),
         Agreement::Agreed => {

@@ -47,7 +47,7 @@ pub(crate) fn shared_terms(
 }
 
 /// Tells whether a head is a declared symbol.
-fn is_declared(head: Head) -> bool
+pub(crate) fn is_declared(head: Head) -> bool
     ensures { (sorts : List Name) (symbols : List Symbol) → result ≡ is_declared (head_over sorts symbols head) }
 {
     match head {
