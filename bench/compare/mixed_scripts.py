@@ -12,6 +12,7 @@ from fractions import Fraction
 
 from function_scripts import listed, negated_by_chance, text_of
 from number_scripts import (
+    DEFINED,
     LONG,
     ORDERS,
     SMALL,
@@ -22,6 +23,7 @@ from number_scripts import (
     choices,
     clauses,
     contradiction,
+    definition,
     differences,
     few_values,
     literals,
@@ -253,16 +255,7 @@ OWN = [squeezed, squeezed, rising, tables, steps, inverses, few_places, to_and_f
 
 def definitions(maker):
     """Makes definitions with parameters, at which functions of numbers may stand; later terms use them."""
-    lines = []
-    for name, sorts, result in ((b"d", (b"Real", b"Real"), b"Real"), (b"e", (b"Real", b"U"), b"Bool")):
-        if random.random() < 0.25:
-            maker.bound = {b"s%d" % place: sort for place, sort in enumerate(sorts)}
-            parameters = b" ".join(b"(%s %s)" % pair for pair in maker.bound.items())
-            body = maker.of_sort(result, 2)
-            maker.bound = {}
-            lines.append(b"(define-fun " + name + b" (" + parameters + b") " + result + b" " + body + b")")
-            maker.symbols[name] = (sorts, result)
-    return lines
+    return [definition(maker, *signature) for signature in DEFINED if random.random() < 0.25]
 
 
 def a_mixed_script():

@@ -241,17 +241,25 @@ FAMILIES += [contradiction, choices, few_values, beside_functions]
 POOLS = [SMALL] * 6 + [SMALL + LONG, LONG, SMALL + WIDE, WIDE + LONG]
 
 
+# The names, the sorts of the parameters and the sorts of what is defined.
+DEFINED = ((b"d", (b"Real", b"Real"), b"Real"), (b"e", (b"Real", b"U"), b"Bool"))
+
+
+def definition(maker, name, sorts, result):
+    """Makes a definition with parameters, which later terms may use."""
+    maker.bound = {b"s%d" % place: sort for place, sort in enumerate(sorts)}
+    parameters = b" ".join(b"(%s %s)" % pair for pair in maker.bound.items())
+    body = maker.of_sort(result, 2)
+    maker.bound = {}
+    maker.symbols[name] = (sorts, result)
+    return b"(define-fun " + name + b" (" + parameters + b") " + result + b" " + body + b")"
+
+
 def definitions(maker):
     """Makes definitions with parameters, which later terms use; few scripts have a function over numbers, too."""
     lines = []
     if random.random() < 0.4:
-        for name, sorts, result in ((b"d", (b"Real", b"Real"), b"Real"), (b"e", (b"Real", b"U"), b"Bool")):
-            maker.bound = {b"s%d" % place: sort for place, sort in enumerate(sorts)}
-            parameters = b" ".join(b"(%s %s)" % pair for pair in maker.bound.items())
-            body = maker.of_sort(result, 2)
-            maker.bound = {}
-            lines.append(b"(define-fun " + name + b" (" + parameters + b") " + result + b" " + body + b")")
-            maker.symbols[name] = (sorts, result)
+        lines += [definition(maker, *signature) for signature in DEFINED]
     if random.random() < 0.03:
         sorts, result = random.choice([((b"Real",), b"Real"), ((b"Real",), b"U"), ((b"U",), b"Real")])
         lines.append(b"(declare-fun far (%s) %s)" % (b" ".join(sorts), result))
