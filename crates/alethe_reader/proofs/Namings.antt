@@ -88,7 +88,7 @@ module _ (at : ℕ) where
   pub list_names : (t : Tree) (place end : ℕ) (inside : Trees) → list place inside end ≡ t → one_stands_at (named_in t) at ≡ (one_stands_at (names_given inside) at || named_at inside)
   list_names t place end inside e = ap (λ u. one_stands_at (named_in u) at) (sym e) ∙ list_in_at place end inside
 
-  -- where the names of its term are elsewhere, those in it are told
+  -- where the names of its term are elsewhere, those in it are given
   pub text_by : (t : Tree) (place end : ℕ) (inside : Trees) → list place inside end ≡ t → false ≡ one_stands_at (names_given inside) at → (r : Result Bool NoMemory)
       → IfOk r (λ yes. yes ≡ named_at inside) → IfOk r (λ yes. yes ≡ one_stands_at (named_in t) at)
   text_by t place end inside e g (Ok so) h = h ∙ ap (λ b. b || named_at inside) g ∙ sym (list_names t place end inside e)

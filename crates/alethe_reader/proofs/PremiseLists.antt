@@ -17,7 +17,7 @@ use Rattle.alethe_reader.specs.Reads.{located_view}
 use Rattle.alethe_reader.specs.Parts.{Gives}
 use Rattle.smt_sexpr.proofs.Splitting.{split_end, split_more}
 
--- what was read before stands in front
+-- what was read before comes first
 abbrev pub with_front : {A : Type 0} → List A → Read (List A) → Read (List A)
 with_front xs (Ok ys) = Ok (xs ++ ys)
 with_front xs (Err e) = Err e
@@ -59,7 +59,7 @@ module _ (k : Known) where
       premises_fail one view (errors.Fault f) e = sym next ∙ ap (with_front cs) (first_fails t us (located_view f) e)
       premises_fail one view errors.Memory e = tt
 
--- premises are told by the names of commands alone
+-- premises are known by the names of commands alone
 pub premises_by : (k l : Known) → k.entries ≡ l.entries → (ts : Trees) → premises_of k ts ≡ premises_of l ts
 unfolding premises_of ◌>>=◌
 premises_by k l e none = refl

@@ -10,7 +10,7 @@ use Rattle.smt_sexpr.specs.Items.{tree_of}
 use Rattle.smt_sexpr.specs.Reads.{Reads}
 use Rattle.spec_proofs.specs.Texts.{EndsBehind, left_over}
 
--- no tree in front
+-- no tree comes first
 pub nothing_first : (n : ℕ) (xs : List (ℕ × Lexeme)) → n ≤ nesting_limit → AreTrees n xs none xs
 nothing_first n xs few = record { split = refl; within = omega (arith, few) }
 

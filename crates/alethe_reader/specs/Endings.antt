@@ -10,7 +10,7 @@ use Rattle.alethe_reader.specs.declared.errors.CommandError.{CommandError}
 use Rattle.alethe_reader.specs.declared.errors.CommandError.TheVariants as errors
 use Rattle.alethe_reader.specs.Reads.{located_view}
 
--- a parenthesis is in front
+-- a parenthesis comes first
 abbrev pub begins_parenthesis : List (ℕ × Lexeme) → Bool
 begins_parenthesis ((at, opens) ∷ xs) = true
 begins_parenthesis ((at, closes) ∷ xs) = true
@@ -34,7 +34,7 @@ pub record AreLeft (listed : Bool) (end : ℕ) (xs : List (ℕ × Lexeme)) (ts :
 abbrev pub IsEnding : List ℕ → Ending → Option Fault → Type 0
 IsEnding text e found = ending_fault (is_long text) e ≡ found
 
--- No command stands in front of the lexemes, and their ending is this fault, or none.
+-- The lexemes begin with no command, and their ending is this fault, or none.
 pub record EndsHere (listed : Bool) (text : List ℕ) (xs : List (ℕ × Lexeme)) (found : Option Fault) : Type 0 where
   -- the ending
   pub ending : Ending
@@ -47,7 +47,7 @@ pub record EndsHere (listed : Bool) (text : List ℕ) (xs : List (ℕ × Lexeme)
 pub record Follows (text : List ℕ) (xs : List (ℕ × Lexeme)) (found : Option Fault) : Type 0 where
   -- the ending
   pub ending : Ending
-  -- it is behind the list
+  -- it comes after the list
   pub behind : EndsBehind (length (kept text)) xs ending
   -- it is that
   pub is : IsEnding text ending found

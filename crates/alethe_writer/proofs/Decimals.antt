@@ -1,4 +1,4 @@
--- Numbers by their digits behind the point.
+-- Numbers by their digits after the point.
 use Rattle.std.proofs.Common.{◌≡◌, ◌≢◌, ℕ, zero, suc, ◌+◌, ◌-◌, ◌*◌, ◌/◌, ◌%◌, ◌^◌, ◌<◌, ◌≤◌, Bool, true, false, cond, not, nat_lt, ◌&&◌, ℤ, pos, negsuc, List, [], ◌∷◌, ◌++◌, length, take, append-nil, refl, sym, ap, ◌∙◌, arith}
 use Rattle.std.specs.Prelude.{◌==◌, decimal, drop, if◌then◌else◌}
 use Rattle.std.proofs.Math.Nat.{mod-lt, mul_comm, mul_assoc, pow-suc, one-le-pow, pow-le-pow_right, div-add-mod, mul-div_assoc}
@@ -42,7 +42,7 @@ power_more k = sym (pow-suc 10 k) ∙ ap (λ n. 10 ^ n) (omega arith)
 pub power_some : (k : ℕ) → 1 ≤ 10 ^ k
 power_some k = one-le-pow k 10 (omega arith)
 
--- the digits of a number behind a 1 are its last ones
+-- the digits of a number after a 1 are its last ones
 pub padded : (k m : ℕ) → k ≤ 38 → decimal (10 ^ k + m % 10 ^ k) ≡ 49 ∷ last_digits k m
 padded zero m le = let one : 10 ^ 0 + m % 10 ^ 0 ≡ 1 = omega (arith, mod-lt m {m = 1} (omega arith)) in ap decimal one ∙ decimal_digit 1 (omega arith)
 padded (suc k) m le =
@@ -62,7 +62,7 @@ padded (suc k) m le =
     ∙ (λ i. decimal (front i) ++ ((48 + last i) ∷ []))
     ∙ ap (λ ds. ds ++ ((48 + m % 10) ∷ [])) (padded k (m / 10) (omega (arith, le)))
 
--- the digits of a number behind a point, of those behind a 1
+-- the digits of a number after a point, of those after a 1
 pub behind : (k m : ℕ) (ds : List ℕ) → k ≢ 0 → ds ≡ 49 ∷ last_digits k m → 46 ∷ (take (length ds - 1) (drop 1 ds) ++ []) ≡ behind_point k m
 behind zero m ds some e = absurd (some refl)
 behind (suc k) m ds some e =

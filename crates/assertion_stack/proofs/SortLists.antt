@@ -10,7 +10,7 @@ use Rattle.spec_reading.specs.Sorts.{sort_in, sorts_in}
 use Rattle.smt_sexpr.specs.Items.{split_first}
 use Rattle.smt_sexpr.proofs.Splitting.{split_end, split_more}
 
--- what was read before stands in front
+-- what was read before comes first
 abbrev pub with_front : List Sort → Answer (List Sort) → Answer (List Sort)
 with_front xs (Ok ys) = Ok (xs ++ ys)
 with_front xs (Err e) = Err e

@@ -1,4 +1,4 @@
--- A theory that is asked of two literals: what it may rely on, and that a stop leaves nothing behind.
+-- A theory that is asked of two literals: what it may rely on, and that a stop leaves nothing.
 use Rattle.std.proofs.Common.{◌≡◌, [], ◌∷◌, ◌++◌, List, All, refl, sym, subst}
 use Rattle.std.proofs.lemmas.List.{append-nil}
 use Rattle.std.proofs.lemmas.List.Elements.{All-nil, All-cons}

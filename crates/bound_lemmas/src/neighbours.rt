@@ -57,7 +57,7 @@ fn pairs_of(alloc: Global, atoms: &[TermId], cuts: &[Cut]) -> Result<Vec<(Lit, L
 /// Lists pairs of literals that cannot both hold, where atoms cut the same sum in places that follow one another: for each such pair of
 /// atoms, that the sum is below the first cut and that it is not below the second.
 ///
-/// That these cannot both hold is told by forms and not proved: a theory decides. At most one pair comes for each atom, in the order
+/// That these cannot both hold is seen from their forms and not proved: a theory decides. At most one pair comes for each atom, in the order
 /// of sums as they come first and then of places. An atom is passed over whose form leaves 128 bits. `NoMemory` comes where there is no
 /// memory for the cuts or the pairs.
 pub fn neighbours_of(

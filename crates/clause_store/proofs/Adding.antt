@@ -106,7 +106,7 @@ advances_on s a b c one two = (adds_on s a b c one.0 two.0, two.1 ∙ one.1)
 pub holds_on : (s : StoreView) (a b : TrailView) → Adds s a b → (l : Lit) → Contains a.literals l → Contains b.literals l
 holds_on s a b g l x = subst (λ (xs : List Lit). Contains xs l) (sym g.literals) (Contains-append_left a.literals g.more l x)
 
--- a front that was there is the same
+-- a prefix that was there is the same
 pub same_front : (s : StoreView) (a b : TrailView) (n : ℕ) → Adds s a b → n ≤ length a.literals → take n b.literals ≡ take n a.literals
 same_front s a b n g le = ap (take n) g.literals ∙ take-append-le n a.literals g.more le
 

@@ -51,7 +51,7 @@ module _ (p : Parts) (t : TrailView) (w : IsAtWork p t) (list : List ℕ) (is : 
         | inr e ↦ subst (λ (j : ℕ). Contains held (get_or p.watched.pairs.items j no_pair).first) (ap (λ (xs : List ℕ). get_or xs k 0) is ∙ e) (subst (Contains held) again_literal one)
       ]
 
-  -- where all of them hold, the clauses rest at no front
+  -- where all of them hold, the clauses rest at no prefix
   pub again_all : (k : ℕ) → length list ≤ k → (held : List Lit) → Hold held k → AreResting p.settled p.watched.pairs.items [] held
   again_all k le held h n lt = record {
     by_first = λ c. absurd (omega (arith, c.1));

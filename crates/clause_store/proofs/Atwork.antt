@@ -12,7 +12,7 @@ use Rattle.clause_store.specs.Stores.{StoreView, HasSeen, no_pair}
 use Rattle.clause_store.specs.Entries.{clauses_of, bare}
 use Rattle.clause_store.specs.Propagating.{Adds, Advances, IsQuiet}
 use Rattle.clause_store.specs.Watching.{IsWatched, ArePairs, AreKnownIn, Rests, AreResting, IsWithin, IsFresh, Goes}
-use Rattle.clause_store.specs.Resting.{store_of, IsFrontOf, HaveRested, AreSettled, IsKept, IsAtWork, WorksOn, IsSameBut}
+use Rattle.clause_store.specs.Resting.{store_of, IsPrefixOf, HaveRested, AreSettled, IsKept, IsAtWork, WorksOn, IsSameBut}
 use Rattle.clause_store.proofs.Adding.{adds_on, advances_none, advances_on, holds_on, same_front}
 use Rattle.clause_store.proofs.Resting.{front_within, quiet, resting_on}
 use Rattle.clause_store.proofs.Seen.{seen_more}
@@ -27,7 +27,7 @@ kept_by p t w = record {
   rests = rested_by p.rests.items p.settled p.watched.pairs.items t.propagated t.propagated (length p.seen.items) t.literals p.seen.items w.seen.same w.seen.within w.rests.within w.rests;
 }
 
--- before it they fit by the trail, where no front is longer than what is marked
+-- before it they fit by the trail, where no prefix is longer than what is marked
 pub work_by : (p : Parts) (t : TrailView) → IsWatched p.watched → AreSettled (clauses_of p.watched.entries.items) p.watched.pairs.items p.settled p.short.items → AreKnownIn p.watched t.vars → HasSeen (store_of p) t
     → ((r : ℕ) → Contains p.rests.items r → r ≤ t.propagated) → HaveRested p.rests.items p.settled p.watched.pairs.items (length p.seen.items) p.seen.items → IsAtWork p t
 work_by p t w s k seen within h = record {
@@ -40,19 +40,19 @@ work_by p t w s k seen within h = record {
 
 -- nothing is done
 pub works_none : (p : Parts) (t : TrailView) → WorksOn p p t t
-works_none p t = record { advances = advances_none _ t; entries = refl; seen = refl; fronts = λ F w h. h }
+works_none p t = record { advances = advances_none _ t; entries = refl; seen = refl; prefixes = λ F w h. h }
 
 pub works_on : (p q r : Parts) (t u v : TrailView) → WorksOn p q t u → WorksOn q r u v → WorksOn p r t v
 works_on p q r t u v g h = record {
   advances = advances_on _ t u v g.advances (subst (λ (es : List Entry). Advances (bare es) u v) g.entries h.advances);
   entries = h.entries ∙ g.entries;
   seen = h.seen ∙ g.seen;
-  fronts = λ F w x. h.fronts F (λ l i. holds_on _ t u g.advances.0 l (w l i)) (g.fronts F w x);
+  prefixes = λ F w x. h.prefixes F (λ l i. holds_on _ t u g.advances.0 l (w l i)) (g.prefixes F w x);
 }
 
 -- the first pairs rest by what holds now
 pub resting_goes : (es : List Entry) (count : ℕ) (old new : Watched) (t u : TrailView) → Goes (bare es) count old.pairs.items new.pairs.items t u → (F : List Lit) → IsWithin F t.literals → AreResting count old.pairs.items F t.literals → AreResting count new.pairs.items F u.literals
-resting_goes es count old new t u g F w h = resting_on count new.pairs.items F t.literals u.literals (holds_on (bare es) t u g.advances.0) (g.fronts F t.literals w (λ l i. i) h)
+resting_goes es count old new t u g F w h = resting_on count new.pairs.items F t.literals u.literals (holds_on (bare es) t u g.advances.0) (g.prefixes F t.literals w (λ l i. i) h)
 
 -- with one pair more
 resting_more : (count : ℕ) (pairs : List Pair) (F held : List Lit) → AreResting count pairs F held → Rests F held (get_or pairs count no_pair) → AreResting (count + 1) pairs F held
@@ -101,13 +101,13 @@ module _ (p q : Parts) (t u : TrailView) (le : t.propagated ≤ length t.literal
     advances = g.advances;
     entries = es;
     seen = se;
-    fronts = λ F w x. subst (λ (n : ℕ). AreResting n q.watched.pairs.items F u.literals) (sym st) (resting_goes p.watched.entries.items p.settled p.watched q.watched t u g F w x);
+    prefixes = λ F w x. subst (λ (n : ℕ). AreResting n q.watched.pairs.items F u.literals) (sym st) (resting_goes p.watched.entries.items p.settled p.watched q.watched t u g F w x);
   }
 
-  -- one more was looked at, and the fronts that are left are safe for it
+  -- one more was looked at, and the prefixes that are left are safe for it
   module _ (Safe : ℕ → Type 0) (st : q.settled ≡ p.settled + 1) (settled : AreSettled (clauses_of p.watched.entries.items) q.watched.pairs.items (p.settled + 1) q.short.items)
       (fr : IsFresh (get_or (clauses_of p.watched.entries.items) p.settled []) u.literals (get_or q.watched.pairs.items p.settled no_pair) Safe)
-      (front : IsFrontOf q.rests.items p.rests.items) (safe : (r : ℕ) → Contains q.rests.items r → Safe r) where
+      (front : IsPrefixOf q.rests.items p.rests.items) (safe : (r : ℕ) → Contains q.rests.items r → Safe r) where
     pub work_one : IsAtWork q u
     work_one = record {
       watched = ok;
@@ -121,14 +121,14 @@ module _ (p q : Parts) (t u : TrailView) (le : t.propagated ≤ length t.literal
     }
       where
         one : (r : ℕ) → Contains q.rests.items r → Rests (take r u.literals) (take r u.literals) (get_or q.watched.pairs.items p.settled no_pair)
-        one r c = fr.fronts r (omega (arith, rested_now.within r (front_had q.rests.items p.rests.items front r c), g.advances.1, le, ap length g.advances.0.literals, length-append t.literals g.advances.0.more)) (safe r c)
+        one r c = fr.prefixes r (omega (arith, rested_now.within r (front_had q.rests.items p.rests.items front r c), g.advances.1, le, ap length g.advances.0.literals, length-append t.literals g.advances.0.more)) (safe r c)
 
     pub works_one : WorksOn p q t u
     works_one = record {
       advances = g.advances;
       entries = es;
       seen = se;
-      fronts = λ F w x. subst (λ (n : ℕ). AreResting n q.watched.pairs.items F u.literals) (sym st)
+      prefixes = λ F w x. subst (λ (n : ℕ). AreResting n q.watched.pairs.items F u.literals) (sym st)
           (resting_more p.settled q.watched.pairs.items F u.literals (resting_goes p.watched.entries.items p.settled p.watched q.watched t u g F w x)
           (fr.now F (λ l i. holds_on (bare p.watched.entries.items) t u g.advances.0 l (w l i))));
     }
@@ -166,10 +166,10 @@ adds_marked s t u v g e = record {
   vars = e.vars ∙ g.vars;
 }
 
--- a front that was there is left, and the pairs rest by it
+-- a prefix that was there is left, and the pairs rest by it
 pub rested_still : (p q : Parts) (t u : TrailView) (n : ℕ) → n ≤ length t.literals → WorksOn p q t u → AreResting p.settled p.watched.pairs.items (take n t.literals) t.literals → AreResting q.settled q.watched.pairs.items (take n u.literals) u.literals
 rested_still p q t u n le g h = subst (λ (F : List Lit). AreResting q.settled q.watched.pairs.items F u.literals) (sym (same_front (bare p.watched.entries.items) t u n g.advances.0 le))
-    (g.fronts (take n t.literals) (front_within n t.literals le) h)
+    (g.prefixes (take n t.literals) (front_within n t.literals le) h)
 
 -- where all rest, nothing follows
 pub quiet_by : (p : Parts) (t : TrailView) → IsAtWork p t → p.settled ≡ length p.watched.entries.items → AreResting p.settled p.watched.pairs.items t.literals t.literals → IsQuiet (clauses_of p.watched.entries.items) t.literals

@@ -71,7 +71,7 @@ module _ (f other : Lit) (p : Pair) (w : IsOther f other p) (d : p.first ≢ p.s
       go (second_is a b) = hits_two p k d ∙ (λ i. one_if (code (a i) == k) + one_if (code (sym b i) == k))
       go (first_is a b) = omega (arith, hits_two p k d, ap (λ (x : Lit). one_if (code x == k)) a, ap (λ (x : Lit). one_if (code x == k)) b)
 
-  -- where the other is false in a front, this one holds
+  -- where the other is false in a prefix, this one holds
   pub keeps : (F G : List Lit) → Rests F G p → Contains F (lit_complement other) → Contains G f
   keeps F G h c = go w
     where

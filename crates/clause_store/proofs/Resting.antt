@@ -10,7 +10,7 @@ use Rattle.sat_trail.specs.Trails.{TrailView, no_lit}
 use Rattle.clause_store.specs.declared.pair.Pair.{Pair}
 use Rattle.clause_store.specs.Stores.{StoreView, no_pair}
 use Rattle.clause_store.specs.Propagating.{Advances, IsQuiet}
-use Rattle.clause_store.specs.Watching.{Has, IsPairOf, ArePairs, Rests, AreResting, IsWithin, HaveSameShapes, Goes, IsRepaired, IsFresh, AnyFront, Below}
+use Rattle.clause_store.specs.Watching.{Has, IsPairOf, ArePairs, Rests, AreResting, IsWithin, HaveSameShapes, Goes, IsRepaired, IsFresh, AnyPrefix, Below}
 use Rattle.clause_store.proofs.Adding.{advances_none, advances_on, holds_on}
 use Rattle.clause_store.proofs.Indexing.{one_or_two}
 
@@ -23,7 +23,7 @@ rests_on front held more p w h = record { by_first = λ c. w _ (h.by_first c); b
 pub resting_on : (count : ℕ) (pairs : List Pair) (front held more : List Lit) → IsWithin held more → AreResting count pairs front held → AreResting count pairs front more
 resting_on count pairs front held more w h n lt = rests_on front held more _ w (h n lt)
 
--- a front is within
+-- a prefix is within
 pub front_within : (n : ℕ) (held : List Lit) → n ≤ length held → IsWithin (take n held) held
 front_within n held le l (i, lt, e) =
     let k : i < n = omega (arith, lt, length-take-le n held le) in
@@ -68,19 +68,19 @@ shapes_set pairs n p below two d = record {
 }
 
 pub goes_none : (s : StoreView) (count : ℕ) (pairs : List Pair) (t : TrailView) → Goes s count pairs pairs t t
-goes_none s count pairs t = record { advances = advances_none s t; paired = refl; shapes = shapes_none pairs; fronts = λ F G f g h. h }
+goes_none s count pairs t = record { advances = advances_none s t; paired = refl; shapes = shapes_none pairs; prefixes = λ F G f g h. h }
 
 pub goes_on : (s : StoreView) (count : ℕ) (a b c : List Pair) (u v w : TrailView) → Goes s count a b u v → Goes s count b c v w → Goes s count a c u w
 goes_on s count a b c u v w g h = record {
   advances = advances_on s u v w g.advances h.advances;
   paired = h.paired ∙ g.paired;
   shapes = shapes_on a b c g.shapes h.shapes;
-  fronts = λ F G f k r. h.fronts F G (λ l x. holds_on s u v g.advances.0 l (f l x)) (λ l x. holds_on s u v g.advances.0 l (k l x)) (g.fronts F G f k r);
+  prefixes = λ F G f k r. h.prefixes F G (λ l x. holds_on s u v g.advances.0 l (f l x)) (λ l x. holds_on s u v g.advances.0 l (k l x)) (g.prefixes F G f k r);
 }
 
 -- literals alone are added
 pub goes_by : (s : StoreView) (count : ℕ) (pairs : List Pair) (t u : TrailView) → Advances s t u → Goes s count pairs pairs t u
-goes_by s count pairs t u a = record { advances = a; paired = refl; shapes = shapes_none pairs; fronts = λ F G f g h. h }
+goes_by s count pairs t u a = record { advances = a; paired = refl; shapes = shapes_none pairs; prefixes = λ F G f g h. h }
 
 -- other pairs than the first are changed
 pub goes_past : (s : StoreView) (n : ℕ) (old new : List Pair) (t u : TrailView) → Advances s t u → IsRepaired n old new → Goes s n old new t u
@@ -88,7 +88,7 @@ goes_past s n old new t u a r = record {
   advances = a;
   paired = r.paired;
   shapes = r.shapes;
-  fronts = λ F G f g h m lt. subst (Rests F G) (sym (r.others m (omega (arith, lt)))) (h m lt);
+  prefixes = λ F G f g h m lt. subst (Rests F G) (sym (r.others m (omega (arith, lt)))) (h m lt);
 }
 
 -- a watch moves from a false literal to one that is not
@@ -97,7 +97,7 @@ module _ (s : StoreView) (pairs : List Pair) (t : TrailView) (n : ℕ) (f d othe
     (open_d : Contains t.literals (lit_complement d) → ⊥) (differs : d ≢ other) (is : p ≡ record { first = other; second = d })
     (keeps : (F G : List Lit) → Rests F G (get_or pairs n no_pair) → Contains F (lit_complement other) → Contains G f) where
   pub goes_moved : Goes s (length pairs) pairs (set pairs n p) t t
-  goes_moved = record { advances = advances_none s t; paired = length-set pairs n p; shapes = shapes_set pairs n p below two (rw is (λ e. differs (sym e))); fronts = fronts }
+  goes_moved = record { advances = advances_none s t; paired = length-set pairs n p; shapes = shapes_set pairs n p below two (rw is (λ e. differs (sym e))); prefixes = prefixes }
     where
       here : (F G : List Lit) → IsWithin F t.literals → IsWithin G t.literals → Rests F G (get_or pairs n no_pair) → Rests F G (record { first = other; second = d })
       here F G a b h = record {
@@ -106,8 +106,8 @@ module _ (s : StoreView) (pairs : List Pair) (t : TrailView) (n : ℕ) (f d othe
         alone = λ e. absurd (differs (sym e));
       }
 
-      fronts : (F G : List Lit) → IsWithin F t.literals → IsWithin G t.literals → AreResting (length pairs) pairs F G → AreResting (length pairs) (set pairs n p) F G
-      fronts F G a b h m lt = elim (cases_eq m n) [
+      prefixes : (F G : List Lit) → IsWithin F t.literals → IsWithin G t.literals → AreResting (length pairs) pairs F G → AreResting (length pairs) (set pairs n p) F G
+      prefixes F G a b h m lt = elim (cases_eq m n) [
         | inl e ↦ rw (e, get_or-set_same pairs n p no_pair below, is) (here F G a b (h n below))
         | inr o ↦ rw (get_or-set_other pairs n m p no_pair o) (h m lt)
       ]
@@ -136,11 +136,11 @@ module _ (clause held : List Lit) (p : Pair) (a b : Lit) (d : a ≢ b) (one : Ha
   ]
 
   -- neither is false
-  pub fresh_open : (Contains held (lit_complement a) → ⊥) → (Contains held (lit_complement b) → ⊥) → IsFresh clause held p AnyFront
+  pub fresh_open : (Contains held (lit_complement a) → ⊥) → (Contains held (lit_complement b) → ⊥) → IsFresh clause held p AnyPrefix
   fresh_open na nb =
       let none = either (λ (l : Lit). Contains held (lit_complement l) → ⊥) na nb in
       let rests : (F G : List Lit) → IsWithin F held → Rests F G p = λ F G w. record { by_first = λ c. absurd (none.0 (w _ c)); by_second = λ c. absurd (none.1 (w _ c)); alone = λ e. absurd (two_differ e) } in
-      record { there = pair.first_in two_differ; now = λ F w. rests F held w; fronts = λ r le s. rests (take r held) (take r held) (front_within r held le) }
+      record { there = pair.first_in two_differ; now = λ F w. rests F held w; prefixes = λ r le s. rests (take r held) (take r held) (front_within r held le) }
 
   -- the one holds, and the other may be false
   pub fresh_forced : (Safe : ℕ → Type 0) → IsConsistent held → Contains held a → ((r : ℕ) → r ≤ length held → Safe r → Contains (take r held) (lit_complement b) → ⊥) → IsFresh clause held p Safe
@@ -158,7 +158,7 @@ module _ (clause held : List Lit) (p : Pair) (a b : Lit) (d : a ≢ b) (one : Ha
         alone = λ s. absurd (two_differ s);
       }
     ];
-    fronts = λ r le s.
+    prefixes = λ r le s.
         let none = either (λ (l : Lit). Contains (take r held) (lit_complement l) → ⊥) (λ c. consistent a h (front_within r held le _ c)) (safe r le s) in
         record { by_first = λ c. absurd (none.0 c); by_second = λ c. absurd (none.1 c); alone = λ e. absurd (two_differ e) };
   }
@@ -170,10 +170,10 @@ fresh_single clause held p a Safe none pair e there h =
     record {
       there = subst (Contains clause) is there;
       now = λ F w. record { by_first = λ c. subst (Contains held) (is ∙ e) h; by_second = λ c. subst (Contains held) is h; alone = λ s. subst (Contains held) is h };
-      fronts = λ r le s. absurd (none r s);
+      prefixes = λ r le s. absurd (none r s);
     }
 
--- a literal that is false since a level is not false in a front below it
+-- a literal that is false since a level is not false in a prefix below it
 pub below_safe : (t : TrailView) (level : ℕ) (l : Lit) → ((p : ℕ) → p < length t.literals → (get_or t.literals p no_lit).term ≡ l.term → level ≡ get_or t.levels p 0)
     → (r : ℕ) → r ≤ length t.literals → Below t level r → Contains (take r t.literals) (lit_complement l) → ⊥
 below_safe t level l by r le b (i, lt, e) =

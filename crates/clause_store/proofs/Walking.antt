@@ -63,7 +63,7 @@ rests_more s a b u v done f lt is g passed r n below = go (one_or_two (get_or b 
     front = same_front s u v (done + 1) g.advances.0 (omega (arith, lt)) ∙ take_more u.literals done no_lit lt
 
     after : Rests (take done u.literals) v.literals (get_or b n no_pair)
-    after = rests_on (take done u.literals) u.literals v.literals _ (holds_on s u v g.advances.0) (g.fronts (take done u.literals) u.literals (front_within done u.literals (omega (arith, lt))) (λ l x. x) r n below)
+    after = rests_on (take done u.literals) u.literals v.literals _ (holds_on s u v g.advances.0) (g.prefixes (take done u.literals) u.literals (front_within done u.literals (omega (arith, lt))) (λ l x. x) r n below)
 
     one : (p q : Lit) → Contains (take (done + 1) v.literals) (lit_complement p) → (Contains (take done u.literals) (lit_complement p) → Contains v.literals q) → (p ≡ f → Contains v.literals q) → Contains v.literals q
     one p q c before here = elim (Contains-push_cases (take done u.literals) (get_or u.literals done no_lit) (lit_complement p) (subst (λ (xs : List Lit). Contains xs (lit_complement p)) front c)) [

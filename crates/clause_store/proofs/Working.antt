@@ -1,4 +1,4 @@
--- What propagation keeps of the fronts.
+-- What propagation keeps of the prefixes.
 use Rattle.std.proofs.Common.{◌≡◌, ◌≢◌, ℕ, ◌+◌, ◌-◌, ◌<◌, ◌≤◌, List, [], ◌∷◌, ◌++◌, length, get_or, take, Contains, ◌⊎◌, inl, inr, refl, sym, ap, ◌∙◌, subst, arith}
 use Rattle.std.proofs.lemmas.Bool.{cases_lt}
 use Rattle.std.proofs.lemmas.List.{take-take, take_all, get_or-take, get_or_default, get_or_past, get_or_push, get_or_append_left, length_push}
@@ -8,18 +8,18 @@ use Rattle.sat_trail.specs.Trails.{TrailView}
 use Rattle.clause_store.specs.declared.pair.Pair.{Pair}
 use Rattle.clause_store.specs.Stores.{StoreView, no_pair}
 use Rattle.clause_store.specs.Watching.{ArePairs, Rests, AreResting, HaveSameShapes, Goes, Below}
-use Rattle.clause_store.specs.Resting.{AreRising, IsFrontOf, HaveRested, AreSettled, last_of}
+use Rattle.clause_store.specs.Resting.{AreRising, IsPrefixOf, HaveRested, AreSettled, last_of}
 use Rattle.clause_store.proofs.Adding.{same_front}
 use Rattle.clause_store.proofs.Indexing.{one_or_two}
 use Rattle.clause_store.proofs.Resting.{front_within}
 
 -- ---- lengths
 
-module _ (new old : List ℕ) (f : IsFrontOf new old) where
+module _ (new old : List ℕ) (f : IsPrefixOf new old) where
   front_at : (i : ℕ) → i < length new → get_or new i 0 ≡ get_or old i 0
   front_at i lt = ap (λ xs. get_or xs i 0) f.1 ∙ get_or-take (length new) old i 0 lt
 
-  -- what is in the front was there
+  -- what is in the prefix was there
   pub front_had : (r : ℕ) → Contains new r → Contains old r
   front_had r (i, lt, e) = (i, omega (arith, lt, f.0), get_or_default old i r 0 (omega (arith, lt, f.0)) ∙ sym (front_at i lt) ∙ sym (get_or_default new i r 0 lt) ∙ e)
 
@@ -78,10 +78,10 @@ below_last t rests level h rising le last r c i lt =
       | inr from ↦ let is : i ≡ last_of rests - 1 = omega (arith, from, lt, most) in omega (arith, top, ap (λ (j : ℕ). get_or t.levels j 0) is)
     ]
 
--- ---- fronts at which the pairs rest
+-- ---- prefixes at which the pairs rest
 
--- fewer fronts
-pub rested_front : (new old : List ℕ) (count : ℕ) (pairs : List Pair) (most : ℕ) (held : List Lit) → IsFrontOf new old → HaveRested old count pairs most held → HaveRested new count pairs most held
+-- fewer prefixes
+pub rested_front : (new old : List ℕ) (count : ℕ) (pairs : List Pair) (most : ℕ) (held : List Lit) → IsPrefixOf new old → HaveRested old count pairs most held → HaveRested new count pairs most held
 rested_front new old count pairs most held f h = record {
   rising = front_rising new old f h.rising;
   within = λ r c. h.within r (front_had new old f r c);
@@ -95,7 +95,7 @@ rested_none count pairs most held = record {
   rested = λ r c. absurd (omega (arith, c.1));
 }
 
--- of other literals that have the same front
+-- of other literals that have the same prefix
 pub rested_by : (rests : List ℕ) (count : ℕ) (pairs : List Pair) (most small new : ℕ) (held other : List Lit) → take small held ≡ take small other → small ≤ new → ((r : ℕ) → Contains rests r → r ≤ small)
     → HaveRested rests count pairs most held → HaveRested rests count pairs new other
 rested_by rests count pairs most small new held other e le within h = record {
@@ -112,7 +112,7 @@ rested_goes s rests count old new t u le g h = record {
   rested = λ r c.
       let small : r ≤ length t.literals = omega (arith, h.within r c, le) in
       subst (λ (xs : List Lit). AreResting count new xs xs) (sym (same_front s t u r g.advances.0 small))
-      (g.fronts (take r t.literals) (take r t.literals) (front_within r t.literals small) (front_within r t.literals small) (h.rested r c));
+      (g.prefixes (take r t.literals) (take r t.literals) (front_within r t.literals small) (front_within r t.literals small) (h.rested r c));
 }
 
 -- with one clause more
@@ -126,7 +126,7 @@ rested_more rests count pairs most held h one = record {
   ];
 }
 
--- with one front more
+-- with one prefix more
 pub rested_push : (new old : List ℕ) (count : ℕ) (pairs : List Pair) (most len : ℕ) (held : List Lit) → HaveRested old count pairs most held → most ≤ len → AreRising new → ((r : ℕ) → Contains new r → Contains old r ⊎ (r ≡ len)) → AreResting count pairs (take len held) (take len held)
     → HaveRested new count pairs len held
 rested_push new old count pairs most len held h le rising each last = record {
@@ -135,14 +135,14 @@ rested_push new old count pairs most len held h le rising each last = record {
   rested = λ r c. elim (each r c) [ inl was ↦ h.rested r was | inr is ↦ subst (λ (k : ℕ). AreResting count pairs (take k held) (take k held)) (sym is) last ];
 }
 
--- what is kept of the literals has their fronts
+-- what is kept of the literals has their prefixes
 pub seen_same : (n : ℕ) (held seen : List Lit) → n ≤ length seen → seen ≡ take (length seen) held → take n held ≡ take n seen
 seen_same n held seen le e = sym (ap (take n) e ∙ take-take n (length seen) held le)
 
 pub rested_seen : (rests : List ℕ) (count : ℕ) (pairs : List Pair) (most : ℕ) (held seen : List Lit) → HaveRested rests count pairs most held → most ≤ length seen → seen ≡ take (length seen) held → HaveRested rests count pairs (length seen) seen
 rested_seen rests count pairs most held seen h le e = rested_by rests count pairs most most (length seen) held seen (seen_same most held seen le e) le h.within h
 
--- with a front of all that holds, which was seen
+-- with a prefix of all that holds, which was seen
 pub rested_all : (new old : List ℕ) (count : ℕ) (pairs : List Pair) (most len : ℕ) (held seen : List Lit) → seen ≡ held → len ≡ length held → HaveRested old count pairs most held → most ≤ length held → AreRising new → ((r : ℕ) → Contains new r → Contains old r ⊎ (r ≡ len))
     → AreResting count pairs held held → HaveRested new count pairs (length seen) seen
 rested_all new old count pairs most len held seen se is h le rising each rested =
@@ -151,11 +151,11 @@ rested_all new old count pairs most len held seen se is h le rising each rested 
     (subst (λ (n : ℕ). HaveRested new count pairs n held) is
     (rested_push new old count pairs most len held h (omega (arith, le, is)) rising each (subst (λ (xs : List Lit). AreResting count pairs xs xs) (sym whole) rested)))
 
--- no fronts are a front of any
-pub front_none : (new old : List ℕ) → new ≡ [] → IsFrontOf new old
-front_none new old e = subst (λ (xs : List ℕ). IsFrontOf xs old) (sym e) (omega arith, refl)
+-- no prefixes are a prefix of any
+pub front_none : (new old : List ℕ) → new ≡ [] → IsPrefixOf new old
+front_none new old e = subst (λ (xs : List ℕ). IsPrefixOf xs old) (sym e) (omega arith, refl)
 
-pub front_all : (rests : List ℕ) → IsFrontOf rests rests
+pub front_all : (rests : List ℕ) → IsPrefixOf rests rests
 front_all rests = (omega arith, sym (take_all (length rests) rests (omega arith)))
 
 -- ---- what was looked at

@@ -1,4 +1,4 @@
--- Fronts of what was seen at which the clauses rest.
+-- Prefixes of what was seen at which the clauses rest.
 use Rattle.std.specs.Prelude.{◌≡◌, ◌+◌, ◌-◌, ◌<◌, ◌≤◌, ℕ, Bool, true, false, List, [], length, take, get_or, Contains}
 use Rattle.term_core.specs.declared.ids.Lit.{Lit}
 use Rattle.sat_trail.specs.Trails.{TrailView, HasSame}
@@ -22,7 +22,7 @@ store_of p = record {
 abbrev pub AreRising : List ℕ → Type 0
 AreRising rests = (i j : ℕ) → i < j → j < length rests → get_or rests i 0 ≤ get_or rests j 0
 
--- The first pairs rest by the fronts of these lengths, which are no longer than one.
+-- The first pairs rest by the prefixes of these lengths, which are no longer than one.
 pub record HaveRested (rests : List ℕ) (count : ℕ) (pairs : List Pair) (most : ℕ) (held : List Lit) : Type 0 where
   -- they rise
   pub rising : AreRising rests
@@ -47,8 +47,8 @@ abbrev pub last_of : List ℕ → ℕ
 last_of rests = get_or rests (length rests - 1) 0
 
 -- the first of some lengths
-abbrev pub IsFrontOf : List ℕ → List ℕ → Type 0
-IsFrontOf new old = (length new ≤ length old) × (new ≡ take (length new) old)
+abbrev pub IsPrefixOf : List ℕ → List ℕ → Type 0
+IsPrefixOf new old = (length new ≤ length old) × (new ≡ take (length new) old)
 
 -- The parts fit together.
 pub record IsKept (p : Parts) : Type 0 where
@@ -56,16 +56,16 @@ pub record IsKept (p : Parts) : Type 0 where
   pub watched : IsWatched p.watched
   -- what was looked at
   pub settled : AreSettled (clauses_of p.watched.entries.items) p.watched.pairs.items p.settled p.short.items
-  -- the fronts
+  -- the prefixes
   pub rests : HaveRested p.rests.items p.settled p.watched.pairs.items (length p.seen.items) p.seen.items
 
--- The parts fit together in the midst of propagation, where the fronts are those of the trail.
+-- The parts fit together in the midst of propagation, where the prefixes are those of the trail.
 pub record IsAtWork (p : Parts) (t : TrailView) : Type 0 where
   -- clauses, pairs and lists
   pub watched : IsWatched p.watched
   -- what was looked at
   pub settled : AreSettled (clauses_of p.watched.entries.items) p.watched.pairs.items p.settled p.short.items
-  -- the fronts
+  -- the prefixes
   pub rests : HaveRested p.rests.items p.settled p.watched.pairs.items t.propagated t.literals
   -- the terms are variables
   pub known : AreKnownIn p.watched t.vars
@@ -81,7 +81,7 @@ pub record WorksOn (old new : Parts) (before after : TrailView) : Type 0 where
   -- so is what was seen
   pub seen : new.seen.items ≡ old.seen.items
   -- where the clauses that were looked at rested by what holds, they rest
-  pub fronts : (F : List Lit) → IsWithin F before.literals → AreResting old.settled old.watched.pairs.items F before.literals
+  pub prefixes : (F : List Lit) → IsWithin F before.literals → AreResting old.settled old.watched.pairs.items F before.literals
       → AreResting new.settled new.watched.pairs.items F after.literals
 
 -- what a look at the next clause comes to: it is false, or it was looked at

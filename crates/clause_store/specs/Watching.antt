@@ -123,7 +123,7 @@ pub record IsAnother (clause : List Lit) (other l : Lit) : Type 0 where
   -- it is not the other
   pub differs : l ≢ other
 
--- Where one of the two is false in the front, the other holds; where they are one, it holds.
+-- Where one of the two is false in the prefix, the other holds; where they are one, it holds.
 pub record Rests (front held : List Lit) (p : Pair) : Type 0 where
   -- where the one is false
   pub by_first : Contains front (lit_complement p.first) → Contains held p.second
@@ -179,8 +179,8 @@ pub record Goes (s : StoreView) (count : ℕ) (old new : List Pair) (before afte
   pub paired : length new ≡ length old
   -- of one literal or of two
   pub shapes : HaveSameShapes old new
-  -- where the pairs rested, at whatever front of the literals, they rest
-  pub fronts : (F G : List Lit) → IsWithin F before.literals → IsWithin G before.literals → AreResting count old F G → AreResting count new F G
+  -- where the pairs rested, at whatever prefix of the literals, they rest
+  pub prefixes : (F G : List Lit) → IsWithin F before.literals → IsWithin G before.literals → AreResting count old F G → AreResting count new F G
 
 -- A clause by its number, and the place at which it stands in the list of a literal that came to be false.
 pub record Visit : Type 0 where
@@ -221,22 +221,22 @@ pub record IsRepaired (n : ℕ) (old new : List Pair) : Type 0 where
   -- it is of one literal or of two, as it was
   pub shapes : HaveSameShapes old new
 
--- A clause, looked at for the first time, rests: it has a literal, and is safe where its false one is none of the front.
+-- A clause, looked at for the first time, rests: it has a literal, and is safe where its false one is none of the prefix.
 pub record IsFresh (clause held : List Lit) (p : Pair) (Safe : ℕ → Type 0) : Type 0 where
   -- it has a literal
   pub there : Contains clause p.first
   -- it rests by what holds now
   pub now : (F : List Lit) → IsWithin F held → Rests F held p
-  -- and by each front that is safe
-  pub fronts : (r : ℕ) → r ≤ length held → Safe r → Rests (take r held) (take r held) p
+  -- and by each prefix that is safe
+  pub prefixes : (r : ℕ) → r ≤ length held → Safe r → Rests (take r held) (take r held) p
 
--- no front
-abbrev pub NoFront : ℕ → Type 0
-NoFront r = ⊥
+-- no prefix
+abbrev pub NoPrefix : ℕ → Type 0
+NoPrefix r = ⊥
 
--- each front
-abbrev pub AnyFront : ℕ → Type 0
-AnyFront r = ⊤
+-- each prefix
+abbrev pub AnyPrefix : ℕ → Type 0
+AnyPrefix r = ⊤
 
 -- the first literals of a trail are of levels below one
 abbrev pub Below : TrailView → ℕ → ℕ → Type 0
@@ -244,7 +244,7 @@ Below t level r = (i : ℕ) → i < r → get_or t.levels i 0 < level
 
 -- what the first look at a clause comes to
 abbrev pub Freshly : List Lit → Pair → TrailView → Fresh → Type 0
-Freshly clause p t fresh.Open = (p.first ≢ p.second) × IsFresh clause t.literals p AnyFront
+Freshly clause p t fresh.Open = (p.first ≢ p.second) × IsFresh clause t.literals p AnyPrefix
 Freshly clause p t (fresh.Forced level) = (p.first ≢ p.second) × IsFresh clause t.literals p (Below t level)
-Freshly clause p t fresh.Single = (p.first ≡ p.second) × IsFresh clause t.literals p NoFront
+Freshly clause p t fresh.Single = (p.first ≡ p.second) × IsFresh clause t.literals p NoPrefix
 Freshly clause p t fresh.Clash = IsFalsified t.literals clause

@@ -1,11 +1,11 @@
-//! What a store has in hand: clauses, and at which fronts of what it saw they rest.
+//! What a store has in hand: clauses, and at which prefixes of what it saw they rest.
 
 ghost use Rattle.std.specs.Prelude.{◌≡◌, ◌+◌, ◌<◌, ◌≤◌, ◌⊎◌, [], ℕ, Contains, OnOk, OnErr, IfOk, MatchOption, length, take};
 ghost use Rattle.clause_store.specs.Entries.{clauses_of, bare};
 ghost use Rattle.clause_store.specs.Stores.{HasSeen};
 ghost use Rattle.clause_store.specs.Watching.{AreKnownIn, AreResting, IsFalseOf, Below};
 ghost use Rattle.clause_store.specs.Propagating.{Adds, Advances, IsQuiet};
-ghost use Rattle.clause_store.specs.Resting.{AreRising, IsFrontOf, last_of, IsKept, IsAtWork, WorksOn, SettlesOne, IsSameBut, store_of};
+ghost use Rattle.clause_store.specs.Resting.{AreRising, IsPrefixOf, last_of, IsKept, IsAtWork, WorksOn, SettlesOne, IsSameBut, store_of};
 
 use crate::fresh::Fresh;
 use crate::watched::Watched;
@@ -14,7 +14,7 @@ use sat_trail::SatTrail;
 use term_core::Lit;
 use world_io::NoMemory;
 
-/// Holds clauses, and at which fronts of what was seen they rest: where one of two watched literals is false, the other holds.
+/// Holds clauses, and at which prefixes of what was seen they rest: where one of two watched literals is false, the other holds.
 #[derive(Drop)]
 pub(crate) struct Parts {
     /// The clauses.
@@ -25,17 +25,17 @@ pub(crate) struct Parts {
     pub(crate) short: Vec<usize>,
     /// What held when propagation was quiet last.
     pub(crate) seen: Vec<Lit>,
-    /// The lengths of fronts of this at which those that were looked at rest, rising.
+    /// The lengths of prefixes of this at which those that were looked at rest, rising.
     pub(crate) rests: Vec<usize>,
 }
 
-/// Drops the fronts that are longer than one.
+/// Drops the prefixes that are longer than one.
 fn drop_longer(rests: &mut Vec<usize>, most: usize)
     requires { AreRising rests.old.items }
-    ensures front { IsFrontOf rests.new.items rests.old.items }
+    ensures front { IsPrefixOf rests.new.items rests.old.items }
     ensures within { (r : ℕ) → Contains rests.new.items r → r ≤ most }
 {
-    'fronts: while rests.len() > 0 {
+    'prefixes: while rests.len() > 0 {
         if rests[rests.len() - 1] <= most {
             return;
         }
@@ -43,15 +43,15 @@ fn drop_longer(rests: &mut Vec<usize>, most: usize)
     }
 }
 
-/// Drops the fronts of a trail that have literals of a level or of one above.
+/// Drops the prefixes of a trail that have literals of a level or of one above.
 fn drop_levels(rests: &mut Vec<usize>, level: u64, trail: &SatTrail)
     requires rising { AreRising rests.old.items }
     requires within { (r : ℕ) → Contains rests.old.items r → r ≤ length trail.now.literals }
-    ensures front { IsFrontOf rests.new.items rests.old.items }
+    ensures front { IsPrefixOf rests.new.items rests.old.items }
     ensures below { (r : ℕ) → Contains rests.new.items r → Below trail.now level r }
 {
     trail.is_sound();
-    'fronts: while rests.len() > 0 {
+    'prefixes: while rests.len() > 0 {
         let last = rests[rests.len() - 1];
         if last == 0 || trail.level_of(last as u64 - 1) < level {
             return;
@@ -177,7 +177,7 @@ impl Parts {
         Ok(None)
     }
 
-    /// Drops the fronts that the trail left, and looks at the clauses without a second literal where none is left. It gives the
+    /// Drops the prefixes that the trail left, and looks at the clauses without a second literal where none is left. It gives the
     /// number of one that is false.
     fn begin(&mut self, trail: &mut SatTrail) -> Option<usize>
         requires kept { IsKept self.old }
@@ -199,7 +199,7 @@ impl Parts {
         None
     }
 
-    /// Keeps what holds as what was seen, with a front of its length, and marks the trail.
+    /// Keeps what holds as what was seen, with a prefix of its length, and marks the trail.
     fn finish(&mut self, trail: &mut SatTrail) -> Result<(), NoMemory>
         requires work { IsAtWork self.old trail.old }
         requires rested { AreResting self.old.settled self.old.watched.pairs.items trail.old.literals trail.old.literals }

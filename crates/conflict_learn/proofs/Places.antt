@@ -10,7 +10,7 @@ use Rattle.conflict_learn.specs.Conflicts.{IsFalseAt}
 pub place_of : (xs : List Lit) (l : Lit) → Contains xs l → (k : ℕ) × (k < length xs) × (get_or xs k no_lit ≡ l)
 place_of xs l (k, lt, e) = (k, lt, get_or_default xs k no_lit l lt ∙ e)
 
--- the place of one that is in a front
+-- the place of one that is in a prefix
 pub early_place : (xs : List Lit) (p : ℕ) (l : Lit) → p ≤ length xs → Contains (take p xs) l → (k : ℕ) × (k < p) × (k < length xs) × (get_or xs k no_lit ≡ l)
 early_place xs p l le (k, lt, e) =
     let small : k < p = omega (arith, lt, length-take-le p xs le) in

@@ -115,7 +115,7 @@ module _ (v : TrailView) (n : ℕ) where
       no_count zero = refl
       no_count (suc j) = no_count j ∙ sym (count_none (replicate size false) j (λ m e. free (lit j).term.0 m))
 
-  -- a place that is left behind counts no more
+  -- a place that is left counts no more
   pub sorts_past : (k : ℕ) (a : Sorting) → (IsMarkedAt v a.marks k → ⊥) → Sorts v n (k + 1) a → Sorts v n k a
   sorts_past k a free s = record {
     within = omega (arith, s.within);

@@ -12,7 +12,7 @@ use Rattle.proof_log.specs.Theories.{terms_watched, IsTermIn, IsOver}
 use Rattle.congruence_relation.specs.Relation.{Application, Facts, AreOf, terms_listed}
 use Rattle.congruence_closure.specs.State.{with_listed, with_held}
 use Rattle.congruence_relation.specs.declared.Truths.{Truths}
-use Rattle.congruence_closure.specs.Closure.{ClosureView, AreFront, AreInOrder}
+use Rattle.congruence_closure.specs.Closure.{ClosureView, ArePrefix, AreInOrder}
 use Rattle.congruence_closure.specs.Listed.{no_application, nth}
 use Rattle.congruence_closure.proofs.Terms.{at_place}
 use Rattle.congruence.specs.Views.{theory_of}
@@ -54,8 +54,8 @@ listed_of f t (k, there, is) =
     let low : k < length f.listed = rw (sym (length-map f.listed (λ (x : Application). x.term))) there in
     (get_or f.listed k no_application, Contains-get_or f.listed k no_application low, sym (get_or-map (λ (x : Application). x.term) f.listed k no_application t low) ∙ is)
 
--- what is listed of a table, is one in a front of it
-pub front_of : (t : TableView) (f g : Facts) → AreOf t f → AreFront g f → AreInOrder g → AreOf t g
+-- what is listed of a table, is one in a prefix of it
+pub front_of : (t : TableView) (f g : Facts) → AreOf t f → ArePrefix g f → AreInOrder g → AreOf t g
 front_of t f g h front order = record {
   terms = subst (All (λ x. IsIn t x.term × Fits t x.shape × (shape_term t x.shape ≡ term_at t x.term))) (sym front.listed) (All-take (λ x. IsIn t x.term × Fits t x.shape × (shape_term t x.shape ≡ term_at t x.term)) (length g.listed) f.listed h.terms);
   true_there = subst (λ (ts : Truths). IsIn t ts.true_term) (sym front.truths) h.true_there;

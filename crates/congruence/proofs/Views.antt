@@ -4,7 +4,7 @@ use Rattle.std.proofs.lemmas.List.{map-append, length-map, get_or-map, get_or_pa
 use Rattle.term_core.specs.declared.ids.Lit.{Lit}
 use Rattle.proof_log.specs.Theories.{Mark, no_mark, with_held as theory_held, with_watched, with_mark, at_mark, gone_back}
 use Rattle.congruence_relation.specs.Relation.{Application, Facts}
-use Rattle.congruence_closure.specs.Closure.{ClosureState, ClosureView, AreFront}
+use Rattle.congruence_closure.specs.Closure.{ClosureState, ClosureView, ArePrefix}
 use Rattle.congruence_closure.specs.State.{with_listed, with_held}
 use Rattle.congruence.specs.Views.{mark_of, theory_of}
 
@@ -35,8 +35,8 @@ marked_more v w e m = λ i. record {
   marks = (ap (map mark_of) m ∙ map-append mark_of v.marks (v.now ∷ []) ∙ ap (λ n. map mark_of v.marks ++ record { held = length v.now.facts.held; watched = n } ∷ []) (sym (length_watched v.now.facts))) i;
 }
 
--- after going back to a mark at which the facts were a front of the present ones
-module _ (v w : ClosureView) (k : ℕ) (low : k < length v.marks) (now : w.now ≡ get_or v.marks k v.now) (marks : w.marks ≡ take k v.marks) (front : AreFront (get_or v.marks k v.now).facts v.now.facts) where
+-- after going back to a mark at which the facts were a prefix of the present ones
+module _ (v w : ClosureView) (k : ℕ) (low : k < length v.marks) (now : w.now ≡ get_or v.marks k v.now) (marks : w.marks ≡ take k v.marks) (front : ArePrefix (get_or v.marks k v.now).facts v.now.facts) where
   mark_is : get_or (map mark_of v.marks) k no_mark ≡ mark_of w.now
   mark_is = get_or-map mark_of v.marks k v.now no_mark low ∙ ap mark_of (sym now)
 
@@ -54,7 +54,7 @@ module _ (v w : ClosureView) (k : ℕ) (low : k < length v.marks) (now : w.now �
   }
 
 -- after going back so many marks
-pub went_back : (v w : ClosureView) (n : ℕ) → n ≤ length v.marks → w.now ≡ get_or v.marks (length v.marks - n) v.now → w.marks ≡ take (length v.marks - n) v.marks → ((k : ℕ) → k < length v.marks → AreFront (get_or v.marks k v.now).facts v.now.facts) → theory_of w ≡ gone_back n (theory_of v)
+pub went_back : (v w : ClosureView) (n : ℕ) → n ≤ length v.marks → w.now ≡ get_or v.marks (length v.marks - n) v.now → w.marks ≡ take (length v.marks - n) v.marks → ((k : ℕ) → k < length v.marks → ArePrefix (get_or v.marks k v.now).facts v.now.facts) → theory_of w ≡ gone_back n (theory_of v)
 went_back v w zero h now marks fronts = same_view v w (ap (λ (s : ClosureState). s.facts) (now ∙ past)) (marks ∙ all)
   where
     past : get_or v.marks (length v.marks - 0) v.now ≡ v.now
@@ -68,13 +68,13 @@ went_back v w (suc n) h now marks fronts = back_to v w (length v.marks - suc n) 
 pub marks_there : (v : ClosureView) (n : ℕ) → n ≤ length (theory_of v).marks → n ≤ length v.marks
 marks_there v n h = rw (sym (length-map v.marks mark_of)) h
 
--- what it is about after going back is a front of what it was about
-pub back_front : (v w : ClosureView) (n : ℕ) → n ≤ length v.marks → w.now ≡ get_or v.marks (length v.marks - n) v.now → ((k : ℕ) → k < length v.marks → AreFront (get_or v.marks k v.now).facts v.now.facts) → AreFront w.now.facts v.now.facts
+-- what it is about after going back is a prefix of what it was about
+pub back_front : (v w : ClosureView) (n : ℕ) → n ≤ length v.marks → w.now ≡ get_or v.marks (length v.marks - n) v.now → ((k : ℕ) → k < length v.marks → ArePrefix (get_or v.marks k v.now).facts v.now.facts) → ArePrefix w.now.facts v.now.facts
 back_front v w zero h now fronts =
     let same : w.now ≡ v.now = now ∙ get_or_past v.marks (length v.marks - 0) v.now (omega arith) in
-    subst (λ (s : ClosureState). AreFront s.facts v.now.facts) (sym same) (record {
+    subst (λ (s : ClosureState). ArePrefix s.facts v.now.facts) (sym same) (record {
       listed = sym (take_all (length v.now.facts.listed) v.now.facts.listed (omega arith));
       truths = refl;
       held = sym (take_all (length v.now.facts.held) v.now.facts.held (omega arith));
     })
-back_front v w (suc n) h now fronts = subst (λ (s : ClosureState). AreFront s.facts v.now.facts) (sym now) (fronts (length v.marks - suc n) (omega (arith, h)))
+back_front v w (suc n) h now fronts = subst (λ (s : ClosureState). ArePrefix s.facts v.now.facts) (sym now) (fronts (length v.marks - suc n) (omega (arith, h)))

@@ -158,7 +158,7 @@ impl Theory for Congruence {
         ensures now { self.new.now ≡ get_or self.old.marks (length self.old.marks - marks) self.old.now }
         ensures marks { self.new.marks ≡ take (length self.old.marks - marks) self.old.marks }
     {
-        self.closure.marks_are_fronts();
+        self.closure.marks_are_prefixes();
         self.closure.back(marks);
         self.closure.is_right();
     }

@@ -11,4 +11,4 @@ pub mod Steps
 pub mod Queues
 pub mod Turning
 pub mod Marks
-pub mod Fronts
+pub mod Prefixes

@@ -39,10 +39,10 @@ follows_goes p q g = record {
 }
 
 -- the facts before a change are its first ones
-abbrev pub IsFront : Facts → Facts → Type 0
-IsFront f g = (xs : List Application) × (ls : List Lit) × (g ≡ record { listed = f.listed ++ xs; truths = f.truths; held = f.held ++ ls })
+abbrev pub IsPrefix : Facts → Facts → Type 0
+IsPrefix f g = (xs : List Application) × (ls : List Lit) × (g ≡ record { listed = f.listed ++ xs; truths = f.truths; held = f.held ++ ls })
 
-pub follows_changes : (p q : PartsView) (g : Facts) → IsFront p.now.facts g → Changes p g q → Follows p q
+pub follows_changes : (p q : PartsView) (g : Facts) → IsPrefix p.now.facts g → Changes p g q → Follows p q
 follows_changes p q g (xs, ls, is) c = record {
   facts = λ e le. ap (λ (f : Facts). facts_at f e) (c.facts ∙ is)
       ∙ (λ i. record { listed = take-append-le e.listed p.now.facts.listed xs le.listed i; truths = p.now.facts.truths; held = take-append-le e.held p.now.facts.held ls le.held i });
@@ -57,13 +57,13 @@ follows_changes p q g (xs, ls, is) c = record {
   edges_marks = c.edges_marks;
 }
 
-pub front_same : (f : Facts) → IsFront f f
+pub front_same : (f : Facts) → IsPrefix f f
 front_same f = ([], [], λ i. record { listed = sym (append-nil f.listed) i; truths = f.truths; held = sym (append-nil f.held) i })
 
-pub front_listed : (f : Facts) (x : Application) → IsFront f (with_listed f x)
+pub front_listed : (f : Facts) (x : Application) → IsPrefix f (with_listed f x)
 front_listed f x = (x ∷ [], [], λ i. record { listed = f.listed ++ x ∷ []; truths = f.truths; held = sym (append-nil f.held) i })
 
-pub front_held : (f : Facts) (l : Lit) → IsFront f (with_held f l)
+pub front_held : (f : Facts) (l : Lit) → IsPrefix f (with_held f l)
 front_held f l = ([], l ∷ [], λ i. record { listed = sym (append-nil f.listed) i; truths = f.truths; held = f.held ++ l ∷ [] })
 
 pub upto_trans : (a b c : Extent) → IsUpTo a b → IsUpTo b c → IsUpTo a c

@@ -43,8 +43,8 @@ pub record AreInOrder (f : Facts) : Type 0 where
   -- no literal is held twice
   pub held_once : (i j : ℕ) → i < j → j < length f.held → held_at f.held i ≡ held_at f.held j → ⊥
 
--- Facts are a front of others: what was listed and held before more came.
-pub record AreFront (old new : Facts) : Type 0 where
+-- Facts are a prefix of others: what was listed and held before more came.
+pub record ArePrefix (old new : Facts) : Type 0 where
   -- the listed terms
   pub listed : old.listed ≡ take (length old.listed) new.listed
   -- the terms of the truth values are the same

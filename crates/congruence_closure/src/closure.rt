@@ -5,7 +5,7 @@ ghost use Rattle.term_core.specs.Tables.{shape_of, NamesBelow};
 ghost use Rattle.congruence_relation.specs.Relation.{applications, IsCongruent};
 ghost use Rattle.congruence_relation.specs.Edges.{IsConflict};
 ghost use Rattle.congruence_relation.specs.declared.Conflict.{Conflict as Against};
-ghost use Rattle.congruence_closure.specs.Closure.{AreFront, AreTerms, TellClasses, IsRight};
+ghost use Rattle.congruence_closure.specs.Closure.{ArePrefix, AreTerms, TellClasses, IsRight};
 ghost use Rattle.congruence_closure.specs.Listed.{no_term_id, IsListed, HasPlace};
 ghost use Rattle.congruence_closure.specs.State.{with_listed, with_held};
 
@@ -242,10 +242,10 @@ impl Closure {
         self.parts.are_kept();
     }
 
-    /// States that at each mark it was about a front of what it is about now.
-    pub fn marks_are_fronts(&self)
+    /// States that at each mark it was about a prefix of what it is about now.
+    pub fn marks_are_prefixes(&self)
         ensures { (k : ℕ) → k < length self.now.marks
-            → AreFront (get_or self.now.marks k self.now.now).facts self.now.now.facts }
+            → ArePrefix (get_or self.now.marks k self.now.now).facts self.now.now.facts }
     {
         let _ = &self.parts;
     }

@@ -67,7 +67,7 @@ numbered-low n (e ∷ es) ok k h = go (cases_eq k (length es)) (numbered-low n e
     go (inl p) ih = let q : numbered (e ∷ es) k ≡ e = grind (arith, nat_tests) in subst (λ f. (f.a.0 < n) × (f.b.0 < n)) (sym q) (ok.0, ok.1)
     go (inr p) ih = let q : numbered (e ∷ es) k ≡ numbered es k = grind (arith, nat_tests) in subst (λ f. (f.a.0 < n) × (f.b.0 < n)) (sym q) (ih (omega arith))
 
--- One part is told: its step, and nothing more where it leads nowhere, else its two halves.
+-- One part is explained: its step, and nothing more where it leads nowhere, else its two halves.
 module _ (n : ℕ) (es : List Edge) (ok : AreApart n es) (out after : List Step) (whole : List Step) (ps : List Part) (p : Part) where
   pub told-end : after ≡ out ++ step_of p → p.from.0 ≡ p.to.0 → out ++ told_all es (ps ++ p ∷ []) ≡ whole → after ++ told_all es ps ≡ whole
   told-end tells same all =

@@ -1,4 +1,4 @@
--- Edges between terms, what a forest keeps of them, and how a path is told.
+-- Edges between terms, what a forest keeps of them, and how a path is explained.
 pub mod Forest
 pub mod Kept
 pub mod Telling

@@ -1,4 +1,4 @@
--- A path is told part by part.
+-- A path is explained part by part.
 use Rattle.std.specs.Prelude.{◌≡◌, ℕ, ◌+◌, ◌*◌, ◌<◌, Bool, true, false, List, [], ◌∷◌, ◌++◌, Option, Some, None, length, All}
 use Rattle.explain_forest.specs.declared.types.Edge.{Edge}
 use Rattle.explain_forest.specs.declared.types.Step.{Step}
@@ -57,7 +57,7 @@ pub record Telling : Type 0 where
   -- what was told
   pub out : List Step
 
--- A part, which was the last, is told: what is told with what is left is the same, and less is left.
+-- A part, which was the last, is explained: what is explained with what is left is the same, and less is left.
 pub record Turns (n : ℕ) (es : List Edge) (p : Part) (old new : Telling) : Type 0 where
   -- the whole is the same
   pub whole : (steps : List Step) → old.out ++ told_all es (old.parts ++ p ∷ []) ≡ steps

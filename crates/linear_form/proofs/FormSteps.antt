@@ -29,7 +29,7 @@ pub combined_err : (way : Way) (e f : Form) (w : Overflow) → way.both e.consta
 unfolding combined ◌>>=◌
 combined_err way e f w h = ap (λ a. a >>= λ c. all_joined way e.variables f.variables >>= λ vs. Ok (record { constant = c; variables = vs })) h
 
--- variables behind a constant
+-- variables after a constant
 behind_ok : (c : Fraction) (a : Answer (List (Term × Fraction))) (vs : List (Term × Fraction)) → a ≡ Ok vs → (a >>= λ vs. Ok (let f : Form = record { constant = c; variables = vs } in f)) ≡ Ok (record { constant = c; variables = vs })
 unfolding ◌>>=◌
 behind_ok c a vs e = ap (λ a. a >>= λ vs. Ok (let f : Form = record { constant = c; variables = vs } in f)) e

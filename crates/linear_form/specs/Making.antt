@@ -37,17 +37,17 @@ CanChange (changes.Over d) = fraction d ≢ zero_fraction
 CanChange changes.Negative = Unit {0}
 CanChange changes.Nothing = Unit {0}
 
--- its overflow is told; out of memory says nothing
+-- its overflow is given; out of memory says nothing
 abbrev pub FailsBy : {A : Type 0} → Answer A → Stop → Type 0
 FailsBy a (stops.Wide w) = a ≡ Err (overflow w)
 FailsBy a stops.Memory = Unit {0}
 
--- what was to be made was made, or why it was not is told
+-- what was to be made was made, or why it was not is said
 abbrev pub Comes : {A : Type 0} → Answer A → Result (Unit {0}) Stop → A → Type 0
 Comes a (Ok u) new = a ≡ Ok new
 Comes a (Err s) new = FailsBy a s
 
--- what was to be made is returned, or why it was not is told
+-- what was to be made is returned, or why it was not is said
 abbrev pub Makes : {A B : Type 0} → Answer A → Result B Stop → (B → A) → Type 0
 Makes a (Ok b) meant = a ≡ Ok (meant b)
 Makes a (Err s) meant = FailsBy a s
@@ -62,7 +62,7 @@ Finds t a (Ok f) = a ≡ Ok (form_meant t f)
 Finds t a (Err (faults.Wide id w)) = a ≡ Err (fault_meant t id w)
 Finds t a (Err faults.Memory) = Unit {0}
 
--- what is made, behind what was there
+-- what is made, after what was there
 abbrev pub with_front : {A E : Type 0} → List A → Result (List A) E → Result (List A) E
 with_front xs (Ok ys) = Ok (xs ++ ys)
 with_front xs (Err w) = Err w

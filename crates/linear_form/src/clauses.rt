@@ -64,7 +64,7 @@ fn pairs_of(
     Ok(Some(pairs))
 }
 
-/// Puts a pair's number behind those that are there.
+/// Puts a pair's number after those that are there.
 fn push_number(numbers: &mut Vec<(Negation, Ratio)>, pair: (Negation, Coeff)) -> Result<(), Stop>
     ensures { Pushes pair result numbers.old.items numbers.new.items }
 {

@@ -81,7 +81,7 @@ pub fn changed_number(change: Change, k: Ratio) -> Result<Ratio, Wide>
     }
 }
 
-/// Puts a variable that has no live entry behind the entries.
+/// Puts a variable that has no live entry after the entries.
 pub fn push_entry(
     entries: &mut Vec<(TermId, Ratio)>,
     places: &mut HashMap<u64, usize>,
@@ -201,7 +201,7 @@ pub fn join_all(
     Ok(())
 }
 
-/// Puts an entry behind those that are there with its number changed, unless it is dead or becomes so.
+/// Puts an entry after those that are there with its number changed, unless it is dead or becomes so.
 fn change_entry(
     entries: &mut Vec<(TermId, Ratio)>,
     places: &mut HashMap<u64, usize>,

@@ -81,7 +81,7 @@ fn are_dead(entries: &[(TermId, Ratio)]) -> bool
     true
 }
 
-/// Puts the entries that are not dead behind those that are there.
+/// Puts the entries that are not dead after those that are there.
 fn add_live(
     variables: &mut Vec<(TermId, Ratio)>,
     entries: &[(TermId, Ratio)],
@@ -95,7 +95,7 @@ fn add_live(
     Ok(())
 }
 
-/// Puts an entry behind those that are there, unless it is dead.
+/// Puts an entry after those that are there, unless it is dead.
 fn push_live(variables: &mut Vec<(TermId, Ratio)>, entry: (TermId, Ratio)) -> Result<(), NoMemory>
     ensures { OnOk result
         (map pair_view variables.new.items ≡ map pair_view variables.old.items ++ live (entry ∷ [])) }

@@ -43,7 +43,7 @@ pub fn copy_known(alloc: Global, known: &Known) -> Result<Known, NoMemory>
     }
 }
 
-/// Puts a form behind those that are there.
+/// Puts a form after those that are there.
 fn push_form(forms: &mut Vec<Form>, form: Form) -> Result<(), NoMemory>
     ensures { OnOk result (forms.new.items ≡ forms.old.items ++ form ∷ []) }
 {

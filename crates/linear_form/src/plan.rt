@@ -35,7 +35,7 @@ fn place_of(order: &[u64], number: u64) -> usize
     }
 }
 
-/// Puts the places of numbers behind those that are there.
+/// Puts the places of numbers after those that are there.
 fn add_places(order: &[u64], ids: &[TermId], uses: &mut Vec<usize>) -> Result<(), NoMemory>
     requires ascends { Ascends order.now }
     requires there { All (λ a. In a order.now) (numbers_of ids.now) }

@@ -53,7 +53,7 @@ added t old l id new h here follows is_next is_last = record {
   right = subst (λ x. IsLogOf t x) (sym is_last) (log_push t old l h here follows);
 }
 
--- the numbers in front with one more are the log's
+-- the numbers before, with one more, are the log's
 pub one_more_there : (log : List Logged) (ss : List StepId) (k : ℕ) (d : StepId) → k < length ss → (get_or ss k d).0 < length log
     → AreOf log (take k ss) → AreOf log (take (k + 1) ss)
 one_more_there log ss k d lt here there =

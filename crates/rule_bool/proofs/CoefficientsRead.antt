@@ -78,7 +78,7 @@ pub atom_number : (at : ℕ) (k : Kind) (n : Name) → atom_coefficient k n ≡ 
 unfolding coefficient_of
 atom_number at k n = refl
 
--- a list with no word in front
+-- a list that begins with no word
 pub no_word : (ts : Trees) → None ≡ first_word ts → (at end : ℕ) → malformed ≡ coefficient_of (list at ts end)
 unfolding coefficient_of
 no_word none e at end = refl

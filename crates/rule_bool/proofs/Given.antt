@@ -47,7 +47,7 @@ pub head_by : (n : Node) (h : NodeHead) (b : Bool) → b ≡ head_ghosts.eq n.he
 head_by n h true e = head_is n h (sym e)
 head_by n h false e = λ is. false≢true (e ∙ is_head n h is)
 
--- no front is of the empty clause
+-- no prefix is of the empty clause
 none_given : (s : Scheme) → IsGiven s [] → ⊥
 none_given s (t, i) = go (is_formula_of s.head t) i
   where
@@ -170,7 +170,7 @@ module _ (t : TableView) (head : NodeHead) (positive : Bool) (rest : Rest) where
     given_there : GivesRest (head_meant t head) rest (term_at t id) behind → IsGiven (scheme_meant t head positive rest) (x ∷ behind)
     given_there h = given_by (scheme_meant t head positive rest) x behind (term_at t id) is.same h
 
-    -- and the other way round: no other term has it in front
+    -- and the other way round: no other term has it as head
     given_back : IsGiven (scheme_meant t head positive rest) (x ∷ behind) → GivesRest (head_meant t head) rest (term_at t id) behind
     given_back g =
         let h = given_front (scheme_meant t head positive rest) x behind g in

@@ -7,7 +7,7 @@ use spec_equality::EqualityRule;
 use spec_proofs::{Rest, Rule, Side};
 use term_core::Head;
 
-/// Says which clauses a term gives: its head, how it stands in front, and what stands after it. The term's arguments have the sort Bool.
+/// Says which clauses a term gives: its head, how it comes first, and what stands after it. The term's arguments have the sort Bool.
 ///
 /// Source: Alethe specification, rules.
 #[derive(Clone, Copy, Debug, PartialEq, Eq)]

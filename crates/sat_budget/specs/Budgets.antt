@@ -41,7 +41,7 @@ Exchanges old pair (Ok _) new =
 Exchanges old pair (Err (Spent n)) new = (length old.exchanges ≡ old.pivots) × (n ≡ old.pivots) × (new ≡ old)
 Exchanges old pair (Err Memory) new = (length old.exchanges < old.pivots) × (new ≡ old)
 
--- exchanges may have come behind those that there were; nothing else changes
+-- exchanges may have come after those that there were; nothing else changes
 abbrev pub Spends : BudgetView → BudgetView → Type 0
 Spends old new = (more : List (ℕ × ℕ)) × (new ≡ record old { exchanges = old.exchanges ++ more })
 

@@ -1,4 +1,4 @@
--- Literals of fronts, and lists of literals over a table.
+-- Literals of prefixes, and lists of literals over a table.
 use Rattle.std.proofs.Common.{◌≡◌, ℕ, ◌<◌, ◌≤◌, List, [], ◌∷◌, length, get_or, take, map, Contains, refl, sym, ap, ◌∙◌, arith, suc}
 use Rattle.std.specs.Prelude.{drop}
 use Rattle.std.proofs.lemmas.List.{get_or-take, length-take-le, get_or_default}
@@ -11,7 +11,7 @@ use Rattle.clause_literals.proofs.TableLiterals.{literals_apart}
 use Rattle.sat_trail.specs.Trails.{no_lit}
 use Rattle.search_loop.specs.Search.{images, AreAllOf}
 
--- an earlier literal is in the front
+-- an earlier literal is in the prefix
 pub in_front : (xs : List Lit) (k p : ℕ) (l : Lit) → k < p → k < length xs → p ≤ length xs → get_or xs k no_lit ≡ l → Contains (take p xs) l
 in_front xs k p l lt within le e = (k, omega (arith, lt, length-take-le p xs le), get_or-take p xs k l lt ∙ sym (get_or_default xs k no_lit l within) ∙ e)
 

@@ -1,4 +1,4 @@
-//! What a theory is told: literals as they come to hold, and levels that are taken back.
+//! What a theory is given: literals as they come to hold, and levels that are taken back.
 
 ghost use Rattle.std.specs.Prelude.{◌≡◌, ◌+◌, ◌≤◌, ◌<◌, ◌-◌, ℕ, List, length, take, Contains};
 ghost use Rattle.spec_sorts.specs.Terms.{Term};

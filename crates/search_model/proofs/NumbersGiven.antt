@@ -22,7 +22,7 @@ use Rattle.search_model.proofs.Interpreting.{models_by}
 
 -- Two valuations agree on a symbol's terms.
 record Agree (v w : Valuation) (s : Symbol) (terms : List Term) : Type 0 where
-  -- on listed terms with it in front
+  -- on listed terms with it as head
   values : (ts : Terms) → Contains terms (app (Apply s) ts) → v (app (Apply s) ts) ≡ w (app (Apply s) ts)
   -- and on the arguments of these
   arguments : (ts : Terms) → Contains terms (app (Apply s) ts) → (u : Term) → Contains (list_of ts) u → v u ≡ w u

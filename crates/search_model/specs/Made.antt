@@ -62,7 +62,7 @@ row_put tables k r = slice_set tables k (with_row (get_or tables k no_table) r)
 abbrev pub default_put : List Table → ℕ → Value → List Table
 default_put tables k d = slice_set tables k (with_default (get_or tables k no_table) d)
 
--- the table of a symbol that no listed term has in front
+-- the table of a symbol that no listed term has as head
 abbrev pub blank : Symbol → Table
 blank s = record { rows = []; default = default_value s.result }
 

@@ -50,7 +50,7 @@ no_id = record { 0 = 0 }
 abbrev pub AreRising : List TermId → Type 0
 AreRising ids = (i j : ℕ) → i < j → j < length ids → (get_or ids i no_id).0 < (get_or ids j no_id).0
 
--- Each symbol has a row for each listed term with it in front, and for all other arguments false, 0 or the first element. A constant that is listed has its value alone.
+-- Each symbol has a row for each listed term with it as head, and for all other arguments false, 0 or the first element. A constant that is listed has its value alone.
 pub record IsModelOf (t : TableView) (held : List Lit) (terms : List TermId) (classes : List ℕ) (numbers : List Fraction) (interp : Interp) : Type 0 where
   -- there is a table for each symbol, and no other
   pub tables : length interp.tables.items ≡ length t.symbols

@@ -60,7 +60,7 @@ stopped_more : (ranges : Ranges) (t u : BoardState) (old new : List (ℕ × ℕ)
 stopped_more ranges t u old new (settling n s e) = ([], e ∙ sym (append-nil old))
 stopped_more ranges t u old new (exchanging r) = (r.ran.made ++ r.last ∷ [], r.kept ∙ ap (λ es. es ++ r.last ∷ []) r.ran.kept ∙ append_assoc old r.ran.made (r.last ∷ []))
 
--- a check keeps exchanges behind those that there were
+-- a check keeps exchanges after those that there were
 pub spent : (ranges : Ranges) (b c : BoardView) (old new : BudgetView) (r : Result Outcome Stop) → Ends ranges b c old new r → (more : List (ℕ × ℕ)) × (new.exchanges ≡ old.exchanges ++ more)
 spent ranges b c old new (Ok Fine) e = (e.0.made, e.0.kept)
 spent ranges b c old new (Ok (Crossed y)) e = ([], ap (λ (x : BudgetView). x.exchanges) e.1 ∙ sym (append-nil old.exchanges))

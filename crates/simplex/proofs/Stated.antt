@@ -24,7 +24,7 @@ joined : {A : Type 0} (xs ys zs : List A) → xs ++ (ys ++ zs) ≡ (xs ++ ys) ++
 joined [] ys zs = refl
 joined (x ∷ xs) ys zs = ap (λ l. x ∷ l) (joined xs ys zs)
 
--- what stands in front stays, and so many of what follows
+-- what comes first stays, and so many of what follows
 past : {A : Type 0} (xs ys : List A) (n k : ℕ) → k ≡ length xs + n → take k (xs ++ ys) ≡ xs ++ take n ys
 past [] ys n k e = ap (λ j. take j ys) (omega (arith, e))
 past (x ∷ xs) ys n zero e = absurd (omega (arith, e))

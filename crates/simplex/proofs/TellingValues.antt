@@ -12,14 +12,14 @@ use Rattle.term_core.proofs.Numbers.{same_id}
 use Rattle.simplex_bounds.specs.Deltas.{pair_of}
 use Rattle.simplex.specs.Values.{TellsValues}
 
--- nothing is told
+-- nothing is given
 pub tells_none : (told : ℕ → Option Delta) (ids : List TermId) (values : List Delta) → ((q : ℕ) → told q ≡ None) → TellsValues told ids values 0
 tells_none told ids values none = record {
   tells = λ q d e. absurd (none-some d (sym (none q) ∙ e));
   tells_all = λ k id lt. absurd (omega (arith, lt));
 }
 
--- one more is told
+-- one more is given
 module _ (old new : ℕ → Option Delta) (ids : List TermId) (values : List Delta) (n : ℕ) (id : TermId) (d : Delta) (there : n < length ids) (id_is : id ≡ get_or ids n id) (d_is : d ≡ get_or values n d)
     (updates : (q : ℕ) → new q ≡ cond (nat_eq id.0 q) (Some d) (old q)) (tells : TellsValues old ids values n) where
   abbrev TellsOne : ℕ → Delta → Type 0

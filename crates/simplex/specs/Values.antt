@@ -42,10 +42,10 @@ pub record StrainsNextSum (v : SimplexView) (id : TermId) (k : Number) (sum : Pa
   pub strains : (delta_scaled k.fraction (delta_in (point_in v.board.values variable)) ≡ Err o)
       ⊎ (delta_added (delta_in sum) (delta_in (deltas.scale k (point_in v.board.values variable))) ≡ Err o)
 
--- Values are told by the numbers of terms: those of the first n of these terms, of each the value at its place.
+-- Values by the numbers of terms: those of the first n of these terms, of each the value at its place.
 pub record TellsValues (told : ℕ → Option Delta) (ids : List TermId) (values : List Delta) (n : ℕ) : Type 0 where
-  -- what is told is the value at the place of such a term
+  -- what is given is the value at the place of such a term
   pub tells : (q : ℕ) (d : Delta) → told q ≡ Some d
       → (k : ℕ) × (k < n) × (get_or ids k (record { 0 = q }) ≡ record { 0 = q }) × (get_or values k d ≡ d)
-  -- and each of them is told
+  -- and each of them is given
   pub tells_all : (k : ℕ) (id : TermId) → k < n → get_or ids k id ≡ id → told id.0 ≡ None → ⊥

@@ -27,9 +27,9 @@ AreOwned t owners n v = (y : ℕ) (id : TermId) → owner_at owners y ≡ Some i
 
 -- Each variable that stands for a term by its number, for all such variables.
 pub record IsInverse (numbers : ℕ → Option ℕ) (owners : List (Option TermId)) : Type 0 where
-  -- what is told stands for the term
+  -- what is given stands for the term
   pub tells : (q y : ℕ) → numbers q ≡ Some y → owner_at owners y ≡ Some (record { 0 = q })
-  -- all are told
+  -- all are given
   pub tells_all : (y : ℕ) (id : TermId) → owner_at owners y ≡ Some id → numbers id.0 ≡ Some y
 
 -- For each variable the term that it stands for, and how many more variables there can be without memory.

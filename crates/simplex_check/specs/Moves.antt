@@ -1,4 +1,4 @@
--- What the moves of the code say, and the tests behind them.
+-- What the moves of the code say, and the tests that they make.
 use Rattle.std.specs.Prelude.{Bool, not, ◌||◌}
 use Rattle.spec_tableaux.specs.Spaces.{Pair}
 use Rattle.spec_tableaux.specs.Ranges.{Range, below, above}

@@ -115,7 +115,7 @@ impl Board {
 
     /// Looks for values that solve the rows and keep the bounds.
     ///
-    /// Crossed bounds are told first, and nothing is changed then. Else each nonbasic variable that violates a bound
+    /// Crossed bounds are reported first, and nothing is changed then. Else each nonbasic variable that violates a bound
     /// goes to it, and variables are exchanged as `next_move` says, until it says none. Each exchange is kept in the
     /// budget, and made then. The values keep each bound after `Fine`; after `Conflict` and `Crossed` none do.
     ///

@@ -2,5 +2,5 @@
 pub mod Runs
 pub mod Steps
 pub mod Strings
-pub mod Fronts
+pub mod Prefixes
 pub mod Reading

@@ -1,4 +1,4 @@
--- The longest front whose bytes pass a test.
+-- The longest prefix whose bytes pass a test.
 use Rattle.std.proofs.Common.{◌≡◌, ◌<◌, ◌≤◌, ℕ, suc, Bool, true, false, cond, List, [], ◌∷◌, length, take, refl, sym, ap, ◌∙◌, arith}
 use Rattle.std.specs.Prelude.{◌&&◌, not}
 use Rattle.spec_text.specs.Bytes.{Name, is_digit, is_symbol_byte, front, among, reserved_words}

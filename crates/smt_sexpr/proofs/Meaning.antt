@@ -47,7 +47,7 @@ mutual
   back text none h = trees_none text
   back text (more t ts) h = back_first text t (flat_all ts) h.0 ∙ ap (more t) (back text ts h.1)
 
--- a tree that stands in front is what its items mean, whatever items follow
+-- a tree that comes first is what its items mean, whatever items follow
 pub means_first : (text : List ℕ) (from : ℕ) (t : Tree) (rest : List (ℕ × Lexeme)) (is : List Item) → lexemes_from text from ≡ spelled t ++ rest → trees_in text (flat t ++ is) ≡ more t (trees_in text is)
 means_first text from t rest is first = back_first text t is (in_first text t rest (subst (AreWordsOf text) first (words_stand text from))).0
 

@@ -35,7 +35,7 @@ StopsIn end n rest (Some f) = IsBroken end n rest f
 pub record IsStopped (text : List ℕ) (n : ℕ) (xs : List (ℕ × Lexeme)) (r : Refusal) : Type 0 where
   -- what stops the bytes that are read
   pub stop : Option Located
-  -- it stands in front
+  -- it comes first
   pub stops : StopsIn (length (kept text)) n xs stop
   -- it is that fault of the whole text
   pub is : limited (is_long text) stop ≡ Some (refusal_meant r)

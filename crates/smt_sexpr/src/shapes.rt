@@ -124,8 +124,8 @@ pub fn word_first(trees: Trees<'_>) -> Option<(Word<'_>, Trees<'_>)>
     }
 }
 
-/// Takes the first list, and gives the trees in it and those after it: `None` where there is no tree, or an atom in
-/// front.
+/// Takes the first list, and gives the trees in it and those after it: `None` where there is no tree, or an atom comes
+/// first.
 pub fn list_first(trees: Trees<'_>) -> Option<(Trees<'_>, Trees<'_>)>
     ensures gives { option_map list_rest result ≡ first_list (trees_meant trees.entry) }
     ensures inside { IfSome result (λ x. size_of x.0 < size_of trees.entry) }
@@ -160,7 +160,7 @@ pub fn want_end(trees: Trees<'_>) -> Option<()>
     }
 }
 
-/// Gives the offset of the first list and the trees in it: `None` where there is no tree, or an atom in front.
+/// Gives the offset of the first list and the trees in it: `None` where there is no tree, or an atom that comes first.
 pub fn list_inside(trees: Trees<'_>) -> Option<(u64, Trees<'_>)>
     ensures gives { option_map inside_view result ≡ inside_of (tree_meant trees.entry) }
     ensures inside { IfSome result (λ x. size_of x.1 < size_of trees.entry) }

@@ -4,7 +4,7 @@ use Rattle.std.specs.Prelude.{count_by, ◌==◌}
 use Rattle.std.proofs.lemmas.List.{take-take}
 use Rattle.spec_text.specs.declared.Place.{Place}
 use Rattle.spec_text.specs.Places.{since_break, IsPlaceOf}
-use Rattle.spec_text.specs.Readings.{text_limit, front}
+use Rattle.spec_text.specs.Readings.{text_limit, prefix}
 use Rattle.spec_commands.specs.Checks.{HasNoModel, term_limit}
 use Rattle.spec_proofs.specs.Faults.{Fault}
 use Rattle.spec_checking.specs.Accepted.{IsAccepted, IsVerdict}
@@ -15,8 +15,8 @@ use Rattle.smt_top.specs.Ends.{IsValid}
 use Rattle.smt_top.specs.Calls.{Judges}
 
 -- that a verdict needs the prefixes alone, that without a fault the proof is accepted, and that nothing is then true
-abbrev pub FrontLaw : Type 0
-FrontLaw = (script proof : List ℕ) (k : ℕ) (found : Option Fault) → IsVerdict (front script) k (front proof) found → IsVerdict script k proof found
+abbrev pub PrefixLaw : Type 0
+PrefixLaw = (script proof : List ℕ) (k : ℕ) (found : Option Fault) → IsVerdict (prefix script) k (prefix proof) found → IsVerdict script k proof found
 
 abbrev pub AcceptedLaw : Type 0
 AcceptedLaw = (script proof : List ℕ) (k : ℕ) → (IsVerdict script k proof None → IsAccepted script k proof) × (IsAccepted script k proof → IsVerdict script k proof None)
@@ -40,19 +40,19 @@ place_in_text n text p h =
     let same = same_front n p.offset text h.within in
     record { within = omega (arith, h.within, length-take n text); line = h.line ∙ ap lines same; col = h.col ∙ ap columns same }
 
-valid_by : FrontLaw → AcceptedLaw → SoundLaw → (script proof : List ℕ) (at : ℕ) → IsVerdict (front script) at (front proof) None → IsValid script at proof
+valid_by : PrefixLaw → AcceptedLaw → SoundLaw → (script proof : List ℕ) (at : ℕ) → IsVerdict (prefix script) at (prefix proof) None → IsValid script at proof
 valid_by fronts accepts sound script proof at h =
     let verdict = fronts script proof at None h in
     let accepted = (accepts script proof at).0 verdict in
     record { verdict = verdict; accepted = accepted; no_model = sound script proof at accepted }
 
-fault_by : FrontLaw → (script proof : List ℕ) (at : ℕ) (stop : ProofStop) → Answers (front script) at (front proof) (Err stop) → Answers script at proof (Err stop)
+fault_by : PrefixLaw → (script proof : List ℕ) (at : ℕ) (stop : ProofStop) → Answers (prefix script) at (prefix proof) (Err stop) → Answers script at proof (Err stop)
 fault_by fronts script proof at (stops.Fault f) h = (fronts script proof at (Some (fault_view f)) h.0, place_in_text (text_limit + 1) proof f.place h.1)
 fault_by fronts script proof at stops.Memory h = tt
 
-pub judged_by : FrontLaw → AcceptedLaw → SoundLaw → (at : ℕ) (a b : List ℕ) (r : Result (Unit {0}) ProofStop) → Answers a at b r → (script proof : List ℕ) → a ≡ front script → b ≡ front proof → Judges script at proof r
-judged_by fronts accepts sound at a b r h script proof e f = go r (subst (λ (x : List ℕ). Answers (front script) at x r) f (subst (λ (x : List ℕ). Answers x at b r) e h))
+pub judged_by : PrefixLaw → AcceptedLaw → SoundLaw → (at : ℕ) (a b : List ℕ) (r : Result (Unit {0}) ProofStop) → Answers a at b r → (script proof : List ℕ) → a ≡ prefix script → b ≡ prefix proof → Judges script at proof r
+judged_by fronts accepts sound at a b r h script proof e f = go r (subst (λ (x : List ℕ). Answers (prefix script) at x r) f (subst (λ (x : List ℕ). Answers x at b r) e h))
   where
-    go : (r : Result (Unit {0}) ProofStop) → Answers (front script) at (front proof) r → Judges script at proof r
+    go : (r : Result (Unit {0}) ProofStop) → Answers (prefix script) at (prefix proof) r → Judges script at proof r
     go (Ok u) h = valid_by fronts accepts sound script proof at h
     go (Err stop) h = fault_by fronts script proof at stop h

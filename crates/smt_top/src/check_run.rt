@@ -63,7 +63,7 @@ fn run_script<F: Shelf, K: Sink>(
     ensures reads { F.faults shelf.old ≤ F.faults shelf.new }
     ensures sound { F.is_sound shelf.old → F.is_sound shelf.new }
 {
-    spec_sessions::laws::transcripts_need_a_front_alone();
+    spec_sessions::laws::transcripts_need_a_prefix_alone();
     spec_sessions::laws::answers_say_what_is_so();
     match read_text(alloc, shelf, request.name) {
         Ok(bytes) => {

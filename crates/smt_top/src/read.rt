@@ -2,7 +2,7 @@
 
 ghost use Rattle.std.specs.Prelude.{◌≡◌, ◌≢◌, ℕ, ◌≤◌, List, IfOk, IfSome, IsSome, IsOk, IsErrOf};
 ghost use Rattle.world_io.specs.Outside.{Rose};
-ghost use Rattle.spec_text.specs.Readings.{front};
+ghost use Rattle.spec_text.specs.Readings.{prefix};
 ghost use Rattle.smt_top.specs.Ends.{TakesText};
 
 use crate::arguments::Names;
@@ -24,13 +24,13 @@ pub(crate) struct Texts {
 
 /// Reads the prefix of a name's text.
 ///
-/// `Failed` comes only where the shelf's count of faults rose in this call, `Memory` where an allocation was refused.
+/// `Failed` comes only where the count of faults of the shelf rose in this call, `Memory` where an allocation was refused.
 pub(crate) fn read_text<F: Shelf>(
     alloc: Global,
     shelf: &mut F,
     name: &str,
 ) -> Result<Bytes, ReadStop>
-    ensures end { IfOk result (λ bytes. (text : List ℕ) × (bytes ≡ front text)
+    ensures end { IfOk result (λ bytes. (text : List ℕ) × (bytes ≡ prefix text)
         × IfSome (F.holds shelf.old name.now) (λ t. t ≡ text)) }
     ensures found { ((s : F) → IsSome (F.left s)) → IsOk result → IsSome (F.holds shelf.old name.now) }
     ensures last { IsOk result → TakesText (F.holds shelf.old name.now) (F.left shelf.new) }
@@ -46,15 +46,15 @@ pub(crate) fn read_text<F: Shelf>(
 
 /// Reads the prefixes of the texts of both names, the script's first.
 ///
-/// `Failed` comes only where the shelf's count of faults rose in this call, `Memory` where an allocation was refused.
+/// `Failed` comes only where the count of faults of the shelf rose in this call, `Memory` where an allocation was refused.
 pub(crate) fn read_both<F: Shelf>(
     alloc: Global,
     shelf: &mut F,
     names: Names<'_>,
 ) -> Result<Texts, ReadStop>
-    ensures script { IfOk result (λ texts. (text : List ℕ) × (texts.script ≡ front text)
+    ensures script { IfOk result (λ texts. (text : List ℕ) × (texts.script ≡ prefix text)
         × IfSome (F.holds shelf.old names.entry.script.now) (λ t. t ≡ text)) }
-    ensures proof { IfOk result (λ texts. (text : List ℕ) × (texts.proof ≡ front text)
+    ensures proof { IfOk result (λ texts. (text : List ℕ) × (texts.proof ≡ prefix text)
         × IfSome (F.holds shelf.old names.entry.proof.now) (λ t. t ≡ text)) }
     ensures last { IsOk result → TakesText (F.holds shelf.old names.entry.proof.now) (F.left shelf.new) }
     ensures found { ((s : F) → IsSome (F.left s)) → IsOk result

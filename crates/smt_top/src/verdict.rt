@@ -1,7 +1,7 @@
 //! Judges what was read, and writes the verdict.
 
 ghost use Rattle.std.specs.Prelude.{◌≡◌, ◌≢◌, ℕ, List};
-ghost use Rattle.spec_text.specs.Readings.{front};
+ghost use Rattle.spec_text.specs.Readings.{prefix};
 ghost use Rattle.smt_top.specs.Calls.{Judges, Reports};
 
 use crate::output::{write_fault, write_valid};
@@ -15,10 +15,10 @@ use world_io::Sink;
 ///
 /// `Fault` has the first fault of the proof. `Memory` comes where an allocation was refused.
 pub(crate) fn judge(alloc: Global, texts: &Texts, at: u64) -> Result<(), ProofStop>
-    ensures { (script proof : List ℕ) → texts.now.script ≡ front script → texts.now.proof ≡ front proof
+    ensures { (script proof : List ℕ) → texts.now.script ≡ prefix script → texts.now.proof ≡ prefix proof
         → Judges script at proof result }
 {
-    spec_checking::laws::verdicts_need_a_front_alone();
+    spec_checking::laws::verdicts_need_a_prefix_alone();
     spec_checking::laws::accepted_proofs_have_no_fault();
     spec_checking::laws::acceptance_is_sound();
     check(alloc, texts.script.as_slice(), at, texts.proof.as_slice())

@@ -64,7 +64,7 @@ equalities_among p each e i =
       is = h.is;
     }
 
--- numbers are told apart by what they are as values
+-- numbers differ where their values do
 same_base : (p q : Fraction) → delta_number p ≡ delta_number q → p ≡ q
 same_base p q e = ap (λ (d : Value). d.base) e
 
@@ -99,7 +99,7 @@ said_at_place ids classes numbers from k x id c q k_lt c_lt q_lt term c_is q_is 
   value = told ∙ ap (λ (r : Ratio). delta_number (fraction r)) q_is ∙ ap delta_number (sym (get_or-map fraction numbers (from + k) q zero_fraction q_lt));
 }
 
--- places after the front of a list
+-- places after the prefix of a list
 module _ (own ids : List TermId) (k : ℕ) (lt : k < length ids) where
   pub place_behind : get_or (own ++ ids) (length own + k) no_id ≡ get_or ids k no_id
   place_behind = get_or-append-add own ids k no_id
@@ -110,7 +110,7 @@ module _ (own ids : List TermId) (k : ℕ) (lt : k < length ids) where
 -- what is said of the places of a list of terms, and of those that are shared after it
 module _ (t : TableView) (v : TheoryView) (own ids : List TermId) (classes : List ℕ) (tell : TellClasses (AreEqualBy t v) (own ++ ids) classes)
     (number : Term → Fraction) (xs : List Fraction) (are : xs ≡ map number (clause_at t (own ++ ids))) where
-  -- the front
+  -- the prefix
   pub front_tell : TellClasses (AreEqualBy t v) own (take (length own) classes)
   front_tell i j li lj =
       let all = length-append own ids in

@@ -38,7 +38,7 @@ use Rattle.search_loop.proofs.SearchRounds.{shows_on}
 use Rattle.search_loop.proofs.SearchShows.{learning_shows}
 use Rattle.solve_core.specs.Answering.{HasCome, IsAnswered, IsStoppedBy}
 
--- what is in the front of a list is in it
+-- what is in the prefix of a list is in it
 take_among : (m : ℕ) (ids : List TermId) (id : TermId) → Contains (take m ids) id → Contains ids id
 take_among zero ids id c = absurd (none id c)
 take_among (suc m) [] id c = absurd (none id c)

@@ -49,7 +49,7 @@ paired_long [] xs l = refl
 paired_long (n ∷ ns) [] l = absurd (omega (arith, l))
 paired_long (n ∷ ns) (x ∷ xs) l = omega (arith, paired_long ns xs (omega (arith, l)))
 
--- what is put in reverse stands in front, newest first
+-- what is put in reverse comes first, newest first
 pub newest_reversed : {A : Type 0} (ns ms : List Name) (xs ys : List A) → length ns ≡ length xs → length ms ≡ length ys → newest (ns ++ reverse ms) (xs ++ reverse ys) ≡ paired ms ys ++ newest ns xs
 newest_reversed ns [] xs [] l k = λ i. newest (append-nil ns i) (append-nil xs i)
 newest_reversed ns [] xs (y ∷ ys) l k = absurd (omega (arith, k))

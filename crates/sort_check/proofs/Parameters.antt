@@ -138,7 +138,7 @@ parameter_at t (n ∷ ns) (x ∷ ss) (suc k) d lt l = parameter_at t ns ss k d (
 
 -- The parameters from a place on are bound.
 pub record AreBound (old now : TableView) (ns : List Name) (ss : List TableSort) (k : ℕ) (b : BindingsView) : Type 0 where
-  -- the place is one of theirs, or behind them
+  -- the place is one of theirs, or after them
   pub low : k ≤ length ss
   -- the table has what it had
   pub keeps : Keeps old now

@@ -36,7 +36,7 @@ walk_starts w t v s b texts h there = record {
   named = (All-nil (λ i. IsIn t i), refl);
 }
 
--- definitions are told from their declarations
+-- definitions are distinguished from their declarations
 same_definitions : (ds es : List Definition) → map definition ds ≡ map definition es → ds ≡ es
 same_definitions [] [] e = refl
 same_definitions [] (x ∷ es) e = cc

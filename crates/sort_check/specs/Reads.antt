@@ -22,7 +22,7 @@ use Rattle.term_reader.specs.Names.{located_of}
 use Rattle.term_reader.specs.Building.{Keeps, Means}
 use Rattle.term_reader.specs.Scopes.{ScopeView, Stands, Widens}
 
--- How many names and terms there may be, and where it is told that there are more.
+-- How many names and terms there may be, and where a fault says that there are more.
 pub record Room : Type 0 where
   -- the limit, if there is one
   pub limit : Option ℕ

@@ -46,7 +46,7 @@ pub record Row : Type 0 where
 abbrev pub known_after : Row → Signature
 known_after r = with_definitions r.base.signature r.made
 
--- all of a row, with what is read after it was read so far
+-- all of a row, with what is read after it was read before
 abbrev pub with_row : Row → Readings → Readings
 with_row r rs = record { made = r.made ++ rs.made; terms = r.done ++ rs.terms }
 

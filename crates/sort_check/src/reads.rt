@@ -20,7 +20,7 @@ use term_reader::{ReadError, Scope, Setting};
 pub struct Room {
     /// The limit on both; `None` where there is none.
     pub limit: Option<u64>,
-    /// The offset of the command, at which it is told that there are more.
+    /// The offset of the command, at which a fault says that there are more.
     pub at: u64,
 }
 

@@ -422,8 +422,7 @@ fn read_next<'a>(
     ensures goes { Goes (setting_meant setting.entry) (here table.old scope.now walk.old) (here table.new scope.now walk.new)
         result }
     ensures keeps { Keeps table.old table.new }
-    ensures less { OnOk result (all_left (here table.new scope.now walk.new)
-        < all_left (here table.old scope.now walk.old)) }
+    ensures less { OnOk result (all_left (here table.new scope.now walk.new) < all_left (here table.old scope.now walk.old)) }
 {
     match look(first) {
         View::Atom(at, kind, name) => {

@@ -90,7 +90,7 @@ pub dropped : form (of Plus (x ∷ y ∷ of Minus (x ∷ []) ∷ [])) ≡ Ok (re
 unfolding forms_on_literals
 dropped = refl
 
--- a variable that was dropped comes behind the others when it comes again
+-- a variable that was dropped comes after the others when it comes again
 pub again : form (of Plus (x ∷ y ∷ of Minus (x ∷ []) ∷ x ∷ [])) ≡ Ok (record { constant = zero_fraction; variables = (y, one_fraction) ∷ (x, one_fraction) ∷ [] })
 unfolding forms_on_literals
 again = refl

@@ -49,7 +49,7 @@ unless_zero false v k rest = (v, k) ∷ rest
 abbrev pub with_variable : Term → Fraction → List (Term × Fraction) → List (Term × Fraction)
 with_variable v k rest = unless_zero (is_zero k) v k rest
 
--- a variable with its coefficient joined to those that are there: in its place where it is one of them, else behind them
+-- a variable with its coefficient joined to those that are there: in its place where it is one of them, else after them
 unfoldable pub joined : Way → Term → Fraction → List (Term × Fraction) → Answer (List (Term × Fraction))
 joined way v k [] = Ok ((v, way.alone k) ∷ [])
 joined way v k ((w, m) ∷ rest) = elim (same_term v w) [

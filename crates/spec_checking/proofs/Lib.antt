@@ -2,7 +2,7 @@
 pub mod Good
 pub mod Sound
 pub mod Limits
-pub mod Fronts
+pub mod Prefixes
 pub mod Parts
 pub mod Offsets
 pub mod Within

@@ -6,7 +6,7 @@ use Rattle.spec_text.specs.Bytes.{Name}
 use Rattle.spec_text.specs.Shapes.{◌>>=◌, Word, passes, first_word, first_list, only_tree, is_symbol, is_keyword, is_word, wanted}
 use Rattle.spec_text.specs.Trees.{Tree, Trees, atom, list, none, more}
 use Rattle.spec_text.specs.Offsets.{AllOffsets, AllOffsetsOf}
-use Rattle.spec_text.proofs.ShapeLaws.{Holds, holds_in_turn, tree_stands, FrontStands, word_stands}
+use Rattle.spec_text.proofs.ShapeLaws.{Holds, holds_in_turn, tree_stands, PrefixStands, word_stands}
 use Rattle.spec_reading.proofs.Offsets.{DefinitionStands}
 use Rattle.spec_commands.specs.Commands as scripts
 use Rattle.spec_commands.specs.Commands.{DefineFun, defines_fun, define_fun}
@@ -111,17 +111,17 @@ module _ (P : ℕ → Type 0) where
   assume_stands : (ts : Trees) → AllOffsetsOf P ts → Holds ShapeStands (assume_shape ts)
   unfolding assume_shape
   assume_stands ts h =
-      holds_in_turn (FrontStands P) ShapeStands (first_word ts) _ (word_stands P ts h) λ w front.
+      holds_in_turn (PrefixStands P) ShapeStands (first_word ts) _ (word_stands P ts h) λ w front.
       tested ShapeStands (is_symbol w.0.kind) _ λ named.
       holds_in_turn (AllOffsets P) ShapeStands (only_tree w.1) _ (tree_stands P w.1 front.1) λ t k. (front.0, k)
 
   step_stands : (ts : Trees) → AllOffsetsOf P ts → Holds ShapeStands (step_shape ts)
   unfolding step_shape
   step_stands ts h =
-      holds_in_turn (FrontStands P) ShapeStands (first_word ts) _ (word_stands P ts h) λ i front.
+      holds_in_turn (PrefixStands P) ShapeStands (first_word ts) _ (word_stands P ts h) λ i front.
       tested ShapeStands (is_symbol i.0.kind) _ λ named.
       holds_in_turn ListStands ShapeStands (first_list i.1) _ (list_stands i.1 front.1) λ c inside.
-      holds_in_turn (FrontStands P) ShapeStands (first_word c.0) _ (word_stands P c.0 inside.0) λ cl literals.
+      holds_in_turn (PrefixStands P) ShapeStands (first_word c.0) _ (word_stands P c.0 inside.0) λ cl literals.
       holds_in_turn Anything ShapeStands (wanted (codes "cl") cl.0) _ (any_holds (wanted (codes "cl") cl.0)) λ is_cl _.
       holds_in_turn KeywordsStand ShapeStands (keywords_in no_keywords c.1) _ (keywords_stand no_keywords c.1 inside.1 (record { rule = tt; premises = tt })) λ p parts.
       holds_in_turn WordStands ShapeStands p.rule _ parts.rule λ r k. (front.0, literals.1, k, given_stand p.premises parts.premises)
@@ -136,7 +136,7 @@ module _ (P : ℕ → Type 0) where
   pub shape_stands : (ts : Trees) → AllOffsetsOf P ts → Holds ShapeStands (shape_of ts)
   unfolding shape_of
   shape_stands ts h =
-      holds_in_turn (FrontStands P) ShapeStands (first_word ts) _ (word_stands P ts h) λ w front.
+      holds_in_turn (PrefixStands P) ShapeStands (first_word ts) _ (word_stands P ts h) λ w front.
       either ShapeStands (is_word (codes "assume") w.0) _ _ (assume_stands w.1 front.1) (
       either ShapeStands (is_word (codes "step") w.0) _ _ (step_stands w.1 front.1) (
       either ShapeStands (is_definition w.0) _ _ (define_stands w.1 w.0.at front.0 front.1) tt))

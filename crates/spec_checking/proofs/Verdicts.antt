@@ -172,7 +172,7 @@ has_end [] = false
 has_end ((at, closes) ∷ xs) = true
 has_end ((at, x) ∷ xs) = has_end xs
 
--- a word is in front
+-- a word comes first
 abbrev begins_word : List (ℕ × Lexeme) → Bool
 begins_word ((at, word k n) ∷ xs) = true
 begins_word _ = false

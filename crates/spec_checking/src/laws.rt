@@ -3,7 +3,7 @@
 ghost use Rattle.std.specs.Prelude.{◌≡◌, ◌↔◌, ◌≤◌, ℕ, Bool, true, List, length, All, Contains, Option, Some, None, Ok, Err};
 ghost use Rattle.spec_text.specs.Trees.{Tree, Trees};
 ghost use Rattle.spec_text.specs.Offsets.{HasOffset};
-ghost use Rattle.spec_text.specs.Readings.{front};
+ghost use Rattle.spec_text.specs.Readings.{prefix};
 ghost use Rattle.spec_text.specs.Bytes.{Name};
 ghost use Rattle.spec_sorts.specs.Terms.{Symbol, Truth};
 ghost use Rattle.spec_sorts.specs.Values.{Value, truth, Interpretation, Interprets, table_value};
@@ -85,8 +85,8 @@ pub fn verdict_is_one()
 
 /// States that a verdict on the prefixes of two texts, of 2^26 + 1 bytes each at the most, is the verdict on the whole
 /// texts.
-pub fn verdicts_need_a_front_alone()
-    ensures { (script proof : List ℕ) (k : ℕ) (found : Option Fault) → IsVerdict (front script) k (front proof) found
+pub fn verdicts_need_a_prefix_alone()
+    ensures { (script proof : List ℕ) (k : ℕ) (found : Option Fault) → IsVerdict (prefix script) k (prefix proof) found
         → IsVerdict script k proof found }
 {}
 

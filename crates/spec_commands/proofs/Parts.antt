@@ -5,7 +5,7 @@ use Rattle.std.specs.Str.{bytes_eq}
 use Rattle.spec_text.specs.Shapes.{◌>>=◌, passes, first_word, first_list, only_tree, no_tree, is_keyword}
 use Rattle.spec_text.specs.Trees.{Tree, Trees, atom, list, none, more}
 use Rattle.spec_text.specs.Offsets.{AllOffsets, AllOffsetsOf}
-use Rattle.spec_text.proofs.ShapeLaws.{Holds, holds_in_turn, tree_stands, FrontStands, word_stands}
+use Rattle.spec_text.proofs.ShapeLaws.{Holds, holds_in_turn, tree_stands, PrefixStands, word_stands}
 use Rattle.spec_sorts.specs.Forms.{is_name, are_named}
 use Rattle.spec_reading.proofs.Offsets.{DefinitionStands}
 use Rattle.spec_commands.specs.Commands.{Command, SetLogic, SetInfo, DeclareSort, DefineSort, DeclareFun, DefineFun, Assert, CheckSat, Verb, sets_logic, sets_option, sets_info, declares_sort, defines_sort, declares_const, declares_fun, defines_fun, asserts, checks, echoes, exits, is_numeral, is_string, one_at_most, first_name, first_tree, set_logic, set_option, set_info, declare_sort, define_sort, declare_const, declare_fun, define_fun, assertion, echo, command_by}
@@ -44,25 +44,25 @@ module _ (P : ℕ → Type 0) where
   first_stands (more t ts) h = h
 
   -- a name, and what follows it
-  name_stands : (ts : Trees) → AllOffsetsOf P ts → Holds (FrontStands P) (first_name ts)
+  name_stands : (ts : Trees) → AllOffsetsOf P ts → Holds (PrefixStands P) (first_name ts)
   unfolding first_name
   name_stands ts h =
-      holds_in_turn (FrontStands P) (FrontStands P) (first_word ts) _ (word_stands P ts h) λ x k. after_test (FrontStands P) (is_name x.0.kind) _ k
+      holds_in_turn (PrefixStands P) (PrefixStands P) (first_word ts) _ (word_stands P ts h) λ x k. after_test (PrefixStands P) (is_name x.0.kind) _ k
 
   logic_stands : (ts : Trees) → AllOffsetsOf P ts → Holds PartsStand (set_logic ts)
   unfolding set_logic
-  logic_stands ts h = holds_in_turn (FrontStands P) PartsStand (first_name ts) _ (name_stands ts h) λ x k. after_end PartsStand x.1 _ k.0
+  logic_stands ts h = holds_in_turn (PrefixStands P) PartsStand (first_name ts) _ (name_stands ts h) λ x k. after_end PartsStand x.1 _ k.0
 
   option_stands : (ts : Trees) → AllOffsetsOf P ts → Holds PartsStand (set_option ts)
   unfolding set_option
   option_stands ts h =
-      holds_in_turn (FrontStands P) PartsStand (first_word ts) _ (word_stands P ts h) λ key k.
+      holds_in_turn (PrefixStands P) PartsStand (first_word ts) _ (word_stands P ts h) λ key k.
       after_test PartsStand (is_keyword key.0.kind) _ (holds_in_turn (AllOffsets P) PartsStand (only_tree key.1) _ (tree_stands P key.1 k.1) λ value v. tt)
 
   info_stands : (ts : Trees) → AllOffsetsOf P ts → Holds PartsStand (set_info ts)
   unfolding set_info
   info_stands ts h =
-      holds_in_turn (FrontStands P) PartsStand (first_word ts) _ (word_stands P ts h) λ key k.
+      holds_in_turn (PrefixStands P) PartsStand (first_word ts) _ (word_stands P ts h) λ key k.
       after_test PartsStand (is_keyword key.0.kind) _ (go key.1)
     where
       go : (us : Trees) → Holds PartsStand (one_at_most us >>= λ _. Some SetInfo)
@@ -72,34 +72,34 @@ module _ (P : ℕ → Type 0) where
   declared_sort_stands : (ts : Trees) → AllOffsetsOf P ts → Holds PartsStand (declare_sort ts)
   unfolding declare_sort
   declared_sort_stands ts h =
-      holds_in_turn (FrontStands P) PartsStand (first_name ts) _ (name_stands ts h) λ x k.
-      holds_in_turn (FrontStands P) PartsStand (first_word x.1) _ (word_stands P x.1 k.1) λ n l.
+      holds_in_turn (PrefixStands P) PartsStand (first_name ts) _ (name_stands ts h) λ x k.
+      holds_in_turn (PrefixStands P) PartsStand (first_word x.1) _ (word_stands P x.1 k.1) λ n l.
       after_test PartsStand (is_numeral n.0.kind) _ (after_test PartsStand (bytes_eq n.0.bytes (codes "0")) _ (after_end PartsStand n.1 _ k.0))
 
   defined_sort_stands : (ts : Trees) → AllOffsetsOf P ts → Holds PartsStand (define_sort ts)
   unfolding define_sort
   defined_sort_stands ts h =
-      holds_in_turn (FrontStands P) PartsStand (first_name ts) _ (name_stands ts h) λ x k.
+      holds_in_turn (PrefixStands P) PartsStand (first_name ts) _ (name_stands ts h) λ x k.
       holds_in_turn (λ (y : Trees × Trees). AllOffsetsOf P y.0 × AllOffsetsOf P y.1) PartsStand (first_list x.1) _ (list_stands x.1 k.1) λ ps l.
       after_end PartsStand ps.0 _ (holds_in_turn (AllOffsets P) PartsStand (only_tree ps.1) _ (tree_stands P ps.1 l.1) λ sort v. (k.0, v))
 
   constant_stands : (ts : Trees) → AllOffsetsOf P ts → Holds PartsStand (declare_const ts)
   unfolding declare_const
   constant_stands ts h =
-      holds_in_turn (FrontStands P) PartsStand (first_name ts) _ (name_stands ts h) λ x k.
+      holds_in_turn (PrefixStands P) PartsStand (first_name ts) _ (name_stands ts h) λ x k.
       holds_in_turn (AllOffsets P) PartsStand (only_tree x.1) _ (tree_stands P x.1 k.1) λ sort v. (k.0, tt, v)
 
   function_stands : (ts : Trees) → AllOffsetsOf P ts → Holds PartsStand (declare_fun ts)
   unfolding declare_fun
   function_stands ts h =
-      holds_in_turn (FrontStands P) PartsStand (first_name ts) _ (name_stands ts h) λ x k.
+      holds_in_turn (PrefixStands P) PartsStand (first_name ts) _ (name_stands ts h) λ x k.
       holds_in_turn (λ (y : Trees × Trees). AllOffsetsOf P y.0 × AllOffsetsOf P y.1) PartsStand (first_list x.1) _ (list_stands x.1 k.1) λ ps l.
       holds_in_turn (AllOffsets P) PartsStand (only_tree ps.1) _ (tree_stands P ps.1 l.1) λ sort v. (k.0, l.0, v)
 
   definition_stands : (ts : Trees) → AllOffsetsOf P ts → Holds PartsStand (define_fun ts)
   unfolding define_fun
   definition_stands ts h =
-      holds_in_turn (FrontStands P) PartsStand (first_name ts) _ (name_stands ts h) λ x k.
+      holds_in_turn (PrefixStands P) PartsStand (first_name ts) _ (name_stands ts h) λ x k.
       holds_in_turn (λ (y : Trees × Trees). AllOffsetsOf P y.0 × AllOffsetsOf P y.1) PartsStand (first_list x.1) _ (list_stands x.1 k.1) λ ps l.
       after_test PartsStand (are_named ps.0) _
       (holds_in_turn (λ (y : Tree × Trees). AllOffsets P y.0 × AllOffsetsOf P y.1) PartsStand (first_tree ps.1) _ (first_stands ps.1 l.1) λ sort v.
@@ -112,7 +112,7 @@ module _ (P : ℕ → Type 0) where
   echo_stands : (ts : Trees) → AllOffsetsOf P ts → Holds PartsStand (echo ts)
   unfolding echo
   echo_stands ts h =
-      holds_in_turn (FrontStands P) PartsStand (first_word ts) _ (word_stands P ts h) λ s k.
+      holds_in_turn (PrefixStands P) PartsStand (first_word ts) _ (word_stands P ts h) λ s k.
       after_test PartsStand (is_string s.0.kind) _ (after_end PartsStand s.1 _ tt)
 
   pub parts_stand : (v : Verb) (place : ℕ) (ts : Trees) → P place → AllOffsetsOf P ts → Holds PartsStand (command_by v place ts)

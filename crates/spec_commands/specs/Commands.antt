@@ -207,7 +207,7 @@ abbrev pub verb_of : Tree → Option Verb
 verb_of (atom at k n) = verb_named k n
 verb_of (list at ts end) = None
 
--- the command of a word, before its parts, or the fault at what stands in front
+-- the command of a word, before its parts, or the fault at what comes first
 abbrev pub command_as : ℕ → ℕ → Option Verb → Trees → Answer Command
 command_as at place (Some v) ts = shaped at (command_by v place ts)
 command_as at place None ts = refused place UnknownCommand

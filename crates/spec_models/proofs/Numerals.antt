@@ -86,7 +86,7 @@ numeral_decimal (suc n) small = numeral_glyphs n ∙ sym (steps (suc n) small (o
         (λ m ds l h a. ap (λ x. x ++ ((48 + m % 10) ∷ [])) (h (omega arith)) ∙ sym (map-append (λ d. 48 + d) (digits_of 10 (m / 10)) (m % 10 ∷ [])) ∙ ap glyphs (sym (digits_of_step 10 m (omega arith) a)))
         m
 
--- digits are the front of themselves
+-- digits are the prefix of themselves
 pub front_all : (ds : List ℕ) → Consists is_digit ds → front is_digit ds ≡ ds
 front_all [] h = refl
 front_all (d ∷ ds) h = rw h.0 (ap (λ (xs : List ℕ). d ∷ xs) (front_all ds h.1))

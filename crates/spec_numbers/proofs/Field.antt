@@ -158,7 +158,7 @@ times-one x r = (λ i. lowest (times_whole x.num i) (mul-one x.den i)) ∙ reduc
 pub zero_of : (x : Fraction) → IsReduced x → x.num ≡ pos 0 → x ≡ zero_fraction
 zero_of x r e = lowest_unique x zero_fraction r zero-reduced (times_whole x.num ∙ e ∙ sym (zero-times (pos x.den)))
 
--- a product with 0 in front
+-- a product with 0 as its first factor
 zero_over : (d : ℕ) → (lowest (pos 0) d).num ≡ pos 0
 zero_over d = ap pos (zero-div (gcd 0 d))
 

@@ -44,7 +44,7 @@ StandsFor (Some (by_definition d)) (Some t) = (d.parameters ≡ []) × (d.term �
 StandsFor None None = Unit {0}
 StandsFor _ _ = ⊥
 
--- What a signature knows of terms that are told, after the names of a script.
+-- What a signature knows of terms that have names, after the names of a script.
 pub record Knows (g : Signature) (told : Told) (s : Signature) : Type 0 where
   -- what the script's names are
   pub grown : (n : Name) (k : Known) → known_as g n ≡ Some k → known_as s n ≡ Some k

@@ -28,7 +28,7 @@ start_read : (at : ℕ) (rest : List ℕ) → lexemes 0 at (codes "(\n" ++ rest)
 unfolding lexemes first_piece
 start_read at rest = refl
 
--- what may stand in front
+-- what may come first
 unsat_read : (rest : List ℕ) → behind_unsat (lexemes 0 0 (codes "unsat\n" ++ rest)) ≡ lexemes 0 6 rest
 unfolding lexemes first_piece
 unsat_read rest = refl
@@ -86,7 +86,7 @@ sort_flat at Truth = refl
 sort_flat at Number = refl
 sort_flat at (Declared n) = refl
 
--- behind the rule of a step
+-- after the rule of a step
 behind_deep : (at : ℕ) (ps : List Reference) (ts : Trees) → depth_all (moved_all at (trees_of (premise_trees ps ++ given_trees ts))) ≤ depth_all ts + 1
 behind_deep at [] none = omega arith
 behind_deep at [] (more t ts) = go (depth_all (moved_all _ (more t ts))) (trees_as_deep _ (more t ts))

@@ -115,7 +115,7 @@ rest_same : (p xs ys : Name) → p ++ xs ≡ p ++ ys → xs ≡ ys
 rest_same [] xs ys e = e
 rest_same (b ∷ p) xs ys e = rest_same p xs ys (ap (drop 1) e)
 
--- names with one front and numbers after it are one where the numbers are
+-- names with one prefix and numbers after it are one where the numbers are
 pub told_apart : (p : Name) (m n : ℕ) → Decides (bytes_eq (p ++ numeral m) (p ++ numeral n)) (n ≡ m)
 told_apart p m n =
     let d = bytes_eq-Decides (p ++ numeral m) (p ++ numeral n) in

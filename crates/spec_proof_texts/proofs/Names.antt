@@ -197,7 +197,7 @@ arguments_key = (58 ∷ codes "args", keyword 97 (codes "rgs") (passes_consists 
 rule_key : IsWord Keyword (codes "rule")
 rule_key = (58 ∷ codes "rule", keyword 114 (codes "ule") (passes_consists is_symbol_byte (codes "rule") refl))
 
--- what a step has behind its rule
+-- what a step has after its rule
 behind_rule : (ps : List Reference) (ts : Trees) → AreSpelled ts → HaveWords (trees_of (premise_trees ps ++ given_trees ts))
 behind_rule [] none h = tt
 behind_rule [] (more t ts) h = (arguments_key, (trees_words (more t ts) h, tt))

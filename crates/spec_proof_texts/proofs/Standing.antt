@@ -59,7 +59,7 @@ symbols_count (of_sort n s ∷ g) = omega (arith, symbols_count g)
 symbols_count (of_function (declared f) ∷ g) = omega (arith, symbols_count g)
 symbols_count (of_function (by_definition d) ∷ g) = omega (arith, symbols_count g)
 
--- nothing is told at first
+-- no term has a name at first
 pub nothing_stands : (g : Signature) → AreScriptNames g → Stands g nothing_told g [] 0
 nothing_stands g own = record {
   knows = record { grown = λ n k e. e; terms = λ n. go n (known_as g (defined_name n)) (own.none_kept (defined_name n) refl); whole = λ t c. absurd (no_member t c) };

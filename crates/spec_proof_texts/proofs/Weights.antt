@@ -28,7 +28,7 @@ word_weight _ _ _ (reserved_word bs reserved) = omega arith
 word_weight _ _ _ (quoted_symbol bs run) = omega (arith, length-append bs (124 ∷ []))
 word_weight _ _ _ (keyword b bs run) = omega arith
 
--- a lexeme and those behind it
+-- a lexeme and those after it
 before_weight : (at b : ℕ) (bs : List ℕ) (p : Piece) (rest : List (ℕ × Lexeme)) → IsFirst (b ∷ bs) p.lexeme p.size → (p.size - 1 ≤ length bs → weights rest + (p.size - 1) ≤ length bs) → weights (before at p rest) ≤ suc (length bs)
 before_weight at b bs p rest first h = go p.lexeme first
   where
@@ -70,6 +70,6 @@ mutual
   spelled_all_weight none = refl
   spelled_all_weight (more t ts) = omega (arith, weights_append (spelled t) (spelled_all ts), spelled_weight t, spelled_all_weight ts)
 
--- trees at the front of a text
+-- trees at the beginning of a text
 pub front_weight : (bs : List ℕ) (ts : Trees) (rest : List (ℕ × Lexeme)) → lexemes 0 0 bs ≡ spelled_all ts ++ rest → weight_all ts ≤ length bs
 front_weight bs ts rest e = omega (arith, lexemes_weight 0 0 bs (omega arith), ap weights e, weights_append (spelled_all ts) rest, spelled_all_weight ts)

@@ -13,12 +13,12 @@ use Rattle.spec_proofs.specs.Texts.{Ending, complete, broken, left_over, EndsRow
 abbrev pub Law : Type 0
 Law = (n : ℕ) (xs rest others : List (ℕ × Lexeme)) (ts us : Trees) → AreTrees n xs ts rest → AreTrees n xs us others → BeginsNoTree n rest → BeginsNoTree n others → (ts ≡ us) × (rest ≡ others)
 
--- the lexeme in front
+-- the first lexeme
 abbrev front_lexeme : List (ℕ × Lexeme) → Lexeme
 front_lexeme [] = opens
 front_lexeme (x ∷ xs) = x.1
 
--- the offset of the lexeme in front
+-- the offset of the first lexeme
 abbrev front_offset : List (ℕ × Lexeme) → ℕ
 front_offset [] = 0
 front_offset (x ∷ xs) = x.0

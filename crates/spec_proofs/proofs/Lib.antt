@@ -2,4 +2,4 @@
 pub mod Chains
 pub mod Limits
 pub mod Endings
-pub mod Fronts
+pub mod Prefixes

@@ -34,7 +34,7 @@ clause_itself : (c : Clause) → same_clause c c ≡ true
 clause_itself [] = refl
 clause_itself (t ∷ ts) = ap₂ (λ (a b : Bool). a && b) (term_itself t) (clause_itself ts)
 
--- the term that stands in front as it is, or negated; none where that is no negation
+-- the term that comes first as it is, or negated; none where that is no negation
 abbrev pub fronts : Bool → Clause → List Term
 fronts true (t ∷ ls) = t ∷ []
 fronts false (app Not (cons t nil) ∷ ls) = t ∷ []

@@ -13,7 +13,7 @@ use Rattle.spec_proofs.specs.declared.Side.{Side}
 use Rattle.spec_proofs.specs.declared.Rest.{Rest}
 use Rattle.spec_proofs.specs.declared.Rest.TheVariants.{Nothing, One, Two, AnyOne, Each, Innermost}
 
--- Which clauses a term gives: its head, whether it stands in front as it is or negated, and what stands after it.
+-- Which clauses a term gives: its head, whether it comes first as it is or negated, and what stands after it.
 pub record Scheme : Type 0 where
   -- the head of the first term
   pub head : Head

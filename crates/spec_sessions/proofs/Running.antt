@@ -14,7 +14,7 @@ use Rattle.spec_sessions.specs.Evidence.{Limits}
 use Rattle.spec_sessions.specs.Responses.{Mode, Response, success, not_supported, answered, said, ended, rejected, Answered, Answers, response_text, is_rejected, is_end}
 use Rattle.spec_sessions.specs.Transcripts.{Follows, Runs, Begins, answers_text, closing_by, closing, closing_text, is_fault, IsTranscript, IsBegun}
 
--- no tree in front
+-- no tree comes first
 nothing_first : (xs : List (ℕ × Lexeme)) → AreTrees 0 xs none xs
 nothing_first xs = record { split = refl; within = omega arith }
 

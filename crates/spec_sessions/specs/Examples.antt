@@ -20,7 +20,7 @@ use Rattle.spec_sessions.specs.Responses.{certify, success, not_supported, answe
 abbrev pub limits : Limits
 limits = record { conflicts = 1000000; pivots = 10000000; terms = term_limit }
 
--- what was found at the next check; the empty text where nothing is told of it
+-- what was found at the next check; the empty text where nothing is said of it
 abbrev pub next_found : List Found → Found
 next_found [] = proof []
 next_found (f ∷ fs) = f

@@ -80,7 +80,7 @@ pub record IsBegun (limits : Limits) (mode : Mode) (text : List ℕ) (out : List
   -- it is written, and nothing else but, where all were answered, the line of a fault that ends the run
   pub written : (out ≡ answers_text mode (kept text) answers) ⊎ (Runs limits empty_stack commands answers × (out ≡ answers_text mode (kept text) answers ++ closing_text (kept text) (closing answers end)))
 
--- a check more in front, where it was one
+-- a check more before it, where it was one
 abbrev pub with_check : Response → List Checked → List Checked
 with_check (answered c) later = c ∷ later
 with_check _ later = later

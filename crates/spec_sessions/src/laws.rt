@@ -1,7 +1,7 @@
 //! What the definitions imply. Each law is a function whose contract is the law; it computes nothing.
 
 ghost use Rattle.std.specs.Prelude.{ℕ, Bool, List};
-ghost use Rattle.spec_text.specs.Readings.{front};
+ghost use Rattle.spec_text.specs.Readings.{prefix};
 ghost use Rattle.spec_commands.specs.Checks.{Check, IsCurrent};
 ghost use Rattle.spec_sessions.specs.Evidence.{Limits, Found, Checked, Justifies};
 ghost use Rattle.spec_sessions.specs.Responses.{Mode};
@@ -11,10 +11,10 @@ ghost use Rattle.spec_sessions.specs.Statements.{AnswersSay};
 
 /// States that a transcript, or a prefix of one, of the prefix of a text, of 2^26 + 1 bytes at most, is one of the
 /// whole text.
-pub fn transcripts_need_a_front_alone()
+pub fn transcripts_need_a_prefix_alone()
     ensures whole { (limits : Limits) (mode : Mode) (text out : List ℕ) (refused : Bool)
-        → IsTranscript limits mode (front text) out refused → IsTranscript limits mode text out refused }
-    ensures begun { (limits : Limits) (mode : Mode) (text out : List ℕ) → IsBegun limits mode (front text) out
+        → IsTranscript limits mode (prefix text) out refused → IsTranscript limits mode text out refused }
+    ensures begun { (limits : Limits) (mode : Mode) (text out : List ℕ) → IsBegun limits mode (prefix text) out
         → IsBegun limits mode text out }
 {}
 

@@ -13,7 +13,7 @@ abbrev pub sum_of : {A V : Type 0} → Space A V → (ℕ → V) → List (Entry
 sum_of s v [] = s.origin
 sum_of s v (e ∷ es) = s.plus (s.scale e.coefficient (v e.variable)) (sum_of s v es)
 
--- the entries with one of x in front, if its coefficient is not 0
+-- the entries, after one of x, if its coefficient is not 0
 abbrev pub with_entry : {A : Type 0} → Field A → ℕ → A → List (Entry A) → List (Entry A)
 with_entry f x c es = cond (f.is_zero c) es (record { variable = x; coefficient = c } ∷ es)
 

@@ -12,7 +12,7 @@ ghost use Rattle.spec_tableaux.specs.LeastVariable.{State, done, crossed, stuck,
 ghost use Rattle.spec_tableaux.specs.LeastVariable.{Says, Exchanges, Makes, Moves, Settles, IsSettled, AreUnder};
 ghost use Rattle.spec_tableaux.specs.Numbers.{numbers};
 
-/// States that an ordered field is an ordered space over itself, and that one tells its numbers apart.
+/// States that an ordered field is an ordered space over itself, and that such a field can compare its numbers.
 pub fn fields_are_ordered_spaces<A>()
     ensures space { (f : Field A) → IsOrderedField f → IsSpace (as_space f) }
     ensures ordered { (f : Field A) → IsOrderedField f → IsOrdered (as_space f) }

@@ -37,7 +37,7 @@ unfolding ◌>>=◌
 in_turn P faulty (Ok x) f g = g x refl
 in_turn P faulty (Err e) f g = faulty e
 
--- an error that is told as it came
+-- an error that is passed on as it came
 pub told : {T E : Type 0} (p : E → Type 0) (r : Result T E) (w : E) → IsErrAnd r (λ e. e ≡ w) → p w → IfErr r p
 told p (Ok x) w g h = tt
 told p (Err e) w g h = subst p (sym g) h

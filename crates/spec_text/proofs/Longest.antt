@@ -20,29 +20,29 @@ begins_with bytes xs rest n x e l spelled behind = record {
 }
 
 -- it is a fault, or so many bytes begin with it
-abbrev HasFront : List ℕ → Lexeme → ℕ → Type 0
-HasFront bytes (wrong f) n = Unit {0}
-HasFront bytes blank n = Begins bytes n blank
-HasFront bytes opens n = Begins bytes n opens
-HasFront bytes closes n = Begins bytes n closes
-HasFront bytes (word k name) n = Begins bytes n (word k name)
+abbrev HasPrefix : List ℕ → Lexeme → ℕ → Type 0
+HasPrefix bytes (wrong f) n = Unit {0}
+HasPrefix bytes blank n = Begins bytes n blank
+HasPrefix bytes opens n = Begins bytes n opens
+HasPrefix bytes closes n = Begins bytes n closes
+HasPrefix bytes (word k name) n = Begins bytes n (word k name)
 
-abbrev IsFront : List ℕ → Piece → Type 0
-IsFront bytes p = HasFront bytes p.lexeme p.size
+abbrev IsPrefix : List ℕ → Piece → Type 0
+IsPrefix bytes p = HasPrefix bytes p.lexeme p.size
 
-split : (bytes : List ℕ) (t : Bool) (p q : Piece) → (t ≡ true → IsFront bytes p) → (t ≡ false → IsFront bytes q) → IsFront bytes (cond t p q)
+split : (bytes : List ℕ) (t : Bool) (p q : Piece) → (t ≡ true → IsPrefix bytes p) → (t ≡ false → IsPrefix bytes q) → IsPrefix bytes (cond t p q)
 split bytes true p q f g = f refl
 split bytes false p q f g = g refl
 
-ended_front : (bytes xs rest : List ℕ) (n : ℕ) (k : Kind) → bytes ≡ xs ++ rest → n ≡ length xs → Spells xs (word k xs) → (BeginsWithout is_symbol_byte rest → CanFollow (word k xs) rest) → IsFront bytes (lexicon.ended rest n (word k xs))
+ended_front : (bytes xs rest : List ℕ) (n : ℕ) (k : Kind) → bytes ≡ xs ++ rest → n ≡ length xs → Spells xs (word k xs) → (BeginsWithout is_symbol_byte rest → CanFollow (word k xs) rest) → IsPrefix bytes (lexicon.ended rest n (word k xs))
 ended_front bytes xs [] n k e l spelled f = begins_with bytes xs [] n (word k xs) e l spelled (f tt)
 ended_front bytes xs (b ∷ bs) n k e l spelled f = split bytes (is_symbol_byte b) _ _ (λ t. tt) (λ t. begins_with bytes xs (b ∷ bs) n (word k xs) e l spelled (f t))
 
-decimal_front : (bytes ds fs rest : List ℕ) → bytes ≡ ds ++ 46 ∷ fs ++ rest → IsNumeral ds → Consists is_digit fs → IsFront bytes (lexicon.decimal ds fs rest)
+decimal_front : (bytes ds fs rest : List ℕ) → bytes ≡ ds ++ 46 ∷ fs ++ rest → IsNumeral ds → Consists is_digit fs → IsPrefix bytes (lexicon.decimal ds fs rest)
 decimal_front bytes ds [] rest e n run = tt
 decimal_front bytes ds (f ∷ fs) rest e n run = ended_front bytes (ds ++ 46 ∷ f ∷ fs) rest (length ds + 1 + length (f ∷ fs)) Decimal e (omega (arith, length-append ds (46 ∷ f ∷ fs))) (decimal ds f fs n run) (λ h. h)
 
-number_front : (bytes ds rest : List ℕ) → bytes ≡ ds ++ rest → IsNumeral ds → IsFront bytes (lexicon.number ds rest)
+number_front : (bytes ds rest : List ℕ) → bytes ≡ ds ++ rest → IsNumeral ds → IsPrefix bytes (lexicon.number ds rest)
 number_front bytes ds [] e n = begins_with bytes ds [] (length ds) (word Numeral ds) e refl (numeral ds n) tt
 number_front bytes ds (b ∷ bs) e n = split bytes (b == 46) _ _
     (λ t. let point : b ≡ 46 = grind (arith, nat_tests) in
@@ -89,32 +89,32 @@ mutual
       subst (λ (c : ℕ). HasBody (34 ∷ c ∷ bs) (option_map (λ (body : List ℕ). 34 ∷ 34 ∷ body) (string_body bs))) (sym quote) (body_pair bs (string_body bs) (body_of bs)))
       (λ t. record { rest = b ∷ bs; inside = empty; text = refl; behind = t })
 
-string_front : (bs : List ℕ) (o : Option (List ℕ)) → HasBody bs o → IsFront (34 ∷ bs) (lexicon.string o)
+string_front : (bs : List ℕ) (o : Option (List ℕ)) → HasBody bs o → IsPrefix (34 ∷ bs) (lexicon.string o)
 string_front bs None h = tt
 string_front bs (Some body) h = begins_with (34 ∷ bs) (34 ∷ body ++ 34 ∷ []) h.rest (length body + 2) (word Text body) (ap (λ (xs : List ℕ). 34 ∷ xs) (h.text ∙ sym (append_assoc body (34 ∷ []) h.rest))) (omega (arith, length-append body (34 ∷ []))) (string body h.inside) h.behind
 
-quoted_front : (bs name rest : List ℕ) → bs ≡ name ++ rest → Consists is_in_bars name → IsFront (124 ∷ bs) (lexicon.quoted name rest)
+quoted_front : (bs name rest : List ℕ) → bs ≡ name ++ rest → Consists is_in_bars name → IsPrefix (124 ∷ bs) (lexicon.quoted name rest)
 quoted_front bs name [] e run = tt
 quoted_front bs name (b ∷ rest) e run = split (124 ∷ bs) (b == 124) _ _
     (λ t. let bar : b ≡ 124 = grind (arith, nat_tests) in
     begins_with (124 ∷ bs) (124 ∷ name ++ 124 ∷ []) rest (length name + 2) (word Quoted name) (ap (λ (xs : List ℕ). 124 ∷ xs) (e ∙ ap (λ (c : ℕ). name ++ c ∷ rest) bar ∙ sym (append_assoc name (124 ∷ []) rest))) (omega (arith, length-append name (124 ∷ []))) (quoted_symbol name run) tt)
     (λ t. tt)
 
-keyword_front : (bs name rest : List ℕ) → bs ≡ name ++ rest → Consists is_symbol_byte name → IsFront (58 ∷ bs) (lexicon.keyword name)
+keyword_front : (bs name rest : List ℕ) → bs ≡ name ++ rest → Consists is_symbol_byte name → IsPrefix (58 ∷ bs) (lexicon.keyword name)
 keyword_front bs [] rest e run = tt
 keyword_front bs (b ∷ name) rest e run = begins_with (58 ∷ bs) (58 ∷ b ∷ name) rest (length (b ∷ name) + 1) (word Keyword (b ∷ name)) (ap (λ (xs : List ℕ). 58 ∷ xs) e) (omega arith) (keyword b name run) tt
 
-symbol_front : (b : ℕ) (bs name rest : List ℕ) → bs ≡ name ++ rest → is_digit b ≡ false → Consists is_symbol_byte (b ∷ name) → IsFront (b ∷ bs) (lexicon.symbol (b ∷ name))
+symbol_front : (b : ℕ) (bs name rest : List ℕ) → bs ≡ name ++ rest → is_digit b ≡ false → Consists is_symbol_byte (b ∷ name) → IsPrefix (b ∷ bs) (lexicon.symbol (b ∷ name))
 symbol_front b bs name rest e no_number run = go (among reserved_words (b ∷ name)) (λ t. reserved_word (b ∷ name) t) (λ t. simple_symbol b name no_number run t)
   where
-    go : (t : Bool) → (t ≡ true → Spells (b ∷ name) (word Reserved (b ∷ name))) → (t ≡ false → Spells (b ∷ name) (word Simple (b ∷ name))) → IsFront (b ∷ bs) (piece (word (cond t Reserved Simple) (b ∷ name)) (length (b ∷ name)))
+    go : (t : Bool) → (t ≡ true → Spells (b ∷ name) (word Reserved (b ∷ name))) → (t ≡ false → Spells (b ∷ name) (word Simple (b ∷ name))) → IsPrefix (b ∷ bs) (piece (word (cond t Reserved Simple) (b ∷ name)) (length (b ∷ name)))
     go true f g = begins_with (b ∷ bs) (b ∷ name) rest (length (b ∷ name)) (word Reserved (b ∷ name)) (ap (λ (xs : List ℕ). b ∷ xs) e) refl (f refl) tt
     go false f g = begins_with (b ∷ bs) (b ∷ name) rest (length (b ∷ name)) (word Simple (b ∷ name)) (ap (λ (xs : List ℕ). b ∷ xs) e) refl (g refl) tt
 
-digits_front : (b : ℕ) (bs : List ℕ) → (b == 48) ≡ false → is_digit b ≡ true → IsFront (b ∷ bs) (lexicon.number (b ∷ front is_digit bs) (drop (length (front is_digit bs)) bs))
+digits_front : (b : ℕ) (bs : List ℕ) → (b == 48) ≡ false → is_digit b ≡ true → IsPrefix (b ∷ bs) (lexicon.number (b ∷ front is_digit bs) (drop (length (front is_digit bs)) bs))
 digits_front b bs z t = number_front (b ∷ bs) (b ∷ front is_digit bs) (drop (length (front is_digit bs)) bs) (ap (λ (xs : List ℕ). b ∷ xs) (front_then_rest is_digit bs)) (digits b (front is_digit bs) (grind (arith, nat_tests)) (t, front_is_run is_digit bs))
 
-is_front : (b : ℕ) (bs : List ℕ) → IsFront (b ∷ bs) (first_piece b bs)
+is_front : (b : ℕ) (bs : List ℕ) → IsPrefix (b ∷ bs) (first_piece b bs)
 unfolding first_piece
 is_front b bs =
     split (b ∷ bs) (is_blank b) _ _ (λ t. begins_with (b ∷ bs) (b ∷ []) bs 1 blank refl refl (white_space b t) tt) (λ _.
@@ -128,10 +128,10 @@ is_front b bs =
     split (b ∷ bs) (b == 58) _ _ (λ t. at 58 t (lexicon.keyword (front is_symbol_byte bs)) (keyword_front bs (front is_symbol_byte bs) (drop (length (front is_symbol_byte bs)) bs) (front_then_rest is_symbol_byte bs) (front_is_run is_symbol_byte bs))) (λ _.
     split (b ∷ bs) (is_symbol_byte b) _ _ (λ t. symbol_front b bs (front is_symbol_byte bs) (drop (length (front is_symbol_byte bs)) bs) (front_then_rest is_symbol_byte bs) no_number (t, front_is_run is_symbol_byte bs)) (λ _. tt))))))))))
   where
-    at : (c : ℕ) → (b == c) ≡ true → (p : Piece) → IsFront (c ∷ bs) p → IsFront (b ∷ bs) p
-    at c t p h = let same : c ≡ b = grind (arith, nat_tests) in subst (λ (d : ℕ). IsFront (d ∷ bs) p) same h
+    at : (c : ℕ) → (b == c) ≡ true → (p : Piece) → IsPrefix (c ∷ bs) p → IsPrefix (b ∷ bs) p
+    at c t p h = let same : c ≡ b = grind (arith, nat_tests) in subst (λ (d : ℕ). IsPrefix (d ∷ bs) p) same h
 
--- no longer front is a lexeme
+-- no longer prefix is a lexeme
 no_longer : (b : ℕ) (bs : List ℕ) (m : ℕ) (y : Lexeme) → Begins (b ∷ bs) m y → Reaches (first_piece b bs).lexeme (first_piece b bs).size m
 no_longer b bs m y h =
     let whole : take m (b ∷ bs) ++ drop m (b ∷ bs) ≡ b ∷ bs = take-append-drop m (b ∷ bs) in
@@ -141,7 +141,7 @@ no_longer b bs m y h =
 pub first_is_longest : (b : ℕ) (bs : List ℕ) → IsFirst (b ∷ bs) (first_piece b bs).lexeme (first_piece b bs).size
 first_is_longest b bs = go (first_piece b bs).lexeme (first_piece b bs).size (is_front b bs) (no_longer b bs)
   where
-    go : (x : Lexeme) (n : ℕ) → HasFront (b ∷ bs) x n → ((m : ℕ) (y : Lexeme) → Begins (b ∷ bs) m y → Reaches x n m) → IsFirst (b ∷ bs) x n
+    go : (x : Lexeme) (n : ℕ) → HasPrefix (b ∷ bs) x n → ((m : ℕ) (y : Lexeme) → Begins (b ∷ bs) m y → Reaches x n m) → IsFirst (b ∷ bs) x n
     go (wrong f) n front longest = longest
     go blank n front longest = record { begins = front; longest = longest }
     go opens n front longest = record { begins = front; longest = longest }

@@ -22,10 +22,10 @@ tree_stands P (more t (more u us)) h = tt
 
 module _ (P : ℕ → Type 0) where
   -- a word, and what follows it
-  abbrev pub FrontStands : Word × Trees → Type 0
-  FrontStands x = P x.0.at × AllOffsetsOf P x.1
+  abbrev pub PrefixStands : Word × Trees → Type 0
+  PrefixStands x = P x.0.at × AllOffsetsOf P x.1
 
-  pub word_stands : (ts : Trees) → AllOffsetsOf P ts → Holds FrontStands (first_word ts)
+  pub word_stands : (ts : Trees) → AllOffsetsOf P ts → Holds PrefixStands (first_word ts)
   word_stands none h = tt
   word_stands (more (atom at k bytes) ts) h = h
   word_stands (more (list at us end) ts) h = tt

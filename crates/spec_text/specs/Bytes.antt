@@ -40,7 +40,7 @@ is_symbol_byte b = is_digit b || is_letter b || one_of (codes "~!@$%^&*_-+=<>.?/
 abbrev pub is_in_bars : ℕ → Bool
 is_in_bars b = not (one_of (124 ∷ 92 ∷ []) b)
 
--- the longest front whose bytes pass a test
+-- the longest prefix whose bytes pass a test
 abbrev pub front : (ℕ → Bool) → List ℕ → List ℕ
 front test [] = []
 front test (b ∷ bs) = if test b then b ∷ front test bs else []

@@ -55,8 +55,8 @@ abbrev pub kept : List ℕ → List ℕ
 kept text = take text_limit text
 
 -- the bytes by which a text is read: those, and the next one, by which it has more
-abbrev pub front : List ℕ → List ℕ
-front text = take (text_limit + 1) text
+abbrev pub prefix : List ℕ → List ℕ
+prefix text = take (text_limit + 1) text
 
 -- whether there are more
 abbrev pub is_long : List ℕ → Bool

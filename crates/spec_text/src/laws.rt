@@ -30,7 +30,7 @@ pub fn printed_trees_read_back()
     ensures { (text : List ℕ) (at : ℕ) (t : Tree) (rest : List (ℕ × Lexeme)) → lexemes_from text at ≡ spelled t ++ rest → (u : Tree) × IsRead (printed t) (more u none) × SameTree t u }
 {}
 
-/// Says that the first lexeme of a text is the longest front that the lexicon's table has, and that a text whose first
+/// Says that the first lexeme of a text is the longest prefix that the lexicon's table has, and that a text whose first
 /// lexeme is a fault begins with none. Source: SMT-LIB 2.6, section 3.1.
 pub fn lexemes_are_longest()
     ensures { (b : ℕ) (bs : List ℕ) → IsFirst (b ∷ bs) (first_piece b bs).lexeme (first_piece b bs).size }

@@ -31,7 +31,7 @@ fits_first (r ∷ rs) d vs x all has = go (same_values r.arguments vs) refl (fit
       | inr c ↦ (has.0, c, has.2)
     ])
 
--- the row of a term with the symbol in front
+-- the row of a term with the symbol as head
 abbrev pub row : Valuation → Symbol → Terms → Row
 row v s us = record { arguments = values_by v us; value = v (app (Apply s) us) }
 

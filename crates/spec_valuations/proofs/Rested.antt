@@ -192,7 +192,7 @@ module _ (symbols : List Symbol) (p : Problem) (terms : List Term) (held : List 
   }
 
   module _ (point : Term → Fraction) (n : HasNumbers terms is_so point class) where
-    -- a listed term with a connective in front, or with truth values alone, obeys
+    -- a listed term with a connective as head, or with truth values alone, obeys
     connected : (h : Head) (ts : Terms) → Contains terms (app h ts) → is_connective h ≡ true → is_core h ≡ true → Obeys (value_by is_so point class) (app h ts)
     connected h ts c k core = let takes = listed.takes h ts c in formula_obeys v point class (app h ts) (core_joins h ts core takes (truths_taken h (sorts_of ts) takes k)) (is_met (app h ts) c)
 

@@ -1,4 +1,4 @@
--- The interpretation that values of listed terms give. Source: own.
+-- The interpretation that values of listed terms give.
 use Rattle.std.specs.Prelude.{◌≡◌, true, false, List, [], ◌∷◌, ◌++◌, map, Contains, Option, Some, None, if◌then◌else◌}
 use Rattle.spec_numbers.specs.Fractions.{zero_fraction}
 use Rattle.spec_sorts.specs.Terms.{Sort, Truth, Number, Declared, Symbol, same_symbol, Head, Apply, Term, Terms, app, list_of, sort_of, sorts_of, head_takes}
@@ -19,7 +19,7 @@ default_value Truth = truth false
 default_value Number = number zero_fraction
 default_value (Declared n) = element n 0
 
--- the arguments of a term with the symbol in front
+-- the arguments of a term with the symbol as head
 abbrev pub arguments_at : Symbol → Term → Option Terms
 arguments_at s (app (Apply f) ts) = if same_symbol f s then Some ts else None
 arguments_at s (app h ts) = None
@@ -29,7 +29,7 @@ abbrev pub rows_at : Valuation → Option Terms → Value → List Row
 rows_at v None x = []
 rows_at v (Some us) x = record { arguments = values_by v us; value = x } ∷ []
 
--- a row for each term with the symbol in front, in their order
+-- a row for each term with the symbol as head, in their order
 abbrev pub rows_of : Valuation → Symbol → List Term → List Row
 rows_of v s [] = []
 rows_of v s (t ∷ ts) = rows_at v (arguments_at s t) (v t) ++ rows_of v s ts
@@ -63,7 +63,7 @@ pub record AreListed (symbols : List Symbol) (terms : List Term) : Type 0 where
   pub arguments : (h : Head) (ts : Terms) → Contains terms (app h ts) → (u : Term) → Contains (list_of ts) u → Contains terms u
   -- each head takes its arguments, and no term is a parameter
   pub takes : (h : Head) (ts : Terms) → Contains terms (app h ts) → head_takes [] h (sorts_of ts) ≡ true
-  -- symbols in front are declared
+  -- symbols that are heads are declared
   pub declared : (s : Symbol) (ts : Terms) → Contains terms (app (Apply s) ts) → Contains symbols s
 
 -- Values of listed terms that fit together.

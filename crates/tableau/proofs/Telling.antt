@@ -1,4 +1,4 @@
--- Overflows that are told to callers.
+-- Overflows that are reported to callers.
 use Rattle.std.proofs.Common.{◌≡◌, ℕ, Bool, false, List, [], ◌∷◌, Contains, Result, Ok, Err, IfOk, IfErr, OnOk, is_err, true≢false, IsErrAnd, inl, inr, refl, sym, subst, arith}
 use Rattle.std.proofs.lemmas.List.Elements.{Contains-push_cases}
 use Rattle.spec_numbers.specs.Bounds.{Overflow, added, multiplied}
@@ -12,7 +12,7 @@ use Rattle.tableau.specs.declared.stops.RowStop.TheVariants.{Wide, Memory}
 use Rattle.tableau.specs.Views.{OnWide}
 use Rattle.tableau.specs.Sums.{StrainsCombined, StrainsPut, operation, in_product, in_sum, IsLeft}
 
--- an overflow that is told
+-- an overflow that is reported
 pub told_wide : {T : Type 0} (p : Overflow → Type 0) (r : Result T RowStop) (w : WideType) → IsErrAnd r (λ e. e ≡ Wide w) → p (overflow w) → IfErr r (OnWide p)
 told_wide p (Ok x) w g h = tt
 told_wide p (Err e) w g h = subst (OnWide p) (sym g) h

@@ -135,7 +135,7 @@ pub ite_long : (ss : List Sort) → takes Ite ss ≡ true → length ss ≡ 3
 ite_long (Truth ∷ s ∷ t ∷ []) e = refl
 ite_long _ e = cc
 
--- what fits with `ite` in front has three arguments
+-- what fits with the head `ite` has three arguments
 pub ite_fits : (t : TableView) (s : Shape) → Fits t s → s.head ≡ heads.Ite → length s.arguments ≡ 3
 ite_fits t s f e =
     sym (length-map s.arguments (term_at t)) ∙ sym (length-map (clause_at t s.arguments) sort_of)

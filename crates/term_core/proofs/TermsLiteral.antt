@@ -22,7 +22,7 @@ pub less : (b : Bool) (t u : Term) (l : Literal) → t ≡ negated u → with_pa
 less true t u l e h = sym (literal_of-negated u) ∙ ap literal_of (sym e) ∙ h
 less false t u l e h = sym (complement-twice (literal_of u)) ∙ ap complement (sym (literal_of-negated u) ∙ ap literal_of (sym e)) ∙ h
 
--- what has another head in front is no negation
+-- what has another head is no negation
 pub own : (t : TableView) (h : NodeHead) (ids : List TermId) → (h ≡ heads.Not → ⊥) → literal_of (of (head_meant t h) (clause_at t ids)) ≡ positive_literal (of (head_meant t h) (clause_at t ids))
 unfolding literal_of
 own t heads.Not ids other = absurd (other refl)

@@ -26,7 +26,7 @@ latest_push n m (k ∷ ms) = ap (λ p. place_after p (k == n)) (latest_push n m 
     go true = refl
     go false = refl
 
--- two numbers are one, or they are told apart
+-- two numbers are one, or they differ
 tells : (m n : ℕ) → ((m == n) ≡ true) × (m ≡ n) ⊎ ((m == n) ≡ false) × (m ≡ n → ⊥)
 tells m n = eqb_tells m n
 

@@ -79,7 +79,7 @@ fn read_to<F: Shelf>(alloc: Global, shelf: &mut F, n: u64) -> Result<Vec<u8>, Re
 /// `Whole` comes where no more than `limit` bytes were left, with all of them; then nothing is left.
 /// `Cut` comes where more than `limit` bytes were left, with the first `limit` of them. No read is asked for once there is
 /// a byte more, and so at most 2^16 bytes more than `limit` were taken.
-/// `Failed` comes only where the shelf's count of faults rose in this call, `Memory` where an allocation was refused.
+/// `Failed` comes only where the count of faults of the shelf rose in this call, `Memory` where an allocation was refused.
 /// After both a prefix of what was left is taken, any number of bytes from none to all, and its bytes are lost.
 pub fn read_all<F: Shelf>(alloc: Global, shelf: &mut F, limit: u64) -> Result<ReadEnd, ReadStop>
     ensures end { IfOk result (λ end. (text : List ℕ) × IsReadTo limit end text × IfSome (F.left shelf.old) (λ t. t ≡ text)) }
@@ -101,7 +101,7 @@ pub fn read_all<F: Shelf>(alloc: Global, shelf: &mut F, limit: u64) -> Result<Re
 /// Reads the first `n` bytes of what is left of the text that was begun, or all of them where there are fewer.
 ///
 /// No read is asked for once there are `n` bytes, and so fewer than 2^16 bytes more than `n` were taken.
-/// `Failed` comes only where the shelf's count of faults rose in this call, `Memory` where an allocation was refused.
+/// `Failed` comes only where the count of faults of the shelf rose in this call, `Memory` where an allocation was refused.
 /// After both a prefix of what was left is taken, any number of bytes from none to all, and its bytes are lost.
 pub fn read_prefix<F: Shelf>(alloc: Global, shelf: &mut F, n: u64) -> Result<Bytes, ReadStop>
     ensures bytes { IfOk result (λ bytes. (text : List ℕ) × (bytes ≡ take n text) × IfSome (F.left shelf.old) (λ t. t ≡ text)) }

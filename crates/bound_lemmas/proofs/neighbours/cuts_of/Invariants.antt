@@ -1,4 +1,4 @@
--- Each cut so far is of one of the atoms.
+-- Each cut that is there is of one of the atoms.
 use Rattle.std.proofs.Common.{All}
 use Rattle.bound_lemmas.specs.Pairs.{IsCutOf}
 use Rattle.bound_lemmas.proofs.neighbours.cuts_of.Given as goal

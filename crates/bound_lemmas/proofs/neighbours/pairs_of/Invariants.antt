@@ -1,4 +1,4 @@
--- Each pair so far is of the atoms.
+-- Each pair that is there is of the atoms.
 use Rattle.std.proofs.Common.{All}
 use Rattle.bound_lemmas.specs.Pairs.{IsPairOf}
 use Rattle.bound_lemmas.proofs.neighbours.pairs_of.Given as goal

@@ -1,4 +1,4 @@
--- What was seen is a front of the trail.
+-- What was seen is a prefix of the trail.
 use Rattle.std.proofs.Common.{◌≡◌, ◌≤◌, ◌-◌, take, length}
 use Rattle.clause_store.proofs.parts.see.Given as goal
 

@@ -1,4 +1,4 @@
--- That two terms that differ are told.
+-- That two terms that differ are explained.
 use Rattle.std.proofs.Common.{◌++◌, ◌∷◌, [], refl, sym, ap, ◌∙◌, append-nil}
 use Rattle.congruence_explain.specs.Steps.{derived, spoken, setting, notes}
 use Rattle.congruence_explain.proofs.Pairs.{unequal_same, unequal_other, linked_apart, same_pair, one_pair}

@@ -1,4 +1,4 @@
--- The start is the same, and the pairs up to here are told.
+-- The start is the same, and the pairs up to here are explained.
 use Rattle.std.proofs.Common.{◌≡◌, ◌++◌, [], drop, length}
 use Rattle.congruence_explain.specs.Claims.{all_unequal}
 use Rattle.congruence_explain.specs.Steps.{derived, Explains, setting, notes, TellsClause}

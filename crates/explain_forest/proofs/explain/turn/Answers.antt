@@ -1,4 +1,4 @@
--- A part is told.
+-- A part is explained.
 use Rattle.std.proofs.Common.{length, reverse, arith}
 use Rattle.std.proofs.lemmas.Bool.Decides.{nat_tests}
 use Rattle.explain_forest.proofs.Paths.{turns-end, turns-split}

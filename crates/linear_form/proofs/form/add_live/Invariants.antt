@@ -1,4 +1,4 @@
--- The live ones so far came.
+-- The live ones up to here came.
 use Rattle.std.proofs.Common.{◌≡◌, ◌++◌, map, take}
 use Rattle.linear_form.specs.Entries.{live, pair_view}
 use Rattle.linear_form.proofs.form.add_live.Given as goal

@@ -1,4 +1,4 @@
--- None so far is live.
+-- None up to here is live.
 use Rattle.std.proofs.Common.{◌≡◌, [], take}
 use Rattle.linear_form.specs.Entries.{live}
 use Rattle.linear_form.proofs.form.are_dead.Given as goal

@@ -1,4 +1,4 @@
--- The places so far.
+-- The places up to here.
 use Rattle.std.proofs.Common.{◌≡◌, ◌<◌, ◌++◌, length, take, All}
 use Rattle.term_walks.specs.Orders.{numbers_of}
 use Rattle.linear_form.specs.Walks.{numbers_at}

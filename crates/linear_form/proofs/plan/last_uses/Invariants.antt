@@ -1,4 +1,4 @@
--- The last uses so far.
+-- The last uses up to here.
 use Rattle.std.proofs.Common.{◌≡◌, ℕ, ◌<◌, ◌≤◌, length, get_or}
 use Rattle.linear_form.proofs.plan.last_uses.Given as goal
 

@@ -1,4 +1,4 @@
--- The places so far, before those of the terms that are left.
+-- The places up to here, before those of the terms that are left.
 use Rattle.std.proofs.Common.{◌≡◌, ◌<◌, ◌++◌, length, drop, All}
 use Rattle.std.specs.List.{flat_map}
 use Rattle.linear_form.specs.Walks.{needed_at, numbers_at}

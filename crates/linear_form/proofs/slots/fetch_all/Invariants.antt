@@ -1,4 +1,4 @@
--- What was fetched so far is known, and the rest is ready.
+-- What was fetched up to here is known, and the rest is ready.
 use Rattle.std.proofs.Common.{◌≡◌, ◌+◌, length, take, drop}
 use Rattle.term_core.specs.Tables.{TableView}
 use Rattle.linear_form.specs.Walks.{numbers_at, AreKnown, IsReady}

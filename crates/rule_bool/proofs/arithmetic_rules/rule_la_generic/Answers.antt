@@ -1,4 +1,4 @@
--- That a number which leaves the bound is told.
+-- That a number which leaves the bound is reported.
 use Rattle.std.proofs.Common.{◌≡◌, rules, arith, List, [], ◌∷◌, map, length}
 use Rattle.std.specs.Prelude.{Err}
 use Rattle.std.proofs.lemmas.Bool.Decides.{nat_tests}
@@ -14,7 +14,7 @@ use Rattle.term_core.specs.declared.ids.TermId.{TermId}
 use Rattle.term_core.specs.Tables.{TableView, clause_at}
 use Rattle.rule_bool.proofs.arithmetic_rules.rule_la_generic.Goals as goal
 
--- without premises a wide sum is told
+-- without premises a wide sum is reported
 wide_by : (t : TableView) (premises : List (List TermId)) (arguments : Trees) (clause : Clause) (w : Overflow) → 0 ≡ length premises
     → la_generic clause (coefficients_of arguments) ≡ Err (wide w) → IsWideArithmetic LaGeneric (map (clause_at t) premises) arguments clause
 wide_by t [] arguments clause w e h = (w, h)

@@ -1,4 +1,4 @@
--- That a list with no word in front writes no number.
+-- That a list that begins with no word writes no number.
 use Rattle.smt_sexpr.specs.Items.{trees_meant}
 use Rattle.rule_bool.proofs.CoefficientsRead.{no_word}
 use Rattle.rule_bool.proofs.coefficients.open_list.Goals as goal

@@ -1,4 +1,4 @@
--- One value more is told.
+-- One value more is given.
 use Rattle.std.proofs.Common.{nat_eq, get_or, ap}
 use Rattle.std.specs.HashMap.{get}
 use Rattle.std.specs.Map.{lookup}

@@ -1,4 +1,4 @@
--- The values up to here are told.
+-- The values up to here are given.
 use Rattle.std.proofs.Common.{nat_eq}
 use Rattle.std.specs.HashMap.{get}
 use Rattle.simplex.specs.Values.{TellsValues}

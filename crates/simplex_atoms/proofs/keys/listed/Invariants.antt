@@ -1,4 +1,4 @@
--- The pairs so far are those of the entries so far.
+-- The pairs up to here are those of the entries up to here.
 use Rattle.std.proofs.Common.{◌≡◌, take}
 use Rattle.tableau.specs.Entries.{entries_of}
 use Rattle.simplex_atoms.specs.Sums.{signed_entries, pairs_meant}

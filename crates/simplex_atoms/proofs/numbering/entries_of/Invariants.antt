@@ -1,4 +1,4 @@
--- The entries so far are those of the variables so far.
+-- The entries up to here are those of the variables up to here.
 use Rattle.std.proofs.Common.{take}
 use Rattle.std.specs.Prelude.{All}
 use Rattle.spec_arithmetic.specs.Forms.{Form}

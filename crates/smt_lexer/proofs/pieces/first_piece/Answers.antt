@@ -4,7 +4,7 @@ use Rattle.std.proofs.lemmas.List.{take_rest}
 use Rattle.spec_text.specs.Lexemes.{Piece, piece, blank}
 use Rattle.smt_lexer.specs.declared.pieces.What.{What}
 use Rattle.smt_lexer.specs.Pieces.{lexeme_of}
-use Rattle.smt_lexer.proofs.Fronts.{piece_at_head, first_byte, first_run}
+use Rattle.smt_lexer.proofs.Prefixes.{piece_at_head, first_byte, first_run}
 use Rattle.spec_text.specs.Bytes.{is_digit, is_symbol_byte}
 use Rattle.smt_lexer.proofs.pieces.first_piece.Goals as goal
 use Rattle.smt_lexer.proofs.pieces.first_piece.Goals.{in-Blank, in-Semicolon, in-Open, in-Close}

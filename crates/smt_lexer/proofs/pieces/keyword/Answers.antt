@@ -1,5 +1,5 @@
 -- The name has a byte at least.
-use Rattle.smt_lexer.proofs.Fronts.{keyword_is}
+use Rattle.smt_lexer.proofs.Prefixes.{keyword_is}
 use Rattle.smt_lexer.proofs.pieces.keyword.Goals as goal
 
 pub returns-clause-piece : goal.returns-clause-piece

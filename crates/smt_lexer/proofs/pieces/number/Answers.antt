@@ -2,7 +2,7 @@
 use Rattle.std.proofs.Common.{arith, ◌∙◌, sym}
 use Rattle.std.proofs.lemmas.List.{take_rest}
 use Rattle.std.proofs.lemmas.Bool.Decides.{nat_tests}
-use Rattle.smt_lexer.proofs.Fronts.{number_is_decimal}
+use Rattle.smt_lexer.proofs.Prefixes.{number_is_decimal}
 use Rattle.smt_lexer.proofs.pieces.number.Goals as goal
 
 pub returns-clause-piece : goal.returns-clause-piece

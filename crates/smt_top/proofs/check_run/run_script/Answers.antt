@@ -9,7 +9,7 @@ use Rattle.smt_top.proofs.check_run.run_script.Goals as goal
 
 pub returns-in-Ok-clause-ends : goal.returns-in-Ok-clause-ends
 returns-in-Ok-clause-ends g c =
-    let front = c.transcripts_need_a_front_alone.ensures in
+    let front = c.transcripts_need_a_prefix_alone.ensures in
     let say = c.answers_say_what_is_so.ensures in
     let e = c.in-Ok.ensures.end in
     let mode = mode_meant c.args.request.mode in

@@ -80,7 +80,7 @@ shared_of-requires-clause-numbers c =
     let many : length ns ≡ length c.deref-2.result.now = sym (length-map ns fraction) ∙ ap length n.are ∙ length-map (clause_at t c.deref-2.result.now) n.number ∙ length-map c.deref-2.result.now (term_at t) in
     omega (arith, many, ap length all, length-append x.terms.items ids, c.len-count.ensures, x.terms.ok.0)
 
--- there are as many terms in front
+-- there are as many terms before
 front_many : (c : In_ok-xs) → c.len-count.result ≡ length c.args.search.now.terms.items
 front_many c = omega (arith, c.len-count.ensures, c.args.search.now.terms.ok.0)
 

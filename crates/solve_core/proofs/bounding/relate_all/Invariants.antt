@@ -1,4 +1,4 @@
--- What the clauses so far leave.
+-- What the clauses up to here leave.
 use Rattle.std.proofs.Common.{◌≡◌}
 use Rattle.simplex.specs.Checks.{Suits}
 use Rattle.solve_core.specs.Relating.{HasRelated}

@@ -1,4 +1,4 @@
--- What bytes begin with is spelled as the table says, and no longer front is.
+-- What bytes begin with is spelled as the table says, and no longer prefix is.
 use Rattle.spec_text.proofs.Longest.{first_is_longest}
 use Rattle.spec_text.proofs.laws.lexemes_are_longest.Goals as goal
 

@@ -1,4 +1,4 @@
--- Of the fronts those are left that the trail still has.
+-- Of the prefixes those are left that the trail still has.
 use Rattle.std.proofs.Common.{arith, ◌≢◌, ◌<◌, ℕ, length, take, Contains, inl, inr, sym}
 use Rattle.std.proofs.lemmas.Bool.{cases_lt}
 use Rattle.std.proofs.lemmas.Bool.Decides.{nat_tests}

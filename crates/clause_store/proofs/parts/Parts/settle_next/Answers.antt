@@ -5,7 +5,7 @@ use Rattle.clause_literals.specs.Statuses.{IsFalsified}
 use Rattle.clause_store.specs.declared.entry.Entry.{Entry}
 use Rattle.clause_store.specs.declared.parts.Parts.{Parts}
 use Rattle.clause_store.specs.Entries.{clauses_of}
-use Rattle.clause_store.specs.Watching.{AnyFront, NoFront, Below}
+use Rattle.clause_store.specs.Watching.{AnyPrefix, NoPrefix, Below}
 use Rattle.clause_store.specs.Resting.{AreSettled, IsAtWork, WorksOn}
 use Rattle.clause_store.proofs.Atwork.{looked, settled_now, work_goes, work_one, works_goes, works_one}
 use Rattle.clause_store.proofs.Stored.{clause_count}
@@ -50,7 +50,7 @@ returns-clause-work c = elim c.match-branch-2.branch [
   | in-Open w ↦
       let fresh = rw w.in-Open.is at c.in_ok-settle.ensures.fresh in
       subst (λ (p : Parts). IsAtWork (looked p (c.args.self.now.settled + 1)) c.settle.new.trail) (sym w.self-is)
-      (work_one c.args.self.now _ c.args.trail.now c.settle.new.trail c.is_sound.ensures.propagated c.settle.ensures.watched c.settle.ensures.entries refl c.settle.ensures.goes c.requires.work AnyFront refl
+      (work_one c.args.self.now _ c.args.trail.now c.settle.new.trail c.is_sound.ensures.propagated c.settle.ensures.watched c.settle.ensures.entries refl c.settle.ensures.goes c.requires.work AnyPrefix refl
       (settled_two (clauses_of c.args.self.now.watched.entries.items) c.args.self.now.settled c.args.self.now.short.items c.settle.new.self.pairs.items (omega (arith, c.requires.there, clause_count c.args.self.now.watched.entries.items)) fresh.1.there (settled_now c.args.self.now (looked (record { watched = c.settle.new.self; settled = c.args.self.now.settled; short = c.args.self.now.short; seen = c.args.self.now.seen; rests = c.args.self.now.rests }) 0) c.args.trail.now c.settle.new.trail c.is_sound.ensures.propagated c.settle.ensures.watched c.settle.ensures.entries refl c.settle.ensures.goes c.requires.work) fresh.0)
       fresh.1 (front_all c.args.self.now.rests.items) (λ r i. tt))
   | in-Forced w ↦
@@ -62,7 +62,7 @@ returns-clause-work c = elim c.match-branch-2.branch [
   | in-Single+in_ok-push-in-Single w ↦
       let fresh = rw w.in-Single.is at c.in_ok-settle.ensures.fresh in
       subst (λ (p : Parts). IsAtWork (looked p (c.args.self.now.settled + 1)) c.settle.new.trail) (sym w.self-is)
-      (work_one c.args.self.now _ c.args.trail.now c.settle.new.trail c.is_sound.ensures.propagated c.settle.ensures.watched c.settle.ensures.entries refl c.settle.ensures.goes c.requires.work NoFront refl
+      (work_one c.args.self.now _ c.args.trail.now c.settle.new.trail c.is_sound.ensures.propagated c.settle.ensures.watched c.settle.ensures.entries refl c.settle.ensures.goes c.requires.work NoPrefix refl
       (subst (AreSettled (clauses_of c.args.self.now.watched.entries.items) c.settle.new.self.pairs.items (c.args.self.now.settled + 1)) (sym w.in_ok-push-in-Single.ensures.items) (settled_one (clauses_of c.args.self.now.watched.entries.items) c.args.self.now.settled c.args.self.now.short.items c.settle.new.self.pairs.items (omega (arith, c.requires.there, clause_count c.args.self.now.watched.entries.items)) fresh.1.there (settled_now c.args.self.now (looked (record { watched = c.settle.new.self; settled = c.args.self.now.settled; short = c.args.self.now.short; seen = c.args.self.now.seen; rests = c.args.self.now.rests }) 0) c.args.trail.now c.settle.new.trail c.is_sound.ensures.propagated c.settle.ensures.watched c.settle.ensures.entries refl c.settle.ensures.goes c.requires.work) fresh.0))
       fresh.1 (front_none w.clear.new.self.items c.args.self.now.rests.items w.clear.ensures.items) (none_there w.clear.new.self.items w.clear.ensures.items))
 ]
@@ -72,7 +72,7 @@ returns-clause-goes c = elim c.match-branch-2.branch [
   | in-Open w ↦
       let fresh = rw w.in-Open.is at c.in_ok-settle.ensures.fresh in
       subst (λ (p : Parts). WorksOn c.args.self.now (looked p (c.args.self.now.settled + 1)) c.args.trail.now c.settle.new.trail) (sym w.self-is)
-      (works_one c.args.self.now _ c.args.trail.now c.settle.new.trail c.is_sound.ensures.propagated c.settle.ensures.watched c.settle.ensures.entries refl c.settle.ensures.goes c.requires.work AnyFront refl
+      (works_one c.args.self.now _ c.args.trail.now c.settle.new.trail c.is_sound.ensures.propagated c.settle.ensures.watched c.settle.ensures.entries refl c.settle.ensures.goes c.requires.work AnyPrefix refl
       (settled_two (clauses_of c.args.self.now.watched.entries.items) c.args.self.now.settled c.args.self.now.short.items c.settle.new.self.pairs.items (omega (arith, c.requires.there, clause_count c.args.self.now.watched.entries.items)) fresh.1.there (settled_now c.args.self.now (looked (record { watched = c.settle.new.self; settled = c.args.self.now.settled; short = c.args.self.now.short; seen = c.args.self.now.seen; rests = c.args.self.now.rests }) 0) c.args.trail.now c.settle.new.trail c.is_sound.ensures.propagated c.settle.ensures.watched c.settle.ensures.entries refl c.settle.ensures.goes c.requires.work) fresh.0)
       fresh.1 (front_all c.args.self.now.rests.items) (λ r i. tt))
   | in-Forced w ↦
@@ -84,7 +84,7 @@ returns-clause-goes c = elim c.match-branch-2.branch [
   | in-Single+in_ok-push-in-Single w ↦
       let fresh = rw w.in-Single.is at c.in_ok-settle.ensures.fresh in
       subst (λ (p : Parts). WorksOn c.args.self.now (looked p (c.args.self.now.settled + 1)) c.args.trail.now c.settle.new.trail) (sym w.self-is)
-      (works_one c.args.self.now _ c.args.trail.now c.settle.new.trail c.is_sound.ensures.propagated c.settle.ensures.watched c.settle.ensures.entries refl c.settle.ensures.goes c.requires.work NoFront refl
+      (works_one c.args.self.now _ c.args.trail.now c.settle.new.trail c.is_sound.ensures.propagated c.settle.ensures.watched c.settle.ensures.entries refl c.settle.ensures.goes c.requires.work NoPrefix refl
       (subst (AreSettled (clauses_of c.args.self.now.watched.entries.items) c.settle.new.self.pairs.items (c.args.self.now.settled + 1)) (sym w.in_ok-push-in-Single.ensures.items) (settled_one (clauses_of c.args.self.now.watched.entries.items) c.args.self.now.settled c.args.self.now.short.items c.settle.new.self.pairs.items (omega (arith, c.requires.there, clause_count c.args.self.now.watched.entries.items)) fresh.1.there (settled_now c.args.self.now (looked (record { watched = c.settle.new.self; settled = c.args.self.now.settled; short = c.args.self.now.short; seen = c.args.self.now.seen; rests = c.args.self.now.rests }) 0) c.args.trail.now c.settle.new.trail c.is_sound.ensures.propagated c.settle.ensures.watched c.settle.ensures.entries refl c.settle.ensures.goes c.requires.work) fresh.0))
       fresh.1 (front_none w.clear.new.self.items c.args.self.now.rests.items w.clear.ensures.items) (none_there w.clear.new.self.items w.clear.ensures.items))
 ]

@@ -8,7 +8,7 @@ use Rattle.clause_store.specs.declared.pair.Pair.{Pair}
 use Rattle.clause_store.specs.Stores.{no_pair}
 use Rattle.clause_store.specs.Entries.{clauses_of, bare}
 use Rattle.clause_store.specs.Propagating.{Advances}
-use Rattle.clause_store.specs.Watching.{IsOpenIn, IsOpenBut, AreFalseBut, Has, NoFront, Below}
+use Rattle.clause_store.specs.Watching.{IsOpenIn, IsOpenBut, AreFalseBut, Has, NoPrefix, Below}
 use Rattle.clause_store.proofs.Adding.{advances_none}
 use Rattle.clause_store.proofs.Resting.{goes_none, goes_past, two_differ, fresh_open, fresh_forced, fresh_single, below_safe}
 use Rattle.clause_store.proofs.Stored.{entry_there, clause_there, entry_clause, all_known}
@@ -116,7 +116,7 @@ returns-then-same-clause-fresh c =
     let q = c.index-pair.result.now in
     let at = c.index-pair.ensures ∙ get_or_default s.pairs.items c.args.n q no_pair c.requires.there in
     let e = subst (λ (p : Pair). p.first ≡ p.second) at c.if-same.ensures in
-    (e, fresh_single _ _ _ c.in-Some.one NoFront (λ r x. x) (ps.each c.args.n there) e one.there c.force.ensures.holds)
+    (e, fresh_single _ _ _ c.in-Some.one NoPrefix (λ r x. x) (ps.each c.args.n there) e one.there c.force.ensures.holds)
 
 pub latest_but-last-requires-clause-known : goal.latest_but-last-requires-clause-known
 latest_but-last-requires-clause-known c =

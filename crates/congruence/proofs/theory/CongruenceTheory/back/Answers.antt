@@ -11,10 +11,10 @@ use Rattle.congruence.proofs.theory.CongruenceTheory.back.Goals as goal
 
 pub returns-clause-with : goal.returns-clause-with
 returns-clause-with c = subst (λ (v : ClosureView). c.args.marks ≤ length (theory_of v).marks → (t : TableView) → AreOf t v.now.facts → AreOf t c.back.new.self.now.facts) c.self.view_is
-    (λ there t h. front_of t c.self.inside.closure.now.facts c.back.new.self.now.facts h (back_front c.self.inside.closure c.back.new.self c.args.marks (marks_there c.self.inside.closure c.args.marks there) c.back.ensures.now c.marks_are_fronts.ensures) c.is_right.ensures.order)
+    (λ there t h. front_of t c.self.inside.closure.now.facts c.back.new.self.now.facts h (back_front c.self.inside.closure c.back.new.self c.args.marks (marks_there c.self.inside.closure c.args.marks there) c.back.ensures.now c.marks_are_prefixes.ensures) c.is_right.ensures.order)
     c.requires.there
 
 pub returns-clause-back : goal.returns-clause-back
 returns-clause-back c = subst (λ (v : ClosureView). c.args.marks ≤ length (theory_of v).marks → theory_of c.back.new.self ≡ gone_back c.args.marks (theory_of v)) c.self.view_is
-    (λ there. went_back c.self.inside.closure c.back.new.self c.args.marks (marks_there c.self.inside.closure c.args.marks there) c.back.ensures.now c.back.ensures.marks c.marks_are_fronts.ensures)
+    (λ there. went_back c.self.inside.closure c.back.new.self c.args.marks (marks_there c.self.inside.closure c.args.marks there) c.back.ensures.now c.back.ensures.marks c.marks_are_prefixes.ensures)
     c.requires.there

@@ -1,4 +1,4 @@
--- What has another head in front is no negation.
+-- What has another head is no negation.
 use Rattle.std.proofs.Common.{◌≡◌, sym, subst}
 use Rattle.spec_sorts.specs.Literals.{literal_of}
 use Rattle.term_core.specs.Tables.{positive_literal}

@@ -5,7 +5,7 @@ use Rattle.std.proofs.lemmas.List.{take-take}
 use Rattle.spec_text.specs.Lexemes.{lexemes}
 use Rattle.spec_text.specs.Trees.{Trees}
 use Rattle.spec_text.specs.Faults.{Located}
-use Rattle.spec_text.specs.Readings.{AreTrees, Stops, text_limit, front, limited, IsReadUpTo}
+use Rattle.spec_text.specs.Readings.{AreTrees, Stops, text_limit, prefix, limited, IsReadUpTo}
 
 -- of a prefix the same bytes are kept
 pub same_kept : (n : ℕ) (text : List ℕ) → take n (take (n + 1) text) ≡ take n text
@@ -16,7 +16,7 @@ pub same_long : (n : ℕ) (text : List ℕ) → nat_lt n (length (take (n + 1) t
 same_long n text = grind (arith, nat_tests, length-take (n + 1) text)
 
 -- a script is read by its prefix
-pub read_by : (text : List ℕ) (ts : Trees) (found : Option Located) → IsReadUpTo (front text) ts found → IsReadUpTo text ts found
+pub read_by : (text : List ℕ) (ts : Trees) (found : Option Located) → IsReadUpTo (prefix text) ts found → IsReadUpTo text ts found
 read_by text ts found r = record {
   rest = r.rest;
   trees = subst (λ bytes. AreTrees 0 (lexemes 0 0 bytes) ts r.rest) (same_kept text_limit text) r.trees;

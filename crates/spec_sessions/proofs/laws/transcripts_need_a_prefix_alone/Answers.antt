@@ -1,10 +1,10 @@
 -- That a transcript needs a prefix alone.
 use Rattle.std.proofs.Common.{◌≡◌, List, ◌++◌, ℕ, subst, ◌⊎◌}
 use Rattle.spec_text.specs.Readings.{text_limit}
-use Rattle.spec_proofs.proofs.Fronts.{same_kept, read_by}
+use Rattle.spec_proofs.proofs.Prefixes.{same_kept, read_by}
 use Rattle.spec_commands.specs.Stack.{empty_stack}
 use Rattle.spec_sessions.specs.Transcripts.{Runs, answers_text, closing, closing_text}
-use Rattle.spec_sessions.proofs.laws.transcripts_need_a_front_alone.Goals as goal
+use Rattle.spec_sessions.proofs.laws.transcripts_need_a_prefix_alone.Goals as goal
 
 pub returns-clause-whole : goal.returns-clause-whole
 returns-clause-whole c = λ limits mode text out refused t. record {
