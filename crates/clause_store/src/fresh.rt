@@ -32,13 +32,15 @@ impl Watched {
     fn watch(&mut self, n: usize, wanted: Lit, kept: Lit) -> Result<(), NoMemory>
         requires watched { IsWatched self.old }
         requires there { n < length self.old.pairs.items }
-        requires differ { (get_or self.old.pairs.items n no_pair).first ≢ (get_or self.old.pairs.items n no_pair).second }
+        requires differ { (get_or self.old.pairs.items n no_pair).first ≢
+            (get_or self.old.pairs.items n no_pair).second }
         requires wanted { IsAnother (get_or (clauses_of self.old.entries.items) n []) kept wanted }
         ensures watched { IsWatched self.new }
         ensures entries { self.new.entries.items ≡ self.old.entries.items }
         ensures repaired { IsRepaired n self.old.pairs.items self.new.pairs.items }
         ensures has { OnOk result (Has (get_or self.new.pairs.items n no_pair) wanted) }
-        ensures keeps { Has (get_or self.old.pairs.items n no_pair) kept → Has (get_or self.new.pairs.items n no_pair) kept }
+        ensures keeps { Has (get_or self.old.pairs.items n no_pair) kept
+            → Has (get_or self.new.pairs.items n no_pair) kept }
     {
         let pair = self.pairs[n];
         if same(pair.first, wanted) || same(pair.second, wanted) {
@@ -64,7 +66,8 @@ impl Watched {
         requires there { n < length self.old.pairs.items }
         ensures watched { IsWatched self.new }
         ensures entries { self.new.entries.items ≡ self.old.entries.items }
-        ensures goes { Goes (bare self.old.entries.items) n self.old.pairs.items self.new.pairs.items trail.old trail.new }
+        ensures goes { Goes (bare self.old.entries.items) n self.old.pairs.items self.new.pairs.items
+            trail.old trail.new }
         ensures repaired { IsRepaired n self.old.pairs.items self.new.pairs.items }
         ensures fresh { IfOk result (Freshly (get_or (clauses_of self.old.entries.items) n [])
             (get_or self.new.pairs.items n no_pair) trail.new) }

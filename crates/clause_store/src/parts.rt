@@ -98,7 +98,8 @@ impl Parts {
     fn look_again(&self, trail: &mut SatTrail) -> Option<usize>
         requires { IsAtWork self.now trail.old }
         ensures goes { Advances (bare self.now.watched.entries.items) trail.old trail.new }
-        ensures ends { MatchOption result (AreResting self.now.settled self.now.watched.pairs.items [] trail.new.literals)
+        ensures ends { MatchOption result
+            (AreResting self.now.settled self.now.watched.pairs.items [] trail.new.literals)
             (IsFalseOf (clauses_of self.now.watched.entries.items) trail.new.literals) }
     {
         for n in &self.short {
@@ -157,7 +158,8 @@ impl Parts {
         requires work { IsAtWork self.old trail.old }
         requires all { self.old.settled ≡ length self.old.watched.entries.items }
         requires from { from ≤ length trail.old.literals }
-        requires rested { AreResting self.old.settled self.old.watched.pairs.items (take from trail.old.literals) trail.old.literals }
+        requires rested { AreResting self.old.settled self.old.watched.pairs.items
+            (take from trail.old.literals) trail.old.literals }
         ensures work { IsAtWork self.new trail.new }
         ensures all { self.new.settled ≡ length self.new.watched.entries.items }
         ensures goes { WorksOn self.old self.new trail.old trail.new }
@@ -202,7 +204,8 @@ impl Parts {
     /// Keeps what holds as what was seen, with a prefix of its length, and marks the trail.
     fn finish(&mut self, trail: &mut SatTrail) -> Result<(), NoMemory>
         requires work { IsAtWork self.old trail.old }
-        requires rested { AreResting self.old.settled self.old.watched.pairs.items trail.old.literals trail.old.literals }
+        requires rested { AreResting self.old.settled self.old.watched.pairs.items
+            trail.old.literals trail.old.literals }
         ensures kept { IsKept self.new }
         ensures watched { self.new.watched ≡ self.old.watched }
         ensures seen { HasSeen (store_of self.new) trail.new }

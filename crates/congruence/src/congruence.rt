@@ -56,9 +56,11 @@ impl Congruence {
     /// The answer is exact where the last check answered `Fine`, and no literal and no term came since, also after going back to a
     /// mark that was set there; `is_settled` tells so. Else terms that it calls equal are equal, and others may be. It takes no memory.
     pub fn same(&self, a: TermId, b: TermId) -> bool
-        ensures sound { (t : TableView) → AreDifferent t.terms → AreDeclared t.sorts t.symbols → AreOf t self.now.now.facts
+        ensures sound { (t : TableView) → AreDifferent t.terms → AreDeclared t.sorts t.symbols
+            → AreOf t self.now.now.facts
             → IsIn t a → IsIn t b → result ≡ true → AreEqualBy t (theory_of self.now) a b }
-        ensures exact { (t : TableView) → AreDifferent t.terms → AreDeclared t.sorts t.symbols → AreOf t self.now.now.facts
+        ensures exact { (t : TableView) → AreDifferent t.terms → AreDeclared t.sorts t.symbols
+            → AreOf t self.now.now.facts
             → IsIn t a → IsIn t b → self.now.now.settled ≡ true
             → (result ≡ true) ↔ AreEqualBy t (theory_of self.now) a b }
     {
@@ -73,7 +75,8 @@ impl Congruence {
     /// the list finds no memory.
     pub fn classes(&self, alloc: Global, terms: &[TermId]) -> Result<Vec<u64>, NoMemory>
         ensures count { IfOk result (λ v. length v.items ≡ length terms.now) }
-        ensures exact { (t : TableView) → AreDifferent t.terms → AreDeclared t.sorts t.symbols → AreOf t self.now.now.facts
+        ensures exact { (t : TableView) → AreDifferent t.terms → AreDeclared t.sorts t.symbols
+            → AreOf t self.now.now.facts
             → AreIn t terms.now → self.now.now.settled ≡ true
             → IfOk result (λ v. TellClasses (AreEqualBy t (theory_of self.now)) terms.now v.items) }
     {

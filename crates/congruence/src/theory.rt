@@ -116,7 +116,8 @@ impl Theory for Congruence {
         ensures kept { budget.new ≡ budget.old }
         ensures settled { result ≡ Ok Fine → self.new.now.settled ≡ true }
         ensures nothing_came { result ≡ Ok Fine → (table.new ≡ table.old) × (log.new ≡ log.old) }
-        ensures checks { Checks (IsFine (terms_watched table.old (theory_of self.old)) (literals_held table.old (theory_of self.old))
+        ensures checks { Checks (IsFine (terms_watched table.old (theory_of self.old))
+            (literals_held table.old (theory_of self.old))
             × (self.new.now.settled ≡ true))
             (IsRefuted (terms_watched table.old (theory_of self.old)) (literals_held table.old (theory_of self.old)))
             (theory_of self.old) (record { table = table.old; log = log.old }) result

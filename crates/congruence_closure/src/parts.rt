@@ -91,7 +91,8 @@ impl Parts {
     pub fn watch(&mut self, id: TermId, node: &Node) -> Result<(), NoMemory>
         requires new { IsListed self.old.now.facts.listed id → ⊥ }
         requires below { NamesBelow id.0 node.now }
-        ensures ok { OnOk result (Changes self.old (with_listed self.old.now.facts (record { term = id; shape = shape_of node.now })) self.new) }
+        ensures ok { OnOk result (Changes self.old
+            (with_listed self.old.now.facts (record { term = id; shape = shape_of node.now })) self.new) }
         ensures err { OnErr result (Changes self.old self.old.now.facts self.new) }
     {
         add_term(&mut self.classes, &mut self.forest, &mut self.holding, id)?;
@@ -256,7 +257,8 @@ fn add_term(
     ensures classes { HasTerms classes.old classes.new }
     ensures forest { AddsTerms forest.old forest.new }
     ensures holding { AddsRoom holding.old holding.new }
-    ensures fits { length classes.old.numbers ≤ forest.old.now.terms → length classes.new.numbers ≤ forest.new.now.terms }
+    ensures fits { length classes.old.numbers ≤ forest.old.now.terms
+        → length classes.new.numbers ≤ forest.new.now.terms }
     ensures room { length classes.old.numbers ≤ holding.old.terms → length classes.new.numbers ≤ holding.new.terms }
     ensures ok { OnOk result (t.0 < length classes.new.numbers) }
 {

@@ -106,7 +106,8 @@ pub trait Theory {
         ensures with { goes_with self.new table.new }
         ensures same { view self.new ≡ view self.old }
         ensures budget { Spends budget.old budget.new }
-        ensures checks { Checks (agrees self.new (terms_watched table.old (view self.old)) (literals_held table.old (view self.old)))
+        ensures checks { Checks (agrees self.new (terms_watched table.old (view self.old))
+            (literals_held table.old (view self.old)))
             (refuses self.old (terms_watched table.old (view self.old)) (literals_held table.old (view self.old)))
             (view self.old) (record { table = table.old; log = log.old }) result
             (record { table = table.new; log = log.new }) }

@@ -45,7 +45,8 @@ pub(crate) fn lead(table: &TermTable, reasons: Reasons<'_>, from: TermId, to: Te
     requires reasons { AreReasonsIn table.now reasons }
     requires from { IsIn table.now from }
     requires to { IsIn table.now to }
-    ensures { Tests (Lead (reasons_meant table.now reasons.entry) (term_at table.now from) (term_at table.now to)) result }
+    ensures { Tests (Lead (reasons_meant table.now reasons.entry) (term_at table.now from)
+        (term_at table.now to)) result }
 {
     table.ids_are_unique();
     let mut current = from;

@@ -61,7 +61,8 @@ impl Search {
         ensures ends { IfOk result (Ends (state table.old self.old) (state table.new self.new)
             (HasRested table.new self.new (T.view theory.new) (T.agrees theory.new
             (terms_watched table.new (T.view theory.new)) (literals_held table.new (T.view theory.new))))) }
-        ensures came { (ts : List Term) → T.came_by theory.old table.old ts (atoms_of table.old self.old) self.old.budget.exchanges
+        ensures came { (ts : List Term) → T.came_by theory.old table.old ts
+            (atoms_of table.old self.old) self.old.budget.exchanges
             → CameTo result (λ end. end ≡ Rests → IsPaid
             (λ n. T.came_by theory.new table.new ts n self.new.budget.exchanges) (most table.old self.old self.new))
             (IsPaid (λ n. T.stopped_by theory.new table.new ts n self.new.budget.exchanges) (most table.old self.old self.new))

@@ -50,11 +50,13 @@ impl Search {
         ensures grown { Extends table.old table.new }
         ensures declared { declared_in table.new ≡ declared_in table.old }
         ensures with { IfOk result (λ _. T.goes_with theory.new table.new) }
-        ensures came { IfOk result (λ _. (ts : List Term) (n : ℕ) → T.came_by theory.old table.old ts n self.old.budget.exchanges
+        ensures came { IfOk result (λ _. (ts : List Term) (n : ℕ)
+            → T.came_by theory.old table.old ts n self.old.budget.exchanges
             → T.came_by theory.new table.new ts n self.new.budget.exchanges) }
         ensures right { IfOk result (λ _. IsLogOf table.new self.new.log) }
         ensures limits { IfOk result (λ _. KeepsLimits self.old.budget self.new.budget) }
-        ensures settles { IfOk result (Settles (state table.old self.old) (state table.new self.new) (T.view theory.new)) }
+        ensures settles { IfOk result (Settles (state table.old self.old) (state table.new self.new)
+            (T.view theory.new)) }
     {
         table.ids_are_unique();
         self.trail.is_sound();
@@ -96,7 +98,8 @@ impl Search {
         ensures declared { declared_in table.new ≡ declared_in table.old }
         ensures same { OnOk result (self.new ≡ self.old) }
         ensures right { OnOk result (IsLogOf table.new self.new.log) }
-        ensures shows { OnOk result ((n : ℕ) → length self.old.budget.learned ≡ self.old.budget.limit → n ≡ self.old.budget.limit
+        ensures shows { OnOk result ((n : ℕ) → length self.old.budget.learned ≡ self.old.budget.limit
+            → n ≡ self.old.budget.limit
             → Shows table.old table.new self.old self.new (Unknown (Conflicts n))) }
     {
         logs_stand_in_grown_tables();
@@ -127,7 +130,8 @@ impl Search {
         ensures grown { Extends table.old table.new }
         ensures declared { declared_in table.new ≡ declared_in table.old }
         ensures with { OnOk result (T.goes_with theory.new table.new) }
-        ensures came { OnOk result ((ts : List Term) (n : ℕ) → T.came_by theory.old table.old ts n self.old.budget.exchanges
+        ensures came { OnOk result ((ts : List Term) (n : ℕ)
+            → T.came_by theory.old table.old ts n self.old.budget.exchanges
             → T.came_by theory.new table.new ts n self.new.budget.exchanges) }
         ensures step { OnOk result (IsStep (conflict_of table.old self.old clash) table.new self.new.log) }
         ensures asked { OnOk result (IsAsked (T.view theory.new) self.new) }

@@ -21,7 +21,8 @@ impl Search {
     /// comes where the clause finds no memory; then all is as it was.
     pub fn keep(&mut self, table: &TermTable, step: StepId) -> Result<(), NoMemory>
         requires begins { (p : Problem) × (limits : Limits) × Begins table.now p limits self.old }
-        requires clash { (held : List Lit) × IsClash table.now self.old.log held step × AreOfAtoms self.old.atoms.items held }
+        requires clash { (held : List Lit) × IsClash table.now self.old.log held step
+            × AreOfAtoms self.old.atoms.items held }
         ensures kept { MatchResult result (λ _. HasKept table.now step self.old self.new) (λ _. self.new ≡ self.old) }
         ensures continues { OnOk result (Continues table.now table.now self.old self.new) }
         ensures begins { OnOk result ((p : Problem) (limits : Limits) → Begins table.now p limits self.old

@@ -18,7 +18,8 @@ use term_core::{TermId, TermTable};
 /// After a stop, which is out of memory or the theory's at one of them, it watches those before this one.
 pub fn watch_all<T: Theory>(theory: &mut T, table: &TermTable, terms: &[TermId]) -> Result<(), Stop>
     requires terms { All (IsTermIn table.now) terms.now }
-    requires rising { (i j : ℕ) → i < j → j < length terms.now → (get_or terms.now i no_id).0 < (get_or terms.now j no_id).0 }
+    requires rising { (i j : ℕ) → i < j → j < length terms.now
+        → (get_or terms.now i no_id).0 < (get_or terms.now j no_id).0 }
     requires none { (T.view theory.old).watched ≡ [] }
     requires with { T.goes_with theory.old table.now }
     ensures with { T.goes_with theory.new table.now }

@@ -92,7 +92,8 @@ impl Session {
     /// the terms of a command may have. `NoMemory` comes where memory ran out.
     pub fn new(alloc: Global, limits: &Limits, mode: Mode) -> Result<Session, NoMemory>
         ensures begun { IfOk result (λ x. IsSession x empty_stack × (x.limits ≡ limits.now) × (x.mode ≡ mode)) }
-        ensures budget { IfOk result (λ x. (x.budget.learned ≡ []) × (x.budget.exchanges ≡ []) × HasLimits limits.now x.budget) }
+        ensures budget { IfOk result (λ x. (x.budget.learned ≡ []) × (x.budget.exchanges ≡ [])
+            × HasLimits limits.now x.budget) }
     {
         commands_keep_stacks();
         commands_leave_script_names();

@@ -84,7 +84,8 @@ pub fn run_text<K: Sink>(
     mode: Mode,
     out: &mut K,
 ) -> Status
-    ensures { EndsText (limits_meant limits.now) (mode_meant mode) bytes.now result (K.state out.old) (K.state out.new) }
+    ensures { EndsText (limits_meant limits.now) (mode_meant mode) bytes.now result (K.state out.old)
+        (K.state out.new) }
 {
     spec_sessions::laws::answers_say_what_is_so();
     run_session(alloc, bytes, limits, mode, out)
@@ -98,7 +99,8 @@ fn run_session<K: Sink>(
     mode: Mode,
     out: &mut K,
 ) -> Status
-    ensures { RunsText (limits_meant limits.now) (mode_meant mode) bytes.now result (K.state out.old) (K.state out.new) }
+    ensures { RunsText (limits_meant limits.now) (mode_meant mode) bytes.now result (K.state out.old)
+        (K.state out.new) }
 {
     spec_text::laws::each_text_is_read();
     let Ok(mut session) = Session::new(alloc, limits, mode) else {

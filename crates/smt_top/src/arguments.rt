@@ -173,7 +173,8 @@ fn whole_command<'a>(alloc: Global) -> Result<Command<'a>, AllocError>
 /// An error of the kind `OutOfMemory` comes where an allocation was refused, one of another kind where the arguments have such
 /// a fault.
 fn matches_of<'a>(alloc: Global, arguments: &'a [String]) -> Result<ArgMatches<'a>, Error>
-    ensures matches { IfOk result (λ m. subcommand_rows_of m ≡ subcommand_of smt_app (map string_bytes arguments.entry.now)) }
+    ensures matches { IfOk result (λ m. subcommand_rows_of m
+        ≡ subcommand_of smt_app (map string_bytes arguments.entry.now)) }
     ensures kinds { FailsBy (fault_of smt_app (map string_bytes arguments.entry.now)) result }
 {
     let command = whole_command(alloc)?;
@@ -203,7 +204,8 @@ fn request_in<'a>(name: &str, found: &ArgMatches<'a>) -> Option<Request<'a>>
 
 /// Gives what the matches of `solve` or `certify` ask for, and `None` where the value of an option is no number.
 fn run_in<'a>(mode: Mode, found: &ArgMatches<'a>) -> Option<RunRequest<'a>>
-    ensures { option_map (λ r. asked_by (Request.Run r)) result ≡ run_in (mode_meant mode) (rows_of (found_of found.now)) }
+    ensures { option_map (λ r. asked_by (Request.Run r)) result
+        ≡ run_in (mode_meant mode) (rows_of (found_of found.now)) }
 {
     let (conflicts, pivots) = budgets_in(found)?;
     Some(RunRequest {

@@ -20,11 +20,13 @@ pub fn run_buffered<F: Shelf, K: Sink + Drop>(
     shelf: &mut F,
     out: &mut BufferedSink<K>,
 ) -> Status
-    ensures ends { Ends result (asked arguments.now) (F.holds shelf.old) (through K.state out.old) (through K.state out.new) }
+    ensures ends { Ends result (asked arguments.now) (F.holds shelf.old) (through K.state out.old)
+        (through K.state out.new) }
     ensures passed_on { (result ≡ Status.Done) ⊎ ((result ≡ Status.Refused) ⊎ (result ≡ Status.Words))
         → (through K.state out.new).pending ≡ [] }
     ensures read_fault { result ≡ Status.ReadFault → Rose (F.faults shelf.old) (F.faults shelf.new) }
-    ensures read { F.is_sound shelf.old → AreHeld (asked arguments.now) (F.holds shelf.old) → result ≢ Status.ReadFault }
+    ensures read { F.is_sound shelf.old → AreHeld (asked arguments.now) (F.holds shelf.old)
+        → result ≢ Status.ReadFault }
     ensures order { result ≢ Status.Memory → result ≢ Status.ReadFault
         → LastIsRead (asked arguments.now) (F.holds shelf.old) (F.left shelf.new) }
     ensures unasked { asked arguments.now ≡ None → shelf.new ≡ shelf.old }

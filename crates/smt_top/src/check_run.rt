@@ -26,7 +26,8 @@ fn run_check<F: Shelf, K: Sink>(
     shelf: &mut F,
     out: &mut K,
 ) -> Status
-    ensures ends { CheckEnds result (Some (names_of request.entry)) (F.holds shelf.old) (K.state out.old) (K.state out.new) }
+    ensures ends { CheckEnds result (Some (names_of request.entry)) (F.holds shelf.old) (K.state out.old)
+        (K.state out.new) }
     ensures read_fault { result ≡ Status.ReadFault → Rose (F.faults shelf.old) (F.faults shelf.new) }
     ensures read { F.is_sound shelf.old → BothHold (Some (names_of request.entry)) (F.holds shelf.old)
         → result ≢ Status.ReadFault }
@@ -54,7 +55,8 @@ fn run_script<F: Shelf, K: Sink>(
 ) -> Status
     ensures ends { ScriptEnds result (run_of request.entry) (F.holds shelf.old) (K.state out.old) (K.state out.new) }
     ensures read_fault { result ≡ Status.ReadFault → Rose (F.faults shelf.old) (F.faults shelf.new) }
-    ensures read { F.is_sound shelf.old → IsSome (F.holds shelf.old request.entry.name.now) → result ≢ Status.ReadFault }
+    ensures read { F.is_sound shelf.old → IsSome (F.holds shelf.old request.entry.name.now)
+        → result ≢ Status.ReadFault }
     ensures order { result ≢ Status.Memory → result ≢ Status.ReadFault
         → TakesText (F.holds shelf.old request.entry.name.now) (F.left shelf.new) }
     ensures found { ((s : F) → IsSome (F.left s)) → IsSome (F.holds shelf.old request.entry.name.now)
@@ -116,7 +118,8 @@ pub fn run<F: Shelf, K: Sink>(
 ) -> Status
     ensures ends { Ends result (asked arguments.now) (F.holds shelf.old) (K.state out.old) (K.state out.new) }
     ensures read_fault { result ≡ Status.ReadFault → Rose (F.faults shelf.old) (F.faults shelf.new) }
-    ensures read { F.is_sound shelf.old → AreHeld (asked arguments.now) (F.holds shelf.old) → result ≢ Status.ReadFault }
+    ensures read { F.is_sound shelf.old → AreHeld (asked arguments.now) (F.holds shelf.old)
+        → result ≢ Status.ReadFault }
     ensures order { result ≢ Status.Memory → result ≢ Status.ReadFault
         → LastIsRead (asked arguments.now) (F.holds shelf.old) (F.left shelf.new) }
     ensures unasked { asked arguments.now ≡ None → shelf.new ≡ shelf.old }

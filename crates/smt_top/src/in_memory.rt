@@ -25,7 +25,8 @@ pub fn run_in_memory(
     ensures same { (n : List ℕ) → text_named shelf.new.texts n ≡ text_named shelf.old.texts n }
     ensures read_fault { result ≡ Status.ReadFault → Rose shelf.old.faults shelf.new.faults }
     ensures write_fault { result ≡ Status.WriteFault → Rose out.old.faults out.new.faults }
-    ensures read { shelf.old.failing ≡ [] → 0 < shelf.old.most → AreHeld (asked arguments.now) (text_named shelf.old.texts)
+    ensures read { shelf.old.failing ≡ [] → 0 < shelf.old.most
+        → AreHeld (asked arguments.now) (text_named shelf.old.texts)
         → result ≢ Status.ReadFault }
 {
     run(alloc, arguments, shelf, out)

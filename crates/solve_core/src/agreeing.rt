@@ -85,7 +85,8 @@ fn shared_of(
 ) -> Result<Vec<Shared>, NoMemory>
     requires classes { length said.now.classes.items ≡ from + length shared.now }
     requires numbers { length said.now.numbers.items ≡ from + length shared.now }
-    ensures { IfOk result (λ xs. AreSaid shared.now said.now.classes.items (map fraction said.now.numbers.items) from xs.items) }
+    ensures { IfOk result (λ xs. AreSaid shared.now said.now.classes.items
+        (map fraction said.now.numbers.items) from xs.items) }
 {
     let arguments = argument_marks(alloc, table)?;
     let mut xs = Vec::new(alloc);
@@ -118,7 +119,8 @@ pub(crate) fn agreement(
     requires simplex { Suits theory.now.simplex table.now }
     requires asked { (p : Problem) × IsAskedOf table.now shared.now p search.now }
     ensures found { IfOk result (FindsAgreement table.now search.now (theory_of theory.now.congruence) shared.now) }
-    ensures stops { IfErr result (StopsBy (λ s. IsStrainAt table.now (terms_watched table.now theory.now.simplex.theory) s
+    ensures stops { IfErr result (StopsBy
+        (λ s. IsStrainAt table.now (terms_watched table.now theory.now.simplex.theory) s
         theory.now.simplex) (λ _. ⊥)) }
 {
     terms_of_linear_checks_are_linear();

@@ -84,9 +84,11 @@ fn read_atom<'a>(
     requires next { IsNext (here table.old scope.now walk.old) (atom called.at kind called.name.now)
         (trees_meant after) }
     requires place { called.place ≡ called.at }
-    ensures goes { (w : TextSetting) → Goes w (here table.old scope.now walk.old) (here table.new scope.now walk.new) result }
+    ensures goes { (w : TextSetting) → Goes w (here table.old scope.now walk.old)
+        (here table.new scope.now walk.new) result }
     ensures keeps { Keeps table.old table.new }
-    ensures less { OnOk result (all_left (here table.new scope.now walk.new) < all_left (here table.old scope.now walk.old)) }
+    ensures less { OnOk result (all_left (here table.new scope.now walk.new) < all_left
+        (here table.old scope.now walk.old)) }
 {
     match atom(alloc, table, scope, &walk.bound, called, kind) {
         Ok(id) => add_value(walk, id, after),
@@ -329,7 +331,8 @@ fn close_binding<'a>(
 // The body of a `let` was read: its names are bound no more.
 fn close_body<'a>(walk: &mut Walk<'a>, frame: Frame<'a>, bound: usize) -> Result<(), ReadError>
     requires opened { frame.opened ≡ body bound }
-    requires walk { (w : TextSetting) × (t : TableView) × (v : ScopeView) × OnWalk w (with_frame (here t v walk.old) frame) }
+    requires walk { (w : TextSetting) × (t : TableView) × (v : ScopeView)
+        × OnWalk w (with_frame (here t v walk.old) frame) }
     ensures goes { (w : TextSetting) (t : TableView) (v : ScopeView)
         → Goes w (with_frame (here t v walk.old) frame.entry) (here t v walk.new) result }
     ensures less { (t : TableView) (v : ScopeView) → OnOk result (all_left (here t v walk.new)
@@ -419,10 +422,12 @@ fn read_next<'a>(
 ) -> Result<(), ReadError>
     requires walk { OnWalk (setting_meant setting) (here table.old scope.now walk.old) }
     requires next { IsNext (here table.old scope.now walk.old) (tree_meant first) (trees_meant after) }
-    ensures goes { Goes (setting_meant setting.entry) (here table.old scope.now walk.old) (here table.new scope.now walk.new)
+    ensures goes { Goes (setting_meant setting.entry) (here table.old scope.now walk.old)
+        (here table.new scope.now walk.new)
         result }
     ensures keeps { Keeps table.old table.new }
-    ensures less { OnOk result (all_left (here table.new scope.now walk.new) < all_left (here table.old scope.now walk.old)) }
+    ensures less { OnOk result (all_left (here table.new scope.now walk.new)
+        < all_left (here table.old scope.now walk.old)) }
 {
     match look(first) {
         View::Atom(at, kind, name) => {
@@ -447,10 +452,12 @@ fn step<'a>(
     walk: &mut Walk<'a>,
 ) -> Result<bool, ReadError>
     requires { OnWalk (setting_meant setting) (here table.old scope.old walk.old) }
-    ensures goes { Goes (setting_meant setting.entry) (here table.old scope.old walk.old) (here table.new scope.new walk.new)
+    ensures goes { Goes (setting_meant setting.entry) (here table.old scope.old walk.old)
+        (here table.new scope.new walk.new)
         result }
     ensures grows { Grows (store table.old scope.old) (store table.new scope.new) }
-    ensures next { IfOk result (λ yes. Steps yes (here table.old scope.old walk.old) (here table.new scope.new walk.new)) }
+    ensures next { IfOk result (λ yes. Steps yes (here table.old scope.old walk.old)
+        (here table.new scope.new walk.new)) }
 {
     if let Some((first, after)) = split(walk.rest) {
         return match read_next(alloc, table, scope, setting, walk, first, after) {

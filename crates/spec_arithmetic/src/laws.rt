@@ -39,7 +39,8 @@ pub fn numbers_obey_arithmetic()
 pub fn forms_have_their_terms_number()
     ensures all { (symbols : List Symbol) (n : Term → Fraction) (t : Term) (f : Form) → ((u : Term) → IsReduced (n u))
         → IsWellSorted symbols [] t → sort_of t ≡ Number → form t ≡ Ok f → number_at n t ≡ form_value (number_at n) f }
-    ensures linear { (symbols : List Symbol) (n : Term → Fraction) (t : Term) (f : Form) → ((u : Term) → IsReduced (n u))
+    ensures linear { (symbols : List Symbol) (n : Term → Fraction) (t : Term) (f : Form)
+        → ((u : Term) → IsReduced (n u))
         → IsLinearOver symbols t → form t ≡ Ok f → number_at n t ≡ form_value n f }
     ensures difference { (symbols : List Symbol) (n : Term → Fraction) (atom s t : Term) (f : Form)
         → ((u : Term) → IsReduced (n u)) → IsLinearOver symbols s → IsLinearOver symbols t → difference atom s t ≡ Ok f
@@ -49,7 +50,8 @@ pub fn forms_have_their_terms_number()
 /// States that what follows by a rule of linear arithmetic is true under each interpretation of the symbols, whose numbers
 /// are fractions of any size. Source: Alethe specification, rules; Farkas 1902.
 pub fn arithmetic_rules_are_sound()
-    ensures { (symbols : List Symbol) (rule : ArithmeticRule) (premises : List Clause) (arguments : Trees) (clause : Clause)
+    ensures { (symbols : List Symbol) (rule : ArithmeticRule) (premises : List Clause) (arguments : Trees)
+        (clause : Clause)
         → (i : Interpretation) → Interprets i symbols → All (IsFormulaOver symbols) clause
         → IsArithmetic rule premises arguments clause → list_any (λ t. is_true (value_at i [] t)) clause ≡ true }
 {}

@@ -27,7 +27,8 @@ pub fn a_read_text_has_no_fault_but_depth()
 
 /// Says that an s-expression of a text is read back from how it is printed, but for offsets and the bars of symbols.
 pub fn printed_trees_read_back()
-    ensures { (text : List ℕ) (at : ℕ) (t : Tree) (rest : List (ℕ × Lexeme)) → lexemes_from text at ≡ spelled t ++ rest → (u : Tree) × IsRead (printed t) (more u none) × SameTree t u }
+    ensures { (text : List ℕ) (at : ℕ) (t : Tree) (rest : List (ℕ × Lexeme))
+        → lexemes_from text at ≡ spelled t ++ rest → (u : Tree) × IsRead (printed t) (more u none) × SameTree t u }
 {}
 
 /// Says that the first lexeme of a text is the longest prefix that the lexicon's table has, and that a text whose first
@@ -50,7 +51,8 @@ pub fn a_text_is_read_up_to_one_end()
 /// Says that after so many open lists lexemes are trees up to one end: where what is after the trees begins with no
 /// tree, but for one nested too deep, the trees and what is after them are one.
 pub fn lexemes_are_read_up_to_one_end()
-    ensures { (n : ℕ) (xs rest others : List (ℕ × Lexeme)) (ts us : Trees) → AreTrees n xs ts rest → AreTrees n xs us others
+    ensures { (n : ℕ) (xs rest others : List (ℕ × Lexeme)) (ts us : Trees) → AreTrees n xs ts rest
+        → AreTrees n xs us others
         → ((t : Tree) (ys : List (ℕ × Lexeme)) → rest ≡ spelled t ++ ys → nesting_limit < n + depth t)
         → ((t : Tree) (ys : List (ℕ × Lexeme)) → others ≡ spelled t ++ ys → nesting_limit < n + depth t)
         → (ts ≡ us) × (rest ≡ others) }
@@ -65,7 +67,8 @@ pub fn each_text_is_read()
 /// Says that the offsets of trees lie in the text that they stand in, from the offset on from which it was read: that of
 /// one tree before other trees, and of trees after other lexemes.
 pub fn trees_stand_in_their_text()
-    ensures first { (text : List ℕ) (at : ℕ) (t : Tree) (rest : List (ℕ × Lexeme)) → lexemes_from text at ≡ spelled t ++ rest
+    ensures first { (text : List ℕ) (at : ℕ) (t : Tree) (rest : List (ℕ × Lexeme))
+        → lexemes_from text at ≡ spelled t ++ rest
         → AllOffsets (λ n. (at ≤ n) × (n < length text)) t }
     ensures all { (text : List ℕ) (at : ℕ) (earlier rest : List (ℕ × Lexeme)) (ts : Trees)
         → lexemes_from text at ≡ earlier ++ (spelled_all ts ++ rest) → AllOffsetsOf (λ n. (at ≤ n) × (n < length text)) ts }
@@ -74,6 +77,7 @@ pub fn trees_stand_in_their_text()
 /// Says that the first fault of lexemes of a text lies in the text or at its end, after whatever other lexemes and
 /// however many open lists.
 pub fn lexical_faults_stand_in_their_text()
-    ensures { (text : List ℕ) (at n : ℕ) (earlier rest : List (ℕ × Lexeme)) (f : Located) → lexemes_from text at ≡ earlier ++ rest
+    ensures { (text : List ℕ) (at n : ℕ) (earlier rest : List (ℕ × Lexeme)) (f : Located)
+        → lexemes_from text at ≡ earlier ++ rest
         → first_fault nesting_limit (length text) n rest ≡ Some f → f.offset ≤ length text }
 {}

@@ -91,7 +91,8 @@ fn keep_below(list: &mut Vec<u64>, number: u64)
 /// Takes the numbers from one on out of the list of a place.
 fn drop_from(all: &mut Vec<Vec<u64>>, place: usize, number: u64)
     requires { place < length all.old.items }
-    ensures { lists all.new.items ≡ set (lists all.old.items) place (below number (get_or (lists all.old.items) place [])) }
+    ensures { lists all.new.items ≡ set (lists all.old.items) place
+        (below number (get_or (lists all.old.items) place [])) }
 {
     keep_below(&mut all[place], number);
 }

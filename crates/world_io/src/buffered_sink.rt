@@ -49,7 +49,8 @@ impl<K: Sink + Drop> BufferedSink<K> {
     /// Writes to the sink what waits in the buffer itself.
     fn write_pending(&mut self) -> Result<(), Failed>
         ensures emptied { OnOk result (vec_len self.new.bytes ≡ 0) }
-        ensures passed { PassesOn (pending_in self.old) result (K.state (sink_of self.old)) (pending_in self.new) (K.state (sink_of self.new)) }
+        ensures passed { PassesOn (pending_in self.old) result (K.state (sink_of self.old)) (pending_in self.new)
+            (K.state (sink_of self.new)) }
     {
         let n = write_prefix(&mut self.sink, &self.bytes[self.from..]);
         self.from += n;
@@ -64,7 +65,8 @@ impl<K: Sink + Drop> BufferedSink<K> {
     /// Writes to the sink what waits in the buffer itself where the buffer is full.
     fn make_room(&mut self) -> Result<(), Failed>
         ensures free { OnOk result (vec_len self.new.bytes < 4096) }
-        ensures sends { PassesNothing result (buffered (K.state (sink_of self.old)) (pending_in self.old)) (buffered (K.state (sink_of self.new)) (pending_in self.new)) }
+        ensures sends { PassesNothing result (buffered (K.state (sink_of self.old)) (pending_in self.old))
+            (buffered (K.state (sink_of self.new)) (pending_in self.new)) }
     {
         if self.bytes.len() >= SIZE {
             return self.write_pending();

@@ -51,7 +51,8 @@ impl MemShelf {
         failing: Vec<u64>,
     ) -> Result<MemShelf, NoMemory>
         ensures made { IsOk result }
-        ensures state { IfOk result (λ s. s ≡ record { texts = map text_of texts.items; left = []; most = most; failing = failing.items; calls = 0; faults = 0 }) }
+        ensures state { IfOk result (λ s. s
+            ≡ record { texts = map text_of texts.items; left = []; most = most; failing = failing.items; calls = 0; faults = 0 }) }
     {
         let current = texts.len();
         Ok(MemShelf {
@@ -140,7 +141,8 @@ impl MemSink {
     /// A write takes at most `most` bytes. The writes with the numbers in `failing` fail.
     /// `NoMemory` comes where the memory for the room was refused.
     pub fn new(alloc: Global, room: u64, most: u64, failing: Vec<u64>) -> Result<MemSink, NoMemory>
-        ensures state { IfOk result (λ s. s ≡ record { written = []; room = room; most = most; failing = failing.items; calls = 0; faults = 0 }) }
+        ensures state { IfOk result (λ s. s
+            ≡ record { written = []; room = room; most = most; failing = failing.items; calls = 0; faults = 0 }) }
         ensures made { room ≡ 0 → IsOk result }
     {
         let bytes = Vec::with_capacity(alloc, room as usize)?;
@@ -199,7 +201,9 @@ fn is_to_fail(failing: &[u64], calls: &mut u64) -> bool
 
 /// Finds the index of the first text of a name.
 fn place_of(texts: &[(String, Bytes)], name: &str) -> Option<usize>
-    ensures { MatchOption result (text_named (map text_of texts.now) name.now ≡ None) (λ k. (k < length texts.now) × (text_named (map text_of texts.now) name.now ≡ Some (text_at (map text_of texts.now) k))) }
+    ensures { MatchOption result (text_named (map text_of texts.now) name.now ≡ None)
+        (λ k. (k < length texts.now) × (text_named (map text_of texts.now) name.now
+        ≡ Some (text_at (map text_of texts.now) k))) }
 {
     for (k, t) in texts.iter().enumerate() {
         if t.0.as_str() == name {

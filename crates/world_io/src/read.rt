@@ -82,7 +82,8 @@ fn read_to<F: Shelf>(alloc: Global, shelf: &mut F, n: u64) -> Result<Vec<u8>, Re
 /// `Failed` comes only where the count of faults of the shelf rose in this call, `Memory` where an allocation was refused.
 /// After both a prefix of what was left is taken, any number of bytes from none to all, and its bytes are lost.
 pub fn read_all<F: Shelf>(alloc: Global, shelf: &mut F, limit: u64) -> Result<ReadEnd, ReadStop>
-    ensures end { IfOk result (λ end. (text : List ℕ) × IsReadTo limit end text × IfSome (F.left shelf.old) (λ t. t ≡ text)) }
+    ensures end { IfOk result (λ end. (text : List ℕ) × IsReadTo limit end text
+        × IfSome (F.left shelf.old) (λ t. t ≡ text)) }
     ensures prefix { TakesPrefix (F.left shelf.old) (F.left shelf.new) }
     ensures taken { IfOk result (λ end. HasTaken limit end (F.left shelf.old) (F.left shelf.new)) }
     ensures same { (n : List ℕ) → F.holds shelf.new n ≡ F.holds shelf.old n }
@@ -104,7 +105,8 @@ pub fn read_all<F: Shelf>(alloc: Global, shelf: &mut F, limit: u64) -> Result<Re
 /// `Failed` comes only where the count of faults of the shelf rose in this call, `Memory` where an allocation was refused.
 /// After both a prefix of what was left is taken, any number of bytes from none to all, and its bytes are lost.
 pub fn read_prefix<F: Shelf>(alloc: Global, shelf: &mut F, n: u64) -> Result<Bytes, ReadStop>
-    ensures bytes { IfOk result (λ bytes. (text : List ℕ) × (bytes ≡ take n text) × IfSome (F.left shelf.old) (λ t. t ≡ text)) }
+    ensures bytes { IfOk result (λ bytes. (text : List ℕ) × (bytes ≡ take n text)
+        × IfSome (F.left shelf.old) (λ t. t ≡ text)) }
     ensures prefix { TakesPrefix (F.left shelf.old) (F.left shelf.new) }
     ensures taken { IfOk result (λ bytes. HasTakenPrefix n bytes (F.left shelf.old) (F.left shelf.new)) }
     ensures same { (n : List ℕ) → F.holds shelf.new n ≡ F.holds shelf.old n }
