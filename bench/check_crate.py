@@ -2,6 +2,7 @@
 """Checks single crates of this checkout, over libraries that a gate has built in another clone.
 
 usage: bench/check_crate.py GATE check CRATE [ARGUMENT ..]   (`rattle check`; what passed is kept, in .checked of the checkout)
+       bench/check_crate.py GATE time CRATE [ARGUMENT ..]    (the same with nothing kept; prints the seconds of each function)
        bench/check_crate.py GATE build CRATE ..              (proves these and all below them that differ, two at a time)
        bench/check_crate.py GATE list CRATE ..               (lists those)
 
@@ -12,11 +13,16 @@ its folder, and what `rattle` wrote into out/check_crate.log. Arguments of a che
 
 `rt check` and `rt ci` keep apart what they proved, and each proves all crates below first. This proves what differs
 alone, so it is for work on a high crate beside a gate. It is no gate: what it proved is proved there once more.
+
+The seconds are of the processor, the function's own first and then their sum from the longest down: where a crate, or with
+`--test` its tests, takes long, a few functions do.
 """
 import hashlib
 import os
+import re
 import subprocess
 import sys
+import tempfile
 from concurrent.futures import FIRST_COMPLETED, ThreadPoolExecutor, wait
 from functools import cache
 
@@ -138,10 +144,39 @@ def build_all(gate, todo):
                     proved.add(crate)
 
 
+def ticks_of(pid):
+    with open(f"/proc/{pid}/stat", encoding="utf-8") as f:
+        rest = f.read().rpartition(")")[2].split()
+    return (int(rest[11]) + int(rest[12])) / os.sysconf("SC_CLK_TCK")
+
+
+def time_functions(words, folder):
+    """Checks with nothing kept, and prints what each function took; gives the status of the check."""
+    rows, last, said = [], 0.0, ""
+    with tempfile.TemporaryDirectory() as kept:
+        words = [*words, "--incremental", kept, "--progress", "--jobs", "1"]
+        run = subprocess.Popen(words, cwd=folder, stdout=subprocess.PIPE, stderr=subprocess.STDOUT, text=True)
+        for said in run.stdout:
+            found = re.match(r"checked (\S+), \d+ of \d+", said)
+            if found:
+                now = ticks_of(run.pid)
+                rows.append((now - last, found.group(1)))
+                last = now
+    total, part = sum(seconds for seconds, _ in rows), 0.0
+    for seconds, name in sorted(rows, reverse=True):
+        part += seconds
+        print(f"{seconds:7.1f} {100 * part / total:5.0f}%  {name}")
+    print(f"{total:7.1f} in all; {said.strip()[:60]}")
+    return run.wait()
+
+
 def main():
-    if len(sys.argv) < 4 or sys.argv[2] not in ("check", "build", "list"):
+    if len(sys.argv) < 4 or sys.argv[2] not in ("check", "time", "build", "list"):
         sys.exit(__doc__)
     gate, mode, crates = os.path.abspath(sys.argv[1]), sys.argv[2], sys.argv[3:]
+    if mode == "time":
+        words = [f"{KIT}/bin/rattle", "check", *words_of(gate, crates[0]), *crates[1:]]
+        sys.exit(time_functions(words, os.path.join(TOP, "crates", crates[0])))
     if mode == "check":
         crate, folder = crates[0], os.path.join(TOP, "crates", crates[0])
         kept = os.path.join(TOP, ".checked", crate)
