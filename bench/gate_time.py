@@ -2,7 +2,7 @@
 """Measures the processor time of a gate, by crate and kind of work.
 
 usage: bench/gate_time.py OUT.tsv PID       (beside `rt ci`, whose process PID is; it ends with that process)
-       bench/gate_time.py --sum OUT.tsv     (prints the table)
+       bench/gate_time.py --sum OUT.tsv ..  (prints the table; of several runs, where one was ended and begun again, the most counts)
 
 Twice a second it reads /proc: of each process below PID whose arguments name a crate it notes the crate, the kind of work and the
 processor time. A row of OUT.tsv is a process: crate, kind (`build` a crate's proofs, `build+test` those of its tests, `check` a must-fail
@@ -65,24 +65,38 @@ def write(path, rows):
     os.replace(path + ".new", path)
 
 
-def print_sums(path):
-    kinds, sums = ["build", "build+test", "check"], {}
+KINDS = ["build", "build+test", "check"]
+
+
+def sums_of(path):
+    """Gives for each crate the seconds by kind of work."""
+    sums = {}
     for line in open(path, encoding="utf-8"):
         crate, kind, seconds = line.split("\t")[:3]
-        sums.setdefault(crate, dict.fromkeys(kinds, 0.0))
-        sums[crate][kind if kind in kinds else "check"] += float(seconds)
+        row = sums.setdefault(crate, dict.fromkeys(KINDS, 0.0))
+        row[kind if kind in KINDS else "check"] += float(seconds)
+    return sums
+
+
+def print_sums(paths):
+    sums = {}
+    for path in paths:
+        for crate, row in sums_of(path).items():
+            kept = sums.setdefault(crate, dict.fromkeys(KINDS, 0.0))
+            for k in KINDS:
+                kept[k] = max(kept[k], row[k])
     print("| crate | proofs | tests | edits | sum |\n|---|---:|---:|---:|---:|")
-    total = dict.fromkeys(kinds, 0.0)
+    total = dict.fromkeys(KINDS, 0.0)
     for crate, row in sorted(sums.items()):
-        print(f"| `{crate}` | " + " | ".join(f"{row[k]:.0f}" for k in kinds) + f" | {sum(row.values()):.0f} |")
-        for k in kinds:
+        print(f"| `{crate}` | " + " | ".join(f"{row[k]:.0f}" for k in KINDS) + f" | {sum(row.values()):.0f} |")
+        for k in KINDS:
             total[k] += row[k]
-    print("| sum, in minutes | " + " | ".join(f"{total[k] / 60:.0f}" for k in kinds) + f" | {sum(total.values()) / 60:.0f} |")
+    print("| sum, in minutes | " + " | ".join(f"{total[k] / 60:.0f}" for k in KINDS) + f" | {sum(total.values()) / 60:.0f} |")
 
 
 def main():
     if sys.argv[1] == "--sum":
-        return print_sums(sys.argv[2])
+        return print_sums(sys.argv[2:])
     rows, written = {}, 0.0
     while sample(int(sys.argv[2]), rows):
         if time.time() - written > 10:
