@@ -3,7 +3,7 @@
 ghost use Rattle.std.specs.Prelude.{◌≤◌, length};
 
 use crate::plain_closure::PlainClosure;
-use congruence_closure::{Closure, Conflict, Lit, Node, TermId, Truths};
+use congruence_closure::{Closure, Lit, Node, TermId, Truths};
 use std::alloc::Global;
 use std::marker::Model;
 use std::test::Fail;
@@ -103,28 +103,74 @@ fn nodes_of(alloc: Global, seed: &mut u64) -> Result<Vec<Node>, NoMemory> {
     Ok(nodes)
 }
 
-/// Tells whether a closure that was settled answers as the plain one does: for each two terms, or that there is a conflict.
+/// Tells whether two terms are of one class in a closure exactly where they are so by classes, for each two terms.
+fn are_same(closure: &Closure, classes: &[u64]) -> bool {
+    for (a, one) in classes.iter().enumerate() {
+        for (b, other) in classes.iter().enumerate() {
+            if closure.same(TermId(a as u64), TermId(b as u64)) != (one == other) {
+                return false;
+            }
+        }
+    }
+    true
+}
+
+/// Tells whether a closure that was settled, and then found a conflict or none, answers as the plain one does: for each two terms,
+/// or that there is a conflict.
 fn answers_agree(
     closure: &Closure,
-    found: Option<Conflict>,
+    clashes: bool,
     plain: &PlainClosure,
     nodes: &[Node],
 ) -> Result<bool, NoMemory> {
     let classes = plain.classes(nodes)?;
-    if plain.is_refuted(nodes, &classes) != found.is_some() {
-        return Ok(false);
-    }
-    if found.is_some() {
-        return Ok(true);
-    }
-    for (a, one) in classes.iter().enumerate() {
-        for (b, other) in classes.iter().enumerate() {
-            if closure.same(TermId(a as u64), TermId(b as u64)) != (one == other) {
-                return Ok(false);
-            }
+    Ok(plain.is_refuted(nodes, &classes) == clashes && (clashes || are_same(closure, &classes)))
+}
+
+/// Settles both; tells whether the answers agree.
+fn settles_alike(
+    marked: &mut Marked,
+    plain: &PlainClosure,
+    nodes: &[Node],
+) -> Result<bool, NoMemory> {
+    let found = marked.closure.settle()?;
+    answers_agree(&marked.closure, found.is_some(), plain, nodes)
+}
+
+/// Lists a term on both, if it can be.
+fn watch_both(
+    marked: &mut Marked,
+    plain: &mut PlainClosure,
+    nodes: &[Node],
+    t: TermId,
+) -> Result<(), NoMemory> {
+    if let Some(node) = nodes.get(t.0 as usize) {
+        if marked.watch(t, node)? {
+            plain.watch(t)?;
         }
     }
-    Ok(true)
+    Ok(())
+}
+
+/// Holds a literal on both, if it can be.
+fn hold_both(marked: &mut Marked, plain: &mut PlainClosure, lit: Lit) -> Result<(), NoMemory> {
+    if marked.hold(lit) {
+        plain.hold(lit)?;
+    }
+    Ok(())
+}
+
+/// Sets a mark on both.
+fn mark_both(marked: &mut Marked, plain: &mut PlainClosure) -> Result<(), NoMemory> {
+    marked.mark()?;
+    plain.mark()
+}
+
+/// Goes back over the newest mark of both, if there is one.
+fn back_both(marked: &mut Marked, plain: &mut PlainClosure) {
+    if marked.back() {
+        plain.back();
+    }
 }
 
 /// Makes a call by chance on both; tells whether the answers agree.
@@ -135,64 +181,66 @@ fn call(
     seed: &mut u64,
 ) -> Result<bool, NoMemory> {
     let t = TermId(next_number(seed) % TERMS);
+    let positive = next_number(seed) % 4 != 0;
     match next_number(seed) % 8 {
-        0 | 1 => {
-            if let Some(node) = nodes.get(t.0 as usize) {
-                if marked.watch(t, node)? {
-                    plain.watch(t)?;
-                }
-            }
-        }
-        2 | 3 | 4 => {
-            let lit = Lit {
-                term: t,
-                positive: next_number(seed) % 4 != 0,
-            };
-            if marked.hold(lit) {
-                plain.hold(lit)?;
-            }
-        }
-        5 => {
-            marked.mark()?;
-            plain.mark()?;
-        }
-        6 => {
-            if marked.back() {
-                plain.back();
-            }
-        }
-        _ => {
-            let found = marked.closure.settle()?;
-            return answers_agree(&marked.closure, found, plain, nodes);
-        }
+        0 | 1 => watch_both(marked, plain, nodes, t)?,
+        2 | 3 | 4 => hold_both(marked, plain, Lit { term: t, positive })?,
+        5 => mark_both(marked, plain)?,
+        6 => back_both(marked, plain),
+        _ => return settles_alike(marked, plain, nodes),
     }
     Ok(true)
 }
 
-/// Runs a case; tells whether all answers agree.
-fn agrees(alloc: Global, seed: &mut u64) -> Result<bool, NoMemory> {
-    let truths = Truths {
-        true_term: TermId(0),
-        false_term: TermId(1),
-    };
-    let nodes = nodes_of(alloc, seed)?;
-    let mut marked = Marked {
-        closure: Closure::new(alloc, truths)?,
-        marks: 0,
-    };
-    let mut plain = PlainClosure::new(alloc, truths);
+/// Lists some of the terms on both, by chance.
+fn watch_some(
+    marked: &mut Marked,
+    plain: &mut PlainClosure,
+    nodes: &[Node],
+    seed: &mut u64,
+) -> Result<(), NoMemory> {
     for (n, node) in nodes.iter().enumerate() {
         if next_number(seed) % 3 != 0 && marked.watch(TermId(n as u64), node)? {
             plain.watch(TermId(n as u64))?;
         }
     }
+    Ok(())
+}
+
+/// Makes calls by chance on both, and settles at the end; tells whether all answers agree.
+fn calls_agree(
+    marked: &mut Marked,
+    plain: &mut PlainClosure,
+    nodes: &[Node],
+    seed: &mut u64,
+) -> Result<bool, NoMemory> {
     for _ in 0..CALLS {
-        if !call(&mut marked, &mut plain, &nodes, seed)? {
+        if !call(marked, plain, nodes, seed)? {
             return Ok(false);
         }
     }
-    let found = marked.closure.settle()?;
-    answers_agree(&marked.closure, found, &plain, &nodes)
+    settles_alike(marked, plain, nodes)
+}
+
+/// Runs a case over some nodes; tells whether all answers agree.
+fn case_agrees(alloc: Global, nodes: &[Node], seed: &mut u64) -> Result<bool, NoMemory> {
+    let truths = Truths {
+        true_term: TermId(0),
+        false_term: TermId(1),
+    };
+    let mut marked = Marked {
+        closure: Closure::new(alloc, truths)?,
+        marks: 0,
+    };
+    let mut plain = PlainClosure::new(alloc, truths);
+    watch_some(&mut marked, &mut plain, nodes, seed)?;
+    calls_agree(&mut marked, &mut plain, nodes, seed)
+}
+
+/// Runs a case; tells whether all answers agree.
+fn agrees(alloc: Global, seed: &mut u64) -> Result<bool, NoMemory> {
+    let nodes = nodes_of(alloc, seed)?;
+    case_agrees(alloc, &nodes, seed)
 }
 
 #[test]

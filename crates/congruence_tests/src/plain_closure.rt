@@ -133,22 +133,31 @@ impl PlainClosure {
         joined
     }
 
+    /// Joins what held literals state, and listed terms that agree; tells whether something was joined.
+    fn join_all(&self, nodes: &[Node], classes: &mut [u64]) -> bool {
+        let mut joined = false;
+        for lit in &self.held {
+            joined = self.give(nodes, classes, *lit) || joined;
+        }
+        self.pass(nodes, classes) || joined
+    }
+
+    /// Joins classes until nothing is joined any more.
+    fn close(&self, nodes: &[Node], classes: &mut [u64]) {
+        for _ in 0..nodes.len() {
+            if !self.join_all(nodes, classes) {
+                return;
+            }
+        }
+    }
+
     /// Gives the class of each of the terms, whose nodes these are.
     pub(crate) fn classes(&self, nodes: &[Node]) -> Result<Vec<u64>, NoMemory> {
         let mut classes = Vec::new(self.alloc);
         for n in 0..nodes.len() {
             classes.push(n as u64)?;
         }
-        for _ in 0..nodes.len() {
-            let mut joined = false;
-            for lit in &self.held {
-                joined = self.give(nodes, &mut classes, *lit) || joined;
-            }
-            joined = self.pass(nodes, &mut classes) || joined;
-            if !joined {
-                return Ok(classes);
-            }
-        }
+        self.close(nodes, &mut classes);
         Ok(classes)
     }
 
