@@ -3,7 +3,7 @@
 ghost use Rattle.term_reader.specs.Scopes.{HasSignature};
 
 use smt_sexpr::{
-    LimitedText, Place, Refused, Sexpr, Trees, list_first, list_inside, split, word_first,
+    LimitedText, Place, Refused, Sexpr, Trees, Word, list_first, list_inside, split, word_first,
 };
 use sort_check::{Parts, Room, define};
 use std::alloc::Global;
@@ -203,10 +203,8 @@ fn second_head_of(sort: &str) -> &'static str {
     }
 }
 
-/// Gives the parts of a definition, whose body stands in a text of its own; `None` where they have another shape.
-fn parts_of<'a>(head: Trees<'a>, body: Trees<'a>) -> Option<Parts<'a>> {
-    let (_, inside) = list_inside(head)?;
-    let (name, rest) = word_first(inside)?;
+/// Gives the parts of a definition from what comes after its name; `None` where it has another shape.
+fn parts_after<'a>(name: Word<'a>, rest: Trees<'a>, body: Trees<'a>) -> Option<Parts<'a>> {
     let (parameters, rest) = list_first(rest)?;
     let (result, _) = split(rest)?;
     Some(Parts {
@@ -215,6 +213,13 @@ fn parts_of<'a>(head: Trees<'a>, body: Trees<'a>) -> Option<Parts<'a>> {
         result,
         body,
     })
+}
+
+/// Gives the parts of a definition, whose body stands in a text of its own; `None` where they have another shape.
+fn parts_of<'a>(head: Trees<'a>, body: Trees<'a>) -> Option<Parts<'a>> {
+    let (_, inside) = list_inside(head)?;
+    let (name, rest) = word_first(inside)?;
+    parts_after(name, rest, body)
 }
 
 /// Reads a definition from what was read of its texts; `None` where they have another shape.
