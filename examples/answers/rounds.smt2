@@ -1,0 +1,8 @@
+(set-option :print-success false)
+(declare-fun f (Real) Real)
+(declare-const x Real)
+(declare-const y Real)
+(assert (<= x y))
+(assert (<= y x))
+(assert (< (f x) (f y)))
+(check-sat)
