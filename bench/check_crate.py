@@ -14,8 +14,8 @@ its folder, and what `rattle` wrote into out/check_crate.log. Arguments of a che
 `rt check` and `rt ci` keep apart what they proved, and each proves all crates below first. This proves what differs
 alone, so it is for work on a high crate beside a gate. It is no gate: what it proved is proved there once more.
 
-The seconds are of the processor, the function's own first and then their sum from the longest down: where a crate, or with
-`--test` its tests, takes long, a few functions do.
+A row of `time` has the seconds of a processor that a function took, and the share of the rows down to it, the longest first. The
+first function that uses a part of a library pays for reading what that states.
 """
 import hashlib
 import os

@@ -199,9 +199,9 @@ fn watch_some(
     nodes: &[Node],
     seed: &mut u64,
 ) -> Result<(), NoMemory> {
-    for (n, node) in nodes.iter().enumerate() {
-        if next_number(seed) % 3 != 0 && marked.watch(TermId(n as u64), node)? {
-            plain.watch(TermId(n as u64))?;
+    for n in 0..TERMS {
+        if next_number(seed) % 3 != 0 {
+            watch_both(marked, plain, nodes, TermId(n))?;
         }
     }
     Ok(())
