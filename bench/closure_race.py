@@ -3,7 +3,7 @@
 
     bench/closure_race.py EXECUTABLE [--most N] [FAMILY ..]   runs the families, all if none is named; prints a table
 
-EXECUTABLE is `closure_race`, as the gate leaves it in crates/closure_race/out. Each family is run at n = 1,000, 10,000 and
+EXECUTABLE is `race`, as the gate leaves it in crates/race/out. Each family is run at n = 1,000, 10,000 and
 100,000, or those of them up to N:
 
 - chains: a, f(a), f(f(a)) and so on; a is equal to the third and to the fifth application, so that all are congruent

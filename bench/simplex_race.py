@@ -3,7 +3,7 @@
 
     bench/simplex_race.py EXECUTABLE [--most N] [FAMILY ..]   runs the families, all if none is named; prints a table
 
-EXECUTABLE is `simplex_race`, as the gate leaves it in crates/simplex_race/out. Each family has n rows, at the sizes of SIZES,
+EXECUTABLE is `race`, as the gate leaves it in crates/race/out. Each family has n rows, at the sizes of SIZES,
 or those of them up to N:
 
 - chain: differences of a variable and the one before it, each at least 1, where the last variable less the first is at most n

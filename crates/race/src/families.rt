@@ -28,6 +28,20 @@ pub(crate) enum Family {
     Sparse,
 }
 
+/// Gives the family of a name.
+pub(crate) fn family_of(name: &str) -> Option<Family> {
+    match name {
+        "chain" => Some(Family::Chain),
+        "cycle" => Some(Family::Cycle),
+        "transport" => Some(Family::Transport),
+        "square" => Some(Family::Square),
+        "dense" => Some(Family::Dense),
+        "loose" => Some(Family::Loose),
+        "sparse" => Some(Family::Sparse),
+        _ => None,
+    }
+}
+
 /// Adds the rows and bounds of a family to a system.
 pub(crate) fn fill(system: &mut System, family: Family, n: u32) -> Result<(), Fault> {
     let mut draft = Draft::new(system.alloc);

@@ -5,7 +5,7 @@ ghost use Rattle.term_core.specs.Tables.{IsIn};
 ghost use Rattle.congruence_closure.specs.Listed.{IsListed};
 
 use crate::fault::Fault;
-use crate::plan::Plan;
+use crate::plan::{Family, Plan, fill};
 use crate::terms::Terms;
 use congruence_closure::{Closure, Lit, TermId, Truths};
 use std::alloc::Global;
@@ -167,10 +167,34 @@ fn counts_of(alloc: Global, terms: &mut Terms, plan: &Plan) -> Result<Counts, Fa
 }
 
 /// Closes a plan over its table, goes back, and closes again. Says how many terms there are, and how many are congruent to the first.
-pub(crate) fn close(alloc: Global, terms: &mut Terms, plan: &Plan) -> Result<String, Fault> {
+fn close(alloc: Global, terms: &mut Terms, plan: &Plan) -> Result<String, Fault> {
     let Counts { closed, back } = counts_of(alloc, terms, plan)?;
     let all = plan.terms.len();
     Ok(format!(in alloc;
         "{all} terms, {closed} congruent to the first, {back} after going back\n"
     )?)
+}
+
+/// Fills a plan for a family, closes it, and gives the line.
+fn run_plan(
+    alloc: Global,
+    terms: &mut Terms,
+    plan: &mut Plan,
+    family: Family,
+    n: u64,
+) -> Result<String, Fault> {
+    fill(terms, plan, family, n)?;
+    close(alloc, terms, plan)
+}
+
+/// Runs a family over a table.
+fn run_over(alloc: Global, terms: &mut Terms, family: Family, n: u64) -> Result<String, Fault> {
+    let mut plan = Plan::new(alloc, family);
+    run_plan(alloc, terms, &mut plan, family, n)
+}
+
+/// Closes the terms of a family, and gives the line.
+pub(crate) fn line_of(alloc: Global, family: Family, n: u32) -> Result<String, Fault> {
+    let mut terms = Terms::new(alloc)?;
+    run_over(alloc, &mut terms, family, u64::from(n))
 }

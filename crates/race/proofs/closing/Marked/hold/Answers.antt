@@ -3,8 +3,8 @@ use Rattle.std.proofs.Common.{rules, true, subst}
 use Rattle.std.specs.Prelude.{Contains}
 use Rattle.term_core.specs.declared.ids.Lit.{Lit}
 use Rattle.congruence_closure.specs.Closure.{ClosureState}
-use Rattle.closure_race.proofs.Stating.{unlisted_not_held}
-use Rattle.closure_race.proofs.closing.Marked.hold.Goals as goal
+use Rattle.race.proofs.Stating.{unlisted_not_held}
+use Rattle.race.proofs.closing.Marked.hold.Goals as goal
 
 pub hold-requires-clause-new : goal.hold-requires-clause-new
 hold-requires-clause-new c there =

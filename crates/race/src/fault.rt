@@ -11,7 +11,7 @@ pub(crate) enum Fault {
     Arguments,
     /// An allocation was refused.
     Memory,
-    /// The rows or the bounds cannot take what a family gives them, which no family brings about.
+    /// A table, a closure, rows or bounds cannot take what a family gives them, which no family brings about.
     Refused,
 }
 

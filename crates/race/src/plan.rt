@@ -17,6 +17,16 @@ pub(crate) enum Family {
     Merges,
 }
 
+/// Gives the family of a name.
+pub(crate) fn family_of(name: &str) -> Option<Family> {
+    match name {
+        "chains" => Some(Family::Chains),
+        "grid" => Some(Family::Grid),
+        "merges" => Some(Family::Merges),
+        _ => None,
+    }
+}
+
 /// Holds what is closed.
 #[derive(Drop)]
 pub(crate) struct Plan {

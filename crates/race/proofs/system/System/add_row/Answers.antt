@@ -1,7 +1,7 @@
 use Rattle.std.proofs.Common.{◌<◌, subst}
 use Rattle.spec_tableaux.specs.SolvedForms.{IsOver}
 use Rattle.tableau.specs.Entries.{entries_of}
-use Rattle.simplex_race.proofs.system.System.add_row.Goals as goal
+use Rattle.race.proofs.system.System.add_row.Goals as goal
 
 pub add_row-requires : goal.add_row-requires
 add_row-requires c =

@@ -1,7 +1,7 @@
 use Rattle.std.proofs.Common.{◌<◌, length}
 use Rattle.spec_tableaux.specs.SolvedForms.{IsOver}
 use Rattle.tableau.specs.Entries.{entries_of}
-use Rattle.simplex_race.proofs.system.are_below.Given as goal
+use Rattle.race.proofs.system.are_below.Given as goal
 
 abbrev pub invariant-loop-e : goal.invariant-loop-e
 invariant-loop-e l = IsOver (λ y. y < l.fn.number) (entries_of l.rest) → IsOver (λ y. y < l.fn.number) (entries_of l.fn.entries)
