@@ -1,17 +1,26 @@
 #!/usr/bin/env bash
-# Runs each row of the tables in the folders' README.md, and compares what the program writes, and its status, with the row.
+# Runs each row of the folders, and compares what the program writes, and its status, with the row.
 #
 #     examples/check.sh EXECUTABLE
 #
-# Arguments are those after the program's name; after ` < ` comes the file that is standard input. An output is one line, or the name of
-# a file that has it to the byte, or nothing. Where a row of `solve` or `certify` begins with the line `unsat`, all that `certify` writes
-# for the same arguments is given to `check` as the proof, and has to be `valid`.
+# Tables in README.md: arguments are those after the program's name; after ` < ` comes the file that is standard input. An output is one
+# line, or the name of a file that has it to the byte, or nothing. Where a row of `solve` or `certify` begins with the line `unsat`, all
+# that `certify` writes for the same arguments is given to `check` as the proof, and has to be `valid`.
+#
+# Files NAME.rows: a row has three or four parts, set apart by lines `----`: its runs, a line each; the script; the proof, if there is
+# one; what is written. A script or a proof `=` is that of the row before. A line `====` is between rows. A run is a status and the
+# arguments, from the program's name on, with `|` between them; after tabs may come the names of the script and of the proof, which are
+# else `script.smt2` and `proof.alethe`, and how many bytes the script has with spaces after it. Standard input is a text of no name, or
+# the script where it has its usual name.
+#
+# Files NAME.lines: an answer, a tab, and what a script states. `solve` gives the answer. Where that is `unsat`, `check` accepts the
+# proof that `certify` writes.
 #
 # Each row that comes out otherwise is printed, and the script then ends with status 1.
 set -euo pipefail
 
 if [ $# -ne 1 ]; then
-    sed -n '2,10s/^# \{0,1\}//p' "$0" >&2
+    sed -n '2,20s/^# \{0,1\}//p' "$0" >&2
     exit 2
 fi
 executable=$(realpath -- "$1")
@@ -93,11 +102,106 @@ run_page() {
     done <README.md
 }
 
+# Writes the parts of the rows of a file: NUMBER.runs, NUMBER.script, NUMBER.proof and NUMBER.wanted.
+split_rows() {
+    rm -rf "$folder/parts"
+    mkdir "$folder/parts"
+    awk -v folder="$folder/parts/" '
+        function put(name, text) {
+            printf "%s", text >(folder rows name)
+            close(folder rows name)
+        }
+        function finish() {
+            rows++
+            if (part[2] != "=") script = part[2]
+            if (n == 4 && part[3] != "=") proof = part[3]
+            put(".runs", part[1] "\n")
+            put(".script", script)
+            put(".proof", n == 4 ? proof : "")
+            put(".wanted", part[n] (lines[n] ? "\n" : ""))
+            split("", part)
+            split("", lines)
+            n = 1
+        }
+        BEGIN { n = 1 }
+        $0 == "----" { n++; next }
+        $0 == "====" { finish(); next }
+        { part[n] = part[n] (lines[n]++ ? "\n" : "") $0 }
+        END { finish() }' "$1"
+}
+
+# Puts the texts of a row, whose parts are in files NAME.script and NAME.proof, where a run looks for them; gives the file that is
+# standard input.
+place_texts() {
+    local input=/dev/null name=$1 script_name=$2 proof_name=$3 length=$4
+    rm -rf "$folder/here"
+    mkdir "$folder/here"
+    if [ -n "$proof_name" ]; then cp "$name.proof" "$folder/here/$proof_name"; else input=$name.proof; fi
+    if [ -n "$length" ]; then
+        head -c "$((length - $(wc -c <"$name.script")))" /dev/zero | tr '\0' ' ' | cat "$name.script" - >"$folder/long"
+        name=$folder/long
+    else
+        name=$name.script
+    fi
+    if [ -n "$script_name" ]; then cp "$name" "$folder/here/$script_name"; fi
+    if [ -z "$script_name" ] || [ "$script_name" = script.smt2 ]; then input=$name; fi
+    echo "$input"
+}
+
+# Runs a line of a row, and compares its output and its status.
+run_line() {
+    local fields words input status=0
+    IFS=$'\x1f' read -ra fields <<<"${1//$'\t'/$'\x1f'}"
+    IFS='|' read -ra words <<<"${fields[0]#* }|"
+    if [ "${#fields[@]}" -lt 2 ]; then fields+=(script.smt2 proof.alethe); fi
+    input=$(place_texts "$2" "${fields[1]}" "${fields[2]-}" "${fields[3]-}")
+    rows=$((rows + 1))
+    (cd "$folder/here" && exec "$executable" "${words[@]:1}") <"$input" >"$folder/output" || status=$?
+    cp "$2.wanted" "$folder/wanted"
+    if [ "$status" != "${fields[0]%% *}" ]; then
+        differs "$1: status $status"
+        cat "$2.script"
+    elif ! cmp -s "$2.wanted" "$folder/output"; then
+        differs "$1: another output"
+        cat "$2.script"
+    fi
+}
+
+# Runs the rows of a file.
+run_rows() {
+    local runs line
+    split_rows "$1"
+    for runs in "$folder"/parts/*.runs; do
+        while IFS= read -r line; do
+            run_line "$line" "${runs%.runs}"
+        done <"$runs"
+    done
+}
+
+# Asks for the answers of a file of lines.
+run_lines() {
+    local answer stated
+    while IFS=$'\t' read -r answer stated; do
+        rows=$((rows + 1))
+        printf '(set-option :print-success false)%s(check-sat)' "$stated" >"$folder/stated"
+        echo "$answer" >"$folder/wanted"
+        "$executable" solve "$folder/stated" >"$folder/output" || true
+        if ! cmp -s "$folder/wanted" "$folder/output"; then
+            differs "$stated"
+        elif [ "$answer" = unsat ]; then
+            check_proof "solve $folder/stated"
+        fi
+    done <"$1"
+}
+
 top=$PWD
 for page in */README.md; do
     cd "$top/$(dirname "$page")"
     run_page
 done
+cd "$top"
+for file in */*.rows; do run_rows "$file"; done
+for file in */*.lines; do run_lines "$file"; done
 
 echo "$rows rows and $proofs proofs, $wrong otherwise than they should be"
 [ "$rows" -gt 0 ] && [ "$wrong" -eq 0 ]
