@@ -7,8 +7,6 @@ mod judging;
 mod putting;
 mod stating;
 mod stop;
-#[cfg(test)]
-mod tests;
 mod weighted;
 
 pub use explaining::explain;

@@ -2,15 +2,11 @@
 #![tactic(auto)]
 
 mod arguments;
-#[cfg(test)]
-mod arguments_tests;
 mod buffered;
 mod check_run;
 mod in_memory;
 mod output;
 mod read;
-#[cfg(test)]
-mod tests;
 mod verdict;
 
 pub use buffered::run_buffered;
