@@ -4,22 +4,22 @@ use std::alloc::{AllocError, AllocFailed, Global};
 use world_io::NoMemory;
 
 /// The coefficients of four variables.
-pub type Form = [i128; 4];
+pub(crate) type Form = [i128; 4];
 
 /// States that a sum of multiples of four unknowns is at most a number, or below it.
 #[derive(Clone, Copy)]
-pub struct Inequality {
+pub(crate) struct Inequality {
     /// The coefficients of the sum.
-    pub form: Form,
+    pub(crate) form: Form,
     /// The number.
-    pub most: i128,
+    pub(crate) most: i128,
     /// Whether the sum is below it.
-    pub strict: bool,
+    pub(crate) strict: bool,
 }
 
 /// Says why an elimination came to no end.
 #[derive(Clone, Copy, Debug, PartialEq, Eq)]
-pub enum EliminationStop {
+pub(crate) enum EliminationStop {
     /// A number leaves 128 bits.
     Wide,
     /// Memory ran out.
@@ -52,7 +52,7 @@ fn mixed(a: i128, x: i128, b: i128, y: i128) -> Option<i128> {
 }
 
 /// Gives the sum of a times one form and b times another, if its coefficients are within 128 bits.
-pub fn mixed_forms(a: i128, one: Form, b: i128, other: Form) -> Option<Form> {
+pub(crate) fn mixed_forms(a: i128, one: Form, b: i128, other: Form) -> Option<Form> {
     let [p, q, r, s] = one;
     let [t, u, v, w] = other;
     Some([
@@ -132,7 +132,7 @@ fn are_kept(lines: &[Inequality]) -> bool {
 /// Tells whether some values of the four unknowns keep all inequalities.
 ///
 /// `Wide` comes where a number leaves 128 bits, and `Memory` where memory runs out.
-pub fn has_point(alloc: Global, lines: &[Inequality]) -> Result<bool, EliminationStop> {
+pub(crate) fn has_point(alloc: Global, lines: &[Inequality]) -> Result<bool, EliminationStop> {
     let three = eliminated(alloc, lines)?;
     let two = eliminated(alloc, &three)?;
     let one = eliminated(alloc, &two)?;

@@ -1,2 +1,0 @@
--- What the tables of the tests have.
-pub mod Tables

@@ -1,7 +1,0 @@
-use Rattle.std.proofs.Common.{◌<◌, subst}
-use Rattle.spec_tableaux.specs.SolvedForms.{IsOver}
-use Rattle.tableau.specs.Entries.{entries_of}
-use Rattle.tableau_tests.proofs.exchange_tests.add.Goals as goal
-
-pub add_row-requires : goal.add_row-requires
-add_row-requires c = subst (λ n. IsOver (λ y. y < n) (entries_of c.args.entries.now)) c.variables_len.ensures (c.are_below.ensures c.if-are_below.true)

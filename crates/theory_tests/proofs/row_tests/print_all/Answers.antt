@@ -1,6 +1,0 @@
--- Nothing was told at the start.
-use Rattle.theory_tests.proofs.Starting.{starts}
-use Rattle.theory_tests.proofs.row_tests.print_all.Goals as goal
-
-pub go_through-requires : goal.go_through-requires
-go_through-requires c = starts c.new-theory.result c.new-scene.result.said c.new-scene.result.table c.new-scene.result.log c.new-theory.ensures c.new-scene.ensures.told c.new-scene.ensures.right

@@ -1,2 +1,0 @@
--- How a theory stands to what was said to it.
-pub mod Following

@@ -1,9 +1,0 @@
--- The marks that are counted are there.
-use Rattle.std.proofs.Common.{◌≤◌, length}
-use Rattle.trail_tests.proofs.undo_tests.gives.Given as goal
-
-abbrev pub invariant-loop-call : goal.invariant-loop-call
-invariant-loop-call l =
-    (goal.iterator-loop-call).can_next l.call-iterator ×
-    (goal.iterator-loop-call).is_finite l.call-iterator ×
-    (l.marks ≤ length l.trail.marks)
