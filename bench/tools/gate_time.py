@@ -1,19 +1,23 @@
 #!/usr/bin/env python3
-"""Measures the processor time of a gate, by crate and kind of work.
+"""Measures the processor time of a gate, by crate and kind of work, since its log has no times.
 
-usage: bench/gate_time.py OUT.tsv PID       (beside `rt ci`, whose process PID is; it ends with that process)
-       bench/gate_time.py --sum OUT.tsv ..  (prints the table; of several runs, where one was ended and begun again, the most counts)
+usage: bench/tools/gate_time.py OUT.tsv         (starts `.ci/run`, and prints the table when that ended, with its status)
+       bench/tools/gate_time.py OUT.tsv PID     (beside a gate whose process is PID; it ends with that process)
+       bench/tools/gate_time.py --sum OUT.tsv ..  (the table; of several runs, where one was ended and begun again, the most counts)
 
-Twice a second it reads /proc: of each process below PID whose arguments name a crate it notes the crate, the kind of work and the
+Twice a second it reads /proc: of each process of the gate whose arguments name a crate it notes the crate, the kind of work and the
 processor time. A row of OUT.tsv is a process: crate, kind (`build` a crate's proofs, `build+test` those of its tests, `check` a must-fail
-edit), seconds, folder. What the program and the tests take when they run is not in it.
+edit, with the crate's own proof before it), seconds, folder. Below the table are two sums, of proofs, and of tests with edits, and the
+share that these have. What the program, the tests and the examples take when they run is not in it.
 """
 import os
 import re
+import subprocess
 import sys
 import time
 
 HZ = os.sysconf("SC_CLK_TCK")
+TOP = os.path.dirname(os.path.dirname(os.path.dirname(os.path.abspath(__file__))))
 
 
 def stats():
@@ -91,19 +95,37 @@ def print_sums(paths):
         print(f"| `{crate}` | " + " | ".join(f"{row[k]:.0f}" for k in KINDS) + f" | {sum(row.values()):.0f} |")
         for k in KINDS:
             total[k] += row[k]
-    print("| sum, in minutes | " + " | ".join(f"{total[k] / 60:.0f}" for k in KINDS) + f" | {sum(total.values()) / 60:.0f} |")
+    minutes = {k: total[k] / 60 for k in KINDS}
+    whole = sum(minutes.values())
+    print("| sum, in minutes | " + " | ".join(f"{minutes[k]:.0f}" for k in KINDS) + f" | {whole:.0f} |")
+    others = minutes["build+test"] + minutes["check"]
+    share = 100 * others / whole if whole else 0
+    print(f"\nproofs {minutes['build']:.1f} minutes, tests and edits {others:.1f}: {share:.1f} % of {whole:.1f}")
+
+
+def measure(path, pid, is_over):
+    """Writes the rows of a gate until its process ended."""
+    rows, written = {}, 0.0
+    while not is_over() and sample(pid, rows):
+        if time.time() - written > 10:
+            write(path, rows)
+            written = time.time()
+        time.sleep(0.5)
+    write(path, rows)
 
 
 def main():
-    if sys.argv[1] == "--sum":
-        return print_sums(sys.argv[2:])
-    rows, written = {}, 0.0
-    while sample(int(sys.argv[2]), rows):
-        if time.time() - written > 10:
-            write(sys.argv[1], rows)
-            written = time.time()
-        time.sleep(0.5)
-    write(sys.argv[1], rows)
+    words = sys.argv[1:]
+    if words[:1] == ["--sum"] and len(words) > 1:
+        return print_sums(words[1:])
+    if len(words) == 2 and words[1].isdigit():
+        return measure(words[0], int(words[1]), lambda: False)
+    if len(words) != 1 or words[0].startswith("-"):
+        sys.exit(__doc__)
+    gate = subprocess.Popen(["bash", os.path.join(TOP, ".ci/run")])
+    measure(words[0], gate.pid, lambda: gate.poll() is not None)
+    print_sums(words)
+    return gate.wait()
 
 
-main()
+sys.exit(main())
