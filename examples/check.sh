@@ -194,6 +194,28 @@ run_lines() {
     done <"$1"
 }
 
+# Runs words where a device refuses all that is written, or a folder is read, and compares the status.
+run_fault() {
+    local status=0
+    rows=$((rows + 1))
+    "$executable" "${@:3}" </dev/null >"$2" || status=$?
+    if [ "$status" != "$1" ]; then
+        : >"$folder/wanted"
+        : >"$folder/output"
+        differs "${*:3}: status $status, and $1 is wanted"
+    fi
+}
+
+# Runs that meet no text, or whose output fails.
+run_faults() {
+    run_fault 4 "$folder/output" solve answers
+    run_fault 4 "$folder/output" check answers/unsat.smt2 answers
+    run_fault 5 /dev/full solve answers/sat.smt2
+    run_fault 5 /dev/full certify answers/unsat.smt2
+    run_fault 5 /dev/full check proofs/valid.smt2 proofs/valid.alethe
+    run_fault 5 /dev/full
+}
+
 top=$PWD
 for page in */README.md; do
     cd "$top/$(dirname "$page")"
@@ -202,6 +224,7 @@ done
 cd "$top"
 for file in */*.rows; do run_rows "$file"; done
 for file in */*.lines; do run_lines "$file"; done
+run_faults
 
 echo "$rows rows and $proofs proofs, $wrong otherwise than they should be"
 [ "$rows" -gt 0 ] && [ "$wrong" -eq 0 ]
