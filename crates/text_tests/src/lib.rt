@@ -1,14 +1,10 @@
-//! Tests of what no run of the program shows: bytes in and out, tokens and s-expressions, numbers, and the texts of models and reasons.
+//! Tests of what no run of the program shows: bytes in and out, s-expressions, fractions, and the texts of models and reasons.
 //!
 //! Each is a text of rows, which a helper reads; it gives the first row that is not so.
 #![tactic(auto)]
 
 #[cfg(test)]
-mod delta_tests;
-#[cfg(test)]
 mod io_tests;
-#[cfg(test)]
-mod lexer_tests;
 #[cfg(test)]
 mod model_tests;
 #[cfg(test)]
