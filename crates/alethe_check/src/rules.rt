@@ -1,14 +1,16 @@
 //! Judges a step by its rule.
 
+ghost use Rattle.spec_text.specs.Trees.{Trees};
 ghost use Rattle.term_core.specs.Tables.{AreIn, clause_at};
 ghost use Rattle.alethe_reader.specs.Holding.{clauses_numbered, AreNumbers};
 ghost use Rattle.alethe_reader.specs.Reads.{IsReadyStep, step_view};
-ghost use Rattle.rule_bool.specs.Arguments.{texts_meant};
+ghost use Rattle.rule_bool.specs.Arguments.{WritesCoefficients};
 ghost use Rattle.alethe_check.specs.Stating.{HasClauses, TakesFew, TakesLiterals, JudgesResolvent, JudgesBy, JudgesStep};
 
 use crate::premises::{distinct_clauses, fronts_of, one_or_none};
 use alethe_reader::{ProofState, ProofStep};
-use rule_bool::{ArgumentTexts, RuleStop, judge, resolution};
+use linear_form::Coeff;
+use rule_bool::{RuleStop, judge, resolution};
 use spec_proofs::Rule;
 use std::alloc::Global;
 use term_core::TermId;
@@ -35,20 +37,20 @@ fn is_judged(
     state: &ProofState,
     rule: Rule,
     premises: &[u64],
-    arguments: ArgumentTexts<'_>,
+    coefficients: &[Coeff],
     clause: &[TermId],
 ) -> Result<(), RuleStop>
     requires rule { TakesFew rule }
     requires clauses { HasClauses state.now }
     requires premises { AreNumbers state.now premises.now }
     requires clause { AreIn state.now.table clause.now }
-    ensures { JudgesBy rule (clauses_numbered state.now premises.now) (texts_meant arguments.entry)
-        (clause_at state.now.table clause.now) result }
+    ensures { (texts : Trees) → WritesCoefficients texts coefficients.now
+        → JudgesBy rule (clauses_numbered state.now premises.now) texts (clause_at state.now.table clause.now) result }
 {
     let Some(clauses) = one_or_none(state, premises) else {
         return Err(RuleStop::Fails);
     };
-    judge(alloc, &state.table, rule, clauses, arguments, clause)
+    judge(alloc, &state.table, rule, clauses, coefficients, clause)
 }
 
 /// Judges by a rule that takes of each premise nothing but its one literal whether a clause follows from the clauses of numbers.
@@ -58,18 +60,18 @@ fn is_equated(
     state: &ProofState,
     rule: Rule,
     premises: &[u64],
-    arguments: ArgumentTexts<'_>,
+    coefficients: &[Coeff],
     clause: &[TermId],
 ) -> Result<(), RuleStop>
     requires rule { TakesLiterals rule }
     requires clauses { HasClauses state.now }
     requires premises { AreNumbers state.now premises.now }
     requires clause { AreIn state.now.table clause.now }
-    ensures { JudgesBy rule (clauses_numbered state.now premises.now) (texts_meant arguments.entry)
-        (clause_at state.now.table clause.now) result }
+    ensures { (texts : Trees) → WritesCoefficients texts coefficients.now
+        → JudgesBy rule (clauses_numbered state.now premises.now) texts (clause_at state.now.table clause.now) result }
 {
     let fronts = fronts_of(alloc, state, premises)?;
-    judge(alloc, &state.table, rule, &fronts, arguments, clause)
+    judge(alloc, &state.table, rule, &fronts, coefficients, clause)
 }
 
 /// Judges a step by its rule. The clauses of its premises are lent where its rule takes one at most; of `trans` and `cong` their
@@ -91,7 +93,7 @@ pub(crate) fn follows(
             state,
             step.rule,
             &step.premises,
-            step.arguments,
+            &step.coefficients,
             &step.clause,
         ),
         Rule::Cong => is_equated(
@@ -99,7 +101,7 @@ pub(crate) fn follows(
             state,
             step.rule,
             &step.premises,
-            step.arguments,
+            &step.coefficients,
             &step.clause,
         ),
         _ => is_judged(
@@ -107,7 +109,7 @@ pub(crate) fn follows(
             state,
             step.rule,
             &step.premises,
-            step.arguments,
+            &step.coefficients,
             &step.clause,
         ),
     }

@@ -5,6 +5,7 @@ pub mod Members
 pub mod Entries
 pub mod PremiseLists
 pub mod Rooms
+pub mod CoefficientTexts
 pub mod ReadParts
 pub mod ReadCommands
 pub mod Rows

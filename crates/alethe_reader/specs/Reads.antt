@@ -2,10 +2,11 @@
 use Rattle.std.specs.Prelude.{◌≡◌, false, Result, Ok, Err}
 use Rattle.spec_text.specs.Bytes.{among}
 use Rattle.spec_sorts.specs.Signatures.{with_definitions}
+use Rattle.spec_arithmetic.specs.Coefficients.{coefficients_of}
 use Rattle.spec_proofs.specs.Faults.{Fault, Read, fault_at}
 use Rattle.spec_checking.specs.Commands.{Known, Step, Statement, assumed, stepped, nothing, Command}
 use Rattle.term_core.specs.Tables.{term_at, clause_at, IsIn, AreIn}
-use Rattle.rule_bool.specs.Arguments.{texts_meant}
+use Rattle.linear_form.specs.Coefficients.{coefficients_meant}
 use Rattle.alethe_reader.specs.declared.errors.LocatedFault.{LocatedFault}
 use Rattle.alethe_reader.specs.declared.errors.CommandError.{CommandError}
 use Rattle.alethe_reader.specs.declared.errors.CommandError.TheVariants as errors
@@ -13,6 +14,7 @@ use Rattle.alethe_reader.specs.declared.proof_state.ProofState.{ProofState}
 use Rattle.alethe_reader.specs.declared.reading.ProofStep as code_step
 use Rattle.alethe_reader.specs.declared.reading.ReadCommand.{ReadCommand}
 use Rattle.alethe_reader.specs.declared.reading.ReadCommand.TheVariants as code
+use Rattle.alethe_reader.specs.Shapes.{given_view}
 use Rattle.alethe_reader.specs.Holding.{IsKnown, clauses_numbered, AreNumbers}
 
 -- a fault of a proof, by its offset
@@ -21,7 +23,7 @@ located_view f = fault_at f.offset f.kind
 
 -- a step in the words of the definitions
 abbrev pub step_view : ProofState → code_step.ProofStep → Step
-step_view h s = record { at = s.at; name = s.name.now; clause = clause_at h.table s.clause.items; rule = s.rule; premises = clauses_numbered h s.premises.items; arguments = texts_meant s.arguments }
+step_view h s = record { at = s.at; name = s.name.now; clause = clause_at h.table s.clause.items; rule = s.rule; premises = clauses_numbered h s.premises.items; arguments = given_view s.arguments }
 
 -- what a command states, in the words of the definitions
 abbrev pub statement_view : ProofState → ReadCommand → Statement
@@ -29,7 +31,7 @@ statement_view h (code.Assume at name id) = assumed at name.now (term_at h.table
 statement_view h (code.Step s) = stepped (step_view h s)
 statement_view h (code.Define at) = nothing at
 
--- the step's name is new, and its terms and premises are there
+-- the step's name is new, its terms and premises are there, and its arguments are read
 pub record IsReadyStep (h : ProofState) (s : code_step.ProofStep) : Type 0 where
   -- no command before it has its name
   pub new : among h.names s.name.now ≡ false
@@ -37,6 +39,8 @@ pub record IsReadyStep (h : ProofState) (s : code_step.ProofStep) : Type 0 where
   pub clause : AreIn h.table s.clause.items
   -- its premises have clauses
   pub premises : AreNumbers h s.premises.items
+  -- its coefficients are what the texts of its arguments write
+  pub coefficients : coefficients_meant s.coefficients.items ≡ coefficients_of (given_view s.arguments)
 
 -- the name is new, and terms and premises are there
 abbrev pub IsReady : ProofState → ReadCommand → Type 0

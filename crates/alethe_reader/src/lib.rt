@@ -2,6 +2,7 @@
 //! before it.
 #![tactic(auto)]
 
+mod coefficients;
 mod errors;
 mod naming;
 mod premises;

@@ -5,21 +5,21 @@ ghost use Rattle.spec_commands.specs.Checks.{term_limit};
 ghost use Rattle.spec_proofs.specs.RuleNames.{rule_named};
 ghost use Rattle.spec_checking.specs.Commands.{Known, assumes, steps, defines};
 ghost use Rattle.spec_checking.specs.Reading.{rule_at, read_shape, command_of};
-ghost use Rattle.rule_bool.specs.Arguments.{texts_meant};
 ghost use Rattle.smt_command.specs.Commands.{parts_view};
 ghost use Rattle.smt_sexpr.specs.Items.{tree_meant};
 ghost use Rattle.smt_sexpr.specs.Views.{word_view};
-ghost use Rattle.alethe_reader.specs.Shapes.{given_view, step_parts, shape_view};
+ghost use Rattle.alethe_reader.specs.Shapes.{step_parts, shape_view};
 ghost use Rattle.alethe_reader.specs.Holding.{HasKnown, IsKnown};
 ghost use Rattle.alethe_reader.specs.Reads.{Reads};
 ghost use Rattle.alethe_reader.specs.Parts.{Gives, rule_meant};
 
+use crate::coefficients::coefficients_of;
 use crate::errors::{CommandError, fault};
 use crate::premises::{fresh_name, premises_of};
 use crate::proof_state::ProofState;
 use crate::shapes::{Shape, StepParts, shape_of};
 use crate::terms::{definition, formula, literals};
-use rule_bool::ArgumentTexts;
+use linear_form::Coeff;
 use smt_command::Parts;
 use smt_sexpr::{Trees, View, Word, look, offset};
 use spec_proofs::{ProofKind, Rule};
@@ -39,8 +39,10 @@ pub struct ProofStep<'a> {
     pub rule: Rule,
     /// The numbers of its premises' clauses, in their order.
     pub premises: Vec<u64>,
-    /// The texts of its arguments.
-    pub arguments: ArgumentTexts<'a>,
+    /// The texts of its arguments, where they are given.
+    pub arguments: Option<Trees<'a>>,
+    /// The numbers that these write, in their order.
+    pub coefficients: Vec<Coeff>,
 }
 
 /// Holds a command that is read. What it defines is in the scope by then. Source: Alethe specification, commands.
@@ -64,16 +66,6 @@ fn known_rule(word: Word<'_>) -> Result<Rule, CommandError>
     }
 }
 
-/// Gives the texts of a step's arguments, where they are given, or else none.
-fn arguments_of<'a>(given: Option<Trees<'a>>) -> ArgumentTexts<'a>
-    ensures { texts_meant result ≡ given_view given.entry }
-{
-    match given {
-        Some(texts) => ArgumentTexts::Written(texts),
-        None => ArgumentTexts::Numbers(&[]),
-    }
-}
-
 /// Reads a step by its parts, at an offset.
 fn step<'a>(
     alloc: Global,
@@ -89,13 +81,15 @@ fn step<'a>(
     let clause = literals(alloc, state, at, parts.literals)?;
     let rule = known_rule(parts.rule)?;
     let premises = premises_of(alloc, state, parts.premises)?;
+    let coefficients = coefficients_of(alloc, parts.arguments)?;
     Ok(ReadCommand::Step(ProofStep {
         at,
         name,
         clause,
         rule,
         premises,
-        arguments: arguments_of(parts.arguments),
+        arguments: parts.arguments,
+        coefficients,
     }))
 }
 

@@ -10,7 +10,7 @@ use crate::entry::Entry;
 use crate::log_fault::LogFault;
 use crate::premises::StepId;
 use crate::step::Step;
-use rule_bool::{ArgumentTexts, judge};
+use rule_bool::{judge, written_numbers};
 use std::alloc::Global;
 use std::marker::Model;
 use std::slice;
@@ -147,12 +147,13 @@ impl ProofLog {
             (stepped step.now.rule step.now.premises step.now.arguments step.now.clause) result }
     {
         let premises = self.clauses_of(step.premises.as_slice())?;
+        let arguments = written_numbers(self.alloc, step.arguments.as_slice())?;
         judge(
             self.alloc,
             table,
             step.rule,
             &premises,
-            ArgumentTexts::Numbers(step.arguments.as_slice()),
+            &arguments,
             step.clause.as_slice(),
         )?;
         Ok(())

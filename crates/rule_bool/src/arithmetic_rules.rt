@@ -1,15 +1,14 @@
 //! Rules of linear arithmetic.
 
 ghost use Rattle.std.specs.Prelude.{All};
+ghost use Rattle.spec_text.specs.Trees.{Trees};
 ghost use Rattle.spec_proofs.specs.declared.Rule.TheVariants as rules;
 ghost use Rattle.term_core.specs.Tables.{AreIn};
-ghost use Rattle.rule_bool.specs.Arguments.{texts_meant};
+ghost use Rattle.rule_bool.specs.Arguments.{WritesCoefficients};
 ghost use Rattle.rule_bool.specs.Schemes.{Judges, JudgesOrStops};
 
-use crate::arguments::ArgumentTexts;
-use crate::coefficients::coefficients_of;
 use crate::rule_stop::RuleStop;
-use linear_form::{ArithFault, la_disequality, la_generic, la_totality};
+use linear_form::{ArithFault, Coeff, la_disequality, la_generic, la_totality};
 use std::alloc::Global;
 use term_core::{Clause, RuleFails, TermId, TermTable};
 
@@ -29,18 +28,18 @@ pub fn rule_la_generic(
     alloc: Global,
     table: &TermTable,
     premises: &[Clause],
-    arguments: ArgumentTexts<'_>,
+    arguments: &[Coeff],
     clause: &[TermId],
 ) -> Result<(), RuleStop>
     requires premises { All (AreIn table.now) premises.now }
     requires clause { AreIn table.now clause.now }
-    ensures { JudgesOrStops table.now rules.LaGeneric premises.now (texts_meant arguments.entry) clause.now result }
+    ensures { (texts : Trees) → WritesCoefficients texts arguments.now
+        → JudgesOrStops table.now rules.LaGeneric premises.now texts clause.now result }
 {
     if !premises.is_empty() {
         return Err(RuleStop::Fails);
     }
-    let coefficients = coefficients_of(alloc, arguments)?;
-    match la_generic(alloc, table, clause, coefficients.as_slice()) {
+    match la_generic(alloc, table, clause, arguments) {
         Ok(()) => Ok(()),
         Err(ArithFault::Shape) => Err(RuleStop::Fails),
         Err(ArithFault::NoContradiction) => Err(RuleStop::Fails),

@@ -1,19 +1,20 @@
 //! Judges a step by the rule that it names.
 
 ghost use Rattle.std.specs.Prelude.{◌≢◌, All, Err};
+ghost use Rattle.spec_text.specs.Trees.{Trees};
 ghost use Rattle.spec_proofs.specs.declared.Rule.TheVariants as rules;
 ghost use Rattle.term_core.specs.Tables.{AreIn};
 ghost use Rattle.rule_bool.specs.declared.rule_stop.RuleStop.TheVariants as stops;
-ghost use Rattle.rule_bool.specs.Arguments.{texts_meant};
+ghost use Rattle.rule_bool.specs.Arguments.{WritesCoefficients};
 ghost use Rattle.rule_bool.specs.Schemes.{Judges, JudgesOrStops};
 
-use crate::arguments::ArgumentTexts;
 use crate::arithmetic_rules::{rule_la_disequality, rule_la_generic, rule_la_totality};
 use crate::resolvent::resolution;
 use crate::rule_stop::RuleStop;
 use crate::rules::{rule_contraction, rule_or, rule_reordering, rule_weakening};
 use crate::scheme_table::equality_of;
 use crate::schemes::by_scheme;
+use linear_form::Coeff;
 use rule_eq::judge_equality;
 use spec_proofs::Rule;
 use std::alloc::Global;
@@ -50,7 +51,7 @@ fn judge_alone(
 /// Judges a step by its rule, whichever that is.
 ///
 /// What premises and conclusion a rule asks for says its own function (`resolution`, or `rule_` with the rule's name, which stands in
-/// `rule_eq` where the rule is one of equality). `arguments` are the texts of the step's `:args`, which `la_generic` alone reads.
+/// `rule_eq` where the rule is one of equality). `arguments` are what the texts of the step's `:args` write; `la_generic` alone takes them.
 ///
 /// `la_generic` and the two rules of resolution take memory from `alloc`; no other does.
 ///
@@ -62,12 +63,13 @@ pub fn judge(
     table: &TermTable,
     rule: Rule,
     premises: &[Clause],
-    arguments: ArgumentTexts<'_>,
+    arguments: &[Coeff],
     clause: &[TermId],
 ) -> Result<(), RuleStop>
     requires premises { All (AreIn table.now) premises.now }
     requires clause { AreIn table.now clause.now }
-    ensures exact { JudgesOrStops table.now rule premises.now (texts_meant arguments.entry) clause.now result }
+    ensures exact { (texts : Trees) → WritesCoefficients texts arguments.now
+        → JudgesOrStops table.now rule premises.now texts clause.now result }
     ensures alone { rule ≢ rules.Resolution → rule ≢ rules.ThResolution → rule ≢ rules.LaGeneric
         → result ≢ Err stops.Memory }
 {

@@ -1,9 +1,10 @@
 //! Rules of Alethe on clauses of the table of terms of every sort.
 //!
-//! There is a call for each rule, and `judge` judges by the rule that is named, with the texts of the step's arguments. Of the rules of
-//! equality and functions the calls are those of `rule_eq`, and of arithmetic what is counted stands in `linear_form`. Premises and clause give their terms by their numbers in the table, and terms
-//! are compared as they are read. `RuleFails` comes exactly where the step is not right. But for resolution and `la_generic` no rule takes memory, and
-//! where a rule's comment says nothing of time, it takes the same time for all terms.
+//! There is a call for each rule, and `judge` judges by the rule that is named, with what the texts of the step's arguments write. Of the
+//! rules of equality and functions the calls are those of `rule_eq`, and of arithmetic what is counted stands in `linear_form`. Premises
+//! and clause give their terms by their numbers in the table, and terms are compared as they are read. `RuleFails` comes exactly where the
+//! step is not right. But for resolution and `la_generic` no rule takes memory, and where a rule's comment says nothing of time, it takes
+//! the same time for all terms.
 //!
 //! Which clauses a rule states of a term says one table, `scheme_of`: the term has the scheme's head before arguments of sort Bool. By
 //! the same schemes go the rules that turn the first term into a premise. `resolution` makes literals of the terms, over which `resolves`
@@ -14,7 +15,6 @@ mod and_or_rules;
 mod arguments;
 mod arithmetic_rules;
 mod by_rule;
-mod coefficients;
 mod equiv_rules;
 mod implies_rules;
 mod ite_rules;
@@ -31,7 +31,7 @@ mod xor_rules;
 pub use and_or_rules::{
     rule_and, rule_and_neg, rule_and_pos, rule_not_and, rule_not_or, rule_or_neg, rule_or_pos,
 };
-pub use arguments::ArgumentTexts;
+pub use arguments::written_numbers;
 pub use arithmetic_rules::{rule_la_disequality, rule_la_generic, rule_la_totality};
 pub use by_rule::judge;
 pub use equiv_rules::{

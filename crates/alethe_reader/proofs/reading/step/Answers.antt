@@ -47,7 +47,7 @@ returns c k is =
     record {
       command = step_of k c.args.at p n r.readings rule qs;
       is = step_is k c.args.at p n named r.readings r.read rule c.in_ok-rule.ensures qs (premises_by k (known_entries h) (sym r.known.entries) p.premises ∙ c.in_ok-premises.ensures.gives);
-      states = λ i. stepped (record { at = c.args.at; name = n; clause = r.terms i; rule = rule; premises = qs; arguments = c.arguments_of.ensures i });
+      states = λ i. stepped (record { at = c.args.at; name = n; clause = r.terms i; rule = rule; premises = qs; arguments = p.arguments });
       known = r.known;
-      ready = record { new = rw c.in_ok-clause.ensures.names c.in_ok-name.ensures.new; clause = r.there; premises = c.in_ok-premises.ensures.there };
+      ready = record { new = rw c.in_ok-clause.ensures.names c.in_ok-name.ensures.new; clause = r.there; premises = c.in_ok-premises.ensures.there; coefficients = c.in_ok-coefficients.ensures };
     }

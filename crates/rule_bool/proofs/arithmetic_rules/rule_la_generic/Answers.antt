@@ -1,5 +1,5 @@
 -- That a number which leaves the bound is reported.
-use Rattle.std.proofs.Common.{◌≡◌, rules, arith, List, [], ◌∷◌, map, length}
+use Rattle.std.proofs.Common.{◌≡◌, arith, List, [], ◌∷◌, map, length, sym, ap, ◌∙◌}
 use Rattle.std.specs.Prelude.{Err}
 use Rattle.std.proofs.lemmas.Bool.Decides.{nat_tests}
 use Rattle.spec_text.specs.Trees.{Trees}
@@ -21,6 +21,7 @@ wide_by t [] arguments clause w e h = (w, h)
 wide_by t (p ∷ ps) arguments clause w e h = cc
 
 pub returns-in-Err-Wide : goal.returns-in-Err-Wide
-returns-in-Err-Wide c =
+returns-in-Err-Wide c texts written =
     let none : 0 ≡ length c.args.premises.now = grind (arith, nat_tests, c.if-not-is_empty.ensures) in
-    wide_by c.args.table.now c.args.premises.now _ _ (overflow c.in-Err-Wide.field-0-0) none (search rules)
+    wide_by c.args.table.now c.args.premises.now texts _ (overflow c.in-Err-Wide.field-0-0) none
+    (sym (ap (la_generic (clause_at c.args.table.now c.args.clause.now)) written) ∙ rw c.in-Err-Wide.field-0-is at c.in-Err-Wide.ensures.exact)

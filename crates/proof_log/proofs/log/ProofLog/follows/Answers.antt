@@ -4,7 +4,7 @@ use Rattle.spec_rules.specs.Rules.{IsRight, IsWide}
 use Rattle.term_core.specs.declared.ids.TermId.{TermId}
 use Rattle.term_core.specs.Tables.{AreIn, clause_at}
 use Rattle.rule_bool.specs.Resolvents.{Stops}
-use Rattle.rule_bool.specs.Arguments.{texts_of}
+use Rattle.rule_bool.specs.Arguments.{texts_of, fractions_of, WritesCoefficients}
 use Rattle.proof_log.specs.Logs.{AreOf, clauses_in, stepped}
 use Rattle.proof_log.specs.Faults.{fault_of}
 use Rattle.proof_log.specs.Adding.{Collects}
@@ -37,8 +37,10 @@ returns-in_err-judge c =
     let stop = c.in_err-judge.field-0.0 in
     let there : AreOf log s.premises = subst (λ ss. AreOf log ss) c.as_slice.ensures c.in_ok-premises.ensures.0 in
     let copied : c.deref.result.now ≡ clauses_in log s.premises = c.deref.ensures.value ∙ c.in_ok-premises.ensures.1 ∙ ap (clauses_in log) c.as_slice.ensures in
+    let written : WritesCoefficients (texts_of s.arguments) c.deref-2.result.now =
+    subst (λ qs. WritesCoefficients (texts_of qs) c.deref-2.result.now) c.as_slice-2.ensures (subst (λ ks. WritesCoefficients (texts_of (fractions_of c.as_slice-2.result.now)) ks) (sym c.deref-2.ensures.value) c.in_ok-arguments.ensures) in
     let verdict : Stops stop (IsRight s.rule (map (clause_at t) (clauses_in log s.premises)) (texts_of s.arguments) (clause_at t s.clause)) (IsWide s.rule (map (clause_at t) (clauses_in log s.premises)) (texts_of s.arguments) (clause_at t s.clause)) =
-    rw (copied, c.as_slice-2.ensures, c.as_slice-3.ensures) at c.in_err-judge.ensures.exact in
+    rw (copied, c.as_slice-3.ensures) at c.in_err-judge.ensures.exact (texts_of s.arguments) written in
     judged t log (stepped s.rule s.premises s.arguments s.clause) c.from_residual-in_err-judge.result (fault_of stop) c.from_residual-in_err-judge.ensures.1
     (refused t log s.rule s.premises s.arguments s.clause stop there verdict)
 
@@ -49,5 +51,7 @@ returns c =
     let s = c.args.step.now in
     let there : AreOf log s.premises = subst (λ ss. AreOf log ss) c.as_slice.ensures c.in_ok-premises.ensures.0 in
     let copied : c.deref.result.now ≡ clauses_in log s.premises = c.deref.ensures.value ∙ c.in_ok-premises.ensures.1 ∙ ap (clauses_in log) c.as_slice.ensures in
-    let right : IsRight s.rule (map (clause_at t) (clauses_in log s.premises)) (texts_of s.arguments) (clause_at t s.clause) = rw (copied, c.as_slice-2.ensures, c.as_slice-3.ensures) at c.in_ok-judge.ensures.exact in
+    let written : WritesCoefficients (texts_of s.arguments) c.deref-2.result.now =
+    subst (λ qs. WritesCoefficients (texts_of qs) c.deref-2.result.now) c.as_slice-2.ensures (subst (λ ks. WritesCoefficients (texts_of (fractions_of c.as_slice-2.result.now)) ks) (sym c.deref-2.ensures.value) c.in_ok-arguments.ensures) in
+    let right : IsRight s.rule (map (clause_at t) (clauses_in log s.premises)) (texts_of s.arguments) (clause_at t s.clause) = rw (copied, c.as_slice-3.ensures) at c.in_ok-judge.ensures.exact (texts_of s.arguments) written in
     follows_there t log s.rule s.premises s.arguments s.clause there right

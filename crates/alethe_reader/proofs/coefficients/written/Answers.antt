@@ -1,7 +1,7 @@
 -- That one text more is read, and that all are.
 use Rattle.smt_sexpr.specs.Items.{trees_meant, tree_meant}
-use Rattle.rule_bool.proofs.CoefficientsRead.{one_read, all_read}
-use Rattle.rule_bool.proofs.coefficients.written.Goals as goal
+use Rattle.alethe_reader.proofs.CoefficientTexts.{one_read, all_read}
+use Rattle.alethe_reader.proofs.coefficients.written.Goals as goal
 
 pub texts-preserved : goal.texts-preserved
 texts-preserved c =

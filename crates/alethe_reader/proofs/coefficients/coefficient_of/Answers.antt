@@ -1,8 +1,8 @@
 -- That the step by what was pending last leaves fewer, and the same whole.
 use Rattle.std.proofs.Common.{ap, arith}
-use Rattle.rule_bool.specs.Coefficients.{all_steps}
-use Rattle.rule_bool.proofs.CoefficientsRead.{steps_push, pops}
-use Rattle.rule_bool.proofs.coefficients.coefficient_of.Goals as goal
+use Rattle.alethe_reader.specs.Coefficients.{all_steps}
+use Rattle.alethe_reader.proofs.CoefficientTexts.{steps_push, pops}
+use Rattle.alethe_reader.proofs.coefficients.coefficient_of.Goals as goal
 
 pub steps-smaller : goal.steps-smaller
 steps-smaller c = omega (arith, c.in_ok-here-in-Read.ensures.fewer, ap all_steps c.in-Some.ensures.items, steps_push c.pop.new.self.items c.in-Some.last)

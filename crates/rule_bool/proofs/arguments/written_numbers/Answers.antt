@@ -3,7 +3,7 @@ use Rattle.std.proofs.Common.{ap, ◌∙◌}
 use Rattle.std.proofs.lemmas.List.{take_all}
 use Rattle.linear_form.specs.Coefficients.{coefficients_meant}
 use Rattle.rule_bool.proofs.CoefficientsRead.{fractions_read}
-use Rattle.rule_bool.proofs.coefficients.given.Goals as goal
+use Rattle.rule_bool.proofs.arguments.written_numbers.Goals as goal
 
 pub returns : goal.returns
 returns c =

@@ -1,9 +1,9 @@
 -- That the divisor is read next.
 use Rattle.std.proofs.Common.{refl, arith}
-use Rattle.rule_bool.specs.declared.coefficients.Pending.TheVariants as pendings
-use Rattle.rule_bool.specs.declared.coefficients.Here.TheVariants as places
-use Rattle.rule_bool.proofs.CoefficientsRead.{pushes}
-use Rattle.rule_bool.proofs.coefficients.go_up.Goals as goal
+use Rattle.alethe_reader.specs.declared.coefficients.Pending.TheVariants as pendings
+use Rattle.alethe_reader.specs.declared.coefficients.Here.TheVariants as places
+use Rattle.alethe_reader.proofs.CoefficientTexts.{pushes}
+use Rattle.alethe_reader.proofs.coefficients.go_up.Goals as goal
 
 pub returns-in_ok-push-in-DivideBy : goal.returns-in_ok-push-in-DivideBy
 returns-in_ok-push-in-DivideBy c =

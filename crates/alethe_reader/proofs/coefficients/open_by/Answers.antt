@@ -1,8 +1,8 @@
 -- That the list writes this number, by its word and how many texts follow.
 use Rattle.std.proofs.Common.{◌∙◌, sym, true, false}
 use Rattle.smt_sexpr.specs.Items.{trees_meant, tree_meant}
-use Rattle.rule_bool.proofs.CoefficientsRead.{word_alone, word_one, word_two, word_more}
-use Rattle.rule_bool.proofs.coefficients.open_by.Goals as goal
+use Rattle.alethe_reader.proofs.CoefficientTexts.{word_alone, word_one, word_two, word_more}
+use Rattle.alethe_reader.proofs.coefficients.open_by.Goals as goal
 
 pub returns-in_default-clause-number : goal.returns-in_default-clause-number
 returns-in_default-clause-number c = word_alone c.args.word.at c.args.word.kind c.args.word.bytes.now (trees_meant c.args.arguments) c.in_default.ensures.first

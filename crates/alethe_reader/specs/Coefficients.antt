@@ -6,12 +6,12 @@ use Rattle.smt_sexpr.specs.Items.{tree_meant}
 use Rattle.linear_form.specs.Coefficients.{coefficient_meant}
 use Rattle.spec_arithmetic.specs.Contradictions.{Coefficient}
 use Rattle.spec_arithmetic.specs.Coefficients.{opposite_coefficient, quotient_coefficient, coefficient_of}
-use Rattle.rule_bool.specs.declared.coefficients.Opened.{Opened}
-use Rattle.rule_bool.specs.declared.coefficients.Opened.TheVariants as openings
-use Rattle.rule_bool.specs.declared.coefficients.Pending.{Pending}
-use Rattle.rule_bool.specs.declared.coefficients.Pending.TheVariants as pendings
-use Rattle.rule_bool.specs.declared.coefficients.Here.{Here}
-use Rattle.rule_bool.specs.declared.coefficients.Here.TheVariants as places
+use Rattle.alethe_reader.specs.declared.coefficients.Opened.{Opened}
+use Rattle.alethe_reader.specs.declared.coefficients.Opened.TheVariants as openings
+use Rattle.alethe_reader.specs.declared.coefficients.Pending.{Pending}
+use Rattle.alethe_reader.specs.declared.coefficients.Pending.TheVariants as pendings
+use Rattle.alethe_reader.specs.declared.coefficients.Here.{Here}
+use Rattle.alethe_reader.specs.declared.coefficients.Here.TheVariants as places
 
 -- in how many steps it is read, at most
 abbrev mutual

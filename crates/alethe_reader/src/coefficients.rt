@@ -1,4 +1,4 @@
-//! Reads the numbers that the arguments of `la_generic` write.
+//! Reads the numbers that the arguments of a step write, as `la_generic` takes them.
 //!
 //! Texts that are open stand in a row with what is still to be done, so nothing recurses.
 
@@ -11,10 +11,9 @@ ghost use Rattle.linear_form.specs.Coefficients.{coefficient_meant, coefficients
 ghost use Rattle.spec_arithmetic.specs.Signs.{is_zero};
 ghost use Rattle.spec_arithmetic.specs.Contradictions.{too_wide};
 ghost use Rattle.spec_arithmetic.specs.Coefficients.{literal_coefficient, atom_coefficient, opposite_coefficient, quotient_unless, quotient_coefficient, coefficient_of, coefficients_of};
-ghost use Rattle.rule_bool.specs.Arguments.{texts_of, texts_meant, fractions_of};
-ghost use Rattle.rule_bool.specs.Coefficients.{steps, steps_of_all, with_word, opened_number, opened_steps, resumed_by, pending_steps, Resumes};
+ghost use Rattle.alethe_reader.specs.Shapes.{given_view};
+ghost use Rattle.alethe_reader.specs.Coefficients.{steps, steps_of_all, with_word, opened_number, opened_steps, resumed_by, pending_steps, Resumes};
 
-use crate::arguments::ArgumentTexts;
 use linear_form::Coeff;
 use ratio128::laws::ratios_are_fractions;
 use ratio128::{Ratio, Wide};
@@ -254,31 +253,19 @@ fn written(alloc: Global, texts: Trees<'_>) -> Result<Vec<Coeff>, AllocError>
     Ok(found)
 }
 
-/// Gives numbers as they are read from their texts.
-fn given(alloc: Global, numbers: &[Ratio]) -> Result<Vec<Coeff>, AllocError>
-    ensures { IfOk result (λ v. coefficients_meant v.items ≡ coefficients_of (texts_of (fractions_of numbers.now))) }
-{
-    ratios_are_fractions();
-    let mut found = Vec::new(alloc);
-    for number in numbers {
-        found.push(Coeff::Number(*number))?;
-    }
-    Ok(found)
-}
-
-/// Reads the arguments of `la_generic`: numerals and decimals, `(- c)` and `(/ c d)` of such, nested to any depth.
+/// Reads the arguments of a step, where they are given: numerals and decimals, `(- c)` and `(/ c d)` of such, nested to any depth.
 ///
 /// An argument is `Shape` where its text is anything else, or has a literal beyond the bound on numbers or a quotient by 0; else it is
 /// `Wide` with the first quotient that leaves 128 bits, where one does. Time goes with the texts, memory with how many they are and how
 /// deep. Out of memory tells nothing of them. Source: Alethe specification, rule `la_generic`; a quotient by 0 and the bound are own.
 pub(crate) fn coefficients_of(
     alloc: Global,
-    arguments: ArgumentTexts<'_>,
+    given: Option<Trees<'_>>,
 ) -> Result<Vec<Coeff>, AllocError>
-    ensures { IfOk result (λ v. coefficients_meant v.items ≡ coefficients_of (texts_meant arguments.entry)) }
+    ensures { IfOk result (λ v. coefficients_meant v.items ≡ coefficients_of (given_view given.entry)) }
 {
-    match arguments {
-        ArgumentTexts::Written(texts) => written(alloc, texts),
-        ArgumentTexts::Numbers(numbers) => given(alloc, numbers),
+    match given {
+        Some(texts) => written(alloc, texts),
+        None => Ok(Vec::new(alloc)),
     }
 }

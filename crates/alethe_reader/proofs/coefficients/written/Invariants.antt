@@ -3,7 +3,7 @@ use Rattle.std.proofs.Common.{◌≡◌, ◌++◌}
 use Rattle.smt_sexpr.specs.Items.{trees_meant, size_of}
 use Rattle.linear_form.specs.Coefficients.{coefficients_meant}
 use Rattle.spec_arithmetic.specs.Coefficients.{coefficients_of}
-use Rattle.rule_bool.proofs.coefficients.written.Given as goal
+use Rattle.alethe_reader.proofs.coefficients.written.Given as goal
 
 abbrev pub invariant-texts : goal.invariant-texts
 invariant-texts l = coefficients_meant l.found.items ++ coefficients_of (trees_meant l.rest) ≡ coefficients_of (trees_meant l.texts)
