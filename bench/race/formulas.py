@@ -1,13 +1,7 @@
-#!/usr/bin/env python3
-"""Runs `smt_cli solve` and `certify` on formulas that it writes, with z3 and cvc5 beside it where these are on the path.
+"""Formulas over Bool, and over one declared sort: `solve` and `certify`, with z3 and cvc5 beside them.
 
-    bench/search_race.py EXECUTABLE [--limit SECONDS] [--family WORD ..] [--most N] [--table] [--check]
-    bench/search_race.py --write NAME SCRIPT     writes the script of one formula, as pigeons-6, and runs nothing
-
-Each run gets the same number of seconds of a processor, 20 if none is given, in the program and in the system for it;
-other work on the machine counts little. --family takes those families alone whose names begin with one of the words,
---most the first N formulas of each. --table leaves the rows of the formulas out. --check gives each proof that
-`certify` writes to `check`, too. The formulas are in bench/search/families.py:
+Each run gets the same number of seconds of a processor, --limit, in the program and in the system for it; other work on
+the machine counts little. The formulas are in bench/race/search/families.py:
 
 pigeons            N + 1 pigeons do not fit into N holes, for 5 to 9 holes
 random-N           4.26 clauses of three for each of N constants, 100, 150 and 200, by ten seeds: about half are `sat`
@@ -34,29 +28,26 @@ memory. Times below 0.001 s count as 0.001 s in ratios. For chains a third table
 took, which may be fifteen times; there times below 0.01 s count as 0.01 s.
 
 WRONG comes where two answers differ, where an answer is not the known one, where a model does not make all clauses
-true, where `solve` or `certify` ends with a status that it may not have, or a proof is not `valid`. The status is 1
-where something is WRONG, or a chain takes too long. It needs Python 3 and its standard library; Debian's packages of
-the others are z3 and cvc5.
+true, where `solve` or `certify` ends with a status that it may not have, or, with --check, where `check` does not find
+a proof `valid` that `certify` wrote.
 """
 
-import argparse
-import math
 import os
 import shutil
-import sys
 import tempfile
 
-sys.dont_write_bytecode = True  # so that the imports below leave no files here
-sys.path.insert(0, os.path.join(os.path.dirname(os.path.abspath(__file__)), "search"))
-
-import growing_texts
+from clause_families import is_model
 from families import FAMILIES, LINEAR
-from real_scripts import SHORTEST, verdicts
+from groups import Group, named
+from real_scripts import verdicts
 from runs import run
-from solve_and_check import is_model
+from tables import SHORTEST_GROWN, head, mean, ratio, row
 
 OTHERS = [name for name in ("z3", "cvc5") if shutil.which(name)]
 PROGRAMS = ("solve", "certify", *OTHERS)
+LIMIT = 20
+# How many times as long ten times N may take.
+MOST = 15
 # That all is well, or that memory ran out; nothing of these formulas is refused.
 ALLOWED = (0, 3, None)
 # The longest text that `check` reads.
@@ -85,7 +76,7 @@ class Race:
         self.name, self.asked, self.wrong = formula.name, asked, []
         self.runs = {}
         for name in PROGRAMS:
-            words = [shutil.which(name), script] if name in OTHERS else [asked.executable, name, script]
+            words = [shutil.which(name), script] if name in OTHERS else [asked.program, name, script]
             self.runs[name] = self.ran(words)
         self.judge_answers(formula.answer)
         if self.answer_of("certify") == "sat":
@@ -126,13 +117,13 @@ class Race:
             out.writelines(f"{line}\n" for line in evidence(self.runs["certify"]))
         if os.path.getsize(path) > LONGEST_PROOF:
             return
-        self.runs["check"] = checked = self.ran([self.asked.executable, "check", script, path])
+        self.runs["check"] = checked = self.ran([self.asked.program, "check", script, path])
         if checked.status is not None and (checked.output, checked.status) != (b"valid\n", 0):
             self.wrong.append(f"check: status {checked.status}, {checked.output[:80]!r}")
 
     def ratio(self, other):
         """Returns how many times as long `solve` took as another program."""
-        return max(self.runs["solve"].seconds, SHORTEST) / max(self.runs[other].seconds, SHORTEST)
+        return ratio(self.runs["solve"].seconds, self.runs[other].seconds)
 
     @property
     def is_by_all(self):
@@ -149,22 +140,6 @@ class Race:
             cells.append("" if checked is None else "limit" if checked.status is None else f"{checked.seconds:.3f}")
         cells += [f"{self.ratio(name):.2f}" if self.is_by_all else "" for name in OTHERS]
         return [*cells, f"{self.runs['solve'].memory:,}"]
-
-
-def row(cells):
-    """Prints the cells of a row."""
-    print("| " + " | ".join(cells) + " |", flush=True)
-
-
-def head(cells):
-    """Prints the head of a table."""
-    row(cells)
-    print("|---" * len(cells) + "|")
-
-
-def mean(ratios):
-    """Returns the geometric mean as a cell."""
-    return f"{math.exp(sum(map(math.log, ratios)) / len(ratios)):.2f}" if ratios else ""
 
 
 def family_cells(name, races):
@@ -215,20 +190,21 @@ def tell_growth(races):
     for before, after in zip(races, races[1:]):
         cells = [after.name]
         for name in PROGRAMS:
-            times = [max(race.runs[name].seconds, growing_texts.SHORTEST) for race in (before, after)]
+            times = [max(race.runs[name].seconds, SHORTEST_GROWN) for race in (before, after)]
             is_stopped = not after.answer_of(name)
             # A run that the limit stopped would have taken longer.
             cells.append(f"{'over ' * is_stopped}{times[1] / times[0]:.1f}" if before.answer_of(name) else "")
-            if name not in OTHERS and before.answer_of(name) and times[1] > growing_texts.MOST * times[0]:
-                long.append(f"{after.name}: {name} took more than {growing_texts.MOST} times as long as with a tenth")
+            if name not in OTHERS and before.answer_of(name) and times[1] > MOST * times[0]:
+                long.append(f"{after.name}: {name} took more than {MOST} times as long as with a tenth")
         row(cells)
     return long
 
 
 def run_all(asked):
     """Runs the families, and prints the tables; returns what is wrong, as texts."""
+    asked.limit = asked.limit or LIMIT
     ratios = [f"solve / {name}" for name in OTHERS]
-    races, wrong = race_all(asked, lambda family, asked: FAMILIES[family]()[: asked.most], Race, ratios)
+    races, wrong = race_all(asked, lambda family, asked: FAMILIES[family]()[: asked.first], Race, ratios)
     tell_families(races, ratios, family_cells)
     grown = [family for family in LINEAR if family in races]
     if grown:
@@ -239,31 +215,21 @@ def run_all(asked):
     return wrong
 
 
-def main():
-    """Runs the families that are asked for, or writes one formula."""
-    if len(sys.argv) == 4 and sys.argv[1] == "--write":
-        formulas = {formula.name: formula for make in FAMILIES.values() for formula in make()}
-        if sys.argv[2] not in formulas:
-            sys.exit("the formulas are " + ", ".join(formulas))
-        formulas[sys.argv[2]].write(sys.argv[3])
-        return 0
-    parser = argparse.ArgumentParser(description=__doc__, formatter_class=argparse.RawDescriptionHelpFormatter)
-    parser.add_argument("executable")
-    parser.add_argument("--limit", type=float, default=20)
-    parser.add_argument("--family", nargs="+", metavar="WORD", default=[""])
-    parser.add_argument("--most", type=int, metavar="N")
-    parser.add_argument("--table", action="store_true")
-    parser.add_argument("--check", action="store_true")
-    asked = parser.parse_args()
-    asked.executable = os.path.abspath(asked.executable)
-    asked.families = [family for family in FAMILIES if family.startswith(tuple(asked.family))]
-    if not asked.families:
-        parser.error("the families are " + ", ".join(FAMILIES))
-    wrong = run_all(asked)
-    for line in wrong:
-        print(line, file=sys.stderr)
-    return 1 if wrong else 0
+def add_options(parser):
+    """Adds the options that all races of formulas have."""
+    parser.add_argument("--limit", type=float, metavar="SECONDS", help=f"the seconds of a run, {LIMIT} if none are given")
+    parser.add_argument("--first", type=int, metavar="N", help="the first N formulas of each family alone")
+    parser.add_argument("--table", action="store_true", help="leave the rows of the formulas out")
+    parser.add_argument("--check", action="store_true", help="judge what `certify` writes, too")
 
 
-if __name__ == "__main__":
-    sys.exit(main())
+def writer(families):
+    """Returns what writes the script of one formula of the families."""
+
+    def write(name, path):
+        named(name, {formula.name: formula for make in families.values() for formula in make()}).write(path)
+
+    return write
+
+
+GROUP = Group(__doc__, FAMILIES, add_options, run_all, writer(FAMILIES))

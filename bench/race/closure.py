@@ -1,10 +1,7 @@
-#!/usr/bin/env python3
 """Measures congruence closure on families of terms that grow.
 
-    bench/closure_race.py EXECUTABLE [--most N] [FAMILY ..]   runs the families, all if none is named; prints a table
-
-EXECUTABLE is `race`, as the gate leaves it in crates/race/out. Each family is run at n = 1,000, 10,000 and
-100,000, or those of them up to N:
+The program is `race`, as the gate leaves it in crates/race/out. Each family is run at n = 1,000, 10,000 and 100,000, or
+those of them up to --most:
 
 - chains: a, f(a), f(f(a)) and so on; a is equal to the third and to the fifth application, so that all are congruent
 - grid: g(x, y) for the square root of n arguments x and as many y; the x become equal one by one, then the y, with a mark
@@ -16,23 +13,20 @@ Each then goes back over its marks one by one, with a check after each. The term
 the first mark were not looked at there, so the last check looks at them again.
 
 The line that is written is foretold, for `merges` by classes of constants that are joined here. Where another one comes,
-or where ten times n takes more than twenty times as long, the script ends with status 1. Times are those of a processor,
-in the program and in the system for it, from the start of the process on: the median of three runs. They include that
-the terms are made. Those below 0.01 s, of which the start takes a good part, count as 0.01 s in the comparison. A run of
-more than two minutes is stopped. It needs Python 3 and its standard library.
+or where ten times n takes more than twenty times as long, that is told. Times are from the start of the process on: the
+median of three runs. They include that the terms are made. Those below 0.01 s, of which the start takes a good part,
+count as 0.01 s in the comparison. A run of more than two minutes is stopped.
 """
 
 import math
-import sys
 
-sys.dont_write_bytecode = True
-
-from runs import asked_families, run, status_of
+from groups import Group, add_most
+from runs import run
+from tables import head, is_too_long, row, times_before
 
 SIZES = (1_000, 10_000, 100_000)
 RUNS = 3
 MOST = 20
-SHORTEST = 0.01
 LONGEST = 120
 
 
@@ -94,35 +88,29 @@ def median(words):
     return sorted(ran, key=lambda one: one.seconds)[RUNS // 2]
 
 
-def run_family(executable, name, sizes):
+def run_family(program, name, sizes):
     """Prints a row for each size; returns what is wrong, as texts."""
     wrong, before = [], None
     for n in sizes:
-        ran, wanted = median([executable, name, str(n)]), f"{FAMILIES[name](n)}\n".encode()
+        ran, wanted = median([program, name, str(n)]), f"{FAMILIES[name](n)}\n".encode()
         if ran.status is None:
             return [*wrong, f"{name} at {n:,}: stopped after {LONGEST} s"]
         if (ran.output, ran.status) != (wanted, 0):
             return [*wrong, f"{name} at {n:,}: status {ran.status}, wanted {wanted!r}, got {ran.output[:200]!r}"]
-        ratio = "" if before is None else f"{ran.seconds / before:.1f}"
-        if before is not None and max(ran.seconds, SHORTEST) > MOST * max(before, SHORTEST):
-            ratio += " too long"
+        times = times_before(ran.seconds, before)
+        if is_too_long(ran.seconds, before, MOST):
+            times += " too long"
             wrong.append(f"{name} at {n:,}: ten times n cost more than {MOST} times the time")
-        row = f"| {name} | {n:,} | {ran.seconds:.3f} | {ratio} | {ran.memory:,} | {1024 * ran.memory / n:,.0f} |"
-        print(row, flush=True)
-        before = max(ran.seconds, 0.001)
+        row([name, f"{n:,}", f"{ran.seconds:.3f}", times, f"{ran.memory:,}", f"{1024 * ran.memory / n:,.0f}"])
+        before = ran.seconds
     return wrong
 
 
-def main():
-    """Runs the families."""
-    executable, families, sizes = asked_families(__doc__, FAMILIES, SIZES)
-    wrong = []
-    print("| family | n | seconds | times the row before | peak memory in KB | bytes for each of n |")
-    print("|---|---|---|---|---|---|")
-    for name in families:
-        wrong += run_family(executable, name, sizes)
-    return status_of(wrong)
+def run_all(asked):
+    """Runs the families that are asked for; returns what is wrong, as texts."""
+    head(["family", "n", "seconds", "times the row before", "peak memory in KB", "bytes for each of n"])
+    sizes = [n for n in SIZES if n <= asked.most]
+    return [what for name in asked.families for what in run_family(asked.program, name, sizes)]
 
 
-if __name__ == "__main__":
-    sys.exit(main())
+GROUP = Group(__doc__, FAMILIES, lambda parser: add_most(parser, SIZES), run_all)

@@ -1,8 +1,8 @@
-"""Formulas family by family, for bench/search_race.py: here of constants of sort Bool.
+"""Formulas family by family, for `bench/race.py search`: here of constants of sort Bool.
 
-Those of one declared sort are in function_families.py.
+Those of one declared sort are in function_families.py, the clauses in clause_families.py.
 
-The scripts are the same on each machine: what is random comes from the generator of bench/solve_and_check.py. Each
+The scripts are the same on each machine: what is random comes from the generator of clause_families.py. Each
 script begins with `(set-logic QF_UF)`, asserts clauses or the outputs of gates, and has one check. A gate is a
 definition without parameters, so that its term is shared.
 """
@@ -10,10 +10,7 @@ definition without parameters, so that its term is shared.
 from typing import Callable, NamedTuple
 
 import function_families
-from solve_and_check import assertions as clause_assertions
-from solve_and_check import numbers, pigeons, random_clauses
-from solve_implications import assertions as chain_assertions
-from solve_implications import exchanged
+from clause_families import chain_lines, clause_lines, exchanged, numbers, pigeons, random_clauses
 
 QUIET = "(set-option :print-success false)\n"
 CHECK = "(check-sat)\n"
@@ -152,7 +149,7 @@ def shuffled(n):
 
 def of_clauses(name, formula, answer):
     """Returns the formula of some clauses."""
-    return Formula(name, lambda: clause_assertions(*formula), answer, formula)
+    return Formula(name, lambda: clause_lines(*formula), answer, formula)
 
 
 def of_sizes(name, lines, sizes):
@@ -175,9 +172,9 @@ FAMILIES = {
     "random-100": lambda: of_random_clauses(100),
     "random-150": lambda: of_random_clauses(150),
     "random-200": lambda: of_random_clauses(200),
-    "chain": lambda: of_sizes("chain", lambda n: chain_assertions(range(n)), CHAINS),
-    "chain-exchanged": lambda: of_sizes("chain-exchanged", lambda n: chain_assertions(exchanged(n)), CHAINS),
-    "chain-backwards": lambda: of_sizes("chain-backwards", lambda n: chain_assertions(backwards(n)), CHAINS),
+    "chain": lambda: of_sizes("chain", lambda n: chain_lines(range(n)), CHAINS),
+    "chain-exchanged": lambda: of_sizes("chain-exchanged", lambda n: chain_lines(exchanged(n)), CHAINS),
+    "chain-backwards": lambda: of_sizes("chain-backwards", lambda n: chain_lines(backwards(n)), CHAINS),
     "parity-exchanged": lambda: of_sizes("parity-exchanged", lambda n: parity(exchanged(n)), PARITIES),
     "parity-backwards": lambda: of_sizes("parity-backwards", lambda n: parity(backwards(n)), PARITIES),
     "parity-shuffled": lambda: of_sizes("parity-shuffled", lambda n: parity(shuffled(n)), SHUFFLED),

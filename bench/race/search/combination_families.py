@@ -1,14 +1,14 @@
-"""Formulas in which functions and linear real arithmetic share terms, family by family, for bench/combination_race.py.
+"""Formulas in which functions and linear real arithmetic share terms, family by family, for `bench/race.py combination`.
 
-The scripts are the same on each machine: what is random comes from the generator of bench/solve_and_check.py. Their
+The scripts are the same on each machine: what is random comes from the generator of clause_families.py. Their
 logic is `QF_UFLRA`.
 """
 
 from itertools import combinations
 
+from clause_families import numbers
 from families import QUIET, Formula
 from number_families import claim, declare, number, shuffled
-from solve_and_check import numbers
 
 LOGIC = "QF_UFLRA"
 # How many places a program has: each script has about twice as many applications, and as many facts of arithmetic.

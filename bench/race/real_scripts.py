@@ -1,43 +1,38 @@
-#!/usr/bin/env python3
-"""Runs `smt_cli solve` on scripts that others wrote, and z3 beside it, where that is on the path.
+"""Scripts that others wrote: `solve`, and z3 beside it, where that is on the path.
 
-    bench/real_scripts.py EXECUTABLE FOLDER [--seconds N] [--runs N] [--certify]
-
-Each `.smt2` of the folder is run, as often as --runs says (once if it is left out), for at most N seconds of the clock
-each time (60). A row has the answers to its checks, how many commands were refused and for what, the seconds of a
-processor, the least of the runs, those of z3, and how many times as long the program took.
+Each `.smt2` of the folder is run, as often as --runs says, for at most --limit seconds of the clock each time. A row
+has the answers to its checks, how many commands were refused and for what, the seconds of a processor, the least of the
+runs, those of z3, and how many times as long the program took.
 
 Where the folder has a table LIST.tsv, its columns `script` and `answers` tell what several solvers agree on. Else what
 z3 answers is taken for that. A script counts as answered where no command was refused and each check has that answer,
-and as wrong where no command was refused and a check has another answer that is not `unknown`. With --certify the proof
+and as wrong where no command was refused and a check has another answer that is not `unknown`. With --check the proof
 that `certify` writes for each `unsat` has to be `valid` to `check` too, and what it writes is judged by the independent
 reading of bench/compare: each model makes all current assertions true, each proof is right, and so is the reason of
 each `unknown`. Scripts with a command that was refused are left out of that.
 
 It prints the rows, and how many scripts were answered. The status is 1 where one is wrong, or ended by a signal or with
-a status that no script may have, else 0. It needs Python 3 and its standard library.
+a status that no script may have, else 0.
 """
 
-import argparse
 import csv
 import glob
 import os
 import re
 import shutil
-import sys
 import tempfile
 from collections import Counter
 
-sys.dont_write_bytecode = True  # so that the imports below leave no files here
-sys.path.insert(0, os.path.join(os.path.dirname(os.path.abspath(__file__)), "compare"))
-
+from groups import Group
 from reasons import USUAL
 from runs import least
 from sessions import judge_certify
+from tables import SHORTEST, head, row
 
+# What is not wrong.
+FINE = ("answered", "refused", "stopped", "unknown")
 VERDICTS = ("sat", "unsat", "unknown")
 REFUSAL = re.compile(r'\(error "\d+:\d+: (\w+)"\)')
-SHORTEST = 0.001
 
 
 def verdicts(ran):
@@ -73,9 +68,9 @@ def proofs_of(lines):
     return proofs
 
 
-def judged(executable, script, seconds):
+def judged(program, script, seconds):
     """Returns what is wrong with the models, proofs and reasons that `certify` writes, or nothing."""
-    certified = least([executable, "certify", script], 1, seconds)
+    certified = least([program, "certify", script], 1, seconds)
     if certified.status is None:
         return ["certify stopped"]
     if any(map(REFUSAL.fullmatch, certified.lines)):
@@ -88,7 +83,7 @@ def judged(executable, script, seconds):
         for number, proof in proofs_of(certified.lines):
             with open(path, "w", encoding="utf-8") as out:
                 out.write(proof)
-            ran = least([executable, "check", "--at", str(number), script, path], 1, seconds)
+            ran = least([program, "check", "--at", str(number), script, path], 1, seconds)
             if ran.status is None:
                 wrong.append(f"check {number} stopped")
             elif ran.output != b"valid\n":
@@ -101,12 +96,12 @@ class Row:
 
     def __init__(self, asked, script, wanted):
         self.script = script
-        self.ours = least([asked.executable, "solve", script], asked.runs, asked.seconds)
+        self.ours = least([asked.program, "solve", script], asked.runs, asked.limit)
         z3 = shutil.which("z3")
-        self.other = least([z3, script], asked.runs, asked.seconds) if z3 else None
+        self.other = least([z3, script], asked.runs, asked.limit) if z3 else None
         self.wanted = wanted or (verdicts(self.other) if self.other else [])
         self.refusals = Counter(name for line in self.ours.lines for name in REFUSAL.findall(line))
-        self.wrong_proofs = judged(asked.executable, script, asked.seconds) if asked.certify else []
+        self.wrong_proofs = judged(asked.program, script, asked.limit) if asked.check else []
 
     @property
     def verdict(self):
@@ -131,33 +126,37 @@ class Row:
             if self.other.status is not None and self.ours.status is not None:
                 times = f"{self.ours.seconds / max(self.other.seconds, SHORTEST):.2f}"
         name, size = os.path.basename(self.script), os.path.getsize(self.script)
-        answers = [shown(verdicts(self.ours)), shown(self.wanted), refused, *self.wrong_proofs]
-        answers = f"{answers[0]} | {answers[1]} | {', '.join(filter(None, answers[2:]))}"
-        return f"| {name} | {size:,} | {self.verdict} | {answers} | {self.ours.seconds:.3f} | {z3} | {times} |"
+        wrong = ", ".join(filter(None, [refused, *self.wrong_proofs]))
+        answers = [shown(verdicts(self.ours)), shown(self.wanted), wrong]
+        return [name, f"{size:,}", self.verdict, *answers, f"{self.ours.seconds:.3f}", z3, times]
 
 
-def main():
-    """Runs the scripts of a folder."""
-    parser = argparse.ArgumentParser(description=__doc__, formatter_class=argparse.RawDescriptionHelpFormatter)
-    parser.add_argument("executable")
-    parser.add_argument("folder")
-    parser.add_argument("--seconds", type=float, default=60)
-    parser.add_argument("--runs", type=int, default=1)
-    parser.add_argument("--certify", action="store_true")
-    asked = parser.parse_args()
-    sys.setrecursionlimit(20_000)
-    asked.executable = os.path.abspath(asked.executable)
-    known, counts = known_answers(asked.folder), Counter()
-    print("| script | bytes | verdict | answers | wanted | refused or wrong | seconds | z3 | times z3 |")
-    print("|---|---|---|---|---|---|---|---|---|")
-    for script in sorted(glob.glob(os.path.join(asked.folder, "*.smt2"))):
-        row = Row(asked, script, known.get(os.path.basename(script)))
-        counts[row.verdict] += 1
-        print(row.cells(), flush=True)
+def run_folder(asked, folder):
+    """Runs the scripts of a folder; returns which of them are wrong, as texts."""
+    known, counts, wrong = known_answers(folder), Counter(), []
+    head(["script", "bytes", "verdict", "answers", "wanted", "refused or wrong", "seconds", "z3", "times z3"])
+    for script in sorted(glob.glob(os.path.join(folder, "*.smt2"))):
+        one = Row(asked, script, known.get(os.path.basename(script)))
+        verdict = one.verdict
+        counts[verdict] += 1
+        wrong += [] if verdict in FINE else [f"{os.path.basename(script)}: {verdict}"]
+        row(one.cells())
     print("\n" + ", ".join(f"{count} {verdict}" for verdict, count in sorted(counts.items())))
-    fine = ("answered", "refused", "stopped", "unknown")
-    return 0 if all(verdict in fine for verdict in counts) else 1
+    return wrong
 
 
-if __name__ == "__main__":
-    sys.exit(main())
+def run_all(asked):
+    """Runs the scripts of the folders; returns which of them are wrong, as texts."""
+    if not asked.folders:
+        return ["no folder of scripts is named"]
+    return [what for folder in asked.folders for what in run_folder(asked, folder)]
+
+
+def add_options(parser):
+    """Adds the options of this race."""
+    parser.add_argument("--limit", type=float, default=60, metavar="SECONDS", help="of the clock, 60 if none are given")
+    parser.add_argument("--runs", type=int, default=1, metavar="N", help="the times that each script is run, once if left out")
+    parser.add_argument("--check", action="store_true", help="judge what `certify` writes, too")
+
+
+GROUP = Group(__doc__, None, add_options, run_all)

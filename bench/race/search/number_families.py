@@ -1,14 +1,14 @@
-"""Formulas of linear real arithmetic, family by family, for bench/numbers_race.py.
+"""Formulas of linear real arithmetic, family by family, for `bench/race.py numbers`.
 
-The scripts are the same on each machine: what is random comes from the generator of bench/solve_and_check.py. Those of
+The scripts are the same on each machine: what is random comes from the generator of clause_families.py. Those of
 job shops are difference logic, `QF_RDL`, the others `QF_LRA`.
 """
 
 from functools import partial
 from itertools import combinations
 
+from clause_families import numbers
 from families import Formula
-from solve_and_check import numbers
 
 JOBS = (3, 4, 5, 6, 7, 8)
 MACHINES = 3

@@ -1,8 +1,8 @@
-"""Formulas over equality and functions of one declared sort, family by family, for bench/search_race.py."""
+"""Formulas over equality and functions of one declared sort, family by family, for `bench/race.py search`."""
 
 from itertools import combinations, product
 
-from solve_and_check import numbers
+from clause_families import numbers
 
 SORT = "(declare-sort U 0)\n"
 # How many terms and how many assertions a script of facts has, and how many constants are below the terms.

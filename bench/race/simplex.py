@@ -1,10 +1,7 @@
-#!/usr/bin/env python3
 """Measures simplex on families of systems that grow.
 
-    bench/simplex_race.py EXECUTABLE [--most N] [FAMILY ..]   runs the families, all if none is named; prints a table
-
-EXECUTABLE is `race`, as the gate leaves it in crates/race/out. Each family has n rows, at the sizes of SIZES,
-or those of them up to N:
+The program is `race`, as the gate leaves it in crates/race/out. Each family has n rows, at some sizes up to 2,000, or
+those of them up to --most:
 
 - chain: differences of a variable and the one before it, each at least 1, where the last variable less the first is at most n
 - cycle: differences in a circle of n variables, each at least 1
@@ -18,23 +15,21 @@ The coefficients of the last three are from -5 to 5, not 0, and look chosen at r
 
 What is known of a line beforehand is compared. In `chain` and `cycle` that is all of it. Else it is the numbers of rows, of
 variables and, but for `sparse`, of entries, and the answer: `fine`, in the last three also `overflow`. An operation that left
-128 bits is made again here. For these families the script then tells at how many rows this first happens, of those in ENDS.
-Where a line is another one, the script ends with status 1.
+128 bits is made again here. For the last three it is then told at how many rows this first happens, of up to 60, or up
+to 150 of `sparse`. A line that is another one is told.
 
-Times are those of a processor, in the program and in the system for it, without the start of the process and the making of
-the rows, which a run of its own measures: the least of three runs each. A run that takes more than five seconds is not repeated,
-and one of more than five minutes is stopped. It needs Python 3 and its standard library.
+Times are without the start of the process and the making of the rows, which a run of its own measures: the least of
+three runs each. A run that takes more than five seconds is not repeated, and one of more than five minutes is stopped.
 """
 
 import math
 import re
-import sys
 from dataclasses import dataclass
 from fractions import Fraction
 
-sys.dont_write_bytecode = True
-
-from runs import asked_families, least, status_of
+from groups import Group, add_most
+from runs import least
+from tables import head, row
 
 SIZES = {
     "chain": (100, 500, 1_000, 2_000),
@@ -105,9 +100,9 @@ def is_answer(name, answer):
     return answer == "fine"
 
 
-def checked(executable, name, n, runs):
+def checked(program, name, n, runs):
     """Checks a system; returns the line, if it is as it should be, and the run."""
-    ran = least([executable, name, str(n)], runs, LONGEST)
+    ran = least([program, name, str(n)], runs, LONGEST)
     found = CHECKED.fullmatch("\n".join(ran.lines))
     if ran.status != 0 or not found:
         return None, ran
@@ -123,30 +118,30 @@ def told(name, n, ran):
     return f"{name} at {n:,}: status {ran.status}, got {ran.output[:300]!r}"
 
 
-def run_family(executable, name, sizes):
+def run_family(program, name, sizes):
     """Prints a row for each size; returns what is wrong, as texts."""
     wrong = []
     for n in sizes:
-        line, ran = checked(executable, name, n, RUNS)
+        line, ran = checked(program, name, n, RUNS)
         if line is None:
             wrong.append(told(name, n, ran))
             continue
-        built = least([executable, name, str(n), "build"], RUNS, LONGEST)
+        built = least([program, name, str(n), "build"], RUNS, LONGEST)
         if built.status != 0 or not BUILT.fullmatch("\n".join(built.lines)):
             wrong.append(told(name, n, built))
             continue
         seconds = max(ran.seconds - built.seconds, 0)
         each = 1e6 * seconds / max(line.exchanges, 1)
-        row = f"| {name} | {n:,} | {line.entries:,} | {line.after:,} | {line.exchanges:,} | {seconds:.3f} | {each:,.0f} "
-        print(f"{row}| {ran.memory:,} | {line.answer.split(' ')[0]} |", flush=True)
+        counts = [f"{count:,}" for count in (n, line.entries, line.after, line.exchanges)]
+        row([name, *counts, f"{seconds:.3f}", f"{each:,.0f}", f"{ran.memory:,}", line.answer.split(" ")[0]])
     return wrong
 
 
-def run_ends(executable, name):
+def run_ends(program, name):
     """Prints at which sizes 128 bits end; returns what is wrong, as texts."""
     wrong, wide, fine = [], [], []
     for n in ENDS[name]:
-        line, ran = checked(executable, name, n, 1)
+        line, ran = checked(program, name, n, 1)
         if line is None:
             wrong.append(told(name, n, ran))
         else:
@@ -162,21 +157,18 @@ def run_ends(executable, name):
     return wrong
 
 
-def main():
-    """Runs the families."""
-    every = sorted({n for sizes in SIZES.values() for n in sizes})
-    executable, families, sizes = asked_families(__doc__, SIZES, every)
+def run_all(asked):
+    """Runs the families that are asked for; returns what is wrong, as texts."""
     wrong = []
-    print("| family | rows | entries | after | exchanges | seconds | microseconds each | peak memory in KB | answer |")
-    print("|---|---|---|---|---|---|---|---|---|")
-    for name in families:
-        wrong += run_family(executable, name, [n for n in SIZES[name] if n in sizes])
+    numbers = ["rows", "entries", "after", "exchanges", "seconds", "microseconds each", "peak memory in KB"]
+    head(["family", *numbers, "answer"])
+    for name in asked.families:
+        wrong += run_family(asked.program, name, [n for n in SIZES[name] if n <= asked.most])
     print()
-    for name in families:
+    for name in asked.families:
         if name in ENDS:
-            wrong += run_ends(executable, name)
-    return status_of(wrong)
+            wrong += run_ends(asked.program, name)
+    return wrong
 
 
-if __name__ == "__main__":
-    sys.exit(main())
+GROUP = Group(__doc__, SIZES, lambda parser: add_most(parser, SIZES["chain"]), run_all)

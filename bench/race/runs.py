@@ -1,15 +1,12 @@
 """Runs a program once, and tells what it wrote, how it ended, how long it took and how much memory it had.
 
-Scripts beside this file use it. Times are those of a processor, in the program and in the system for it, so that other work on
+The races and bench/limits.py use it. Times are those of a processor, in the program and in the system for it, so that other work on
 the machine counts little. Memory is the most that was resident. Where /usr/bin/time is there it is measured by that; else the
 system's record of the child is taken, which is never below Python's own few megabytes.
-
-It needs Python 3 and its standard library.
 """
 
 from __future__ import annotations
 
-import argparse
 import math
 import os
 import resource
@@ -104,25 +101,3 @@ def least(words, runs, seconds=None):
         if again.seconds < best.seconds:
             best = again
     return best
-
-
-def asked_families(doc, families, sizes):
-    """Reads the words `EXECUTABLE [--most N] [FAMILY ..]`; returns the executable, the families and the sizes up to N.
-
-    All families are meant where none is named. Other words end the script, with the families that there are.
-    """
-    parser = argparse.ArgumentParser(description=doc, formatter_class=argparse.RawDescriptionHelpFormatter)
-    parser.add_argument("executable")
-    parser.add_argument("families", nargs="*", metavar="FAMILY")
-    parser.add_argument("--most", type=int, default=sizes[-1])
-    asked = parser.parse_args()
-    if set(asked.families) - set(families):
-        parser.error("the families are " + ", ".join(families))
-    return os.path.abspath(asked.executable), asked.families or list(families), [n for n in sizes if n <= asked.most]
-
-
-def status_of(wrong):
-    """Prints what is wrong, a line each; returns the status to end with."""
-    for line in wrong:
-        print(line, file=sys.stderr)
-    return 1 if wrong else 0
