@@ -3,7 +3,7 @@
  *   REFUSE=N     the N-th allocation, counted from 1, is refused; without it, or with 0, none is
  *   COUNT=1      the number of allocations is written to standard error when the program ends
  *
- * Built and run by refuse_alloc.sh and by refuse_alloc_tests.sh.
+ * Built and run by `bench/limits.py refuse` and `refuse-tests`.
  */
 #define _GNU_SOURCE
 #include <dlfcn.h>

@@ -1,20 +1,14 @@
-#!/usr/bin/env python3
-"""Runs `smt_cli solve` and `certify` on scripts of 2^26 bytes, the most that are taken, on one byte more, and on long terms.
+"""Scripts of 2^26 bytes for `solve` and `certify`, the most that are taken, of one byte more, and long terms.
 
-    bench/solve_limits.py EXECUTABLE
-
-Each row is a script whose output and status are known beforehand; the script ends with status 1 where another one comes. It
-prints a table of times, of a processor, and of peak memory, also as a multiple of the text. Each run gets 6 GiB of address
-space; what does not fit ends with status 3. It needs Python 3 and its standard library, 6 GB of memory, and some minutes.
+Each row is a script whose output and status are known beforehand. Each run gets 6 GiB of address space; what does not
+fit ends with status 3.
 """
 
 import os
-import sys
 import tempfile
 
-sys.dont_write_bytecode = True  # so that the import below leaves no files here
-
 from runs import run
+from tables import head, row
 
 LIMIT = 2**26
 MEMORY = 6 * 2**30
@@ -99,30 +93,21 @@ def shown(output):
     return f"{cell}, and {len(lines) - 2:,} lines more" if len(lines) > 2 else cell
 
 
-def main(words):
-    if len(words) != 1:
-        print(__doc__, file=sys.stderr)
-        return 2
+def run_all(program):
+    """Prints a row for each script; returns what is wrong, as texts."""
     wrong = []
-    print("| script | bytes | command | output | status | seconds | peak memory in KB | times the script |")
-    print("|---|---|---|---|---|---|---|---|")
+    head(["script", "bytes", "command", "output", "status", "seconds", "peak memory in KB", "times the script"])
     with tempfile.TemporaryDirectory() as folder:
         script = os.path.join(folder, "script.smt2")
         for name, command, text, wanted, status in ROWS:
             with open(script, "w", encoding="ascii") as out:
                 out.write(text())
             size = os.path.getsize(script)
-            ran = run([os.path.abspath(words[0]), command, script], memory=MEMORY)
-            output = ran.output.decode("ascii")
+            ran = run([program, command, script], memory=MEMORY)
+            output = ran.output.decode("ascii", "replace")
             expected = wanted() if callable(wanted) else wanted
             if (output, ran.status) != (expected, status):
-                wrong.append(name)
-            row = f"| {name} | {size:,} | `{command}` | {shown(output)} | {ran.status} | {ran.seconds:.2f} |"
-            print(f"{row} {ran.memory:,} | {ran.memory * 1024 / size:.1f} |", flush=True)
-    for name in wrong:
-        print(f"another output or status than the one wanted: {name}", file=sys.stderr)
-    return 1 if wrong else 0
-
-
-if __name__ == "__main__":
-    sys.exit(main(sys.argv[1:]))
+                wrong.append(f"another output or status than the one wanted: {name}")
+            cells = [name, f"{size:,}", f"`{command}`", shown(output), str(ran.status), f"{ran.seconds:.2f}"]
+            row([*cells, f"{ran.memory:,}", f"{ran.memory * 1024 / size:.1f}"])
+    return wrong

@@ -1,18 +1,13 @@
-#!/usr/bin/env python3
-"""Runs `smt_cli check` on texts of 2^26 bytes, the most that are taken, and on one byte more.
+"""Pairs of texts of 2^26 bytes for `check`, the most that are taken, and of one byte more.
 
-    bench/check_limits.py EXECUTABLE
-
-Each row is a pair of texts whose answer is known beforehand; there is none where the run ends out of memory, with
-status 3. The script ends with status 1 where another one comes. It prints a table of times and of peak memory, also as
-a multiple of the bytes of both texts. It needs Python 3, its standard library and /usr/bin/time.
+Each row is a pair whose answer is known beforehand; there is none where the run ends out of memory, with status 3.
 """
 
 import os
-import subprocess
-import sys
 import tempfile
-import time
+
+from runs import run
+from tables import head, row
 
 LIMIT = 2**26
 SCRIPT = "(declare-const p Bool)(assert p)(assert (not p))(check-sat)"
@@ -84,20 +79,10 @@ def status_of(answer):
     return {"valid": 0, "": 3}.get(answer, 1)
 
 
-def measured(executable, script, proof):
-    """The output, the status, the seconds, and the peak memory in kilobytes of one run."""
-    begin = time.monotonic()
-    words = ["/usr/bin/time", "-f", "%M", executable, "check", script, proof]
-    run = subprocess.run(words, capture_output=True, text=True, check=False)
-    return run.stdout.strip(), run.returncode, time.monotonic() - begin, int(run.stderr.split()[-1])
-
-
-def main():
-    if len(sys.argv) != 2:
-        sys.exit(__doc__)
-    right = True
-    print("| texts | answer | seconds | peak memory in KB | times the texts |")
-    print("|---|---|---|---|---|")
+def run_all(program):
+    """Prints a row for each pair of texts; returns what is wrong, as texts."""
+    wrong = []
+    head(["texts", "answer", "seconds", "peak memory in KB", "times the texts"])
     with tempfile.TemporaryDirectory() as folder:
         script, proof = os.path.join(folder, "script.smt2"), os.path.join(folder, "proof.alethe")
         for name, script_text, proof_text, wanted in ROWS:
@@ -105,13 +90,10 @@ def main():
                 with open(path, "w", encoding="ascii") as out:
                     out.write(text)
             size = os.path.getsize(script) + os.path.getsize(proof)
-            output, status, seconds, memory = measured(os.path.abspath(sys.argv[1]), script, proof)
-            right = right and (output, status) == (wanted, status_of(wanted))
-            answer = f"`{output}`" if output else f"status {status}"
-            print(f"| {name} | {answer} | {seconds:.2f} | {memory:,} | {memory * 1024 / size:.1f} |", flush=True)
-    if not right:
-        sys.exit("an answer is not the one wanted")
-
-
-if __name__ == "__main__":
-    main()
+            ran = run([program, "check", script, proof])
+            output = ran.output.decode("ascii", "replace").strip()
+            if (output, ran.status) != (wanted, status_of(wanted)):
+                wrong.append(f"another answer than the one wanted, {wanted!r}: {name}")
+            answer = f"`{output}`" if output else f"status {ran.status}"
+            row([name, answer, f"{ran.seconds:.2f}", f"{ran.memory:,}", f"{ran.memory * 1024 / size:.1f}"])
+    return wrong
