@@ -1,10 +1,6 @@
-#!/usr/bin/env python3
-"""Compares the definitions with an independent reading, on texts that are made by chance.
+"""Compares the definitions with the independent reading, on texts that are made by chance.
 
-usage: bench/compare_definitions.py [--scripts N] [--proofs N] [--models N] [--printed N] [--sessions N] [--rows FILE]
-                                    [--seed K] [--batch N] [--folder FOLDER] [--top FOLDER]
-
-The last is the repository whose crates are compared, this one where none is given.
+The repository whose crates are compared is that of --top, this one where none is given.
 
 --scripts N   `bench/compare/commands.py` foretells the first fault of each command of N scripts, with line and column,
               under a limit on terms and names, and the term that each assertion is read as. `bench/compare/values.py`
@@ -35,14 +31,8 @@ import argparse
 import os
 import shutil
 import subprocess
-import sys
 import tempfile
 from collections import Counter
-
-sys.dont_write_bytecode = True
-TOP = os.path.dirname(os.path.dirname(os.path.abspath(__file__)))
-sys.path.insert(0, os.path.join(TOP, "bench", "compare"))
-sys.setrecursionlimit(10_000)
 
 import fault_rows
 import model_rows
@@ -56,6 +46,7 @@ OF_MODELS = ["spec_text", "spec_numbers", "spec_sorts", "spec_reading", "spec_mo
 OF_PROOFS = ["spec_equality", "spec_proofs", "spec_rules", "spec_checking"]
 OF_PRINTS = ["spec_derivations", "spec_models", "spec_proof_texts"]
 OF_SESSIONS = ["spec_replies", "spec_sessions"]
+TOP = os.path.dirname(os.path.dirname(os.path.dirname(os.path.abspath(__file__))))
 CODE = """//! Rows alone.
 #![tactic(auto)]
 
@@ -139,9 +130,11 @@ KINDS = {
 }
 
 
-def main():
-    """Writes the rows and has them checked."""
-    parser = argparse.ArgumentParser(description=__doc__.split("\n", maxsplit=1)[0])
+def main(words):
+    """Writes the rows and has them checked; returns the status."""
+    parser = argparse.ArgumentParser(
+        prog="bench/compare.py definitions", description=__doc__, formatter_class=argparse.RawDescriptionHelpFormatter
+    )
     for word in KINDS:
         parser.add_argument(f"--{word}", type=int, default=0)
     parser.add_argument("--rows")
@@ -149,7 +142,7 @@ def main():
     parser.add_argument("--batch", type=int, default=50)
     parser.add_argument("--folder")
     parser.add_argument("--top", default=TOP)
-    asked = parser.parse_args()
+    asked = parser.parse_args(words)
     counts = {word: getattr(asked, word) for word in KINDS}
     if not (any(counts.values()) or asked.rows):
         counts["scripts"] = 300
@@ -161,7 +154,3 @@ def main():
         folder = os.path.abspath(asked.folder or new)
         done = [compare(folder, asked.top, KINDS[word], rows[word], asked.batch) for word in KINDS if rows[word]]
     return 0 if all(done) else 1
-
-
-if __name__ == "__main__":
-    sys.exit(main())

@@ -1,7 +1,4 @@
-#!/usr/bin/env python3
 """Runs `smt_cli` on rows that are written by hand, and compares what it writes.
-
-usage: bench/check_rows.py EXECUTABLE [FILE]
 
 The file is bench/compare/fault_rows.txt where none is given; bench/compare/fault_rows.py has its format. A row without
 a proof is run by `solve`, one with a proof by `check`. Rows with a limit on terms are passed over, since no option sets
@@ -9,17 +6,14 @@ it. The status has to be 1 where a line of an error is written, else 0. It print
 status 1 where there is one.
 """
 
+import argparse
 import os
 import subprocess
-import sys
 import tempfile
 
-sys.dont_write_bytecode = True
-HERE = os.path.dirname(os.path.abspath(__file__))
-sys.path.insert(0, os.path.join(HERE, "compare"))
-sys.setrecursionlimit(10_000)
-
 from fault_rows import read_rows
+
+ROWS = os.path.join(os.path.dirname(os.path.abspath(__file__)), "fault_rows.txt")
 
 
 def outcome(executable, row, folder):
@@ -31,13 +25,16 @@ def outcome(executable, row, folder):
     return done.stdout, done.returncode
 
 
-def main():
-    """Runs the rows of a file."""
-    if len(sys.argv) not in (2, 3):
-        raise SystemExit(__doc__)
-    executable = os.path.abspath(sys.argv[1])
-    rows = read_rows(sys.argv[2] if len(sys.argv) == 3 else os.path.join(HERE, "compare", "fault_rows.txt"))
-    rows = [row for row in rows if row.limit == 2**24]
+def main(words):
+    """Runs the rows of a file; returns the status."""
+    parser = argparse.ArgumentParser(
+        prog="bench/compare.py rows", description=__doc__, formatter_class=argparse.RawDescriptionHelpFormatter
+    )
+    parser.add_argument("program", metavar="PROGRAM")
+    parser.add_argument("file", metavar="FILE", nargs="?", default=ROWS)
+    asked = parser.parse_args(words)
+    executable = os.path.abspath(asked.program)
+    rows = [row for row in read_rows(asked.file) if row.limit == 2**24]
     differences = 0
     with tempfile.TemporaryDirectory() as folder:
         for row in rows:
@@ -48,7 +45,3 @@ def main():
                 print(f"{row.shows}:\n    wanted {wanted}\n    got    {got}")
     print(f"{len(rows)} rows, {differences} differences")
     return 1 if differences else 0
-
-
-if __name__ == "__main__":
-    sys.exit(main())
