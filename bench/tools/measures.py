@@ -1,7 +1,7 @@
 #!/usr/bin/env python3
 """Prints measures of the repository, crate by crate and as a whole.
 
-usage: bench/measures.py [ROOT]        (ROOT: the top of a checkout; the current folder if left out)
+usage: bench/tools/measures.py [ROOT]        (ROOT: the top of a checkout; this one if left out)
 
 Per crate: lines of code, of tests, of definitions and of proofs; functions without tests, the median, the 90th and the longest
 body in lines; clause lines (from `requires`, `ensures`, `ghost` and closing braces of code files, without tests), how many of them
@@ -13,7 +13,7 @@ import os
 import re
 import sys
 
-ROOT = sys.argv[1] if len(sys.argv) > 1 else "."
+ROOT = sys.argv[1] if len(sys.argv) > 1 else os.path.dirname(os.path.dirname(os.path.dirname(os.path.abspath(__file__))))
 FN = re.compile(r"^\s*(?:pub(?:\([a-z]+\))? )?(?:const )?(?:unsafe )?fn (\w+)")
 CLAUSE = re.compile(r"^\s*(?:requires|ensures)\b")
 DEFINED = re.compile(r"^(?:abbrev |record |data |axiom )?(?:pub )?(?:abbrev |record |data )?(?:pub )?(\w[\w'-]*)\s*(\(.*?\))?\s*:")

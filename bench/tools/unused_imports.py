@@ -1,7 +1,7 @@
 #!/usr/bin/env python3
 """Finds names in the import lists of .rt and .antt files that no other line of the file uses.
 
-usage: bench/unused_imports.py [--fix] [FOLDER ..]        (from the top; the folder is crates if none is given)
+usage: bench/tools/unused_imports.py [--fix] [FOLDER ..]        (the folder is crates of this checkout if none is given)
 
 `rt tidy` drops such names of .antt files alone. A row is `PATH:LINE NAME`. With --fix the names are dropped. An operator is used where
 its parts are; a trait is always used, since its methods need it. Files `Lib.antt` and `pub use` lines hand names on and are not looked at.
@@ -12,6 +12,7 @@ import os
 import re
 import sys
 
+CRATES = os.path.relpath(os.path.join(os.path.dirname(os.path.dirname(os.path.dirname(os.path.abspath(__file__)))), "crates"))
 LIST = re.compile(r"^[ \t]*(?:ghost )?use [^;\n]*?\{([^{}]*)\}(?: as \w+)?;?[ \t]*$", re.M)
 ALIAS = re.compile(r"^[ \t]*(?:ghost )?use [^;{}\n]*?\w+ as (\w+);?[ \t]*$", re.M)
 SINGLE = re.compile(r"^[ \t]*use [\w:]*?::(\w+);[ \t]*$", re.M)
@@ -27,7 +28,7 @@ def read(path):
 def traits():
     """Gives the names of traits, which may be imported for their methods alone."""
     found = {"Model", "Write", "Read", "Hash", "Hasher"}
-    for path in glob.glob("crates/*/src/**/*.rt", recursive=True):
+    for path in glob.glob(os.path.join(CRATES, "*/src/**/*.rt"), recursive=True):
         found.update(TRAIT.findall(read(path)))
     return found
 
@@ -60,7 +61,7 @@ def unused_in(path, text, known):
 
 def main():
     fix = "--fix" in sys.argv
-    folders = [a for a in sys.argv[1:] if not a.startswith("--")] or ["crates"]
+    folders = [a for a in sys.argv[1:] if not a.startswith("--")] or [CRATES]
     known, count = traits(), 0
     paths = sorted(p for folder in folders for end in ("rt", "antt") for p in glob.glob(f"{folder}/**/*.{end}", recursive=True))
     for path in paths:

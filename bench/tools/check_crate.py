@@ -1,10 +1,10 @@
 #!/usr/bin/env python3
 """Checks single crates of this checkout, over libraries that a gate has built in another clone.
 
-usage: bench/check_crate.py GATE check CRATE [ARGUMENT ..]   (`rattle check`; what passed is kept, in .checked of the checkout)
-       bench/check_crate.py GATE time CRATE [ARGUMENT ..]    (the same with nothing kept; prints the seconds of each function)
-       bench/check_crate.py GATE build CRATE ..              (proves these and all below them that differ, two at a time)
-       bench/check_crate.py GATE list CRATE ..               (lists those)
+usage: bench/tools/check_crate.py GATE check CRATE [ARGUMENT ..]   (`rattle check`; what passed is kept, in .checked of the checkout)
+       bench/tools/check_crate.py GATE time CRATE [ARGUMENT ..]    (the same with nothing kept; prints the seconds of each function)
+       bench/tools/check_crate.py GATE build CRATE ..              (proves these and all below them that differ, two at a time)
+       bench/tools/check_crate.py GATE list CRATE ..               (lists those)
 
 GATE is the top of a clone in which `rt ci` runs or ran. A crate whose files, and those of all crates below it, are the
 same there is taken from there. Each other one has to be built first, lowest first: its library comes into out/rlib of
@@ -27,7 +27,7 @@ from concurrent.futures import FIRST_COMPLETED, ThreadPoolExecutor, wait
 from functools import cache
 
 KIT = "/opt/rattle"
-TOP = os.path.dirname(os.path.dirname(os.path.abspath(__file__)))
+TOP = os.path.dirname(os.path.dirname(os.path.dirname(os.path.abspath(__file__))))
 LANES = 2
 
 

@@ -1,7 +1,7 @@
 #!/usr/bin/env python3
 """Lists the statements that are proved in two or more places.
 
-usage: duplicate_lemmas.py [--json] [ROOT]     (default: the folder above this script's, or the current one)
+usage: bench/tools/duplicate_lemmas.py [--json] [ROOT]     (ROOT: the top of a checkout; this one if left out)
 
 Reads each `crates/*/proofs/**/*.antt` below ROOT, but for what lies in an `out` folder. A declaration `name : statement`
 counts where it stands at the top of a file or of a `module` or `mutual` block in it; what a `where` or a `let` inside of a
@@ -397,7 +397,7 @@ def own_text(name, defined, imports):
 
 def main():
     words = [word for word in sys.argv[1:] if not word.startswith("--")]
-    root = words[0] if words else os.path.dirname(os.path.dirname(os.path.abspath(__file__)))
+    root = words[0] if words else os.path.dirname(os.path.dirname(os.path.dirname(os.path.abspath(__file__))))
     if not os.path.isdir(os.path.join(root, "crates")):
         root = "."
     places, unread, count, read, modules = {}, [], 0, [], {}

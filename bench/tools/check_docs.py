@@ -1,7 +1,7 @@
 #!/usr/bin/env python3
 """Checks that the documents speak of what is there.
 
-usage: bench/check_docs.py [ROOT]
+usage: bench/tools/check_docs.py [ROOT]
 
 It reads README.md, NEWS.md, docs/*.md, bench/README.md and examples/README.md, where they are. Of each text in backticks outside
 code blocks it takes the names (letters, digits, `_`, `'`, `-`, with `::` and `.` between parts) and looks for each part in the sources
@@ -14,7 +14,7 @@ import os
 import re
 import sys
 
-ROOT = sys.argv[1] if len(sys.argv) > 1 else "."
+ROOT = sys.argv[1] if len(sys.argv) > 1 else os.path.dirname(os.path.dirname(os.path.dirname(os.path.abspath(__file__))))
 SOURCES = (".rt", ".antt", ".edit", ".py", ".sh", ".smt2", ".alethe", ".c", ".txt", ".certify", ".solve")
 PAGES = [p for g in ("README.md", "NEWS.md", "docs/*.md", "bench/README.md", "examples/README.md", "examples/**/README.md") for p in sorted(glob.glob(os.path.join(ROOT, g), recursive=True))]
 NAME = re.compile(r"^[A-Za-z_][\w'!-]*(?:(?:::|\.)[A-Za-z_][\w'!-]*)*$")

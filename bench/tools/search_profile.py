@@ -1,7 +1,7 @@
 #!/usr/bin/env python3
 """Tells where the instructions of a search go, by valgrind's tool callgrind.
 
-    bench/search_profile.py EXECUTABLE SCRIPT [--command WORD] [--within FUNCTION] [--rows N] [--times WORD ..]
+    bench/tools/search_profile.py EXECUTABLE SCRIPT [--command WORD] [--within FUNCTION] [--rows N] [--times WORD ..]
 
 It runs the program's command, `solve` if none is given, on a script, about fifty times as slowly as by itself. A first
 table has each crate's own instructions, by the names of functions in the executable. What the compiler put inline counts
@@ -14,7 +14,7 @@ With --within only what is done inside a function counts, as `proof_log::log::Pr
 given for one call of it. A function that the compiler put inline everywhere has no name in the executable, and nothing
 is counted then.
 
-It needs Python 3, its standard library, and valgrind. `bench/search_race.py --write NAME SCRIPT` writes scripts.
+It needs Python 3, its standard library, and valgrind. `bench/race.py search --write NAME SCRIPT` writes scripts.
 """
 
 import argparse
@@ -25,9 +25,11 @@ import sys
 import tempfile
 from collections import Counter
 
-sys.dont_write_bytecode = True  # so that the imports below leave no files here
+sys.dont_write_bytecode = True  # so that the import below leaves no files there
+BENCH = os.path.dirname(os.path.dirname(os.path.abspath(__file__)))
+sys.path.insert(0, os.path.join(BENCH, "race"))
 
-from search_race import head, row
+from tables import head, row
 
 # A name is given once after its number, and by the number alone from then on.
 NAMED = re.compile(r"(c?fn|c?ob)=\((\d+)\)(?: (.*))?")
