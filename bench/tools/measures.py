@@ -5,7 +5,9 @@ usage: bench/tools/measures.py [ROOT]        (ROOT: the top of a checkout; this 
 
 Per crate: lines of code, of tests, of definitions and of proofs; functions without tests, the median, the 90th and the longest
 body in lines; clause lines (from `requires`, `ensures`, `ghost` and closing braces of code files, without tests), how many of them
-have over 120 characters; definitions with more than six parameters; must-fail edits; test functions. Then the sums.
+have over 120 characters; definitions with more than six parameters; must-fail edits; test functions. Then the sums, and of the whole: lines of specs/ over 120 characters, names of definitions (abbrev, record, data) that
+stand in more than one crate and in more than three, names of Rust types (struct, enum, type) in more than one crate, and the words
+of README.md and of each page of docs/.
 A clause line is one that begins with `requires` or `ensures`, or goes on with one that did.
 """
 import glob
@@ -16,6 +18,9 @@ import sys
 ROOT = sys.argv[1] if len(sys.argv) > 1 else os.path.dirname(os.path.dirname(os.path.dirname(os.path.abspath(__file__))))
 FN = re.compile(r"^\s*(?:pub(?:\([a-z]+\))? )?(?:const )?(?:unsafe )?fn (\w+)")
 CLAUSE = re.compile(r"^\s*(?:requires|ensures)\b")
+NAMED = re.compile(r"^(?:pub )?(?:abbrev|record|data) (?:pub )?([^\s:({]+)")
+IN_BLOCK = re.compile(r"^  (?:pub )?([^\s:({]+) .*: ")
+TYPE = re.compile(r"^\s*(?:pub(?:\([a-z]+\))? )?(?:struct|enum|union|type) (\w+)")
 DEFINED = re.compile(r"^(?:abbrev |record |data |axiom )?(?:pub )?(?:abbrev |record |data )?(?:pub )?(\w[\w'-]*)\s*(\(.*?\))?\s*:")
 
 
@@ -100,6 +105,63 @@ def parameters(lines):
     return found
 
 
+def definitions_in(lines):
+    """Gives the names of definitions. Those that use each other are indented, below a line that names them `mutual`."""
+    is_block = False
+    for line in lines:
+        m = NAMED.match(line)
+        if m or re.match(r"\S", line):
+            is_block = m is not None and m.group(1) == "mutual"
+        if m and not is_block:
+            yield m.group(1)
+        m = IN_BLOCK.match(line) if is_block else None
+        if m and m.group(1) != "--":
+            yield m.group(1)
+
+
+def types_in(lines):
+    """Gives the names of Rust types."""
+    for line in lines:
+        m = TYPE.match(line)
+        if m:
+            yield m.group(1)
+
+
+def crates_by_name(names_in, *ending):
+    """Gives for each name that stands in files of crates with an ending the crates that it stands in."""
+    found = {}
+    for path in glob.glob(os.path.join(ROOT, "crates", "*", *ending), recursive=True):
+        crate = os.path.relpath(path, os.path.join(ROOT, "crates")).split(os.sep)[0]
+        for name in names_in(lines_of(path)):
+            found.setdefault(name, set()).add(crate)
+    return found
+
+
+def tell_names():
+    """Prints how many names of definitions and of types stand in several crates, and which definitions in more than three."""
+    specs = glob.glob(os.path.join(ROOT, "crates", "*", "specs", "**", "*.antt"), recursive=True)
+    print(f"lines of specs/ over 120 characters: {sum(len(line) > 120 for path in specs for line in lines_of(path))}")
+    definitions, types = crates_by_name(definitions_in, "specs", "**", "*.antt"), crates_by_name(types_in, "src", "**", "*.rt")
+    counts = [sum(len(crates) > most for crates in definitions.values()) for most in (1, 3)]
+    print(f"names of definitions: {len(definitions)}, in more than one crate {counts[0]}, in more than three {counts[1]}")
+    for name in sorted(name for name, crates in definitions.items() if len(crates) > 3):
+        print(f"in more than three crates: {name}: {' '.join(sorted(definitions[name]))}")
+    shared = sum(len(crates) > 1 for crates in types.values())
+    print(f"names of types: {len(types)}, in more than one crate {shared}")
+
+
+def tell_words():
+    """Prints the words of README.md and of each page of docs/, as `wc -w` counts them, and the sum of docs/."""
+    total = 0
+    for path in [os.path.join(ROOT, "README.md"), *sorted(glob.glob(os.path.join(ROOT, "docs", "*.md")))]:
+        if os.path.exists(path):
+            with open(path, encoding="utf-8") as f:
+                words = len(f.read().split())
+            total += words if os.path.basename(os.path.dirname(path)) == "docs" else 0
+            print(f"words: {words:6,} {os.path.relpath(path, ROOT)}")
+    print(f"words: {total:6,} docs/ in all")
+
+
 def main():
     total = dict.fromkeys(["code", "tests", "specs", "proofs", "fns", "clauses", "long", "wide", "edits", "testfns"], 0)
     every, wide = [], []
@@ -129,6 +191,8 @@ def main():
     print(f"{'sum':16} {t['code']:6} {t['tests']:6} {t['specs']:6} {t['proofs']:6} {t['fns']:5} {every[len(every) // 2]:4} {every[int(len(every) * 0.9)]:5} {every[-1]:4} {t['clauses']:7} {t['long']:5} {100 * t['long'] / t['clauses']:4.1f} {t['wide']:4} {t['edits']:5} {t['testfns']:5}")
     for crate, name, n in sorted(wide, key=lambda w: -w[2]):
         print(f"more than six parameters: {crate} {name} {n}")
+    tell_names()
+    tell_words()
 
 
 main()
