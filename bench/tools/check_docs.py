@@ -7,7 +7,9 @@ It reads README.md, NEWS.md, docs/*.md, bench/README.md and examples/README.md, 
 code blocks it takes the names (letters, digits, `_`, `'`, `-`, with `::` and `.` between parts) and looks for each part in the sources
 (.rt, .antt, .edit, crates.txt, .py, .sh, .smt2, .alethe) and in the names of files and folders. A line tells of each that is nowhere.
 Of each link it checks that the file is there, and that it has the heading. NEWS.md tells of earlier versions, so its names are not looked for.
-The status is 1 where something is missing, else 0.
+
+Then it prints how many words docs/*.md have, and lines README.md. docs/ may have 37,000 words, and it warns above 36,000.
+The status is 1 where something is missing or too long, else 0. ROOT is the top of a checkout, this one if left out.
 """
 import glob
 import os
@@ -15,6 +17,7 @@ import re
 import sys
 
 ROOT = sys.argv[1] if len(sys.argv) > 1 else os.path.dirname(os.path.dirname(os.path.dirname(os.path.abspath(__file__))))
+WARNED, MOST = 36_000, 37_000  # words of docs/
 SOURCES = (".rt", ".antt", ".edit", ".py", ".sh", ".smt2", ".alethe", ".c", ".txt", ".certify", ".solve")
 PAGES = [p for g in ("README.md", "NEWS.md", "docs/*.md", "bench/README.md", "examples/README.md", "examples/**/README.md") for p in sorted(glob.glob(os.path.join(ROOT, g), recursive=True))]
 NAME = re.compile(r"^[A-Za-z_][\w'!-]*(?:(?:::|\.)[A-Za-z_][\w'!-]*)*$")
@@ -36,6 +39,22 @@ def anchors(path):
             counts[name] = n + 1
             found.add(name if n == 0 else f"{name}-{n}")
     return found
+
+
+def words_of(path):
+    """Gives the number of words of a page, as `wc -w` counts them."""
+    with open(path, encoding="utf-8") as f:
+        return len(f.read().split())
+
+
+def is_too_long():
+    """Prints the words of docs/ and the lines of README.md; tells whether docs/ has too many."""
+    words = sum(map(words_of, glob.glob(os.path.join(ROOT, "docs", "*.md"))))
+    readme = os.path.join(ROOT, "README.md")
+    lines = sum(1 for _ in open(readme, encoding="utf-8")) if os.path.exists(readme) else 0
+    over = MOST if words > MOST else WARNED
+    print(f"docs: {words:,} words" + (f", which is over {over:,}" if words > over else "") + f"; README.md: {lines} lines")
+    return words > MOST
 
 
 def main():
@@ -82,7 +101,7 @@ def main():
                         print(f"{os.path.relpath(page, ROOT)}:{number} link {target}: no such heading")
                         missing += 1
     print(f"{missing} missing", file=sys.stderr)
-    return 1 if missing else 0
+    return 1 if is_too_long() or missing else 0
 
 
 sys.exit(main())
