@@ -206,7 +206,7 @@ def run_all(asked):
     ratios = [f"solve / {name}" for name in OTHERS]
     races, wrong = race_all(asked, lambda family, asked: FAMILIES[family]()[: asked.first], Race, ratios)
     tell_families(races, ratios, family_cells)
-    grown = [family for family in LINEAR if family in races]
+    grown = [family for family in LINEAR if len(races.get(family, ())) > 1]
     if grown:
         print()
         head(["ten times N", *PROGRAMS])
