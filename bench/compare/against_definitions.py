@@ -41,11 +41,6 @@ import proof_rows
 import script_rows
 import session_rows
 
-OF_SCRIPTS = ["spec_text", "spec_numbers", "spec_sorts", "spec_reading", "spec_commands"]
-OF_MODELS = ["spec_text", "spec_numbers", "spec_sorts", "spec_reading", "spec_models"]
-OF_PROOFS = ["spec_equality", "spec_proofs", "spec_rules", "spec_checking"]
-OF_PRINTS = ["spec_derivations", "spec_models", "spec_proof_texts"]
-OF_SESSIONS = ["spec_replies", "spec_sessions"]
 TOP = os.path.dirname(os.path.dirname(os.path.dirname(os.path.abspath(__file__))))
 CODE = """//! Rows alone.
 #![tactic(auto)]
@@ -71,6 +66,18 @@ def write(path, text):
     os.makedirs(os.path.dirname(path), exist_ok=True)
     with open(path, "w", encoding="utf-8") as out:
         out.write(text)
+
+
+def crates_below(top, names):
+    """Returns crates of a repository, and all of it that these use, in the order of its crates.txt."""
+    with open(os.path.join(top, "crates.txt"), encoding="utf-8") as lines:
+        parts = [line.partition("#")[0].partition(":") for line in lines]
+    uses = {name.strip(): used.split() for name, colon, used in parts if colon}
+    found, new = set(), set(names)
+    while new:
+        found |= new
+        new = {used for name in new for used in uses[name] if used in uses} - found
+    return [name for name in uses if name in found]
 
 
 def make_repository(folder, top, crates, modules):
@@ -104,8 +111,8 @@ def check(folder, text):
 
 def compare(folder, top, kind, rows, batch):
     """Has rows of a kind checked, one batch after the other; returns whether all are right."""
-    crates, modules, maker = kind
-    make_repository(folder, top, crates, modules)
+    names, modules, maker = kind
+    make_repository(folder, top, crates_below(top, names), modules)
     counts = Counter()
     for first in range(0, len(rows), batch):
         here = rows[first : first + batch]
@@ -120,13 +127,13 @@ def compare(folder, top, kind, rows, batch):
     return True
 
 
-# Of each kind of rows by its word: the crates and the modules that it needs, and what makes its rows.
+# Of each kind of rows by its word: the crates that its rows speak of, the modules that it needs, and what makes its rows.
 KINDS = {
-    "scripts": (OF_SCRIPTS, {}, script_rows),
-    "proofs": (OF_SCRIPTS + OF_PROOFS, proof_rows.modules(), proof_rows),
-    "models": (OF_MODELS, {}, model_rows),
-    "printed": (OF_SCRIPTS + OF_PROOFS + OF_PRINTS, {}, print_rows),
-    "sessions": (OF_SCRIPTS + OF_PROOFS + OF_PRINTS + OF_SESSIONS, {}, session_rows),
+    "scripts": (["spec_commands"], {}, script_rows),
+    "proofs": (["spec_checking"], proof_rows.modules(), proof_rows),
+    "models": (["spec_models"], {}, model_rows),
+    "printed": (["spec_proof_texts"], {}, print_rows),
+    "sessions": (["spec_sessions"], {}, session_rows),
 }
 
 
