@@ -112,11 +112,11 @@ pub record SessionView : Type 0 where
   pub table : TableView
   -- what was stated
   pub stack : CodeStack
-  -- what a check may spend, and a script name
+  -- what each search of a check may spend, and a script name
   pub limits : CodeLimits
   -- how much is written
   pub mode : CodeMode
-  -- what the last check learned
+  -- what the last search of the last check learned
   pub budget : BudgetView
 
 -- what was stated, with the table of its terms

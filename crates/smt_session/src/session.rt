@@ -54,7 +54,7 @@ impl From<NoMemory> for Halt {
     }
 }
 
-/// Holds what a script has stated up to here, what its checks may spend, and what the last check learned.
+/// Holds what a script has stated up to here, what each search of its checks may spend, and what the last one learned.
 ///
 /// Contracts see it as a stack of the definitions, by the relation `IsSession`. Source: SMT-LIB 2.6, section 4.2.
 #[derive(Drop)]
@@ -88,8 +88,8 @@ impl Model for Session {
 impl Session {
     /// Makes a session that has stated nothing.
     ///
-    /// `limits` are those of each check, but `terms`: how many names there may be, and how many different subterms
-    /// the terms of a command may have. `NoMemory` comes where memory ran out.
+    /// `limits` are those of each search of a check, but `terms`: how many names there may be, and how many different
+    /// subterms the terms of a command may have. `NoMemory` comes where memory ran out.
     pub fn new(alloc: Global, limits: &Limits, mode: Mode) -> Result<Session, NoMemory>
         ensures begun { IfOk result (λ x. IsSession x empty_stack × (x.limits ≡ limits.now) × (x.mode ≡ mode)) }
         ensures budget { IfOk result (λ x. (x.budget.learned ≡ []) × (x.budget.exchanges ≡ [])

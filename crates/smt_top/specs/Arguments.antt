@@ -17,7 +17,7 @@ pub record Names : Type 0 where
   -- which of the script's checks is meant, from 1
   pub at : ℕ
 
--- What each check of a run may spend.
+-- What each search of a check of a run may spend.
 pub record Budgets : Type 0 where
   -- how many conflicts it may learn from
   pub conflicts : ℕ
@@ -30,7 +30,7 @@ budgets b = record { conflicts = b.0; pivots = b.1 }
 
 -- What the arguments of a run ask for.
 pub data Asked : Type 0 where
-  -- a script is to be run: how much is written, its name, and what each check may spend
+  -- a script is to be run: how much is written, its name, and what each search of a check may spend
   runs : Mode → List ℕ → Budgets → Asked
   -- a proof is to be judged against a script
   checks : Names → Asked
@@ -65,11 +65,11 @@ smt_app = with_subcommand (with_subcommand (with_subcommand bare_app (run_app (c
 abbrev pub most_number : ℕ
 most_number = 1000000000
 
--- how many conflicts a check may learn from where no word says so
+-- how many conflicts a search of a check may learn from where no word says so
 abbrev pub usual_conflicts : ℕ
 usual_conflicts = 1000000
 
--- how many pivots a check may make where no word says so
+-- how many pivots a search of a check may make where no word says so
 abbrev pub usual_pivots : ℕ
 usual_pivots = 10000000
 
@@ -93,12 +93,12 @@ abbrev pub both_budgets : Option ℕ → Option ℕ → Option Budgets
 both_budgets (Some conflicts) (Some pivots) = Some (record { conflicts = conflicts; pivots = pivots })
 both_budgets _ _ = None
 
--- what each check may spend, by the values of `conflicts` and `pivots` of a command's matches
+-- what each search of a check may spend, by the values of `conflicts` and `pivots` of a command's matches
 abbrev pub budgets_in : List Row → Option Budgets
 budgets_in rows =
     both_budgets (number_or usual_conflicts (first_of (codes "conflicts") rows)) (number_or usual_pivots (first_of (codes "pivots") rows))
 
--- the limits of a run in which each check may spend so much
+-- the limits of a run in which each search of a check may spend so much
 abbrev pub limits_by : Budgets → Limits
 limits_by budgets = record { conflicts = budgets.conflicts; pivots = budgets.pivots; terms = term_limit }
 

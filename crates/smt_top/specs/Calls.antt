@@ -36,7 +36,7 @@ Reports _ script at proof old new = ⊥
 abbrev pub names_of : CheckRequest → Names
 names_of r = record { script = r.names.script.now; proof = r.names.proof.now; at = r.at }
 
--- what each check may spend, by a request
+-- what each search of a check may spend, by a request
 abbrev pub budgets_of : RunRequest → Budgets
 budgets_of r = record { conflicts = r.conflicts; pivots = r.pivots }
 

@@ -97,7 +97,7 @@ pub record ScriptRun : Type 0 where
   pub mode : Mode
   -- the script's name
   pub name : List ℕ
-  -- what it may spend
+  -- what each search of a check may spend
   pub limits : Limits
 
 -- how the run of a script ends, by its status: a transcript of its text was written; or what is to be written for the commands that
